@@ -1,0 +1,46 @@
+-- What stands among the accepted activations.
+use Rattle.std.proofs.Common.{◌≡◌, ◌⊎◌, ◌++◌, Bool, true, false, List, [], ◌∷◌, Option, Some, None, inl, inr, refl, subst}
+use Rattle.std.specs.List.{find, AllByRecursion}
+use Rattle.ow_records.specs.declared.ids.Id.{Id}
+use Rattle.ow_floor.specs.declared.activations.Activation.{Activation}
+use Rattle.ow_floor.specs.declared.activations.Open.{Open}
+use Rattle.ow_floor.specs.declared.activations.State.{State}
+use Rattle.ow_floor.specs.Trace.{End}
+use Rattle.ow_floor.specs.Laws.{IsAmong}
+use Rattle.ow_floor.proofs.Alters.{shown}
+
+among_more : (a y x : Activation) (xs : List Activation) → (a ≡ x) ⊎ IsAmong a xs → (IsAmong a xs → IsAmong a (xs ++ y ∷ [])) → IsAmong a ((x ∷ xs) ++ y ∷ [])
+among_more a y x xs (inl same) rest = inl same
+among_more a y x xs (inr among) rest = inr (rest among)
+
+among_push : (a y : Activation) (xs : List Activation) → IsAmong a xs → IsAmong a (xs ++ y ∷ [])
+among_push a y [] among = absurd among
+among_push a y (x ∷ xs) among = among_more a y x xs among (among_push a y xs)
+
+-- what was known stays so
+pub known_push : (y : Activation) (xs : List Activation) (es : List End) → AllByRecursion (λ e. IsAmong e.task xs) es → AllByRecursion (λ e. IsAmong e.task (xs ++ y ∷ [])) es
+known_push y xs [] known = tt
+known_push y xs (e ∷ es) known = (among_push e.task y xs known.0, known_push y xs es known.1)
+
+pub known_more : (end : End) (xs : List Activation) (es : List End) → IsAmong end.task xs → AllByRecursion (λ e. IsAmong e.task xs) es → AllByRecursion (λ e. IsAmong e.task xs) (es ++ end ∷ [])
+known_more end xs [] among known = (among, tt)
+known_more end xs (e ∷ es) among known = (known.0, known_more end xs es among known.1)
+
+among_test : (p : Open → Bool) (a : Activation) (q : State) (xs : List Activation) (os : List Open) (o : Open) (b : Bool) → p (record { task = a; state = q }) ≡ b
+    → (find p os ≡ Some o → IsAmong o.task xs) → find p (record { task = a; state = q } ∷ os) ≡ Some o → IsAmong o.task (a ∷ xs)
+among_test p a q xs os o true t rest found =
+    let e : Some (record { task = a; state = q }) ≡ Some o = rw t at found in
+    let same : record { task = a; state = q } ≡ o = cc in
+    subst (λ (z : Open). IsAmong z.task (a ∷ xs)) same (inl refl)
+among_test p a q xs os o false t rest found = inr (rest (rw t at found))
+
+among_here : (p : Open → Bool) (f : Id → Option State) (a : Activation) (xs : List Activation) (o : Open) (s : Option State) → f a.id ≡ s
+    → (find p (shown f xs) ≡ Some o → IsAmong o.task xs) → find p (shown f (a ∷ xs)) ≡ Some o → IsAmong o.task (a ∷ xs)
+among_here p f a xs o None e rest found = inr (rest (rw e at found))
+among_here p f a xs o (Some q) e rest found =
+    among_test p a q xs (shown f xs) o (p (record { task = a; state = q })) refl rest (rw e at found)
+
+-- what is found open stands among these
+pub found_among : (p : Open → Bool) (f : Id → Option State) (xs : List Activation) (o : Open) → find p (shown f xs) ≡ Some o → IsAmong o.task xs
+found_among p f [] o found = cc
+found_among p f (a ∷ xs) o found = among_here p f a xs o (f a.id) refl (found_among p f xs o) found

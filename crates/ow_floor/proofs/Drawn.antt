@@ -1,0 +1,64 @@
+-- The last count of each namespace.
+use Rattle.std.proofs.Common.{◌≡◌, ◌==◌, ℕ, Bool, true, false, cond, List, [], ◌∷◌, ◌++◌, Option, Some, None, refl, ap, arith}
+use Rattle.std.specs.List.{find}
+use Rattle.std.proofs.lemmas.Bool.Decides.{nat_tests}
+use Rattle.ow_records.specs.declared.ids.Id.{Id}
+use Rattle.ow_floor.specs.View.{count_or_zero, is_in, last_of, put_id, update_first}
+
+last_here : (id x : Id) (n before after : ℕ) (b c : Bool) → (x.namespace == id.namespace) ≡ false → (x.namespace == n) ≡ b → (id.namespace == n) ≡ c
+    → after ≡ cond c id.count before → cond b x.count after ≡ cond c id.count (cond b x.count before)
+last_here id x n before after true true differ e f h = absurd (grind (arith, nat_tests))
+last_here id x n before after true false differ e f h = refl
+last_here id x n before after false c differ e f h = h
+
+last_same : (id x : Id) (n before : ℕ) (b c : Bool) → (x.namespace == id.namespace) ≡ true → (x.namespace == n) ≡ b → (id.namespace == n) ≡ c
+    → cond c id.count before ≡ cond c id.count (cond b x.count before)
+last_same id x n before b true same e f = refl
+last_same id x n before true false same e f = absurd (grind (arith, nat_tests))
+last_same id x n before false false same e f = refl
+
+count_at : (b : Bool) (x : Id) (rest : Option Id) → count_or_zero (cond b (Some x) rest) ≡ cond b x.count (count_or_zero rest)
+count_at true x rest = refl
+count_at false x rest = refl
+
+last_step : (id x : Id) (xs : List Id) (n : ℕ) (b : Bool) → (x.namespace == id.namespace) ≡ b
+    → last_of (put_id id xs) n ≡ cond (id.namespace == n) id.count (last_of xs n)
+    → last_of (put_id id (x ∷ xs)) n ≡ cond (id.namespace == n) id.count (last_of (x ∷ xs) n)
+unfolding put_id
+last_step id x xs n true same rest =
+    rw (same, count_at (id.namespace == n) id (find (is_in n) xs), count_at (x.namespace == n) x (find (is_in n) xs))
+    (last_same id x n (last_of xs n) (x.namespace == n) (id.namespace == n) same refl refl)
+last_step id x xs n false differ rest =
+    rw (differ, count_at (x.namespace == n) x (find (is_in n) (put_id id xs)), count_at (x.namespace == n) x (find (is_in n) xs))
+    (last_here id x n (last_of xs n) (last_of (put_id id xs) n) (x.namespace == n) (id.namespace == n) differ refl refl rest)
+
+-- an id that is noted is the last of its namespace, and the others stay
+pub last_put : (id : Id) (xs : List Id) (n : ℕ) → last_of (put_id id xs) n ≡ cond (id.namespace == n) id.count (last_of xs n)
+unfolding put_id
+last_put id [] n = count_at (id.namespace == n) id None
+last_put id (x ∷ xs) n = last_step id x xs n (x.namespace == id.namespace) refl (last_put id xs n)
+
+put_there_at : (id x : Id) (xs : List Id) (b : Bool) (d : Id) → is_in id.namespace x ≡ b → find (is_in id.namespace) (x ∷ xs) ≡ Some d
+    → (find (is_in id.namespace) xs ≡ Some d → update_first (is_in id.namespace) (λ y. id) xs ≡ put_id id xs)
+    → update_first (is_in id.namespace) (λ y. id) (x ∷ xs) ≡ put_id id (x ∷ xs)
+unfolding put_id update_first
+put_there_at id x xs true d e found rest = rw e refl
+put_there_at id x xs false d e found rest = rw e (ap (λ ys. x ∷ ys) (rest (rw e at found)))
+
+-- where its namespace has an id already, that one is replaced
+pub put_there : (id : Id) (xs : List Id) (d : Id) → find (is_in id.namespace) xs ≡ Some d
+    → update_first (is_in id.namespace) (λ y. id) xs ≡ put_id id xs
+put_there id [] d found = cc
+put_there id (x ∷ xs) d found = put_there_at id x xs (is_in id.namespace x) d refl found (put_there id xs d)
+
+put_new_at : (id x : Id) (xs : List Id) (b : Bool) → is_in id.namespace x ≡ b → find (is_in id.namespace) (x ∷ xs) ≡ None
+    → (find (is_in id.namespace) xs ≡ None → xs ++ id ∷ [] ≡ put_id id xs) → (x ∷ xs) ++ id ∷ [] ≡ put_id id (x ∷ xs)
+unfolding put_id
+put_new_at id x xs true e found rest = let h : Some x ≡ None = rw e at found in cc
+put_new_at id x xs false e found rest = rw e (ap (λ ys. x ∷ ys) (rest (rw e at found)))
+
+-- where its namespace has none, it comes to the end
+pub put_new : (id : Id) (xs : List Id) → find (is_in id.namespace) xs ≡ None → xs ++ id ∷ [] ≡ put_id id xs
+unfolding put_id
+put_new id [] found = refl
+put_new id (x ∷ xs) found = put_new_at id x xs (is_in id.namespace x) refl found (put_new id xs)

@@ -1,0 +1,4 @@
+pub mod View
+pub mod Trace
+pub mod Calls
+pub mod Laws

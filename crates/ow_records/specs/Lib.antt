@@ -1,0 +1,3 @@
+pub mod Id
+pub mod Outcome
+pub mod Response

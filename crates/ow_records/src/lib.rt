@@ -1,0 +1,15 @@
+// Activations' ids, limits, endings and responses.
+#![tactic(auto)]
+
+mod digits;
+mod ids;
+mod outcomes;
+mod responses;
+mod run_limits;
+#[cfg(test)]
+mod tests;
+
+pub use ids::Id;
+pub use outcomes::{Ending, outcome};
+pub use responses::Response;
+pub use run_limits::Limits;

@@ -1,0 +1,108 @@
+// What an activation answers, by what ended it.
+ghost use Rattle.std.specs.Prelude.{◌≡◌, ◌≤◌, ◌↔◌, IsTrue, IfOk};
+ghost use Rattle.ow_value.specs.View.{view};
+ghost use Rattle.ow_records.specs.Outcome.{failure, of_exit, of_object, of_reply, of_text, of_value, outcome};
+
+use crate::{Limits, Response};
+use ow_traits::RunReply;
+use ow_value::{NoMemory, Params, Str, Val, ValueRefusal, read_val};
+use std::alloc::Global;
+
+// The most bytes of an answer's text, which is Apache OpenWhisk's limit for a result.
+const MOST_BYTES: usize = 1_048_576;
+
+/// What ended an activation.
+#[derive(Drop)]
+pub enum Ending {
+    /// A run ended with this reply.
+    Replied(RunReply),
+}
+
+impl Ending {
+    pub fn same(&self, other: &Ending) -> bool
+        ensures { IsTrue result ↔ (self.now ≡ other.now) }
+    {
+        let (Ending::Replied(reply), Ending::Replied(other_reply)) = (self, other);
+        reply.same(other_reply)
+    }
+
+    pub fn copy(&self, alloc: Global) -> Result<Ending, NoMemory>
+        ensures { IfOk result (λ e. e ≡ self.now) }
+    {
+        let Ending::Replied(reply) = self;
+        Ok(Ending::Replied(reply.copy(alloc)?))
+    }
+}
+
+/// The response of an activation that ended so.
+#[tactic(auto, unfolding(crate::specs::Outcome::outcome))]
+pub fn outcome(alloc: Global, ending: &Ending, limits: &Limits) -> Result<Response, NoMemory>
+    ensures { IfOk result (λ r. r ≡ outcome ending.now limits.now) }
+{
+    let Ending::Replied(reply) = ending;
+    replied(alloc, reply)
+}
+
+fn replied(alloc: Global, reply: &RunReply) -> Result<Response, NoMemory>
+    ensures { IfOk result (λ r. r ≡ of_reply reply.now) }
+{
+    match reply {
+        RunReply::Answer { text, .. } => answered(alloc, text.as_str()),
+        RunReply::Exit { code, .. } => ended(alloc, *code),
+        RunReply::NoStart { .. } => failed(alloc, 3, "The action did not start."),
+        RunReply::Fault => failed(alloc, 3, "The runner failed."),
+    }
+}
+
+fn answered(alloc: Global, text: &str) -> Result<Response, NoMemory>
+    ensures { IfOk result (λ r. r ≡ of_text text.now) }
+{
+    if text.len() > MOST_BYTES {
+        return failed(alloc, 2, "The result has too many bytes.");
+    }
+    match read_val(alloc, text.as_bytes()) {
+        Ok(value) => valued(alloc, value),
+        Err(ValueRefusal::NoMemory) => Err(NoMemory),
+        Err(_) => failed(alloc, 2, "The result is no JSON value of whole numbers."),
+    }
+}
+
+fn valued(alloc: Global, value: Val) -> Result<Response, NoMemory>
+    ensures { IfOk result (λ r. r ≡ of_value (view value)) }
+{
+    match value {
+        Val::Object(object) => Ok(told(object)),
+        _ => failed(alloc, 2, "The result is no JSON object."),
+    }
+}
+
+// An object with the name `error` is an error that the action tells.
+fn told(object: Params) -> Response
+    ensures { result ≡ of_object object }
+{
+    let code = if object.find("error").is_some() { 1 } else { 0 };
+    Response::new(code, object)
+}
+
+fn ended(alloc: Global, code: i32) -> Result<Response, NoMemory>
+    ensures { IfOk result (λ r. r ≡ of_exit code) }
+{
+    let text = format!(in alloc; "The program ended with status {code}.")?;
+    failure_of(alloc, 2, Str::from_string(text))
+}
+
+fn failed(alloc: Global, code: u8, text: &str) -> Result<Response, NoMemory>
+    requires { code ≤ 3 }
+    ensures { IfOk result (λ r. r ≡ failure code text.now) }
+{
+    failure_of(alloc, code, Str::of(alloc, text)?)
+}
+
+fn failure_of(alloc: Global, code: u8, text: Str) -> Result<Response, NoMemory>
+    requires { code ≤ 3 }
+    ensures { IfOk result (λ r. r ≡ failure code text) }
+{
+    let mut object = Params::new(alloc);
+    object.set(Str::of(alloc, "error")?, Val::Text(text))?;
+    Ok(Response::new(code, object))
+}

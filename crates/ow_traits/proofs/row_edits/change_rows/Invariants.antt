@@ -1,0 +1,11 @@
+use Rattle.std.proofs.Common.{◌≡◌, ◌≤◌, ◌+◌, length, vec_len, vec_capacity}
+use Rattle.ow_traits.specs.Rows.{AreRows}
+use Rattle.ow_traits.specs.Changes.{changed}
+use Rattle.ow_traits.proofs.row_edits.change_rows.Given as goal
+
+abbrev pub invariant-loop-change : goal.invariant-loop-change
+invariant-loop-change l = record {
+  items : changed l.change-iterator.rest.items l.rows.items ≡ changed l.fn.changes.items l.fn.rows.items;
+  sorted : AreRows l.rows.items;
+  room : vec_len l.rows + length l.change-iterator.rest.items ≤ vec_capacity l.rows;
+}

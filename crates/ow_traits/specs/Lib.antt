@@ -1,0 +1,4 @@
+pub mod Changes
+pub mod Keeper
+pub mod Rows
+pub mod Streams

@@ -1,0 +1,47 @@
+// The calls of a device in memory, of which some are to fail.
+ghost use Rattle.std.specs.Prelude.{◌≡◌, ◌≤◌, ◌↔◌, Contains, IsTrue};
+ghost use Rattle.ow_traits.specs.Streams.{Rose};
+
+/// A counter of calls, the numbers of those that are to fail, and a count of faults. The first call has the number 0.
+#[derive(Drop)]
+pub(crate) struct Calls {
+    pub(crate) made: u64,
+    pub(crate) failing: Vec<u64>,
+    pub(crate) faults: u64,
+}
+
+impl Calls {
+    pub(crate) fn new(failing: Vec<u64>) -> Self
+        ensures made { result.made ≡ 0 }
+        ensures failing { result.failing ≡ failing }
+        ensures faults { result.faults ≡ 0 }
+    {
+        Calls {
+            made: 0,
+            failing,
+            faults: 0,
+        }
+    }
+
+    /// Counts a call, and answers whether it is to fail.
+    pub(crate) fn fails_next(&mut self) -> bool
+        ensures listed { IsTrue result ↔ Contains self.old.failing.items self.old.made }
+        ensures rose { IsTrue result → Rose self.old.faults self.new.faults }
+        ensures later { self.old.faults ≤ self.new.faults }
+    {
+        let number = self.made;
+        self.made = self.made.saturating_add(1);
+        let fails = self.failing.contains(&number);
+        if fails {
+            self.count_fault();
+        }
+        fails
+    }
+
+    pub(crate) fn count_fault(&mut self)
+        ensures rose { Rose self.old.faults self.new.faults }
+        ensures later { self.old.faults ≤ self.new.faults }
+    {
+        self.faults = self.faults.saturating_add(1);
+    }
+}

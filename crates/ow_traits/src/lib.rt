@@ -1,0 +1,24 @@
+// What lies outside the service, as traits whose meaning contracts can name.
+#![tactic(auto)]
+
+mod adapters;
+mod calls;
+mod change_list;
+mod keepers;
+mod memory;
+mod memory_keeper;
+mod replies;
+mod row_edits;
+mod row_list;
+mod streams;
+#[cfg(test)]
+mod tests;
+
+pub use adapters::{ReaderSource, WriterSink};
+pub use change_list::{Change, Changes};
+pub use keepers::{Keeper, KeeperError};
+pub use memory::{MemorySink, MemorySource};
+pub use memory_keeper::MemoryKeeper;
+pub use replies::{Kind, RunReply};
+pub use row_list::Rows;
+pub use streams::{Failed, Sink, Source, read_some, write_all};

@@ -1,0 +1,76 @@
+// A keeper in memory, of which some calls are to fail.
+ghost use Rattle.std.specs.Prelude.{◌≡◌, Some};
+
+use crate::calls::Calls;
+use crate::{Changes, Keeper, KeeperError, Rows};
+use std::alloc::Global;
+
+/// Keeps rows in memory. The calls of `load` and `commit` whose numbers stand in `failing` fail; both count, and the first has the number 0.
+#[derive(Drop)]
+pub struct MemoryKeeper {
+    rows: Rows,
+    calls: Calls,
+}
+
+impl MemoryKeeper {
+    ghost use Rattle.std.specs.Prelude.{Some, []};
+
+    /// A keeper of no rows, none of whose calls is to fail.
+    pub fn new(alloc: Global) -> MemoryKeeper
+        ensures rows { ⟦<MemoryKeeper as Keeper>⟧.rows result ≡ Some [] }
+        ensures faults { ⟦<MemoryKeeper as Keeper>⟧.faults result ≡ 0 }
+    {
+        MemoryKeeper::holding(Rows::new(alloc), Vec::new(alloc))
+    }
+
+    /// A keeper of these rows.
+    pub fn holding(rows: Rows, failing: Vec<u64>) -> MemoryKeeper
+        ensures rows { ⟦<MemoryKeeper as Keeper>⟧.rows result ≡ Some rows }
+        ensures faults { ⟦<MemoryKeeper as Keeper>⟧.faults result ≡ 0 }
+    {
+        MemoryKeeper {
+            rows,
+            calls: Calls::new(failing),
+        }
+    }
+
+    /// The kept rows.
+    pub fn rows(&self) -> &Rows
+        ensures { ⟦<MemoryKeeper as Keeper>⟧.rows self.now ≡ Some result.now }
+    {
+        &self.rows
+    }
+
+    /// The kept rows, with no copy.
+    pub fn into_rows(self) -> Rows
+        ensures { ⟦<MemoryKeeper as Keeper>⟧.rows self ≡ Some result }
+    {
+        self.rows
+    }
+}
+
+impl Keeper for MemoryKeeper {
+    ghost rows = { λ k. Some k.rows };
+
+    ghost faults = { λ k. k.calls.faults };
+
+    fn faults(&self) -> u64 {
+        self.calls.faults
+    }
+
+    fn load(&mut self, alloc: Global) -> Result<Rows, KeeperError> {
+        if self.calls.fails_next() {
+            return Err(KeeperError::Failed);
+        }
+        Ok(self.rows.copy(alloc)?)
+    }
+
+    fn commit(&mut self, alloc: Global, changes: &Changes) -> Result<(), KeeperError> {
+        if self.calls.fails_next() {
+            return Err(KeeperError::Failed);
+        }
+        let changes = changes.copy(alloc)?;
+        self.rows.apply(changes)?;
+        Ok(())
+    }
+}

@@ -1,0 +1,116 @@
+// Edits of a Vec of rows, which stays in the order of its keys.
+ghost use Rattle.std.specs.Prelude.{◌≡◌, ◌≤◌, ◌<◌, ◌+◌, ◌↔◌, length, vec_len, vec_capacity, IsTrue, IsOk, IfOk, IfErr, OnOk, OnErr};
+ghost use Rattle.std.specs.List.{HoldsAt};
+ghost use Rattle.std.specs.List.Sorted.{IsPartitionPoint};
+ghost use Rattle.std.specs.declared.cmp.Ordering.TheVariants.{Less, Equal, Greater};
+ghost use Rattle.ow_value.specs.Value.{text_cmp};
+ghost use Rattle.ow_traits.specs.Changes.{after_change, changed};
+ghost use Rattle.ow_traits.specs.Rows.{AreRows, with_row, without};
+
+use crate::Change;
+use ow_value::{NoMemory, Str};
+use std::alloc::Global;
+
+// Where the key stands, or would.
+pub(crate) fn place(rows: &[(Str, Str)], key: &str) -> Result<usize, usize>
+    requires { AreRows rows.now }
+    ensures ok { IfOk result (λ i. (i < length rows.now) × HoldsAt (λ r. text_cmp r.0 key.now ≡ Equal) rows.now i) }
+    ensures err { IfErr result (λ i. (i ≤ length rows.now) × IsPartitionPoint (λ r. text_cmp r.0 key.now ≡ Less) (λ r. text_cmp r.0 key.now ≡ Greater) rows.now i) }
+{
+    rows.binary_search_by(|row| row.0.compare(key))
+}
+
+pub(crate) fn put_row(rows: &mut Vec<(Str, Str)>, key: Str, text: Str) -> Result<(), NoMemory>
+    requires { AreRows rows.old.items }
+    ensures ok { OnOk result (rows.new.items ≡ with_row rows.old.items key text) }
+    ensures err { OnErr result (rows.new.items ≡ rows.old.items) }
+    ensures rows { AreRows rows.new.items }
+    ensures succeeds { vec_len rows.old < vec_capacity rows.old → IsOk result }
+    ensures len { vec_len rows.new ≤ vec_len rows.old + 1 }
+    ensures capacity { vec_capacity rows.old ≤ vec_capacity rows.new }
+{
+    match place(rows, key.as_str()) {
+        Ok(i) => rows[i].1 = text,
+        Err(i) => rows.insert(i, (key, text))?,
+    }
+    Ok(())
+}
+
+pub(crate) fn drop_row(rows: &mut Vec<(Str, Str)>, key: &str)
+    requires { AreRows rows.old.items }
+    ensures items { rows.new.items ≡ without key.now rows.old.items }
+    ensures rows { AreRows rows.new.items }
+    ensures len { vec_len rows.new ≤ vec_len rows.old }
+    ensures capacity { vec_capacity rows.new ≡ vec_capacity rows.old }
+{
+    match place(rows, key) {
+        Ok(i) => {
+            let _ = rows.remove(i);
+        }
+        Err(_) => {}
+    }
+}
+
+pub(crate) fn change_row(rows: &mut Vec<(Str, Str)>, change: Change)
+    requires sorted { AreRows rows.old.items }
+    requires room { vec_len rows.old < vec_capacity rows.old }
+    ensures items { rows.new.items ≡ after_change change rows.old.items }
+    ensures rows { AreRows rows.new.items }
+    ensures len { vec_len rows.new ≤ vec_len rows.old + 1 }
+    ensures capacity { vec_capacity rows.old ≤ vec_capacity rows.new }
+{
+    match change {
+        Change::Put(key, text) => put_row(rows, key, text).unwrap(),
+        Change::Drop(key) => drop_row(rows, key.as_str()),
+    }
+}
+
+/// Makes the changes in their order. There is room for a row of each.
+pub(crate) fn change_rows(rows: &mut Vec<(Str, Str)>, changes: Vec<Change>)
+    requires sorted { AreRows rows.old.items }
+    requires room { vec_len rows.old + length changes.items ≤ vec_capacity rows.old }
+    ensures items { rows.new.items ≡ changed changes.items rows.old.items }
+    ensures rows { AreRows rows.new.items }
+{
+    for change in changes {
+        change_row(rows, change);
+    }
+}
+
+pub(crate) fn same_rows(a: &[(Str, Str)], b: &[(Str, Str)]) -> bool
+    ensures { IsTrue result ↔ (a.now ≡ b.now) }
+{
+    if a.len() != b.len() {
+        return false;
+    }
+    for i in 0..a.len() {
+        if !same_row(&a[i], &b[i]) {
+            return false;
+        }
+    }
+    true
+}
+
+fn same_row(a: &(Str, Str), b: &(Str, Str)) -> bool
+    ensures { IsTrue result ↔ (a.now ≡ b.now) }
+{
+    a.0.same(&b.0) && a.1.same(&b.1)
+}
+
+pub(crate) fn copied_rows(alloc: Global, rows: &[(Str, Str)]) -> Result<Vec<(Str, Str)>, NoMemory>
+    ensures { IfOk result (λ r. r.items ≡ rows.now) }
+{
+    let mut copied = Vec::with_capacity(alloc, rows.len())?;
+    for row in rows {
+        copied.push(copied_row(alloc, row)?)?;
+    }
+    Ok(copied)
+}
+
+fn copied_row(alloc: Global, row: &(Str, Str)) -> Result<(Str, Str), NoMemory>
+    ensures { IfOk result (λ r. r ≡ row.now) }
+{
+    let key = row.0.copy(alloc)?;
+    let text = row.1.copy(alloc)?;
+    Ok((key, text))
+}

@@ -1,0 +1,10 @@
+pub mod Views
+pub mod Taking
+pub mod Refused
+pub mod Sizes
+pub mod Finding
+pub mod Merging
+pub mod Back
+pub mod Laws
+pub mod Objects
+pub mod Tokens

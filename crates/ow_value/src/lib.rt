@@ -1,0 +1,28 @@
+#![tactic(auto)]
+
+// JSON values whose numbers are integers of 64 bits, and the texts and lists that all crates above pass about.
+mod join;
+mod lists;
+mod measure;
+mod members;
+mod memory;
+mod quick;
+mod reader;
+#[cfg(test)]
+mod tests;
+mod text;
+mod val;
+mod walk;
+mod whole;
+mod writer;
+
+pub use join::merge;
+pub use lists::{Bytes, Lines, Pairs};
+pub use measure::size;
+pub use memory::NoMemory;
+pub use reader::{ValueRefusal, read_deep, read_val};
+pub use text::Str;
+pub use val::{Pair, Params, Val, Vals};
+pub use walk::{copy, depth, known, same};
+pub use whole::Whole;
+pub use writer::write_val;

@@ -1,0 +1,183 @@
+ghost use Rattle.std.specs.Prelude.{◌≡◌, ◌≢◌, ◌≤◌, ℕ, Some, None, option_map, IfOk, IfErr, MatchResult, Ok, Err};
+ghost use Rattle.serde_json.specs.View.{number_view, view as data_view, items_view, members_view};
+ghost use Rattle.serde_json.specs.Find.{as_integer};
+ghost use Rattle.ow_value.specs.Value.{depth, items_of, members_of};
+ghost use Rattle.ow_value.specs.Json.{IsValue, AreValues, IsObject};
+ghost use Rattle.ow_value.specs.Read.{whole_of, whole_items, whole_members, reading, IsReadAs};
+ghost use Rattle.ow_value.specs.View.{view};
+
+use crate::memory::NoMemory;
+use crate::quick::quick_read;
+use crate::text::Str;
+use crate::val::{Pair, Params, Val, Vals};
+use crate::walk::depth;
+use crate::whole::Whole;
+use serde_json::error::Category;
+use serde_json::{Map, Number, Value};
+use std::alloc::{AllocError, AllocFailed, Global};
+
+/// Why a text is no value. `NotJson` is looked for first, then `NotWhole`, then `TooDeep`.
+#[derive(Clone, Copy, PartialEq, Eq, Debug, Drop)]
+pub enum ValueRefusal {
+    /// No JSON (RFC 8259), lists and objects that nest deeper than 127, or a number that no 64-bit float holds.
+    NotJson,
+    /// A number is written with a fraction or an exponent, as `-0`, or beyond i64 and u64.
+    NotWhole,
+    /// Lists and objects nest deeper than the call allows.
+    TooDeep,
+    NoMemory,
+}
+
+impl From<AllocError> for ValueRefusal {
+    ghost use Rattle.std.specs.Prelude.{◌≡◌};
+    ghost use Rattle.ow_value.specs.declared.reader.ValueRefusal.TheVariants.{NoMemory};
+
+    ghost from_gives = { λ _ e. e ≡ NoMemory };
+
+    fn from(_refused: AllocError) -> ValueRefusal {
+        ValueRefusal::NoMemory
+    }
+}
+
+impl<T: Drop> From<AllocFailed<T>> for ValueRefusal {
+    ghost use Rattle.std.specs.Prelude.{◌≡◌};
+    ghost use Rattle.ow_value.specs.declared.reader.ValueRefusal.TheVariants.{NoMemory};
+
+    ghost from_gives = { λ _ e. e ≡ NoMemory };
+
+    fn from(_refused: AllocFailed<T>) -> ValueRefusal {
+        ValueRefusal::NoMemory
+    }
+}
+
+impl From<NoMemory> for ValueRefusal {
+    ghost use Rattle.std.specs.Prelude.{◌≡◌};
+    ghost use Rattle.ow_value.specs.declared.reader.ValueRefusal.TheVariants.{NoMemory};
+
+    ghost from_gives = { λ _ e. e ≡ NoMemory };
+
+    fn from(_refused: NoMemory) -> ValueRefusal {
+        ValueRefusal::NoMemory
+    }
+}
+
+/// The value of a JSON text, nested at most 100 deep. Of two members of one name the last counts.
+pub fn read_val(alloc: Global, text: &[u8]) -> Result<Val, ValueRefusal>
+    ensures value { MatchResult result (λ v. reading 100 text.now ≡ Ok (view v))
+        (λ e. e ≢ ValueRefusal.NoMemory → reading 100 text.now ≡ Err e) }
+    ensures nests { IfOk result (λ v. depth (view v) ≤ 100) }
+{
+    read_within(alloc, text, 100)
+}
+
+/// As `read_val`, for a value nested at most 102 deep.
+pub fn read_deep(alloc: Global, text: &[u8]) -> Result<Val, ValueRefusal>
+    ensures value { MatchResult result (λ v. reading 102 text.now ≡ Ok (view v))
+        (λ e. e ≢ ValueRefusal.NoMemory → reading 102 text.now ≡ Err e) }
+    ensures nests { IfOk result (λ v. depth (view v) ≤ 102) }
+{
+    read_within(alloc, text, 102)
+}
+
+fn read_within(alloc: Global, text: &[u8], limit: u32) -> Result<Val, ValueRefusal>
+    requires { limit ≤ 127 }
+    ensures value { MatchResult result (λ v. reading limit text.now ≡ Ok (view v))
+        (λ e. e ≢ ValueRefusal.NoMemory → reading limit text.now ≡ Err e) }
+    ensures nests { IfOk result (λ v. depth (view v) ≤ limit) }
+{
+    let v = read_any(alloc, text)?;
+    if depth(&v) > limit {
+        return Err(ValueRefusal::TooDeep);
+    }
+    Ok(v)
+}
+
+fn read_any(alloc: Global, text: &[u8]) -> Result<Val, ValueRefusal>
+    ensures { MatchResult result (λ v. IsReadAs text.now (view v))
+        (λ e. (limit : ℕ) → e ≢ ValueRefusal.NoMemory → reading limit text.now ≡ Err e) }
+{
+    match quick_read(alloc, text) {
+        Ok(v) => Ok(v),
+        Err(_) => read_slowly(alloc, text),
+    }
+}
+
+// Reads what the quick reading gave up at too, and tells the refusals apart.
+fn read_slowly(alloc: Global, text: &[u8]) -> Result<Val, ValueRefusal>
+    ensures { MatchResult result (λ v. IsReadAs text.now (view v))
+        (λ e. (limit : ℕ) → e ≢ ValueRefusal.NoMemory → reading limit text.now ≡ Err e) }
+{
+    let value = match Value::from_slice(alloc, text) {
+        Ok(value) => value,
+        Err(e) => {
+            return match e.classify() {
+                Category::Memory => Err(ValueRefusal::NoMemory),
+                _ => Err(ValueRefusal::NotJson),
+            };
+        }
+    };
+    taken(alloc, value)
+}
+
+// The value with nothing of `serde_json` in it.
+#[cycle(taken)]
+fn taken(alloc: Global, value: Value) -> Result<Val, ValueRefusal>
+    ensures value { MatchResult result (λ v. whole_of (data_view value) ≡ Some (view v))
+        (λ e. e ≢ ValueRefusal.NoMemory → (e ≡ ValueRefusal.NotWhole) × (whole_of (data_view value) ≡ None)) }
+    ensures known { IfOk result (λ v. IsValue (view v)) }
+{
+    match value {
+        Value::Null => Ok(Val::Null),
+        Value::Bool(b) => Ok(Val::Bool(b)),
+        Value::Number(n) => match whole_number(n) {
+            Some(z) => Ok(Val::Int(z)),
+            None => Err(ValueRefusal::NotWhole),
+        },
+        Value::String(text) => Ok(Val::Text(Str::from_string(text))),
+        Value::Array(items) => Ok(Val::List(taken_items(alloc, items)?)),
+        Value::Object(members) => Ok(Val::Object(taken_members(alloc, members)?)),
+    }
+}
+
+#[cycle(taken)]
+fn taken_items(alloc: Global, values: Vec<Value>) -> Result<Vals, ValueRefusal>
+    ensures value { MatchResult result (λ vs. whole_items (items_view values.items) ≡ Some (items_of vs))
+        (λ e. e ≢ ValueRefusal.NoMemory → (e ≡ ValueRefusal.NotWhole) × (whole_items (items_view values.items) ≡ None)) }
+    ensures known { IfOk result (λ vs. AreValues (items_of vs)) }
+{
+    let mut items = Vec::with_capacity(alloc, values.len())?;
+    for value in values {
+        let item = taken(alloc, value)?;
+        items.push(item)?;
+    }
+    Ok(Vals { items })
+}
+
+#[cycle(taken)]
+fn taken_members(alloc: Global, members: Map<String, Value>) -> Result<Params, ValueRefusal>
+    ensures value { MatchResult result (λ ps. whole_members (members_view members.entries) ≡ Some (members_of ps))
+        (λ e. e ≢ ValueRefusal.NoMemory → (e ≡ ValueRefusal.NotWhole) × (whole_members (members_view members.entries) ≡ None)) }
+    ensures known { IfOk result (λ ps. IsObject ps) }
+{
+    let mut pairs = Vec::with_capacity(alloc, members.len())?;
+    for (key, member) in members {
+        let value = taken(alloc, member)?;
+        pairs.push(Pair {
+            name: Str::from_string(key),
+            value,
+        })?;
+    }
+    Ok(Params { pairs })
+}
+
+fn whole_number(n: Number) -> Option<Whole>
+    ensures { result ≡ as_integer (number_view n) }
+{
+    if let Some(u) = n.as_u64() {
+        return Some(Whole::of_u64(u));
+    }
+    match n.as_i64() {
+        Some(z) => Some(Whole::of_i64(z)),
+        None => None,
+    }
+}

@@ -1,0 +1,221 @@
+use super::*;
+use std::alloc::Global;
+use std::cmp::Ordering;
+use std::test::Fail;
+
+// The text that is written for what was read.
+fn rewritten(alloc: Global, read: Result<Val, ValueRefusal>) -> Result<String, ValueRefusal> {
+    let v = read?;
+    let text = write_val(alloc, &v)?;
+    String::from_utf8(text).map_err(|_| ValueRefusal::NotJson)
+}
+
+// An empty list inside lists, so many in all.
+fn nested(alloc: Global, depth: usize) -> Result<String, NoMemory> {
+    let mut text = String::new(alloc);
+    for _ in 0..depth {
+        text.push_str("[")?;
+    }
+    for _ in 0..depth {
+        text.push_str("]")?;
+    }
+    Ok(text)
+}
+
+fn sample(alloc: Global) -> Result<Params, NoMemory> {
+    let mut items = Vals::new(alloc);
+    items.push(Val::Int(Whole::of_u64(1)))?;
+    items.push(Val::Int(Whole::of_i64(-20)))?;
+    items.push(Val::Bool(false))?;
+    let mut members = Params::new(alloc);
+    members.set(Str::of(alloc, "list")?, Val::List(items))?;
+    members.set(
+        Str::of(alloc, "in\n")?,
+        Val::Text(Str::of(alloc, "\"\u{1}é")?),
+    )?;
+    members.set(Str::of(alloc, "none")?, Val::Null)?;
+    Ok(members)
+}
+
+#[test]
+fn texts_that_are_values_and_texts_that_are_none(rt: HostRuntime) -> Result<(), Fail> {
+    let alloc = rt.alloc();
+    for (text, want) in [
+        ("null", Ok("null")),
+        (
+            " {\"b\" : [true,\t-7], \"a\":\"\\u0041/\\/\" }\n",
+            Ok("{\"a\":\"A//\",\"b\":[true,-7]}"),
+        ),
+        ("18446744073709551615", Ok("18446744073709551615")),
+        ("-9223372036854775808", Ok("-9223372036854775808")),
+        ("18446744073709551616", Err(ValueRefusal::NotWhole)),
+        ("-9223372036854775809", Err(ValueRefusal::NotWhole)),
+        ("0", Ok("0")),
+        ("-0", Err(ValueRefusal::NotWhole)),
+        ("1.0", Err(ValueRefusal::NotWhole)),
+        ("1e2", Err(ValueRefusal::NotWhole)),
+        ("1e999", Err(ValueRefusal::NotJson)),
+        ("{\"a\":1.5,\"a\":1}", Ok("{\"a\":1}")),
+        ("{\"a\":1,\"a\":1.5}", Err(ValueRefusal::NotWhole)),
+        ("{\"a\":1e999,\"a\":1}", Err(ValueRefusal::NotJson)),
+        ("{\"é\":1,\"z\":2,\"Z\":3}", Ok("{\"Z\":3,\"z\":2,\"é\":1}")),
+        ("[1.5,", Err(ValueRefusal::NotJson)),
+        ("[1,]", Err(ValueRefusal::NotJson)),
+        ("1 2", Err(ValueRefusal::NotJson)),
+        ("", Err(ValueRefusal::NotJson)),
+    ] {
+        let got = rewritten(alloc, read_val(alloc, text.as_bytes()));
+        assert_eq!(rt;
+            got.as_ref().map(|s| s.as_str()),
+            want.as_ref().map(|s| *s),
+            "at {text}"
+        );
+    }
+    assert!(rt; matches!(read_val(alloc, b"\"\xff\""), Err(ValueRefusal::NotJson)));
+    Ok(())
+}
+
+#[test]
+fn how_deep_a_text_may_nest(rt: HostRuntime) -> Result<(), Fail> {
+    let alloc = rt.alloc();
+    for (depth, val, deep) in [
+        (100, None, None),
+        (101, Some(ValueRefusal::TooDeep), None),
+        (102, Some(ValueRefusal::TooDeep), None),
+        (
+            103,
+            Some(ValueRefusal::TooDeep),
+            Some(ValueRefusal::TooDeep),
+        ),
+        (
+            127,
+            Some(ValueRefusal::TooDeep),
+            Some(ValueRefusal::TooDeep),
+        ),
+        (
+            128,
+            Some(ValueRefusal::NotJson),
+            Some(ValueRefusal::NotJson),
+        ),
+    ] {
+        let text = nested(alloc, depth)?;
+        assert_eq!(rt; read_val(alloc, text.as_bytes()).err(), val, "{depth} deep");
+        assert_eq!(rt;
+            read_deep(alloc, text.as_bytes()).err(),
+            deep,
+            "{depth} deep"
+        );
+    }
+    Ok(())
+}
+
+#[test]
+fn a_value_is_written_measured_and_copied(rt: HostRuntime) -> Result<(), Fail> {
+    let alloc = rt.alloc();
+    let v = Val::Object(sample(alloc)?);
+    let text = write_val(alloc, &v)?;
+    assert_eq!(rt;
+        text.as_slice(),
+        "{\"in\\n\":\"\\\"\\u0001é\",\"list\":[1,-20,false],\"none\":null}".as_bytes()
+    );
+    assert_eq!(rt; size(&v), 54);
+    assert!(rt; same(&v, &copy(alloc, &v)?));
+    assert!(rt; !same(&v, &Val::Null));
+    Ok(())
+}
+
+#[test]
+fn members_are_found_by_name(rt: HostRuntime) -> Result<(), Fail> {
+    let alloc = rt.alloc();
+    let members = sample(alloc)?;
+    assert_eq!(rt; members.len(), 3);
+    assert!(rt; members.same(&members.copy(alloc)?));
+    assert!(rt; matches!(members.find("none"), Some(Val::Null)));
+    assert!(rt; members.find("non").is_none());
+    match members.find("list") {
+        Some(Val::List(items)) => assert_eq!(rt; items.len(), 3),
+        _ => assert!(rt; false, "no list"),
+    }
+    Ok(())
+}
+
+#[test]
+fn a_merge_takes_the_later_values(rt: HostRuntime) -> Result<(), Fail> {
+    let alloc = rt.alloc();
+    for (a, b, want) in [
+        (
+            "{\"a\":1,\"c\":2,\"d\":3}",
+            "{\"b\":4,\"c\":[5]}",
+            "{\"a\":1,\"b\":4,\"c\":[5],\"d\":3}",
+        ),
+        ("{\"a\":1}", "{}", "{\"a\":1}"),
+        ("{}", "{\"a\":1}", "{\"a\":1}"),
+    ] {
+        let (Val::Object(a), Val::Object(b)) = (
+            read_val(alloc, a.as_bytes())?,
+            read_val(alloc, b.as_bytes())?,
+        ) else {
+            return Ok(());
+        };
+        let merged = Val::Object(merge(alloc, &a, &b)?);
+        assert_eq!(rt; write_val(alloc, &merged)?.as_slice(), want.as_bytes());
+    }
+    Ok(())
+}
+
+#[test]
+fn the_depth_of_a_value(rt: HostRuntime) -> Result<(), Fail> {
+    let alloc = rt.alloc();
+    for (text, want) in [
+        ("1", 0),
+        ("[]", 1),
+        ("[{\"a\":[]},1]", 3),
+        ("{\"a\":{},\"b\":1}", 2),
+    ] {
+        assert_eq!(rt;
+            depth(&read_val(alloc, text.as_bytes())?),
+            want,
+            "at {text}"
+        );
+    }
+    Ok(())
+}
+
+#[test]
+fn texts_and_lists_of_them(rt: HostRuntime) -> Result<(), Fail> {
+    let alloc = rt.alloc();
+    let text = Str::of(alloc, "é")?;
+    assert_eq!(rt; text.len(), 2);
+    assert_eq!(rt; text.compare("f"), Ordering::Greater);
+    let mut lines = Lines::new(alloc);
+    lines.push(text.copy(alloc)?)?;
+    assert!(rt; lines.same(&lines.copy(alloc)?));
+    assert!(rt; !lines.same(&Lines::new(alloc)));
+    let mut pairs = Pairs::new(alloc);
+    pairs.push(Str::of(alloc, "k")?, text)?;
+    assert!(rt; pairs.same(&pairs.copy(alloc)?));
+    assert!(rt; !pairs.same(&Pairs::new(alloc)));
+    let mut bytes = Bytes::of(alloc, b"ab")?;
+    bytes.push(255)?;
+    assert_eq!(rt;
+        bytes.copy(alloc)?.into_vec().as_slice(),
+        b"ab\xff".as_slice()
+    );
+    Ok(())
+}
+
+#[test]
+fn an_object_of_many_members(rt: HostRuntime) -> Result<(), Fail> {
+    let alloc = rt.alloc();
+    let mut text = String::from_str(alloc, "{\"m0\":0")?;
+    for i in 1..70u32 {
+        let member = format!(in alloc; ",\"m{i}\":{i}")?;
+        text.push_str(member.as_str())?;
+    }
+    text.push_str("}")?;
+    match read_val(alloc, text.as_bytes())? {
+        Val::Object(members) => assert_eq!(rt; members.len(), 70),
+        _ => assert!(rt; false, "no object"),
+    }
+    Ok(())
+}

@@ -1,0 +1,177 @@
+ghost use Rattle.std.specs.Prelude.{◌≡◌, ◌↔◌, ◌≤◌, IsTrue, IfOk};
+ghost use Rattle.ow_value.specs.Value.{depth, items_depth, members_depth, items_of, members_of};
+ghost use Rattle.ow_value.specs.Json.{IsValue};
+ghost use Rattle.ow_value.specs.View.{view};
+
+use crate::memory::NoMemory;
+use crate::val::{Pair, Params, Val, Vals};
+use std::alloc::Global;
+
+/// Makes known what each value keeps: its integers have 64 bits, its texts are UTF-8 and the names of each object rise.
+/// It does nothing else.
+#[inline(always)]
+pub fn known(v: &Val)
+    ensures { IsValue (view v.now) }
+{
+    match v {
+        Val::Null | Val::Bool(_) => {}
+        Val::Int(n) => {
+            let _ = n.get();
+        }
+        Val::Text(s) => {
+            let _ = s.as_str();
+        }
+        Val::List(vs) => {
+            let _ = vs.items();
+        }
+        Val::Object(ps) => {
+            let _ = ps.pairs();
+        }
+    }
+}
+
+/// How deep lists and objects nest. Of a value that is neither this is 0.
+#[cycle(deep)]
+pub fn depth(v: &Val) -> u32
+    requires { depth (view v.now) ≤ 127 }
+    ensures { result ≡ depth (view v.now) }
+{
+    match v {
+        Val::List(vs) => 1 + deepest_item(vs),
+        Val::Object(ps) => 1 + deepest_member(ps),
+        _ => 0,
+    }
+}
+
+#[cycle(deep)]
+fn deepest_item(vs: &Vals) -> u32
+    requires { items_depth (items_of vs.now) ≤ 127 }
+    ensures { result ≡ items_depth (items_of vs.now) }
+{
+    let mut deepest = 0;
+    for v in &vs.items {
+        deepest = depth(v).max(deepest);
+    }
+    deepest
+}
+
+#[cycle(deep)]
+fn deepest_member(ps: &Params) -> u32
+    requires { members_depth (members_of ps.now) ≤ 127 }
+    ensures { result ≡ members_depth (members_of ps.now) }
+{
+    let mut deepest = 0;
+    for p in &ps.pairs {
+        deepest = depth(&p.value).max(deepest);
+    }
+    deepest
+}
+
+/// Whether two values are equal.
+#[cycle(alike)]
+pub fn same(a: &Val, b: &Val) -> bool
+    ensures { IsTrue result ↔ (a.now ≡ b.now) }
+{
+    match (a, b) {
+        (Val::Null, Val::Null) => true,
+        (Val::Bool(x), Val::Bool(y)) => *x == *y,
+        (Val::Int(x), Val::Int(y)) => *x == *y,
+        (Val::Text(x), Val::Text(y)) => x.same(y),
+        (Val::List(xs), Val::List(ys)) => xs.same(ys),
+        (Val::Object(ps), Val::Object(qs)) => ps.same(qs),
+        _ => false,
+    }
+}
+
+impl Vals {
+    #[cycle(alike)]
+    pub fn same(&self, other: &Vals) -> bool
+        ensures { IsTrue result ↔ (self.now ≡ other.now) }
+    {
+        if self.items.len() != other.items.len() {
+            return false;
+        }
+        for i in 0..self.items.len() {
+            if !same(&self.items[i], &other.items[i]) {
+                return false;
+            }
+        }
+        true
+    }
+}
+
+impl Params {
+    #[cycle(alike)]
+    pub fn same(&self, other: &Params) -> bool
+        ensures { IsTrue result ↔ (self.now ≡ other.now) }
+    {
+        if self.pairs.len() != other.pairs.len() {
+            return false;
+        }
+        for i in 0..self.pairs.len() {
+            if !same_pair(&self.pairs[i], &other.pairs[i]) {
+                return false;
+            }
+        }
+        true
+    }
+}
+
+#[cycle(alike)]
+fn same_pair(p: &Pair, q: &Pair) -> bool
+    ensures { IsTrue result ↔ (p.now ≡ q.now) }
+{
+    p.name.same(&q.name) && same(&p.value, &q.value)
+}
+
+/// An equal value.
+#[cycle(copied)]
+pub fn copy(alloc: Global, v: &Val) -> Result<Val, NoMemory>
+    ensures { IfOk result (λ w. w ≡ v.now) }
+{
+    match v {
+        Val::Null => Ok(Val::Null),
+        Val::Bool(b) => Ok(Val::Bool(*b)),
+        Val::Int(n) => Ok(Val::Int(*n)),
+        Val::Text(s) => Ok(Val::Text(s.copy(alloc)?)),
+        Val::List(vs) => Ok(Val::List(vs.copy(alloc)?)),
+        Val::Object(ps) => Ok(Val::Object(ps.copy(alloc)?)),
+    }
+}
+
+impl Vals {
+    #[cycle(copied)]
+    pub fn copy(&self, alloc: Global) -> Result<Vals, NoMemory>
+        ensures { IfOk result (λ ws. ws ≡ self.now) }
+    {
+        let mut items = Vec::with_capacity(alloc, self.items.len())?;
+        for v in &self.items {
+            items.push(copy(alloc, v)?)?;
+        }
+        Ok(Vals { items })
+    }
+}
+
+impl Params {
+    #[cycle(copied)]
+    pub fn copy(&self, alloc: Global) -> Result<Params, NoMemory>
+        ensures { IfOk result (λ qs. qs ≡ self.now) }
+    {
+        let mut pairs = Vec::with_capacity(alloc, self.pairs.len())?;
+        for p in &self.pairs {
+            pairs.push(p.copy(alloc)?)?;
+        }
+        Ok(Params { pairs })
+    }
+}
+
+impl Pair {
+    #[cycle(copied)]
+    pub fn copy(&self, alloc: Global) -> Result<Pair, NoMemory>
+        ensures { IfOk result (λ q. q ≡ self.now) }
+    {
+        let name = self.name.copy(alloc)?;
+        let value = copy(alloc, &self.value)?;
+        Ok(Pair { name, value })
+    }
+}

@@ -1,0 +1,67 @@
+ghost use Rattle.std.specs.Prelude.{◌≡◌, ◌≤◌, ◌++◌, ℕ, Ok, IfOk, OnOk};
+ghost use Rattle.ow_value.specs.Value.{depth, items_of, members_of};
+ghost use Rattle.ow_value.specs.Read.{reading};
+ghost use Rattle.ow_value.specs.Text.{compact, value_tokens, items_tokens, members_tokens};
+ghost use Rattle.ow_value.specs.View.{view};
+
+use crate::memory::NoMemory;
+use crate::val::{Params, Val, Vals};
+use crate::walk::known;
+use json::Writer;
+use std::alloc::{AllocError, Global};
+
+/// The text with no space between its tokens, and the names of each object in order.
+pub fn write_val(alloc: Global, v: &Val) -> Result<Vec<u8>, NoMemory>
+    ensures text { IfOk result (λ b. b.items ≡ compact (view v.now)) }
+    ensures reads_back { IfOk result (λ b. (limit : ℕ) → depth (view v.now) ≤ limit → limit ≤ 127
+        → reading limit b.items ≡ Ok (view v.now)) }
+{
+    known(v);
+    let mut out = Writer::new(Vec::with_capacity(alloc, 128)?);
+    write(v, &mut out)?;
+    Ok(out.into_inner())
+}
+
+#[cycle(written)]
+fn write(v: &Val, out: &mut Writer) -> Result<(), AllocError>
+    ensures ok { OnOk result (out.new.tokens ≡ out.old.tokens ++ value_tokens (view v.now)) }
+    ensures before { out.new.before ≡ out.old.before }
+{
+    match v {
+        Val::Null => out.null(),
+        Val::Bool(b) => out.boolean(*b),
+        Val::Int(n) => n.write(out),
+        Val::Text(s) => out.string(s.as_str()),
+        Val::List(vs) => {
+            out.begin_array()?;
+            write_items(vs, out)
+        }
+        Val::Object(ps) => {
+            out.begin_object()?;
+            write_members(ps, out)
+        }
+    }
+}
+
+#[cycle(written)]
+fn write_items(vs: &Vals, out: &mut Writer) -> Result<(), AllocError>
+    ensures ok { OnOk result (out.new.tokens ≡ out.old.tokens ++ items_tokens (items_of vs.now)) }
+    ensures before { out.new.before ≡ out.old.before }
+{
+    for v in &vs.items {
+        write(v, out)?;
+    }
+    out.end_array()
+}
+
+#[cycle(written)]
+fn write_members(ps: &Params, out: &mut Writer) -> Result<(), AllocError>
+    ensures ok { OnOk result (out.new.tokens ≡ out.old.tokens ++ members_tokens (members_of ps.now)) }
+    ensures before { out.new.before ≡ out.old.before }
+{
+    for p in &ps.pairs {
+        out.key(p.name.as_str())?;
+        write(&p.value, out)?;
+    }
+    out.end_object()
+}

@@ -1,0 +1,9 @@
+pub mod Utf8
+pub mod Newlines
+pub mod Reading
+pub mod Results
+pub mod Calling
+pub mod Days
+pub mod Runs
+pub mod Growth
+pub mod Keeping

@@ -1,0 +1,12 @@
+pub mod Statement
+pub mod Line
+pub mod Input
+pub mod Status
+pub mod Words
+pub mod Texts
+pub mod Called
+pub mod Machine
+pub mod Session
+pub mod Day
+pub mod Office
+pub mod Run

@@ -1,0 +1,43 @@
+-- What the office answers and writes.
+use Rattle.std.specs.Prelude.{◌≡◌, ℕ, List, Option, Some, None, IfSome}
+use Rattle.ow_traits.specs.Streams.{Takes, TakesFront}
+use Rattle.ow_floor.specs.Trace.{Trace}
+use Rattle.ow_floor.specs.Laws.{IsParted}
+use Rattle.ow_floor.specs.Calls.{AllRecorded, drain_answer}
+use Rattle.ow_whisk.specs.declared.status.Status.{Status}
+use Rattle.ow_whisk.specs.declared.status.Status.TheVariants as statuses
+use Rattle.ow_whisk.specs.declared.words.Command.{Command}
+use Rattle.ow_whisk.specs.declared.words.Command.TheVariants as commands
+use Rattle.ow_whisk.specs.Day.{Day, Finished, Bad, TooLong, day_of, first_statements}
+
+-- what was written for this day, by the status: all of its text at its end, at its first bad statement and at its
+-- greatest length, and else a front of it
+abbrev pub Tells : Option (List ℕ) → Option (List ℕ) → Status → Day → Type 0
+Tells old new statuses.Ok day = (day.ending ≡ Finished) × Takes old new day.text
+Tells old new (statuses.BadDay n) day = (day.ending ≡ Bad n) × Takes old new day.text
+Tells old new statuses.DayTooLong day = (day.ending ≡ TooLong) × Takes old new day.text
+Tells old new statuses.BadWords day = ⊥
+Tells old new status day = TakesFront old new day.text
+
+-- a status of a command that writes a text
+abbrev pub TellsText : Option (List ℕ) → Option (List ℕ) → Status → List ℕ → Type 0
+TellsText old new statuses.Ok text = Takes old new text
+TellsText old new statuses.WriteFault text = TakesFront old new text
+TellsText old new status text = ⊥
+
+-- what the office wrote, by the command and the status. `left` is what the day had left, where that is told
+abbrev pub TellsCommand : (help version : List ℕ) → Option Command → Option (List ℕ) → Option (List ℕ) → Option (List ℕ) → Status → Type 0
+TellsCommand help version None left old new status = (status ≡ statuses.BadWords) × (new ≡ old)
+TellsCommand help version (Some commands.Help) left old new status = TellsText old new status help
+TellsCommand help version (Some commands.Version) left old new status = TellsText old new status version
+TellsCommand help version (Some commands.Day) left old new status = IfSome left (λ bytes. Tells old new status (day_of bytes))
+
+-- what holds of a trace at each moment: each accepted activation is exactly one of waiting, running and recorded, once,
+-- and where `drain` would answer drained, each is recorded, once
+pub record IsKept (T : Trace) : Type 0 where
+  pub parted : IsParted T
+  pub drained : AllRecorded T (drain_answer T)
+
+-- each activation of the first statements of a day, of however many
+abbrev pub KeepsEach : List ℕ → Type 0
+KeepsEach bytes = (count : ℕ) → IsKept (first_statements count bytes).machine.trace

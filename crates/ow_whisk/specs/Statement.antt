@@ -1,0 +1,91 @@
+-- The statements of a day file, by the text of a line.
+use Rattle.std.specs.Prelude.{◌==◌, ◌+◌, ◌-◌, ◌*◌, ◌^◌, ◌&&◌, ℕ, nat_lt, List, [], ◌∷◌, Option, Some, None, if◌then◌else◌, length, take, drop, position, codes, option_and_then}
+use Rattle.std.specs.Char.{is_ascii_digit}
+use Rattle.std.specs.Str.{bytes_eq, is_utf8}
+
+pub data Statement : Type 0 where
+  At : (moment : ℕ) → Statement
+  Call : (name text : List ℕ) → Statement
+  Next : Statement
+  Answer : (run : ℕ) (text : List ℕ) → Statement
+  Drain : Statement
+  End : Statement
+
+-- a number with one more digit, below 2 ^ 64
+abbrev pub digit_after : ℕ → ℕ → Option ℕ
+digit_after n c = if is_ascii_digit c && nat_lt (n * 10 + (c - 48)) (2 ^ 64) then Some (n * 10 + (c - 48)) else None
+
+-- decimal digits after a number
+abbrev pub number_after : ℕ → List ℕ → Option ℕ
+number_after n [] = Some n
+number_after n (c ∷ cs) = option_and_then (λ m. number_after m cs) (digit_after n c)
+
+-- a decimal number of 64 bits without a leading zero
+abbrev pub number_of : List ℕ → Option ℕ
+number_of [] = None
+number_of (c ∷ []) = number_after 0 (c ∷ [])
+number_of (c ∷ d ∷ cs) = if c == 48 then None else number_after 0 (c ∷ d ∷ cs)
+
+abbrev pub parted_at : List ℕ → Option ℕ → Option (List ℕ × List ℕ)
+parted_at line None = None
+parted_at line (Some k) = Some (take k line, drop (k + 1) line)
+
+-- the word up to the first space, and what follows the space
+unfoldable pub parted : List ℕ → Option (List ℕ × List ℕ)
+parted line = parted_at line (position (λ c. c == 32) line)
+
+-- the bytes, where they are UTF-8
+abbrev pub utf8_text : List ℕ → Option (List ℕ)
+utf8_text bytes = if is_utf8 bytes then Some bytes else None
+
+abbrev pub called : Option (List ℕ) → Option (List ℕ) → Option Statement
+called None text = None
+called (Some name) None = None
+called (Some name) (Some text) = Some (Call name text)
+
+abbrev pub call_in : Option (List ℕ × List ℕ) → Option Statement
+call_in None = None
+call_in (Some parts) = if length parts.0 == 0 then None else called (utf8_text parts.0) (utf8_text parts.1)
+
+-- `call NAME TEXT`: the name is a word, and the rest of the line the text
+unfoldable pub call_of : List ℕ → Option Statement
+call_of rest = call_in (parted rest)
+
+abbrev pub answered : Option ℕ → Option (List ℕ) → Option Statement
+answered None text = None
+answered (Some run) None = None
+answered (Some run) (Some text) = Some (Answer run text)
+
+abbrev pub answer_in : Option (List ℕ × List ℕ) → Option Statement
+answer_in None = None
+answer_in (Some parts) = answered (number_of parts.0) (utf8_text parts.1)
+
+-- `answer RUN TEXT`
+unfoldable pub answer_of : List ℕ → Option Statement
+answer_of rest = answer_in (parted rest)
+
+abbrev pub at_moment : Option ℕ → Option Statement
+at_moment None = None
+at_moment (Some moment) = if nat_lt 253402300799999 moment then None else Some (At moment)
+
+-- `at MOMENT`: milliseconds, up to the last of the year 9999
+unfoldable pub at_of : List ℕ → Option Statement
+at_of rest = at_moment (number_of rest)
+
+-- the statement that begins with this word, and goes on with the rest
+unfoldable pub worded : List ℕ → List ℕ → Option Statement
+worded word rest = if bytes_eq word (codes "call") then call_of rest
+    else (if bytes_eq word (codes "answer") then answer_of rest
+    else (if bytes_eq word (codes "at") then at_of rest else None))
+
+abbrev pub worded_in : Option (List ℕ × List ℕ) → Option Statement
+worded_in None = None
+worded_in (Some parts) = worded parts.0 parts.1
+
+-- the statement of a line, which has no newline
+unfoldable pub statement_of : List ℕ → Option Statement
+statement_of line = if nat_lt 8388608 (length line) then None
+    else (if bytes_eq line (codes "next") then Some Next
+    else (if bytes_eq line (codes "drain") then Some Drain
+    else (if bytes_eq line (codes "end") then Some End
+    else worded_in (parted line))))

@@ -1,0 +1,153 @@
+// The statements of a day, as they are read from its lines.
+ghost use Rattle.std.specs.Prelude.{◌≡◌, ◌==◌, position};
+ghost use Rattle.std.specs.Option.{option_map};
+ghost use Rattle.ow_whisk.specs.Statement.{answer_of, at_of, call_of, digit_after, number_after, number_of, parted, statement_of, utf8_text, worded};
+ghost use Rattle.ow_whisk.specs.Line.{statement};
+
+/// The most bytes of a line, without its newline.
+pub const LONGEST_LINE: usize = 8_388_608;
+
+/// The greatest moment, in milliseconds: the last of the year 9999.
+pub const GREATEST_MOMENT: u64 = 253_402_300_799_999;
+
+/// A statement, its words lent from its line.
+#[derive(Clone, Copy)]
+pub enum Line<'a> {
+    At(u64),
+    Call(&'a str, &'a str),
+    Next,
+    Answer(u64, &'a str),
+    Drain,
+    End,
+}
+
+/// The statement of a line, which has no newline.
+#[tactic(auto, unfolding(crate::specs::Statement::statement_of))]
+pub fn statement_of(line: &[u8]) -> Option<Line<'_>>
+    ensures { option_map statement result ≡ statement_of line.now }
+{
+    if line.len() > LONGEST_LINE {
+        return None;
+    }
+    if line == b"next".as_slice() {
+        return Some(Line::Next);
+    }
+    if line == b"drain".as_slice() {
+        return Some(Line::Drain);
+    }
+    if line == b"end".as_slice() {
+        return Some(Line::End);
+    }
+    let (word, rest) = parted(line)?;
+    worded(word, rest)
+}
+
+// The statement that begins with this word.
+#[tactic(auto, unfolding(crate::specs::Statement::worded))]
+fn worded<'a>(word: &[u8], rest: &'a [u8]) -> Option<Line<'a>>
+    ensures { option_map statement result ≡ worded word.now rest.now }
+{
+    if word == b"call".as_slice() {
+        return call_of(rest);
+    }
+    if word == b"answer".as_slice() {
+        return answer_of(rest);
+    }
+    if word == b"at".as_slice() {
+        return at_of(rest);
+    }
+    None
+}
+
+#[tactic(auto, unfolding(crate::specs::Statement::call_of))]
+fn call_of(rest: &[u8]) -> Option<Line<'_>>
+    ensures { option_map statement result ≡ call_of rest.now }
+{
+    let (name, text) = parted(rest)?;
+    if name.is_empty() {
+        return None;
+    }
+    let name = text_of(name)?;
+    let text = text_of(text)?;
+    Some(Line::Call(name, text))
+}
+
+#[tactic(auto, unfolding(crate::specs::Statement::answer_of))]
+fn answer_of(rest: &[u8]) -> Option<Line<'_>>
+    ensures { option_map statement result ≡ answer_of rest.now }
+{
+    let (number, text) = parted(rest)?;
+    let run = number_of(number)?;
+    let text = text_of(text)?;
+    Some(Line::Answer(run, text))
+}
+
+#[tactic(auto, unfolding(crate::specs::Statement::at_of))]
+fn at_of(rest: &[u8]) -> Option<Line<'_>>
+    ensures { option_map statement result ≡ at_of rest.now }
+{
+    let moment = number_of(rest)?;
+    if moment > GREATEST_MOMENT {
+        return None;
+    }
+    Some(Line::At(moment))
+}
+
+// The bytes as text, where they are UTF-8.
+fn text_of(bytes: &[u8]) -> Option<&str>
+    ensures { option_map (λ s. s.now) result ≡ utf8_text bytes.now }
+{
+    match std::str::from_utf8(bytes) {
+        Ok(text) => Some(text),
+        Err(_) => None,
+    }
+}
+
+// The word up to the first space, and what follows the space.
+#[tactic(auto, unfolding(crate::specs::Statement::parted))]
+fn parted(line: &[u8]) -> Option<(&[u8], &[u8])>
+    ensures { option_map (λ p. (p.0.now, p.1.now)) result ≡ parted line.now }
+{
+    let k = space_in(line)?;
+    Some((&line[..k], &line[k + 1..]))
+}
+
+fn space_in(text: &[u8]) -> Option<usize>
+    ensures { result ≡ position (λ c. c == 32) text.now }
+{
+    text.iter().position(|c| *c == b' ')
+}
+
+// A decimal number of 64 bits, with no leading zero and no sign.
+fn number_of(text: &[u8]) -> Option<u64>
+    ensures { result ≡ number_of text.now }
+{
+    match text {
+        [] => None,
+        [b'0', _, ..] => None,
+        _ => number_after(text),
+    }
+}
+
+fn number_after(text: &[u8]) -> Option<u64>
+    ensures { result ≡ number_after 0 text.now }
+{
+    let mut n = 0u64;
+    let mut rest = text;
+    while let [c, after @ ..] = rest {
+        n = digit_after(n, *c)?;
+        rest = after;
+    }
+    Some(n)
+}
+
+// The number with one more digit.
+fn digit_after(n: u64, c: u8) -> Option<u64>
+    ensures { result ≡ digit_after n c }
+{
+    if !c.is_ascii_digit() {
+        return None;
+    }
+    let digit = u64::from(c - b'0');
+    n.checked_mul(10)?.checked_add(digit)
+}

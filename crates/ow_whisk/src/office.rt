@@ -1,0 +1,68 @@
+// The top call: what the words ask for, over what lies outside.
+ghost use Rattle.std.specs.Prelude.{◌≡◌, ◌↔◌, ℕ, List, Some, None, map, string_bytes};
+ghost use Rattle.ow_traits.specs.Streams.{Rose, Takes, TakesFront};
+ghost use Rattle.ow_whisk.specs.Words.{command_of};
+ghost use Rattle.ow_whisk.specs.Status.{err_text};
+ghost use Rattle.ow_whisk.specs.Office.{KeepsEach, TellsCommand, TellsText};
+
+use crate::run::run_day;
+use crate::status::{Status, report};
+use crate::words::{Command, HELP, VERSION, command_of};
+use ow_traits::{Keeper, Sink, Source, write_all};
+use std::alloc::Global;
+
+fn write_text<O: Sink>(out: &mut O, text: &[u8]) -> Status
+    ensures told { TellsText (O.taken out.old) (O.taken out.new) result text.now }
+    ensures write { result ≡ Status.WriteFault → Rose (O.faults out.old) (O.faults out.new) }
+{
+    match write_all(out, text) {
+        Ok(()) => Status::Ok,
+        Err(_) => Status::WriteFault,
+    }
+}
+
+fn perform<S: Source, O: Sink>(alloc: Global, words: &[String], day: &mut S, out: &mut O) -> Status
+    ensures told { TellsCommand HELP.now VERSION.now (command_of (map string_bytes words.now)) (S.left day.old) (O.taken out.old) (O.taken out.new) result }
+    ensures words { (result ≡ Status.BadWords) ↔ (command_of (map string_bytes words.now) ≡ None) }
+    ensures read { result ≡ Status.ReadFault → Rose (S.faults day.old) (S.faults day.new) }
+    ensures write { result ≡ Status.WriteFault → Rose (O.faults out.old) (O.faults out.new) }
+{
+    match command_of(words) {
+        Some(Command::Day) => run_day(alloc, day, out),
+        Some(Command::Help) => write_text(out, HELP),
+        Some(Command::Version) => write_text(out, VERSION),
+        None => Status::BadWords,
+    }
+}
+
+/// Does what the words say: for `day`, carries out the statements of the day as they come, and writes
+/// each answer before it asks for more of the day. The words are looked at first. The store is handed
+/// back as it was; neither it nor the table is looked at yet.
+pub fn office<T: Source, S: Source, O: Sink, E: Sink, P: Keeper>(
+    alloc: Global,
+    words: &[String],
+    table: &mut T,
+    day: &mut S,
+    out: &mut O,
+    err: &mut E,
+    store: P,
+) -> (Status, Option<P>)
+    // What was written, by the status.
+    ensures told { TellsCommand HELP.now VERSION.now (command_of (map string_bytes words.now)) (S.left day.old) (O.taken out.old) (O.taken out.new) result.0 }
+    ensures kept { (bytes : List ℕ) → KeepsEach bytes }
+    ensures line { TakesFront (E.taken err.old) (E.taken err.new) (err_text result.0) }
+    ensures whole_line { (Rose (E.faults err.old) (E.faults err.new) → ⊥) → Takes (E.taken err.old) (E.taken err.new) (err_text result.0) }
+
+    // When the other statuses come.
+    ensures words { (result.0 ≡ Status.BadWords) ↔ (command_of (map string_bytes words.now) ≡ None) }
+    ensures read { result.0 ≡ Status.ReadFault → Rose (S.faults day.old) (S.faults day.new) }
+    ensures write { result.0 ≡ Status.WriteFault → Rose (O.faults out.old) (O.faults out.new) }
+
+    // What comes back.
+    ensures store { result.1 ≡ Some store }
+    ensures table { table.new ≡ table.old }
+{
+    let status = perform(alloc, words, day, out);
+    let _ = report(status, err);
+    (status, Some(store))
+}
