@@ -15,24 +15,42 @@ mod words;
 
 use office::office;
 use ow_traits::{MemoryKeeper, ReaderSource, WriterSink};
+use status::{Status, report};
 use std::process::ExitCode;
 use std::{env, io};
 
-fn main(rt: HostRuntime) -> io::Result<ExitCode> {
-    let words: Vec<String> = env::args(&rt)?.skip(1).collect(rt.alloc())?;
+// The words of the command line, or how the office ends without them. A word that isn't UTF-8 is in no
+// command.
+fn words_of(rt: &HostRuntime) -> Result<Vec<String>, Status> {
+    match env::args(rt) {
+        Ok(words) => match words.skip(1).collect(rt.alloc()) {
+            Ok(words) => Ok(words),
+            Err(_) => Err(Status::NoMemory),
+        },
+        Err(e) => match e.kind() {
+            io::ErrorKind::OutOfMemory => Err(Status::NoMemory),
+            _ => Err(Status::BadWords),
+        },
+    }
+}
+
+// Opens what lies outside, and ends with the number of the office's status.
+fn main(rt: HostRuntime) -> ExitCode {
+    let mut err = WriterSink::new(rt.stderr());
+    let words = match words_of(&rt) {
+        Ok(words) => words,
+        Err(status) => {
+            let _ = report(status, &mut err);
+            return ExitCode::from(status.number());
+        }
+    };
+    let alloc = rt.alloc();
     let mut table = ReaderSource::new(io::empty());
     let mut day = ReaderSource::new(rt.stdin());
     let mut out = WriterSink::new(rt.stdout());
-    let mut err = WriterSink::new(rt.stderr());
-    let store = MemoryKeeper::new(rt.alloc());
+    let store = MemoryKeeper::new(alloc);
     let (status, _store) = office(
-        rt.alloc(),
-        &words,
-        &mut table,
-        &mut day,
-        &mut out,
-        &mut err,
-        store,
+        alloc, &words, &mut table, &mut day, &mut out, &mut err, store,
     );
-    Ok(ExitCode::from(status.number()))
+    ExitCode::from(status.number())
 }
