@@ -11,9 +11,9 @@ use crate::{
     Activation, AnswerRefusal, Answered, Drain, Ended, Happened, Happening, Idle, Open, Order,
     Plan, RunOrder, State,
 };
-use ow_records::{Ending, Id, outcome};
+use ow_records::{Ending, Id, outcome_in};
 use ow_traits::RunReply;
-use ow_value::NoMemory;
+use ow_value::{NoMemory, Scratch};
 use std::alloc::Global;
 use std::marker::Model;
 
@@ -28,6 +28,8 @@ pub struct Floor {
     runs: u64,
     latest: u64,
     draining: bool,
+    // In which answers are read.
+    scratch: Scratch,
 }
 
 impl Model for Floor {
@@ -66,6 +68,7 @@ impl Floor {
             runs: 0,
             latest: 0,
             draining: false,
+            scratch: Scratch::new(alloc),
         }
     }
 
@@ -194,6 +197,7 @@ impl Floor {
 // The record of an activation that ends so, and what is told of it.
 fn record_end(
     alloc: Global,
+    scratch: &mut Scratch,
     at: u64,
     task: &Activation,
     ending: &Ending,
@@ -201,7 +205,7 @@ fn record_end(
     ensures entry { IfOk result (λ r. r.0 ≡ record_of (end_of at ending.now task.now)) }
     ensures told { IfOk result (λ r. r.1 ≡ happened_recorded (end_of at ending.now task.now)) }
 {
-    let response = outcome(alloc, ending, &task.limits)?;
+    let response = outcome_in(alloc, scratch, ending, &task.limits)?;
     let happened = Happened::one(
         alloc,
         Happening::Recorded {
@@ -276,7 +280,7 @@ impl Floor {
         };
         let ending = Ending::Replied(reply);
         let task = &self.open_items[place].task;
-        let Ok((ended, happened)) = record_end(alloc, at, task, &ending) else {
+        let Ok((ended, happened)) = record_end(alloc, &mut self.scratch, at, task, &ending) else {
             let Ending::Replied(reply) = ending;
             return Err(AnswerRefusal::NoMemory(reply));
         };

@@ -10,6 +10,6 @@ mod run_limits;
 mod tests;
 
 pub use ids::Id;
-pub use outcomes::{Ending, outcome};
+pub use outcomes::{Ending, outcome, outcome_in};
 pub use responses::Response;
 pub use run_limits::Limits;

@@ -5,7 +5,7 @@ ghost use Rattle.ow_records.specs.Outcome.{failure, of_exit, of_object, of_reply
 
 use crate::{Limits, Response};
 use ow_traits::RunReply;
-use ow_value::{NoMemory, Params, Str, Val, ValueRefusal, read_val};
+use ow_value::{NoMemory, Params, Scratch, Str, Val, ValueRefusal, read_val_in};
 use std::alloc::Global;
 
 // The most bytes of an answer's text, which is Apache OpenWhisk's limit for a result.
@@ -35,32 +35,44 @@ impl Ending {
 }
 
 /// The response of an activation that ended so.
-#[tactic(auto, unfolding(crate::specs::Outcome::outcome))]
 pub fn outcome(alloc: Global, ending: &Ending, limits: &Limits) -> Result<Response, NoMemory>
     ensures { IfOk result (λ r. r ≡ outcome ending.now limits.now) }
 {
-    let Ending::Replied(reply) = ending;
-    replied(alloc, reply)
+    outcome_in(alloc, &mut Scratch::new(alloc), ending, limits)
 }
 
-fn replied(alloc: Global, reply: &RunReply) -> Result<Response, NoMemory>
+/// As `outcome`, with a scratch for reading answers that is kept from one to the next.
+#[tactic(auto, unfolding(crate::specs::Outcome::outcome))]
+pub fn outcome_in(
+    alloc: Global,
+    scratch: &mut Scratch,
+    ending: &Ending,
+    limits: &Limits,
+) -> Result<Response, NoMemory>
+    ensures { IfOk result (λ r. r ≡ outcome ending.now limits.now) }
+{
+    let Ending::Replied(reply) = ending;
+    replied(alloc, scratch, reply)
+}
+
+fn replied(alloc: Global, scratch: &mut Scratch, reply: &RunReply) -> Result<Response, NoMemory>
     ensures { IfOk result (λ r. r ≡ of_reply reply.now) }
 {
     match reply {
-        RunReply::Answer { text, .. } => answered(alloc, text.as_str()),
+        RunReply::Answer { text, .. } => answered(alloc, scratch, text.as_str()),
         RunReply::Exit { code, .. } => ended(alloc, *code),
         RunReply::NoStart { .. } => failed(alloc, 3, "The action did not start."),
         RunReply::Fault => failed(alloc, 3, "The runner failed."),
     }
 }
 
-fn answered(alloc: Global, text: &str) -> Result<Response, NoMemory>
+fn answered(alloc: Global, scratch: &mut Scratch, text: &str) -> Result<Response, NoMemory>
     ensures { IfOk result (λ r. r ≡ of_text text.now) }
 {
     if text.len() > MOST_BYTES {
         return failed(alloc, 2, "The result has too many bytes.");
     }
-    match read_val(alloc, text.as_bytes()) {
+    match read_val_in(alloc, scratch, text.as_bytes()) {
         Ok(value) => valued(alloc, value),
         Err(ValueRefusal::NoMemory) => Err(NoMemory),
         Err(_) => failed(alloc, 2, "The result is no JSON value of whole numbers."),

@@ -17,10 +17,11 @@ mod whole;
 mod writer;
 
 pub use join::merge;
+pub use json::Scratch;
 pub use lists::{Bytes, Lines, Pairs};
 pub use measure::size;
 pub use memory::NoMemory;
-pub use reader::{ValueRefusal, read_deep, read_val};
+pub use reader::{ValueRefusal, read_deep, read_val, read_val_in};
 pub use text::Str;
 pub use val::{Pair, Params, Val, Vals};
 pub use walk::{copy, depth, known, same};

@@ -46,14 +46,13 @@ impl From<Invalid> for Unread {
     }
 }
 
-pub(crate) fn quick_read(alloc: Global, bytes: &[u8]) -> Result<Val, Unread>
+pub(crate) fn quick_read(alloc: Global, scratch: &mut Scratch, bytes: &[u8]) -> Result<Val, Unread>
     ensures { IfOk result (λ v. IsReadAs bytes.now (view v)) }
 {
     let Ok(text) = str::from_utf8(bytes) else {
         return Err(Unread);
     };
-    let mut scratch = Scratch::new(alloc);
-    let mut reader = Reader::new(text, &mut scratch)?;
+    let mut reader = Reader::new(text, scratch)?;
     let v = read_value(alloc, &mut reader, MAX_DEPTH)?;
     if reader.next().is_some() {
         return Err(Unread);

@@ -12,6 +12,7 @@ use crate::text::Str;
 use crate::val::{Pair, Params, Val, Vals};
 use crate::walk::depth;
 use crate::whole::Whole;
+use json::Scratch;
 use serde_json::error::Category;
 use serde_json::{Map, Number, Value};
 use std::alloc::{AllocError, AllocFailed, Global};
@@ -67,7 +68,17 @@ pub fn read_val(alloc: Global, text: &[u8]) -> Result<Val, ValueRefusal>
         (λ e. e ≢ ValueRefusal.NoMemory → reading 100 text.now ≡ Err e) }
     ensures nests { IfOk result (λ v. depth (view v) ≤ 100) }
 {
-    read_within(alloc, text, 100)
+    read_val_in(alloc, &mut Scratch::new(alloc), text)
+}
+
+/// As `read_val`, in a scratch that is kept from text to text: to make one costs more than to read a short
+/// text. What a text leaves in it means nothing to the next.
+pub fn read_val_in(alloc: Global, scratch: &mut Scratch, text: &[u8]) -> Result<Val, ValueRefusal>
+    ensures value { MatchResult result (λ v. reading 100 text.now ≡ Ok (view v))
+        (λ e. e ≢ ValueRefusal.NoMemory → reading 100 text.now ≡ Err e) }
+    ensures nests { IfOk result (λ v. depth (view v) ≤ 100) }
+{
+    read_within(alloc, scratch, text, 100)
 }
 
 /// As `read_val`, for a value nested at most 102 deep.
@@ -76,27 +87,32 @@ pub fn read_deep(alloc: Global, text: &[u8]) -> Result<Val, ValueRefusal>
         (λ e. e ≢ ValueRefusal.NoMemory → reading 102 text.now ≡ Err e) }
     ensures nests { IfOk result (λ v. depth (view v) ≤ 102) }
 {
-    read_within(alloc, text, 102)
+    read_within(alloc, &mut Scratch::new(alloc), text, 102)
 }
 
-fn read_within(alloc: Global, text: &[u8], limit: u32) -> Result<Val, ValueRefusal>
+fn read_within(
+    alloc: Global,
+    scratch: &mut Scratch,
+    text: &[u8],
+    limit: u32,
+) -> Result<Val, ValueRefusal>
     requires { limit ≤ 127 }
     ensures value { MatchResult result (λ v. reading limit text.now ≡ Ok (view v))
         (λ e. e ≢ ValueRefusal.NoMemory → reading limit text.now ≡ Err e) }
     ensures nests { IfOk result (λ v. depth (view v) ≤ limit) }
 {
-    let v = read_any(alloc, text)?;
+    let v = read_any(alloc, scratch, text)?;
     if depth(&v) > limit {
         return Err(ValueRefusal::TooDeep);
     }
     Ok(v)
 }
 
-fn read_any(alloc: Global, text: &[u8]) -> Result<Val, ValueRefusal>
+fn read_any(alloc: Global, scratch: &mut Scratch, text: &[u8]) -> Result<Val, ValueRefusal>
     ensures { MatchResult result (λ v. IsReadAs text.now (view v))
         (λ e. (limit : ℕ) → e ≢ ValueRefusal.NoMemory → reading limit text.now ≡ Err e) }
 {
-    match quick_read(alloc, text) {
+    match quick_read(alloc, scratch, text) {
         Ok(v) => Ok(v),
         Err(_) => read_slowly(alloc, text),
     }

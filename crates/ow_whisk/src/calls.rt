@@ -2,7 +2,7 @@
 ghost use Rattle.std.specs.Prelude.{◌≡◌, Some, IfOk};
 ghost use Rattle.ow_whisk.specs.Called.{called, called_by};
 
-use ow_value::{NoMemory, Params, Val, ValueRefusal, read_val};
+use ow_value::{NoMemory, Params, Scratch, Val, ValueRefusal, read_val_in};
 use std::alloc::Global;
 
 /// The full name of the built-in action.
@@ -20,10 +20,15 @@ pub enum Called {
 }
 
 /// What a call asks for. Its text is looked at first, and then its name.
-pub fn asked_of(alloc: Global, name: &str, text: &str) -> Result<Called, NoMemory>
+pub fn asked_of(
+    alloc: Global,
+    scratch: &mut Scratch,
+    name: &str,
+    text: &str,
+) -> Result<Called, NoMemory>
     ensures { IfOk result (λ c. c ≡ called name.now text.now) }
 {
-    match read_val(alloc, text.as_bytes()) {
+    match read_val_in(alloc, scratch, text.as_bytes()) {
         Ok(Val::Object(params)) => Ok(called_by(name, params)),
         Err(ValueRefusal::NoMemory) => Err(NoMemory),
         _ => Ok(Called::NoObject),

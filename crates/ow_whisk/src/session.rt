@@ -12,7 +12,7 @@ use crate::texts::{push, push_drain, push_happened, push_no_run, push_order};
 use ow_floor::{AnswerRefusal, Answered, Floor, Plan};
 use ow_records::{Id, Limits};
 use ow_traits::RunReply;
-use ow_value::{Lines, NoMemory, Params, Str};
+use ow_value::{Lines, NoMemory, Params, Scratch, Str};
 use std::alloc::Global;
 
 /// The floor, and the moment in milliseconds that the day gave last.
@@ -20,6 +20,8 @@ use std::alloc::Global;
 pub struct Session {
     pub floor: Floor,
     pub given: u64,
+    // In which the texts of calls are read.
+    pub scratch: Scratch,
 }
 
 /// What became of a line.
@@ -43,6 +45,7 @@ impl Session {
         Session {
             floor: Floor::new(alloc),
             given: 0,
+            scratch: Scratch::new(alloc),
         }
     }
 
@@ -101,7 +104,7 @@ impl Session {
         requires { Fits self.old }
         ensures { OnOk result (CarriesOut self.old self.new (Call name.now text.now) answers.old.items answers.new.items) }
     {
-        let asked = asked_of(alloc, name, text)?;
+        let asked = asked_of(alloc, &mut self.scratch, name, text)?;
         self.perform_call(alloc, asked, answers)
     }
 
