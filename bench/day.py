@@ -6,25 +6,44 @@ import tempfile
 import time
 
 ROUNDS = 5
+ACTIVATIONS = 100_000
 
 
 def run(command, day):
-    """The wall time in seconds, the peak memory in bytes, and the lines written."""
+    """The wall time in seconds, with the start of the process, and the number of lines written."""
     with open(day, "rb") as source, tempfile.TemporaryFile() as out:
         start = time.perf_counter()
-        child = subprocess.Popen(command, stdin=source, stdout=out)
-        _, status, usage = os.wait4(child.pid, 0)
+        status = subprocess.call(command, stdin=source, stdout=out)
         seconds = time.perf_counter() - start
-        child.returncode = os.waitstatus_to_exitcode(status)
-        if child.returncode != 0:
-            sys.exit(f"{command} ended with {child.returncode}")
+        if status != 0:
+            sys.exit(f"{command} ended with {status}")
         out.seek(0)
-        return seconds, usage.ru_maxrss * 1024, sum(1 for _ in out)
+        return seconds, sum(1 for _ in out)
 
 
 def best(command, day):
     runs = [run(command, day) for _ in range(ROUNDS)]
-    return min(r[0] for r in runs), max(r[1] for r in runs), runs[0][2]
+    return min(seconds for seconds, _ in runs), runs[0][1]
+
+
+def peak(command, day):
+    """The greatest memory in bytes that the process had when it had carried out the day and waited for more."""
+    with open(day, "rb") as source, subprocess.Popen(
+        command, stdin=subprocess.PIPE, stdout=subprocess.DEVNULL
+    ) as child:
+        while piece := source.read(1 << 16):
+            child.stdin.write(piece)
+        child.stdin.flush()
+        waiting = 0
+        while waiting < 10:
+            time.sleep(0.02)
+            with open(f"/proc/{child.pid}/stat") as stat:
+                state = stat.read().rsplit(")", 1)[1].split()[0]
+            waiting = waiting + 1 if state == "S" else 0
+        with open(f"/proc/{child.pid}/status") as status:
+            lines = dict(line.split(":", 1) for line in status)
+        child.stdin.close()
+        return int(lines["VmHWM"].split()[0]) * 1024
 
 
 def write_day(path, count):
@@ -39,24 +58,22 @@ def main():
     program, python = sys.argv[1], sys.argv[2]
     loop = [python, os.path.join(os.path.dirname(__file__), "day_loop.py")]
     with tempfile.TemporaryDirectory() as folder:
-        empty, full, double, idle = (
-            os.path.join(folder, name) for name in ("empty", "full", "double", "idle")
-        )
+        empty, full, idle = (os.path.join(folder, name) for name in ("empty", "full", "idle"))
         write_day(empty, 0)
-        write_day(full, 100_000)
-        write_day(double, 200_000)
+        write_day(full, ACTIVATIONS)
         with open(idle, "w") as day:
             day.write("next\n" * 3_000_000)
-        ours, memory, lines = best([program, "day"], full)
-        theirs, _, their_lines = best(loop, full)
-        assert lines == their_lines == 300_000
-        print(f"program      {ours:.3f} s, {lines} lines, peak {memory / 1e6:.1f} MB")
-        print(f"Python loop  {theirs:.3f} s")
-        print(f"the program is {theirs / ours:.1f} times as fast (best of {ROUNDS} runs each, with process start)")
-        more = best([program, "day"], double)[1]
-        print(f"memory: {(more - memory) / 100_000:.0f} bytes for each activation that is kept")
-        nothing, held = best([program, "day"], empty)[1], best([program, "day"], idle)[1]
-        print(f"memory: {(held - nothing) / 1e6:.2f} MB more for 3,000,000 statements that keep nothing than for none")
+        ours, lines = best([program, "day"], full)
+        theirs, their_lines = best(loop, full)
+        if not lines == their_lines == 3 * ACTIVATIONS:
+            sys.exit(f"wrote {lines} and {their_lines} lines")
+        nothing, memory = peak([program, "day"], empty), peak([program, "day"], full)
+        held = peak([program, "day"], idle)
+        print(f"program      {ours:.3f} s for {lines} statements, peak memory {memory / 1e6:.1f} MB")
+        print(f"Python loop  {theirs:.3f} s for the same lines")
+        print(f"the program is {theirs / ours:.1f} times as fast (best of {ROUNDS} runs each)")
+        print(f"it keeps {(memory - nothing) / ACTIVATIONS:.0f} bytes of each activation")
+        print(f"and {(held - nothing) / 1e6:.2f} MB more for 3,000,000 statements that keep nothing than for none")
 
 
 main()
