@@ -1,0 +1,53 @@
+-- What a name is, and the first thing wrong with bytes that are none.
+use Rattle.std.specs.Prelude.{◌≡◌, ◌≢◌, ◌≤◌, ◌<◌, ◌-◌, ◌==◌, ◌||◌, ℕ, zero, suc, List, Bool, true, false, not, length, slice_index, nat_lt, if◌then◌else◌, Option, Some, None}
+use Rattle.std.specs.Char.{is_ascii_alphanumeric}
+use Rattle.std.specs.List.{enumerate_from, position}
+use Rattle.ow_names.specs.declared.refusal.NameRefusal.{NameRefusal}
+use Rattle.ow_names.specs.declared.refusal.NameRefusal.TheVariants.{BadPath, Empty, TooLong, BadChar, EndsInSpace, NoMemory}
+
+-- an ASCII letter, a digit or `_`
+abbrev pub is_first_byte : ℕ → Bool
+is_first_byte b = is_ascii_alphanumeric b || b == 95
+
+-- one of these, a space, `@`, `.` or `-`
+abbrev pub is_later_byte : ℕ → Bool
+is_later_byte b = (((is_first_byte b || b == 32) || b == 64) || b == 46) || b == 45
+
+-- whether the byte may stand at this place of a name
+abbrev pub may_stand : ℕ → ℕ → Bool
+may_stand zero b = is_first_byte b
+may_stand (suc place) b = is_later_byte b
+
+-- 1 to 256 bytes, each of which may stand at its place, the last of them no space
+pub record IsName (s : List ℕ) : Type 0 where
+  pub least : 1 ≤ length s
+  pub most : length s ≤ 256
+  pub bytes : (place : ℕ) → place < length s → may_stand place (slice_index s place) ≡ true
+  pub end : slice_index s (length s - 1) ≢ 32
+
+-- all bytes below this place may stand where they stand
+abbrev pub AreGoodBelow : ℕ → List ℕ → Type 0
+AreGoodBelow n s = (place : ℕ) → place < n → may_stand place (slice_index s place) ≡ true
+
+-- the fault stands, and none of those before it in the order empty, too long, a wrong byte, a space at the end
+abbrev pub IsFirstFault : List ℕ → NameRefusal → Type 0
+IsFirstFault s Empty = length s ≡ 0
+IsFirstFault s TooLong = 256 < length s
+IsFirstFault s (BadChar place) = (length s ≤ 256) × (place < length s) × (may_stand place (slice_index s place) ≡ false) × AreGoodBelow place s
+IsFirstFault s EndsInSpace = (length s ≤ 256) × AreGoodBelow (length s) s × (slice_index s (length s - 1) ≡ 32)
+IsFirstFault s BadPath = ⊥
+IsFirstFault s NoMemory = ⊥
+
+-- ---- the same as a value
+
+-- the first place whose byte may not stand there
+abbrev pub wrong_place : List ℕ → Option ℕ
+wrong_place s = position (λ p. not (may_stand p.0 p.1)) (enumerate_from 0 s)
+
+abbrev pub place_or_end : Option ℕ → ℕ → Option NameRefusal
+place_or_end (Some place) last = Some (BadChar place)
+place_or_end None last = if last == 32 then Some EndsInSpace else None
+
+-- the first fault, or none of a name
+abbrev pub first_fault : List ℕ → Option NameRefusal
+first_fault s = if length s == 0 then Some Empty else if nat_lt 256 (length s) then Some TooLong else place_or_end (wrong_place s) (slice_index s (length s - 1))

@@ -1,0 +1,42 @@
+-- Which full name a text is, read in a namespace.
+use Rattle.std.specs.Prelude.{ℕ, List, [], ◌∷◌, codes, if◌then◌else◌, Option, Some, None, Result, Ok, Err}
+use Rattle.std.specs.List.{slice_split}
+use Rattle.std.specs.Str.{bytes_eq}
+use Rattle.ow_names.specs.declared.full.FullName.{FullName}
+use Rattle.ow_names.specs.declared.refusal.NameRefusal.{NameRefusal}
+use Rattle.ow_names.specs.declared.refusal.NameRefusal.TheVariants.{BadPath}
+use Rattle.ow_names.specs.Name.{first_fault}
+use Rattle.ow_names.specs.Slash.{is_slash}
+
+-- the parts between the slashes
+abbrev pub parts : List ℕ → List (List ℕ)
+parts = slice_split is_slash
+
+-- `_` stands for the namespace in which a text is read
+abbrev pub home : List ℕ → List ℕ → List ℕ
+home here namespace = if bytes_eq namespace (codes "_") then here else namespace
+
+abbrev pub or_fault : Option NameRefusal → Result FullName NameRefusal → Result FullName NameRefusal
+or_fault None r = r
+or_fault (Some e) r = Err e
+
+-- the parts, unless one is no name: the first such part's fault then
+abbrev pub named : List ℕ → Option (List ℕ) → List ℕ → Result FullName NameRefusal
+named namespace None name = or_fault (first_fault name) (Ok (record { namespace = namespace; «package» = None; name = name }))
+named namespace (Some «package») name = or_fault (first_fault «package»)
+    (or_fault (first_fault name) (Ok (record { namespace = namespace; «package» = Some «package»; name = name })))
+
+abbrev pub named_in : List ℕ → List ℕ → Option (List ℕ) → List ℕ → Result FullName NameRefusal
+named_in here namespace «package» name = or_fault (first_fault namespace) (named (home here namespace) «package» name)
+
+-- the forms `name`, `package/name`, `/namespace/name` and `/namespace/package/name`, and no other
+abbrev pub of_parts : List ℕ → List (List ℕ) → Result FullName NameRefusal
+of_parts here (name ∷ []) = named here None name
+of_parts here ([] ∷ name ∷ []) = Err BadPath
+of_parts here («package» ∷ name ∷ []) = named here (Some «package») name
+of_parts here ([] ∷ namespace ∷ name ∷ []) = named_in here namespace None name
+of_parts here ([] ∷ namespace ∷ «package» ∷ name ∷ []) = named_in here namespace (Some «package») name
+of_parts here ps = Err BadPath
+
+abbrev pub resolved : List ℕ → List ℕ → Result FullName NameRefusal
+resolved here text = of_parts here (parts text)

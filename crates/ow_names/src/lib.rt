@@ -1,0 +1,16 @@
+#![tactic(auto)]
+
+// By what everything in the service is called: names of one part, and full names of two or three.
+mod full;
+mod name;
+mod names;
+mod paths;
+mod refusal;
+#[cfg(test)]
+mod tests;
+
+pub use full::{FullName, full_text};
+pub use name::{EntityName, check_name, read_name};
+pub use names::Names;
+pub use paths::resolve;
+pub use refusal::NameRefusal;

@@ -1,0 +1,68 @@
+ghost use Rattle.std.specs.Prelude.{◌≡◌};
+ghost use Rattle.ow_names.specs.Refusal.{refusal_number};
+
+use ow_value::NoMemory;
+use std::alloc::{AllocError, AllocFailed};
+
+/// Why a text is no name, or names nothing. Of several faults the one that stands first here is told.
+#[derive(Clone, Copy, PartialEq, Eq, Debug, Drop)]
+pub enum NameRefusal {
+    /// More or fewer parts than a full name has.
+    BadPath,
+    Empty,
+    /// Over 256 bytes.
+    TooLong,
+    /// The first byte that may not stand where it stands, counted from 0 in its name.
+    BadChar { place: usize },
+    EndsInSpace,
+    NoMemory,
+}
+
+impl NameRefusal {
+    /// By which a client tells the refusals apart. Want of memory has 0.
+    pub fn number(self) -> u32
+        ensures { result ≡ refusal_number self }
+    {
+        match self {
+            NameRefusal::NoMemory => 0,
+            NameRefusal::Empty => 4,
+            NameRefusal::TooLong => 5,
+            NameRefusal::BadChar { .. } => 6,
+            NameRefusal::EndsInSpace => 7,
+            NameRefusal::BadPath => 8,
+        }
+    }
+}
+
+impl From<AllocError> for NameRefusal {
+    ghost use Rattle.std.specs.Prelude.{◌≡◌};
+    ghost use Rattle.ow_names.specs.declared.refusal.NameRefusal.TheVariants.{NoMemory};
+
+    ghost from_gives = { λ _ e. e ≡ NoMemory };
+
+    fn from(_refused: AllocError) -> NameRefusal {
+        NameRefusal::NoMemory
+    }
+}
+
+impl<T: Drop> From<AllocFailed<T>> for NameRefusal {
+    ghost use Rattle.std.specs.Prelude.{◌≡◌};
+    ghost use Rattle.ow_names.specs.declared.refusal.NameRefusal.TheVariants.{NoMemory};
+
+    ghost from_gives = { λ _ e. e ≡ NoMemory };
+
+    fn from(_refused: AllocFailed<T>) -> NameRefusal {
+        NameRefusal::NoMemory
+    }
+}
+
+impl From<NoMemory> for NameRefusal {
+    ghost use Rattle.std.specs.Prelude.{◌≡◌};
+    ghost use Rattle.ow_names.specs.declared.refusal.NameRefusal.TheVariants.{NoMemory};
+
+    ghost from_gives = { λ _ e. e ≡ NoMemory };
+
+    fn from(_refused: NoMemory) -> NameRefusal {
+        NameRefusal::NoMemory
+    }
+}
