@@ -1,7 +1,8 @@
 // Activations: as planned, as accepted, as open, and as ended.
 ghost use Rattle.std.specs.Prelude.{◌≡◌, ◌↔◌, IsTrue, IfOk};
 
-use ow_records::{Id, Limits, Response};
+use ow_entity::Limits;
+use ow_records::{Id, Response};
 use ow_value::{NoMemory, Params};
 use std::alloc::Global;
 

@@ -1,6 +1,7 @@
 // One activation on its way over a floor.
 use crate::{Answered, Drain, Floor, Happening, Order, Plan};
-use ow_records::{Id, Limits};
+use ow_entity::Limits;
+use ow_records::Id;
 use ow_traits::RunReply;
 use ow_value::{Lines, Params, Str};
 use std::test::Fail;

@@ -81,6 +81,16 @@ impl FullName {
     }
 }
 
+impl EntityName {
+    /// The order of the two as parts of full texts, each with the slash behind it.
+    pub fn compare_as_part(&self, other: &EntityName) -> Ordering
+        ensures order { result ≡ text_cmp (self.now ++ 47 ∷ []) (other.now ++ 47 ∷ []) }
+        ensures whole { HasNoSlash self.now }
+    {
+        order_of_parts(self.as_part(), other.as_part())
+    }
+}
+
 /// The text `/namespace/name` or `/namespace/package/name`.
 pub fn full_text(alloc: Global, name: &FullName) -> Result<String, NoMemory>
     ensures text { IfOk result (λ s. string_bytes s ≡ full_text name.now) }

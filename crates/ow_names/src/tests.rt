@@ -89,6 +89,8 @@ fn names_are_ordered_by_their_full_texts(rt: HostRuntime) -> Result<(), Fail> {
             assert_eq!(rt; order, i.cmp(&j));
         }
     }
+    let (a, b) = (name(alloc, "a b")?, name(alloc, "a")?);
+    assert_eq!(rt; a.compare_as_part(&b), Ordering::Less);
     Ok(())
 }
 

@@ -11,7 +11,7 @@ use Rattle.ow_value.specs.declared.reader.ValueRefusal.{ValueRefusal}
 use Rattle.ow_records.specs.Response.{ResponseView}
 use Rattle.ow_records.specs.declared.outcomes.Ending.{Ending}
 use Rattle.ow_records.specs.declared.outcomes.Ending.TheVariants.{Replied}
-use Rattle.ow_records.specs.declared.run_limits.Limits.{Limits}
+use Rattle.ow_entity.specs.declared.bounds.Limits.{Limits}
 
 -- an error with this text
 abbrev pub failure : ℕ → List ℕ → ResponseView

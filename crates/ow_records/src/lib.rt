@@ -1,15 +1,13 @@
-// Activations' ids, limits, endings and responses.
+// Activations' ids, endings and responses.
 #![tactic(auto)]
 
 mod digits;
 mod ids;
 mod outcomes;
 mod responses;
-mod run_limits;
 #[cfg(test)]
 mod tests;
 
 pub use ids::Id;
 pub use outcomes::{Ending, outcome, outcome_in};
 pub use responses::Response;
-pub use run_limits::Limits;

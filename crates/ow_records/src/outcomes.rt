@@ -3,7 +3,8 @@ ghost use Rattle.std.specs.Prelude.{◌≡◌, ◌≤◌, ◌↔◌, IsTrue, IfO
 ghost use Rattle.ow_value.specs.View.{view};
 ghost use Rattle.ow_records.specs.Outcome.{failure, of_exit, of_object, of_reply, of_text, of_value, outcome};
 
-use crate::{Limits, Response};
+use crate::Response;
+use ow_entity::Limits;
 use ow_traits::RunReply;
 use ow_value::{NoMemory, Params, Scratch, Str, Val, ValueRefusal, read_val_in};
 use std::alloc::Global;

@@ -1,4 +1,5 @@
 use super::*;
+use ow_entity::Limits;
 use ow_traits::RunReply;
 use ow_value::{Lines, NoMemory, Str, Val, write_val};
 use std::alloc::{AllocError, Global};

@@ -4,7 +4,7 @@ use Rattle.ow_value.specs.Value.{V}
 use Rattle.ow_traits.specs.declared.replies.RunReply.{RunReply}
 use Rattle.ow_traits.specs.declared.replies.RunReply.TheVariants as replies
 use Rattle.ow_records.specs.declared.ids.Id.{Id}
-use Rattle.ow_records.specs.declared.run_limits.Limits.{Limits}
+use Rattle.ow_entity.specs.declared.bounds.Limits.{Limits}
 use Rattle.ow_floor.specs.declared.activations.Plan.{Plan}
 use Rattle.ow_floor.specs.Trace.{Trace, last, latest}
 use Rattle.ow_floor.specs.Laws.{Stands}

@@ -1,0 +1,96 @@
+-- What is written of an action, read again as a body and finished over no row.
+use Rattle.std.proofs.Common.{◌≡◌, ℕ, ◌&&◌, List, [], ◌∷◌, Bool, true, false, cond, length, nat_le, is_some, Option, Some, None, Result, Ok, Err, refl, ap, ◌∙◌, arith}
+use Rattle.std.specs.Result.{result_err, result_unwrap_or}
+use Rattle.ow_value.specs.Value.{V, AreParams}
+use Rattle.ow_names.specs.declared.full.FullName.{FullName}
+use Rattle.ow_entity.specs.declared.kinds.EntityKind.TheVariants as kinds
+use Rattle.ow_entity.specs.declared.fields.FieldName.{FieldName}
+use Rattle.ow_entity.specs.declared.fields.FieldName.TheVariants as fields
+use Rattle.ow_entity.specs.declared.refusal.EntityRefusal.{EntityRefusal}
+use Rattle.ow_entity.specs.declared.refusal.EntityRefusal.TheVariants.{WrongType, OutOfRange}
+use Rattle.ow_entity.specs.declared.bounds.GivenLimits.{GivenLimits}
+use Rattle.ow_entity.specs.declared.bounds.Limits.{Limits}
+use Rattle.ow_entity.specs.declared.code.Exec.{Exec}
+use Rattle.ow_entity.specs.declared.code.Exec.TheVariants.{Plain, Program}
+use Rattle.ow_entity.specs.declared.actions.Action.{Action}
+use Rattle.ow_entity.specs.declared.rows.Row.TheVariants as rows
+use Rattle.ow_entity.specs.declared.rows.Draft.{Draft}
+use Rattle.ow_entity.specs.declared.rows.Draft.TheVariants as drafts
+use Rattle.ow_entity.specs.Body.{limits_given, exec_given, exec_in, plain_exec, no_limits, or_draft, draft_of, entity_of}
+use Rattle.ow_entity.specs.Chain.{and_then, first_some, result_map}
+use Rattle.ow_entity.specs.Finish.{finished}
+use Rattle.ow_entity.specs.Fit.{IsBetween, IsFitExec, IsFitLimits, IsFitAction, made_of}
+use Rattle.ow_entity.specs.Pairs.{Pairs}
+use Rattle.ow_entity.specs.Plain.{plain_cases}
+use Rattle.ow_entity.specs.Written.{exec_value, limits_value, action_value}
+use Rattle.ow_entity.proofs.PairLaws.{by_size, pairs_given-value}
+
+-- ---- what an action runs
+
+by_form : (b : Bool) (code : List ℕ) → b ≡ true → cond b (Ok (Plain code)) (Err (WrongType fields.Code)) ≡ Ok (Plain code)
+by_form true code e = refl
+by_form false code e = cc
+
+exec_in-value : (e : Exec) → IsFitExec e → exec_in (exec_value e) ≡ Ok e
+exec_in-value (Plain code) h = ap (λ r. and_then r plain_exec) (by_size (length code) (Ok code) h.0) ∙ by_form (is_some (plain_cases code)) code h.1
+exec_in-value (Program code) h = ap (result_map Program) (by_size (length code) (Ok code) h)
+
+exec_given-value : (e : Exec) → IsFitExec e → exec_given (Some (exec_value e)) ≡ Ok (Some e)
+exec_given-value e h = ap (result_map Some) (exec_in-value e h)
+
+-- ---- its limits
+
+in_range : (name : FieldName) (least most n : ℕ) → IsBetween least most n → cond (nat_le least n && nat_le n most) (Ok (Some n)) (Err (OutOfRange name)) ≡ Ok (Some n)
+in_range name least most n h = grind arith
+
+abbrev all_given : Limits → GivenLimits
+all_given l = record { timeout = Some l.timeout; memory = Some l.memory; logs = Some l.logs }
+
+abbrev three : Result (Option ℕ) EntityRefusal → Result (Option ℕ) EntityRefusal → Result (Option ℕ) EntityRefusal → Result GivenLimits EntityRefusal
+three a b c = and_then a (λ timeout. and_then b (λ memory. and_then c (λ logs. Ok (record { timeout = timeout; memory = memory; logs = logs }))))
+
+limits_given-value : (l : Limits) → IsFitLimits l → limits_given (Some (limits_value l)) ≡ Ok (all_given l)
+limits_given-value l h = λ i. three
+    (in_range fields.Timeout 100 300000 l.timeout h.timeout i)
+    (in_range fields.Memory 128 512 l.memory h.memory i)
+    (in_range fields.Logs 0 10 l.logs h.logs i)
+
+-- ---- the draft of five good fields
+
+abbrev drafted : FullName → Result (Option Pairs) EntityRefusal → Result (Option Pairs) EntityRefusal → Result (Option Bool) EntityRefusal → Result (Option Exec) EntityRefusal → Result GivenLimits EntityRefusal
+    → Result Draft EntityRefusal
+drafted name n p b x l = or_draft
+    (first_some (result_err n ∷ result_err p ∷ result_err b ∷ result_err x ∷ result_err l ∷ []))
+    (drafts.Action (record {
+      name = name;
+      publish = result_unwrap_or b None;
+      params = result_unwrap_or p None;
+      notes = result_unwrap_or n None;
+      exec = result_unwrap_or x None;
+      limits = result_unwrap_or l no_limits;
+    }))
+
+draft_of-value : (a : Action) → AreParams a.notes → AreParams a.params → IsFitAction a
+    → draft_of kinds.Action a.name (action_value a) ≡ Ok (drafts.Action (record {
+      name = a.name;
+      publish = Some a.publish;
+      params = Some a.params;
+      notes = Some a.notes;
+      exec = Some a.exec;
+      limits = all_given a.limits;
+    }))
+draft_of-value a rn rp h = λ i. drafted a.name
+    (pairs_given-value fields.Annotations a.notes rn h.notes i)
+    (pairs_given-value fields.Parameters a.params rp h.params i)
+    (Ok (Some a.publish))
+    (exec_given-value a.exec h.exec i)
+    (limits_given-value a.limits h.limits i)
+
+pub reads_back : (a : Action) → AreParams a.notes → AreParams a.params → IsFitAction a
+    → made_of kinds.Action a.name (action_value a) ≡ Ok (rows.Action (record a { version = 1 }))
+unfolding made_of entity_of finished
+reads_back a rn rp h = ap (λ r. and_then r (λ d. finished d None)) (draft_of-value a rn rp h)
+
+pub reads_back_as : (a : Action) (v : V) → v ≡ action_value a → AreParams a.notes → AreParams a.params → IsFitAction a
+    → made_of kinds.Action a.name v ≡ Ok (rows.Action (record a { version = 1 }))
+reads_back_as a v e rn rp h = ap (made_of kinds.Action a.name) e ∙ reads_back a rn rp h

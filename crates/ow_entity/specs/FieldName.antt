@@ -1,0 +1,17 @@
+-- How a body writes the names of its fields.
+use Rattle.std.specs.Prelude.{ℕ, List, codes}
+use Rattle.ow_entity.specs.declared.fields.FieldName.{FieldName}
+use Rattle.ow_entity.specs.declared.fields.FieldName.TheVariants.{Body, Annotations, Parameters, Publish, Exec, Kind, Code, Limits, Timeout, Memory, Logs}
+
+abbrev pub field_name : FieldName → List ℕ
+field_name Body = codes "body"
+field_name Annotations = codes "annotations"
+field_name Parameters = codes "parameters"
+field_name Publish = codes "publish"
+field_name Exec = codes "exec"
+field_name Kind = codes "kind"
+field_name Code = codes "code"
+field_name Limits = codes "limits"
+field_name Timeout = codes "timeout"
+field_name Memory = codes "memory"
+field_name Logs = codes "logs"

@@ -1,0 +1,12 @@
+pub mod FieldName
+pub mod Refusal
+pub mod Exec
+pub mod Row
+pub mod Chain
+pub mod Plain
+pub mod Pairs
+pub mod Body
+pub mod Finish
+pub mod Written
+pub mod Notes
+pub mod Fit

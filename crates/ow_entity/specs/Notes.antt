@@ -1,0 +1,23 @@
+-- When an annotation is set.
+use Rattle.std.specs.Prelude.{ℕ, zero, pos, List, [], Bool, true, false, codes, Option, Some, None}
+use Rattle.ow_value.specs.Value.{V, null, boolean, whole, text, list, object}
+use Rattle.ow_value.specs.Find.{find}
+use Rattle.ow_entity.specs.declared.actions.Action.{Action}
+
+-- present, and none of null, false, 0 and the empty text
+abbrev pub counts : Option V → Bool
+counts None = false
+counts (Some null) = false
+counts (Some (boolean b)) = b
+counts (Some (whole (pos zero))) = false
+counts (Some (whole z)) = true
+counts (Some (text [])) = false
+counts (Some (text s)) = true
+counts (Some (list vs)) = true
+counts (Some (object ps)) = true
+
+abbrev pub is_set : List (List ℕ × V) → List ℕ → Bool
+is_set notes name = counts (find name notes)
+
+abbrev pub is_conductor : Action → Bool
+is_conductor a = is_set a.notes (codes "conductor")

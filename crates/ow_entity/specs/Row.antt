@@ -1,0 +1,27 @@
+-- What is common to rows of all kinds, and to drafts.
+use Rattle.std.specs.Prelude.{ℕ}
+use Rattle.ow_names.specs.declared.full.FullName.{FullName}
+use Rattle.ow_entity.specs.declared.kinds.EntityKind.{EntityKind}
+use Rattle.ow_entity.specs.declared.kinds.EntityKind.TheVariants as kinds
+use Rattle.ow_entity.specs.declared.rows.Row.{Row}
+use Rattle.ow_entity.specs.declared.rows.Row.TheVariants as rows
+use Rattle.ow_entity.specs.declared.rows.Draft.{Draft}
+use Rattle.ow_entity.specs.declared.rows.Draft.TheVariants as drafts
+
+abbrev pub kind_of : Row → EntityKind
+kind_of (rows.Action a) = kinds.Action
+kind_of (rows.Package p) = kinds.Package
+
+abbrev pub name_of : Row → FullName
+name_of (rows.Action a) = a.name
+name_of (rows.Package p) = p.name
+
+abbrev pub version_of : Row → ℕ
+version_of (rows.Action a) = a.version
+version_of (rows.Package p) = p.version
+
+abbrev pub draft_kind : Draft → EntityKind
+draft_kind (drafts.Action d) = kinds.Action
+
+abbrev pub draft_name : Draft → FullName
+draft_name (drafts.Action d) = d.name

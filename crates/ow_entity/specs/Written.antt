@@ -1,0 +1,76 @@
+-- How a row is shown.
+use Rattle.std.specs.Prelude.{ℕ, pos, Bool, List, [], ◌∷◌, ◌++◌, codes, decimal, Option, Some, None}
+use Rattle.ow_value.specs.Value.{V, boolean, whole, text, object, members_of}
+use Rattle.ow_names.specs.declared.full.FullName.{FullName}
+use Rattle.ow_entity.specs.declared.bounds.Limits.{Limits}
+use Rattle.ow_entity.specs.declared.code.Exec.{Exec}
+use Rattle.ow_entity.specs.declared.actions.Action.{Action}
+use Rattle.ow_entity.specs.declared.packages.Package.{Package}
+use Rattle.ow_entity.specs.declared.rows.Row.{Row}
+use Rattle.ow_entity.specs.declared.rows.Row.TheVariants as rows
+use Rattle.ow_entity.specs.Exec.{exec_kind, exec_code}
+use Rattle.ow_entity.specs.Pairs.{pairs_value}
+
+abbrev pub exec_value : Exec → V
+exec_value e = object (members_of ((codes "code", text (exec_code e)) ∷ (codes "kind", text (exec_kind e)) ∷ []))
+
+abbrev pub limits_value : Limits → V
+limits_value l = object (members_of (
+    (codes "logs", whole (pos l.logs))
+    ∷ (codes "memory", whole (pos l.memory))
+    ∷ (codes "timeout", whole (pos l.timeout))
+    ∷ []))
+
+-- an entity in a package shows the namespace and the package
+abbrev pub shown_namespace : List ℕ → Option (List ℕ) → List ℕ
+shown_namespace namespace None = namespace
+shown_namespace namespace (Some «package») = namespace ++ 47 ∷ «package»
+
+abbrev pub shown_version : ℕ → List ℕ
+shown_version version = codes "0.0." ++ decimal version
+
+abbrev pub action_value : Action → V
+action_value a = object (members_of (
+    (codes "annotations", pairs_value a.notes)
+    ∷ (codes "exec", exec_value a.exec)
+    ∷ (codes "limits", limits_value a.limits)
+    ∷ (codes "name", text a.name.name)
+    ∷ (codes "namespace", text (shown_namespace a.name.namespace a.name.package))
+    ∷ (codes "parameters", pairs_value a.params)
+    ∷ (codes "publish", boolean a.publish)
+    ∷ (codes "version", text (shown_version a.version))
+    ∷ []))
+
+-- the package that a binding stands for, or nothing
+abbrev pub binding_value : Option FullName → V
+binding_value None = object (members_of [])
+binding_value (Some bound) = object (members_of ((codes "name", text bound.name) ∷ (codes "namespace", text bound.namespace) ∷ []))
+
+-- the actions in it are shown beside these, from what else stands
+abbrev pub package_value : Package → V
+package_value p = object (members_of (
+    (codes "annotations", pairs_value p.notes)
+    ∷ (codes "binding", binding_value p.binding)
+    ∷ (codes "name", text p.name.name)
+    ∷ (codes "namespace", text (shown_namespace p.name.namespace p.name.package))
+    ∷ (codes "parameters", pairs_value p.params)
+    ∷ (codes "publish", boolean p.publish)
+    ∷ (codes "version", text (shown_version p.version))
+    ∷ []))
+
+unfoldable pub row_value : Row → V
+row_value (rows.Action a) = action_value a
+row_value (rows.Package p) = package_value p
+
+abbrev pub summary_of : FullName → List (List ℕ × V) → Bool → ℕ → V
+summary_of name notes publish version = object (members_of (
+    (codes "annotations", pairs_value notes)
+    ∷ (codes "name", text name.name)
+    ∷ (codes "namespace", text (shown_namespace name.namespace name.package))
+    ∷ (codes "publish", boolean publish)
+    ∷ (codes "version", text (shown_version version))
+    ∷ []))
+
+unfoldable pub summary_value : Row → V
+summary_value (rows.Action a) = summary_of a.name a.notes a.publish a.version
+summary_value (rows.Package p) = summary_of p.name p.notes p.publish p.version

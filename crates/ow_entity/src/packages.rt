@@ -1,0 +1,69 @@
+ghost use Rattle.std.specs.Prelude.{◌≡◌, ◌↔◌, IsTrue, IfOk};
+
+use ow_names::FullName;
+use ow_value::{NoMemory, Params};
+use std::alloc::Global;
+
+/// A package as it stands: what actions lie in, with parameters of its own below theirs.
+#[derive(Drop)]
+pub struct Package {
+    pub name: FullName,
+    /// Shown as `0.0.version`. The first is 1.
+    pub version: u32,
+    /// Whether it is shared: whether other namespaces may read and invoke what lies in it.
+    pub publish: bool,
+    pub params: Params,
+    /// The annotations.
+    pub notes: Params,
+    /// The package that it stands for, where it is a binding.
+    pub binding: Option<FullName>,
+}
+
+impl Package {
+    pub fn same(&self, other: &Package) -> bool
+        ensures { IsTrue result ↔ (self.now ≡ other.now) }
+    {
+        self.name.same(&other.name)
+            && self.version == other.version
+            && self.publish == other.publish
+            && self.params.same(&other.params)
+            && self.notes.same(&other.notes)
+            && same_binding(&self.binding, &other.binding)
+    }
+
+    pub fn copy(&self, alloc: Global) -> Result<Package, NoMemory>
+        ensures { IfOk result (λ p. p ≡ self.now) }
+    {
+        let name = self.name.copy(alloc)?;
+        let params = self.params.copy(alloc)?;
+        let notes = self.notes.copy(alloc)?;
+        let binding = copy_binding(alloc, &self.binding)?;
+        Ok(Package {
+            name,
+            version: self.version,
+            publish: self.publish,
+            params,
+            notes,
+            binding,
+        })
+    }
+}
+
+fn same_binding(a: &Option<FullName>, b: &Option<FullName>) -> bool
+    ensures { IsTrue result ↔ (a.now ≡ b.now) }
+{
+    match (a, b) {
+        (Some(x), Some(y)) => x.same(y),
+        (None, None) => true,
+        _ => false,
+    }
+}
+
+fn copy_binding(alloc: Global, binding: &Option<FullName>) -> Result<Option<FullName>, NoMemory>
+    ensures { IfOk result (λ b. b ≡ binding.now) }
+{
+    match binding {
+        Some(bound) => Ok(Some(bound.copy(alloc)?)),
+        None => Ok(None),
+    }
+}

@@ -1,0 +1,71 @@
+ghost use Rattle.std.specs.Prelude.{◌≡◌};
+ghost use Rattle.ow_entity.specs.Refusal.{refusal_number};
+
+use crate::fields::FieldName;
+use ow_value::NoMemory;
+use std::alloc::{AllocError, AllocFailed};
+
+/// Why a body gives no entity.
+#[derive(Clone, Copy, PartialEq, Eq, Debug, Drop)]
+pub enum EntityRefusal {
+    MissingField { name: FieldName },
+    WrongType { name: FieldName },
+    OutOfRange { name: FieldName },
+    /// The kind of the code, or of the entity, is none that the service has.
+    UnknownKind,
+    /// A list of pairs, or a code, has over 1,048,576 bytes.
+    TooLarge,
+    /// The version of the old entity can't be raised.
+    LastVersion,
+    NoMemory,
+}
+
+impl EntityRefusal {
+    /// By which a client tells the refusals apart. Want of memory has 0.
+    pub fn number(self) -> u32
+        ensures { result ≡ refusal_number self }
+    {
+        match self {
+            EntityRefusal::NoMemory => 0,
+            EntityRefusal::MissingField { .. } => 9,
+            EntityRefusal::WrongType { .. } => 10,
+            EntityRefusal::OutOfRange { .. } => 11,
+            EntityRefusal::UnknownKind => 12,
+            EntityRefusal::TooLarge => 13,
+            EntityRefusal::LastVersion => 18,
+        }
+    }
+}
+
+impl From<AllocError> for EntityRefusal {
+    ghost use Rattle.std.specs.Prelude.{◌≡◌};
+    ghost use Rattle.ow_entity.specs.declared.refusal.EntityRefusal.TheVariants.{NoMemory};
+
+    ghost from_gives = { λ _ e. e ≡ NoMemory };
+
+    fn from(_refused: AllocError) -> EntityRefusal {
+        EntityRefusal::NoMemory
+    }
+}
+
+impl<T: Drop> From<AllocFailed<T>> for EntityRefusal {
+    ghost use Rattle.std.specs.Prelude.{◌≡◌};
+    ghost use Rattle.ow_entity.specs.declared.refusal.EntityRefusal.TheVariants.{NoMemory};
+
+    ghost from_gives = { λ _ e. e ≡ NoMemory };
+
+    fn from(_refused: AllocFailed<T>) -> EntityRefusal {
+        EntityRefusal::NoMemory
+    }
+}
+
+impl From<NoMemory> for EntityRefusal {
+    ghost use Rattle.std.specs.Prelude.{◌≡◌};
+    ghost use Rattle.ow_entity.specs.declared.refusal.EntityRefusal.TheVariants.{NoMemory};
+
+    ghost from_gives = { λ _ e. e ≡ NoMemory };
+
+    fn from(_refused: NoMemory) -> EntityRefusal {
+        EntityRefusal::NoMemory
+    }
+}

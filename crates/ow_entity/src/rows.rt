@@ -1,0 +1,124 @@
+ghost use Rattle.std.specs.Prelude.{◌≡◌, ◌↔◌, Option, IsTrue, IfOk, IfSome};
+ghost use Rattle.std.specs.Option.{option_copied};
+ghost use Rattle.ow_names.specs.declared.full.FullName.{FullName};
+ghost use Rattle.ow_entity.specs.declared.kinds.EntityKind.{EntityKind};
+
+use crate::actions::{Action, ActionDraft};
+use crate::kinds::EntityKind;
+use crate::packages::Package;
+use ow_names::FullName;
+use ow_value::NoMemory;
+use std::alloc::Global;
+
+/// An entity as it stands.
+#[derive(Drop)]
+pub enum Row {
+    Action(Action),
+    Package(Package),
+}
+
+/// An entity as a body gives it.
+#[derive(Drop)]
+pub enum Draft {
+    Action(ActionDraft),
+}
+
+/// Where entities stand, at most one under each kind and name.
+pub trait Lookup {
+    ghost use Rattle.ow_entity.specs.declared.rows.Row.{Row};
+    ghost use Rattle.ow_entity.specs.Row.{kind_of, name_of};
+
+    ghost found: { Self → EntityKind → FullName → Option Row };
+
+    /// The entity of the kind and the name.
+    fn row(&self, kind: EntityKind, name: &FullName) -> Option<&Row>
+        ensures value { option_copied result ≡ found self.now kind name.now }
+        ensures kind { IfSome result (λ r. kind_of r.now ≡ kind) }
+        ensures name { IfSome result (λ r. name_of r.now ≡ name.now) };
+}
+
+impl Row {
+    ghost use Rattle.ow_entity.specs.Row.{kind_of, name_of, version_of};
+
+    pub fn kind(&self) -> EntityKind
+        ensures { result ≡ kind_of self.now }
+    {
+        match self {
+            Row::Action(_) => EntityKind::Action,
+            Row::Package(_) => EntityKind::Package,
+        }
+    }
+
+    pub fn name(&self) -> &FullName
+        ensures { result.now ≡ name_of self.now }
+    {
+        match self {
+            Row::Action(action) => &action.name,
+            Row::Package(package) => &package.name,
+        }
+    }
+
+    pub fn version(&self) -> u32
+        ensures { result ≡ version_of self.now }
+    {
+        match self {
+            Row::Action(action) => action.version,
+            Row::Package(package) => package.version,
+        }
+    }
+
+    pub fn same(&self, other: &Row) -> bool
+        ensures { IsTrue result ↔ (self.now ≡ other.now) }
+    {
+        match (self, other) {
+            (Row::Action(a), Row::Action(b)) => a.same(b),
+            (Row::Package(a), Row::Package(b)) => a.same(b),
+            _ => false,
+        }
+    }
+
+    pub fn copy(&self, alloc: Global) -> Result<Row, NoMemory>
+        ensures { IfOk result (λ r. r ≡ self.now) }
+    {
+        match self {
+            Row::Action(action) => Ok(Row::Action(action.copy(alloc)?)),
+            Row::Package(package) => Ok(Row::Package(package.copy(alloc)?)),
+        }
+    }
+}
+
+impl Draft {
+    ghost use Rattle.ow_entity.specs.Row.{draft_kind, draft_name};
+
+    pub fn kind(&self) -> EntityKind
+        ensures { result ≡ draft_kind self.now }
+    {
+        match self {
+            Draft::Action(_) => EntityKind::Action,
+        }
+    }
+
+    pub fn name(&self) -> &FullName
+        ensures { result.now ≡ draft_name self.now }
+    {
+        match self {
+            Draft::Action(draft) => &draft.name,
+        }
+    }
+
+    pub fn same(&self, other: &Draft) -> bool
+        ensures { IsTrue result ↔ (self.now ≡ other.now) }
+    {
+        match (self, other) {
+            (Draft::Action(a), Draft::Action(b)) => a.same(b),
+        }
+    }
+
+    pub fn copy(&self, alloc: Global) -> Result<Draft, NoMemory>
+        ensures { IfOk result (λ d. d ≡ self.now) }
+    {
+        match self {
+            Draft::Action(draft) => Ok(Draft::Action(draft.copy(alloc)?)),
+        }
+    }
+}

@@ -1,0 +1,242 @@
+ghost use Rattle.std.specs.Prelude.{◌≡◌, pos, Ok, IfOk, OnOk};
+ghost use Rattle.ow_value.specs.Value.{whole, text};
+ghost use Rattle.ow_value.specs.Find.{with_pair};
+ghost use Rattle.ow_value.specs.View.{view};
+ghost use Rattle.ow_entity.specs.declared.kinds.EntityKind.TheVariants as kinds;
+ghost use Rattle.ow_entity.specs.declared.actions.Action.{Action};
+ghost use Rattle.ow_entity.specs.declared.rows.Row.TheVariants as rows;
+ghost use Rattle.ow_entity.specs.Fit.{IsFitAction, made_of};
+ghost use Rattle.ow_entity.specs.Pairs.{pairs_value};
+ghost use Rattle.ow_entity.specs.Written.{exec_value, limits_value, shown_namespace, shown_version, action_value, binding_value, package_value, row_value, summary_of, summary_value};
+
+use crate::actions::Action;
+use crate::bounds::Limits;
+use crate::code::Exec;
+use crate::packages::Package;
+use crate::pairs::listed;
+use crate::rows::Row;
+use ow_names::FullName;
+use ow_value::{NoMemory, Params, Str, Val, Whole};
+use std::alloc::Global;
+
+/// The row as a client sees it.
+#[tactic(auto, unfolding(crate::specs::Written::row_value))]
+pub fn write_entity(alloc: Global, row: &Row) -> Result<Val, NoMemory>
+    ensures value { IfOk result (λ v. view v ≡ row_value row.now) }
+    ensures reads_back { IfOk result (λ v. (a : Action) → row.now ≡ rows.Action a → IsFitAction a
+        → made_of kinds.Action a.name (view v) ≡ Ok (rows.Action (record a { version = 1 }))) }
+{
+    match row {
+        Row::Action(action) => write_action(alloc, action),
+        Row::Package(package) => write_package(alloc, package),
+    }
+}
+
+/// What lists show of the row.
+#[tactic(auto, unfolding(crate::specs::Written::summary_value))]
+pub fn summary(alloc: Global, row: &Row) -> Result<Val, NoMemory>
+    ensures { IfOk result (λ v. view v ≡ summary_value row.now) }
+{
+    match row {
+        Row::Action(action) => summary_of(
+            alloc,
+            &action.name,
+            &action.notes,
+            action.publish,
+            action.version,
+        ),
+        Row::Package(package) => summary_of(
+            alloc,
+            &package.name,
+            &package.notes,
+            package.publish,
+            package.version,
+        ),
+    }
+}
+
+impl Limits {
+    /// The limits as an object.
+    pub fn value(self, alloc: Global) -> Result<Val, NoMemory>
+        ensures { IfOk result (λ v. view v ≡ limits_value self) }
+    {
+        let mut fields = Params::new(alloc);
+        put(alloc, &mut fields, "logs", number(self.logs))?;
+        put(alloc, &mut fields, "memory", number(self.memory))?;
+        put(alloc, &mut fields, "timeout", number(self.timeout))?;
+        Ok(Val::Object(fields))
+    }
+}
+
+fn write_action(alloc: Global, action: &Action) -> Result<Val, NoMemory>
+    ensures value { IfOk result (λ v. view v ≡ action_value action.now) }
+    ensures reads_back { IfOk result (λ v. IsFitAction action.now → made_of kinds.Action action.now.name (view v) ≡ Ok (rows.Action (record action.now { version = 1 }))) }
+{
+    let shown = action_value(alloc, action)?;
+    action.notes.pairs();
+    action.params.pairs();
+    Ok(shown)
+}
+
+fn action_value(alloc: Global, action: &Action) -> Result<Val, NoMemory>
+    ensures { IfOk result (λ v. view v ≡ action_value action.now) }
+{
+    let mut fields = Params::new(alloc);
+    put(
+        alloc,
+        &mut fields,
+        "annotations",
+        Val::List(listed(alloc, &action.notes)?),
+    )?;
+    put(alloc, &mut fields, "exec", exec_value(alloc, &action.exec)?)?;
+    put(alloc, &mut fields, "limits", action.limits.value(alloc)?)?;
+    put(
+        alloc,
+        &mut fields,
+        "name",
+        text(alloc, action.name.name.as_str())?,
+    )?;
+    put(
+        alloc,
+        &mut fields,
+        "namespace",
+        shown_namespace(alloc, &action.name)?,
+    )?;
+    put(
+        alloc,
+        &mut fields,
+        "parameters",
+        Val::List(listed(alloc, &action.params)?),
+    )?;
+    put(alloc, &mut fields, "publish", Val::Bool(action.publish))?;
+    put(
+        alloc,
+        &mut fields,
+        "version",
+        shown_version(alloc, action.version)?,
+    )?;
+    Ok(Val::Object(fields))
+}
+
+fn write_package(alloc: Global, package: &Package) -> Result<Val, NoMemory>
+    ensures { IfOk result (λ v. view v ≡ package_value «package».now) }
+{
+    let mut fields = Params::new(alloc);
+    let notes = listed(alloc, &package.notes)?;
+    put(alloc, &mut fields, "annotations", Val::List(notes))?;
+    let binding = binding_value(alloc, &package.binding)?;
+    put(alloc, &mut fields, "binding", binding)?;
+    let name = text(alloc, package.name.name.as_str())?;
+    put(alloc, &mut fields, "name", name)?;
+    let namespace = shown_namespace(alloc, &package.name)?;
+    put(alloc, &mut fields, "namespace", namespace)?;
+    let params = listed(alloc, &package.params)?;
+    put(alloc, &mut fields, "parameters", Val::List(params))?;
+    put(alloc, &mut fields, "publish", Val::Bool(package.publish))?;
+    let version = shown_version(alloc, package.version)?;
+    put(alloc, &mut fields, "version", version)?;
+    Ok(Val::Object(fields))
+}
+
+fn binding_value(alloc: Global, binding: &Option<FullName>) -> Result<Val, NoMemory>
+    ensures { IfOk result (λ v. view v ≡ binding_value binding.now) }
+{
+    let mut fields = Params::new(alloc);
+    if let Some(bound) = binding {
+        put(
+            alloc,
+            &mut fields,
+            "name",
+            text(alloc, bound.name.as_str())?,
+        )?;
+        let namespace = text(alloc, bound.namespace.as_str())?;
+        put(alloc, &mut fields, "namespace", namespace)?;
+    }
+    Ok(Val::Object(fields))
+}
+
+fn summary_of(
+    alloc: Global,
+    name: &FullName,
+    notes: &Params,
+    publish: bool,
+    version: u32,
+) -> Result<Val, NoMemory>
+    ensures { IfOk result (λ v. view v ≡ summary_of name.now notes.now publish version) }
+{
+    let mut fields = Params::new(alloc);
+    put(
+        alloc,
+        &mut fields,
+        "annotations",
+        Val::List(listed(alloc, notes)?),
+    )?;
+    put(alloc, &mut fields, "name", text(alloc, name.name.as_str())?)?;
+    put(
+        alloc,
+        &mut fields,
+        "namespace",
+        shown_namespace(alloc, name)?,
+    )?;
+    put(alloc, &mut fields, "publish", Val::Bool(publish))?;
+    put(
+        alloc,
+        &mut fields,
+        "version",
+        shown_version(alloc, version)?,
+    )?;
+    Ok(Val::Object(fields))
+}
+
+fn exec_value(alloc: Global, exec: &Exec) -> Result<Val, NoMemory>
+    ensures { IfOk result (λ v. view v ≡ exec_value exec.now) }
+{
+    let mut fields = Params::new(alloc);
+    put(
+        alloc,
+        &mut fields,
+        "code",
+        text(alloc, exec.code().as_str())?,
+    )?;
+    put(alloc, &mut fields, "kind", text(alloc, exec.kind())?)?;
+    Ok(Val::Object(fields))
+}
+
+fn shown_namespace(alloc: Global, name: &FullName) -> Result<Val, NoMemory>
+    ensures { IfOk result (λ v. view v ≡ text (shown_namespace name.now.namespace name.now.package)) }
+{
+    let namespace = name.namespace.as_str();
+    match &name.package {
+        None => text(alloc, namespace),
+        Some(package) => {
+            let package = package.as_str();
+            let shown = format!(in alloc; "{namespace}/{package}")?;
+            Ok(Val::Text(Str::from_string(shown)))
+        }
+    }
+}
+
+fn shown_version(alloc: Global, version: u32) -> Result<Val, NoMemory>
+    ensures { IfOk result (λ v. view v ≡ text (shown_version version)) }
+{
+    let shown = format!(in alloc; "0.0.{version}")?;
+    Ok(Val::Text(Str::from_string(shown)))
+}
+
+fn number(n: u32) -> Val
+    ensures { view result ≡ whole (pos n) }
+{
+    Val::Int(Whole::of_u64(n as u64))
+}
+
+fn text(alloc: Global, s: &str) -> Result<Val, NoMemory>
+    ensures { IfOk result (λ v. view v ≡ text s.now) }
+{
+    Ok(Val::Text(Str::of(alloc, s)?))
+}
+
+fn put(alloc: Global, fields: &mut Params, name: &str, value: Val) -> Result<(), NoMemory>
+    ensures { OnOk result (fields.new ≡ with_pair fields.old name.now (view value)) }
+{
+    fields.set(Str::of(alloc, name)?, value)
+}

@@ -1,0 +1,248 @@
+-- Rows of one kind in one namespace stand together, from where a search finds the first to where it finds the last.
+use Rattle.std.proofs.Common.{◌≡◌, ◌≢◌, ℕ, zero, suc, ◌<◌, ◌≤◌, ◌&&◌, ◌==◌, Bool, true, false, cond, min, List, [], ◌∷◌, ◌++◌, length, map, filter, get_or, take, drop, Ordering, Less, Equal, Greater, is_eq, refl, sym, ap, ◌∙◌, subst, inl, inr, arith}
+use Rattle.std.specs.List.{AllByRecursion}
+use Rattle.std.specs.List.Sorted.{IsStrictlySortedBy, IsPartitionedBy, IsPartitionPoint}
+use Rattle.std.specs.Ordering.{nat_cmp, ordering_index, ordering_then, ordering_reverse, match_ordering, is_lt, is_le, MatchOrdering}
+use Rattle.std.specs.Str.{bytes_eq}
+use Rattle.std.proofs.lemmas.Bool.{cases_lt}
+use Rattle.std.proofs.lemmas.Cmp.{nat_list_cmp_total, ranked}
+use Rattle.std.proofs.lemmas.List.{append_cancel_right, drop-map, take-map}
+use Rattle.std.proofs.lemmas.Slice.Eq.{bytes_eq-Decides}
+use Rattle.std.proofs.Math.Seq.{take-nil, drop-nil}
+use Rattle.ow_value.specs.Value.{text_cmp}
+use Rattle.ow_names.specs.Slash.{HasNoSlash}
+use Rattle.ow_names.specs.FullName.{local_text}
+use Rattle.ow_names.specs.declared.full.FullName.{FullName}
+use Rattle.ow_entity.specs.declared.kinds.EntityKind.{EntityKind}
+use Rattle.ow_entity.specs.declared.rows.Row.{Row}
+use Rattle.ow_entity.specs.Row.{kind_of, name_of}
+use Rattle.ow_tables.specs.Rows.{kind_place, key_of, AreRows, put_row, stands_in}
+use Rattle.ow_tables.specs.Region.{region, region_of, IsPart, AreKept}
+use Rattle.ow_tables.proofs.RowLaws.{test_of, turned, key_at, rises_at, AreRows-put_row, AreRows-filter}
+
+-- ---- a part with the slash behind it decides before what follows
+
+tail_whole : (b : ℕ) (s : List ℕ) → HasNoSlash (b ∷ s) → HasNoSlash s
+tail_whole b s h k d lt = h (suc k) d (omega arith)
+
+then_then : (o p q : Ordering) → ordering_then o (ordering_then p q) ≡ ordering_then (ordering_then o p) q
+then_then Less p q = refl
+then_then Equal p q = refl
+then_then Greater p q = refl
+
+unequal : (o w : Ordering) → o ≢ Equal → ordering_then o w ≡ o
+unequal Less w n = refl
+unequal Equal w n = absurd (n refl)
+unequal Greater w n = refl
+
+apart : (y : ℕ) → (y == 47) ≡ false → 47 ≡ y → ⊥
+apart y h e = grind arith
+
+differ : (y : ℕ) (s : List ℕ) → HasNoSlash (y ∷ s) → nat_cmp 47 y ≢ Equal
+differ y s h e = apart y (h 0 0 (omega arith)) (subst (λ o. MatchOrdering o (47 < y) (47 ≡ y) (y < 47)) e (ranked 47 y _ refl))
+
+differ_back : (y : ℕ) (s : List ℕ) → HasNoSlash (y ∷ s) → nat_cmp y 47 ≢ Equal
+differ_back y s h e = apart y (h 0 0 (omega arith)) (sym (subst (λ o. MatchOrdering o (y < 47) (y ≡ 47) (47 < y)) e (ranked y 47 _ refl)))
+
+parts_then : (a b r s : List ℕ) → HasNoSlash a → HasNoSlash b
+    → text_cmp (a ++ 47 ∷ r) (b ++ 47 ∷ s) ≡ ordering_then (text_cmp (a ++ 47 ∷ []) (b ++ 47 ∷ [])) (text_cmp r s)
+parts_then [] [] r s ha hb = refl
+parts_then [] (y ∷ ys) r s ha hb =
+    let n = differ y ys hb in
+    unequal _ _ n ∙ sym (ap (λ o. ordering_then o (text_cmp r s)) (unequal _ _ n) ∙ unequal _ _ n)
+parts_then (x ∷ xs) [] r s ha hb =
+    let n = differ_back x xs ha in
+    unequal _ _ n ∙ sym (ap (λ o. ordering_then o (text_cmp r s)) (unequal _ _ n) ∙ unequal _ _ n)
+parts_then (x ∷ xs) (y ∷ ys) r s ha hb =
+    ap (ordering_then (nat_cmp x y)) (parts_then xs ys r s (tail_whole x xs ha) (tail_whole y ys hb)) ∙ then_then (nat_cmp x y) _ _
+
+below_or_same : (o p : Ordering) → ordering_then o p ≡ Less → o ≢ Greater
+below_or_same Less p e q = cc
+below_or_same Equal p e q = cc
+below_or_same Greater p e q = cc
+
+-- of two rows in order the first one's region doesn't come behind the second one's
+pub regions_rise : (a b : Row) → IsPart a → IsPart b → text_cmp (key_of a) (key_of b) ≡ Less → text_cmp (region_of a) (region_of b) ≢ Greater
+regions_rise a b ha hb lt =
+    let na = (name_of a).namespace in
+    let nb = (name_of b).namespace in
+    let kinds = nat_cmp (kind_place (kind_of a)) (kind_place (kind_of b)) in
+    let split = parts_then na nb (local_text (name_of a).package (name_of a).name) (local_text (name_of b).package (name_of b).name) ha hb in
+    below_or_same _ _ (sym (ap (ordering_then kinds) split ∙ then_then kinds _ _) ∙ lt)
+
+-- ---- where the regions part
+
+pub sorted_at : {B : Type 0} (row : B → Row) (bs : List B) (i j : ℕ) (d : B) → AreRows (map row bs) → i < j → j < length bs → text_cmp (key_of (row (get_or bs i d))) (key_of (row (get_or bs j d))) ≡ Less
+unfolding IsStrictlySortedBy
+sorted_at row [] i j d h lt le = absurd (omega arith)
+sorted_at row (b ∷ bs) i zero d h lt le = absurd (omega arith)
+sorted_at row (b ∷ bs) zero (suc j) d h lt le = key_at row (λ a. text_cmp (key_of (row b)) a ≡ Less) bs j d h.0 (omega arith)
+sorted_at row (b ∷ bs) (suc i) (suc j) d h lt le = sorted_at row bs i j d h.1 (omega arith) (omega arith)
+
+part_at : {B : Type 0} (row : B → Row) (bs : List B) (j : ℕ) (d : B) → AllByRecursion IsPart (map row bs) → j < length bs → IsPart (row (get_or bs j d))
+part_at row [] j d h lt = absurd (omega arith)
+part_at row (b ∷ bs) zero d h lt = h.0
+part_at row (b ∷ bs) (suc j) d h lt = part_at row bs j d h.1 (omega arith)
+
+-- texts in order stand in that order to a third
+ranks : (a b k : List ℕ) (o : Ordering) → text_cmp a b ≡ o → o ≢ Greater → ordering_index (text_cmp a k) ≤ ordering_index (text_cmp b k)
+ranks a b k Less e n = rises_at a b k _ e refl
+ranks a b k Equal e n = omega (arith, ap ordering_index (nat_list_cmp_total.congr a b k e))
+ranks a b k Greater e n = absurd (n refl)
+
+pub ranks_at : {B : Type 0} (row : B → Row) (k : List ℕ) (bs : List B) (i j : ℕ) (d : B) → AreKept (map row bs) → i ≤ j → j < length bs
+    → ordering_index (text_cmp (region_of (row (get_or bs i d))) k) ≤ ordering_index (text_cmp (region_of (row (get_or bs j d))) k)
+ranks_at {B} row k bs i j d h le lt = elim (cases_lt i j) [
+  | inl less ↦ ranks (region_of (row (get_or bs i d))) (region_of (row (get_or bs j d))) k _ refl
+      (regions_rise (row (get_or bs i d)) (row (get_or bs j d)) (part_at row bs i d h.parts (omega arith)) (part_at row bs j d h.parts lt) (sorted_at row bs i j d h.rise less lt))
+  | inr more ↦ omega (arith, ap (λ n. ordering_index (text_cmp (region_of (row (get_or bs n d))) k)) (same i j le more))
+]
+  where
+    same : (i j : ℕ) → i ≤ j → j ≤ i → i ≡ j
+    same i j le ge = omega arith
+
+lt_down : (p q : Ordering) → ordering_index p ≤ ordering_index q → is_lt q ≡ true → is_lt p ≡ true
+lt_down Less q le e = refl
+lt_down Equal Less le e = absurd (omega arith)
+lt_down Equal Equal le e = cc
+lt_down Equal Greater le e = cc
+lt_down Greater Less le e = absurd (omega arith)
+lt_down Greater Equal le e = cc
+lt_down Greater Greater le e = cc
+
+le_down : (p q : Ordering) → ordering_index p ≤ ordering_index q → is_le q ≡ true → is_le p ≡ true
+le_down Less q le e = refl
+le_down Equal q le e = refl
+le_down Greater Less le e = absurd (omega arith)
+le_down Greater Equal le e = absurd (omega arith)
+le_down Greater Greater le e = cc
+
+pub parts_before : {B : Type 0} (row : B → Row) (k : List ℕ) (bs : List B) → AreKept (map row bs) → IsPartitionedBy (λ b. is_lt (text_cmp (region_of (row b)) k)) bs
+parts_before row k bs h i j d le lt e = lt_down _ _ (ranks_at row k bs i j d h le lt) e
+
+pub parts_through : {B : Type 0} (row : B → Row) (k : List ℕ) (bs : List B) → AreKept (map row bs) → IsPartitionedBy (λ b. is_le (text_cmp (region_of (row b)) k)) bs
+parts_through row k bs h i j d le lt e = le_down _ _ (ranks_at row k bs i j d h le lt) e
+
+-- ---- what stands between
+
+both : (p q : Bool) → (p ≡ true → q ≡ true) → (q ≡ true → p ≡ true) → p ≡ q
+both true q f g = sym (f refl)
+both false true f g = g refl
+both false false f g = refl
+
+without_slash : (a b : List ℕ) → bytes_eq (a ++ 47 ∷ []) (b ++ 47 ∷ []) ≡ bytes_eq a b
+without_slash a b = both _ _
+    (λ e. (bytes_eq-Decides a b).1 (append_cancel_right a b (47 ∷ []) ((bytes_eq-Decides _ _).0 e)))
+    (λ e. (bytes_eq-Decides _ _).1 (ap (λ s. s ++ 47 ∷ []) ((bytes_eq-Decides a b).0 e)))
+
+turned_eq : (o : Ordering) → is_eq (ordering_reverse o) ≡ is_eq o
+turned_eq Less = refl
+turned_eq Equal = refl
+turned_eq Greater = refl
+
+stands_by : (kind : EntityKind) (namespace : List ℕ) (r : Row) (o : Ordering) → text_cmp (region_of r) (region kind namespace) ≡ o → stands_in kind namespace r ≡ is_eq o
+stands_by kind namespace r o e =
+    sym (ap (λ t. (kind_place kind == kind_place (kind_of r)) && t) (without_slash namespace (name_of r).namespace))
+    ∙ test_of (region kind namespace) (region_of r) _ (turned (region_of r) (region kind namespace) o e)
+    ∙ turned_eq o
+
+before : (o : Ordering) → is_lt o ≡ true → is_eq o ≡ false
+before Less e = refl
+before Equal e = cc
+before Greater e = refl
+
+behind : (o : Ordering) → is_le o ≡ false → is_eq o ≡ false
+behind Less e = refl
+behind Equal e = cc
+behind Greater e = refl
+
+between : (o : Ordering) → is_lt o ≡ false → is_le o ≡ true → is_eq o ≡ true
+between Less e f = cc
+between Equal e f = refl
+between Greater e f = cc
+
+-- of rows that all come from the region on, those in it stand first
+stands_first : {B : Type 0} (row : B → Row) (kind : EntityKind) (namespace : List ℕ) (bs : List B) (j : ℕ)
+    → ((k : ℕ) (d : B) → k < length bs → is_lt (text_cmp (region_of (row (get_or bs k d))) (region kind namespace)) ≡ false)
+    → IsPartitionPoint (λ b. is_le (text_cmp (region_of (row b)) (region kind namespace)) ≡ true) (λ b. is_le (text_cmp (region_of (row b)) (region kind namespace)) ≡ false) bs j
+    → filter (stands_in kind namespace) (map row bs) ≡ map row (take j bs)
+stands_first row kind namespace [] j f g = sym (ap (map row) (take-nil j))
+stands_first row kind namespace (b ∷ bs) zero f g =
+    let out = stands_by kind namespace (row b) _ refl ∙ behind _ (g.1 0 b (omega arith) (omega arith)) in
+    let rest = stands_first row kind namespace bs zero (λ k d x. f (suc k) d (omega arith)) (λ k d x y. absurd (omega arith), λ k d x y. g.1 (suc k) d (omega arith) (omega arith)) in
+    ap (λ t. cond t (row b ∷ filter (stands_in kind namespace) (map row bs)) (filter (stands_in kind namespace) (map row bs))) out ∙ rest
+stands_first row kind namespace (b ∷ bs) (suc j) f g =
+    let here = stands_by kind namespace (row b) _ refl ∙ between _ (f 0 b (omega arith)) (g.0 0 b (omega arith) (omega arith)) in
+    let rest = stands_first row kind namespace bs j (λ k d x. f (suc k) d (omega arith)) (λ k d x y. g.0 (suc k) d (omega arith) (omega arith), λ k d x y. g.1 (suc k) d (omega arith) (omega arith)) in
+    ap (λ t. cond t (row b ∷ filter (stands_in kind namespace) (map row bs)) (filter (stands_in kind namespace) (map row bs))) here ∙ ap (λ xs. row b ∷ xs) rest
+
+pub stands_together : {B : Type 0} (row : B → Row) (kind : EntityKind) (namespace : List ℕ) (bs rest : List B) (i j : ℕ) → rest ≡ drop i bs
+    → IsPartitionPoint (λ b. is_lt (text_cmp (region_of (row b)) (region kind namespace)) ≡ true) (λ b. is_lt (text_cmp (region_of (row b)) (region kind namespace)) ≡ false) bs i
+    → IsPartitionPoint (λ b. is_le (text_cmp (region_of (row b)) (region kind namespace)) ≡ true) (λ b. is_le (text_cmp (region_of (row b)) (region kind namespace)) ≡ false) rest j
+    → filter (stands_in kind namespace) (map row bs) ≡ map row (take j rest)
+stands_together row kind namespace bs rest zero j e f g =
+    stands_first row kind namespace bs j (λ k d x. f.1 k d (omega arith) x)
+    (subst (λ zs. IsPartitionPoint (λ b. is_le (text_cmp (region_of (row b)) (region kind namespace)) ≡ true) (λ b. is_le (text_cmp (region_of (row b)) (region kind namespace)) ≡ false) zs j) e g)
+    ∙ ap (λ zs. map row (take j zs)) (sym e)
+stands_together row kind namespace [] rest (suc i) j e f g = sym (ap (λ zs. map row (take j zs)) e ∙ ap (map row) (take-nil j))
+stands_together row kind namespace (b ∷ bs) rest (suc i) j e f g =
+    let out = stands_by kind namespace (row b) _ refl ∙ before _ (f.0 0 b (omega arith) (omega arith)) in
+    let more = stands_together row kind namespace bs rest i j e (λ k d x y. f.0 (suc k) d (omega arith) (omega arith), λ k d x y. f.1 (suc k) d (omega arith) (omega arith)) g in
+    ap (λ t. cond t (row b ∷ filter (stands_in kind namespace) (map row bs)) (filter (stands_in kind namespace) (map row bs))) out ∙ more
+
+-- ---- what of it is shown
+
+drop_upto : {A : Type 0} (xs : List A) (n s : ℕ) → n ≡ min s (length xs) → drop n xs ≡ drop s xs
+drop_upto [] n s e = drop-nil n ∙ sym (drop-nil s)
+drop_upto (x ∷ xs) zero zero e = refl
+drop_upto (x ∷ xs) zero (suc s) e = absurd (omega arith)
+drop_upto (x ∷ xs) (suc n) zero e = absurd (omega arith)
+drop_upto (x ∷ xs) (suc n) (suc s) e = drop_upto xs n s (omega arith)
+
+take_upto : {A : Type 0} (xs : List A) (n s : ℕ) → n ≡ min s (length xs) → take n xs ≡ take s xs
+take_upto [] n s e = take-nil n ∙ sym (take-nil s)
+take_upto (x ∷ xs) zero zero e = refl
+take_upto (x ∷ xs) zero (suc s) e = absurd (omega arith)
+take_upto (x ∷ xs) (suc n) zero e = absurd (omega arith)
+take_upto (x ∷ xs) (suc n) (suc s) e = ap (λ ys. x ∷ ys) (take_upto xs n s (omega arith))
+
+pub cut : {A C : Type 0} (f : A → C) (xs rest : List A) (ys : List C) (n m skip limit : ℕ) → map f xs ≡ ys → rest ≡ drop n xs → n ≡ min skip (length xs) → m ≡ min limit (length rest)
+    → map f (take m rest) ≡ take limit (drop skip ys)
+cut f xs rest ys n m skip limit e r is_n is_m =
+    ap (map f) (take_upto rest m limit is_m) ∙ ap (λ zs. map f (take limit zs)) (r ∙ drop_upto xs n skip is_n)
+    ∙ sym (take-map f limit (drop skip xs)) ∙ ap (take limit) (sym (drop-map f skip xs)) ∙ ap (λ zs. take limit (drop skip zs)) e
+
+-- ---- what is kept
+
+all_put : (P : Row → Type 0) (r : Row) (xs : List Row) → P r → AllByRecursion P xs → AllByRecursion P (put_row r xs)
+all_put P r [] p h = (p, tt)
+all_put P r (x ∷ xs) p h = by_order (text_cmp (key_of r) (key_of x)) (all_put P r xs p h.1)
+  where
+    by_order : (o : Ordering) → AllByRecursion P (put_row r xs) → AllByRecursion P (match_ordering o (r ∷ x ∷ xs) (r ∷ xs) (x ∷ put_row r xs))
+    by_order Less behind = (p, h)
+    by_order Equal behind = (p, h.1)
+    by_order Greater behind = (h.0, behind)
+
+all_filter : (P : Row → Type 0) (test : Row → Bool) (xs : List Row) → AllByRecursion P xs → AllByRecursion P (filter test xs)
+all_filter P test [] h = tt
+all_filter P test (x ∷ xs) h = by_test (test x) (all_filter P test xs h.1)
+  where
+    by_test : (b : Bool) → AllByRecursion P (filter test xs) → AllByRecursion P (cond b (x ∷ filter test xs) (filter test xs))
+    by_test true behind = (h.0, behind)
+    by_test false behind = behind
+
+pub AreKept-put_row : (r : Row) (xs : List Row) → IsPart r → AreKept xs → AreKept (put_row r xs)
+AreKept-put_row r xs p h = record { rise = AreRows-put_row r xs h.rise; parts = all_put IsPart r xs p h.parts }
+
+pub AreKept-filter : (test : Row → Bool) (xs : List Row) → AreKept xs → AreKept (filter test xs)
+AreKept-filter test xs h = record { rise = AreRows-filter test xs h.rise; parts = all_filter IsPart test xs h.parts }
+
+pub AreKept-drop : {B : Type 0} (row : B → Row) (bs : List B) (n : ℕ) → AreKept (map row bs) → AreKept (map row (drop n bs))
+unfolding IsStrictlySortedBy
+AreKept-drop row bs zero h = h
+AreKept-drop row [] (suc n) h = h
+AreKept-drop row (b ∷ bs) (suc n) h = AreKept-drop row bs n (record { rise = h.rise.1; parts = h.parts.1 })
+
+-- the namespace that a comparison made known is the row's
+pub named : (r r' : Row) (name : FullName) → r' ≡ r → name ≡ name_of r' → HasNoSlash name.namespace → IsPart r
+named r r' name e f h = subst (λ (n : FullName). HasNoSlash n.namespace) (f ∙ ap name_of e) h

@@ -1,0 +1,62 @@
+ghost use Rattle.std.specs.Prelude.{◌≡◌, codes, None, IfOk};
+ghost use Rattle.ow_names.specs.Name.{first_fault};
+ghost use Rattle.ow_tables.specs.Builtin.{echo, utils};
+
+use ow_entity::{Action, Exec, Limits, Package};
+use ow_names::{EntityName, FullName, read_name};
+use ow_value::{NoMemory, Params, Str};
+use std::alloc::Global;
+
+/// The action that answers what it is given.
+pub(crate) fn echo(alloc: Global) -> Result<Action, NoMemory>
+    ensures { IfOk result (λ a. a ≡ echo) }
+{
+    let namespace = name(alloc, "whisk.system")?;
+    let package = name(alloc, "utils")?;
+    let name = name(alloc, "echo")?;
+    Ok(Action {
+        name: FullName {
+            namespace,
+            package: Some(package),
+            name,
+        },
+        version: 1,
+        publish: false,
+        params: Params::new(alloc),
+        notes: Params::new(alloc),
+        exec: Exec::Plain {
+            code: Str::of(
+                alloc,
+                "{\"cases\":[{\"give\":{\"$all\":true},\"when\":{}}]}",
+            )?,
+        },
+        limits: Limits::DEFAULT,
+    })
+}
+
+/// The package in which it lies.
+pub(crate) fn utils(alloc: Global) -> Result<Package, NoMemory>
+    ensures { IfOk result (λ p. p ≡ utils) }
+{
+    let namespace = name(alloc, "whisk.system")?;
+    let name = name(alloc, "utils")?;
+    Ok(Package {
+        name: FullName {
+            namespace,
+            package: None,
+            name,
+        },
+        version: 1,
+        publish: true,
+        params: Params::new(alloc),
+        notes: Params::new(alloc),
+        binding: None,
+    })
+}
+
+// The text is a name, so only memory can be wanting.
+fn name(alloc: Global, text: &str) -> Result<EntityName, NoMemory>
+    ensures { IfOk result (λ n. n ≡ text.now) }
+{
+    read_name(alloc, text.as_bytes()).map_err(|_| NoMemory)
+}

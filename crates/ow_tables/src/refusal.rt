@@ -1,0 +1,79 @@
+ghost use Rattle.std.specs.Prelude.{◌≡◌};
+ghost use Rattle.ow_tables.specs.Refusals.{table_refusal_number};
+
+use ow_entity::EntityRefusal;
+use ow_value::NoMemory;
+use std::alloc::{AllocError, AllocFailed};
+
+/// Why tables don't change, or have no such row.
+#[derive(Clone, Copy, PartialEq, Eq, Debug, Drop)]
+pub enum TableRefusal {
+    /// The entity doesn't stand, or the package in which it is to lie.
+    NotFound,
+    /// An entity of the kind and the name stands, and it is not to be overwritten.
+    Exists,
+    /// The draft makes no entity. Want of memory is none of these.
+    Entity(EntityRefusal),
+    NoMemory,
+}
+
+impl TableRefusal {
+    /// By which a client tells the refusals apart. Want of memory has 0.
+    pub fn number(self) -> u32
+        ensures { result ≡ table_refusal_number self }
+    {
+        match self {
+            TableRefusal::NoMemory => 0,
+            TableRefusal::NotFound => 14,
+            TableRefusal::Exists => 17,
+            TableRefusal::Entity(refusal) => refusal.number(),
+        }
+    }
+}
+
+impl From<EntityRefusal> for TableRefusal {
+    ghost use Rattle.std.specs.Prelude.{◌≡◌};
+    ghost use Rattle.ow_tables.specs.Refusals.{of_entity};
+
+    ghost from_gives = { λ r e. e ≡ of_entity r };
+
+    fn from(refusal: EntityRefusal) -> TableRefusal {
+        match refusal {
+            EntityRefusal::NoMemory => TableRefusal::NoMemory,
+            _ => TableRefusal::Entity(refusal),
+        }
+    }
+}
+
+impl From<AllocError> for TableRefusal {
+    ghost use Rattle.std.specs.Prelude.{◌≡◌};
+    ghost use Rattle.ow_tables.specs.declared.refusal.TableRefusal.TheVariants.{NoMemory};
+
+    ghost from_gives = { λ _ e. e ≡ NoMemory };
+
+    fn from(_refused: AllocError) -> TableRefusal {
+        TableRefusal::NoMemory
+    }
+}
+
+impl<T: Drop> From<AllocFailed<T>> for TableRefusal {
+    ghost use Rattle.std.specs.Prelude.{◌≡◌};
+    ghost use Rattle.ow_tables.specs.declared.refusal.TableRefusal.TheVariants.{NoMemory};
+
+    ghost from_gives = { λ _ e. e ≡ NoMemory };
+
+    fn from(_refused: AllocFailed<T>) -> TableRefusal {
+        TableRefusal::NoMemory
+    }
+}
+
+impl From<NoMemory> for TableRefusal {
+    ghost use Rattle.std.specs.Prelude.{◌≡◌};
+    ghost use Rattle.ow_tables.specs.declared.refusal.TableRefusal.TheVariants.{NoMemory};
+
+    ghost from_gives = { λ _ e. e ≡ NoMemory };
+
+    fn from(_refused: NoMemory) -> TableRefusal {
+        TableRefusal::NoMemory
+    }
+}

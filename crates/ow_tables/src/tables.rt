@@ -1,0 +1,219 @@
+ghost use Rattle.std.specs.Prelude.{◌≡◌, ◌≢◌, ◌≤◌, [], ◌∷◌, Bool, true, false, Some, None, Ok, IfOk, OnOk, IfErr, OnErr, IfSome, MatchResult};
+ghost use Rattle.ow_entity.specs.Chain.{first_some};
+ghost use Rattle.ow_entity.specs.Finish.{finished};
+ghost use Rattle.ow_entity.specs.Fit.{IsFit, IsFitDraft};
+ghost use Rattle.ow_tables.specs.Builtin.{builtin};
+ghost use Rattle.ow_tables.specs.Rows.{AreRows, found, put_row, without, changed, listing};
+ghost use Rattle.ow_tables.specs.Refusals.{package_of, package_missing, in_the_way, unfinished, old_row, put_refusal, remove_refusal};
+
+use crate::builtin::{echo, utils};
+use crate::listing::listing;
+use crate::place::{order, place};
+use crate::ready::Ready;
+use crate::refusal::TableRefusal;
+use ow_entity::{Draft, EntityKind, Lookup, Row, finish};
+use ow_names::{EntityName, FullName};
+use ow_value::{NoMemory, Vals};
+use std::alloc::Global;
+use std::marker::Model;
+
+/// The entities that stand, in the order of their kinds and the bytes of their full texts.
+#[derive(Drop)]
+pub struct Tables {
+    rows: Vec<Box<Row>>,
+}
+
+impl Model for Tables {
+    ghost use Rattle.std.specs.Prelude.{◌-◌, vec_len};
+    ghost use Rattle.std.specs.Vec.{vec_capacity};
+    ghost use Rattle.std.specs.Coded.{codes};
+    ghost use Rattle.ow_value.specs.Code.{value_code};
+    ghost use Rattle.ow_tables.specs.Contents.{Contents};
+    ghost use Rattle.ow_tables.specs.Boxed.{rows_in};
+    ghost use Rattle.ow_tables.specs.Region.{AreKept};
+
+    ghost Value = { Contents };
+
+    ghost coded = { Prim.hlevel (codes, value_code) };
+
+    ghost view = { λ a. record { rows = rows_in a.rows.items; room = vec_capacity a.rows - vec_len a.rows } };
+
+    ghost invariant = { λ a. AreKept (rows_in a.rows.items) };
+}
+
+impl Tables {
+    /// The built-in rows alone.
+    pub fn new(alloc: Global) -> Result<Tables, NoMemory>
+        ensures { IfOk result (λ t. t.rows ≡ builtin) }
+    {
+        let mut rows = Vec::with_capacity(alloc, 2)?;
+        rows.push(Box::new(alloc, Row::Action(echo(alloc)?))?)?;
+        rows.push(Box::new(alloc, Row::Package(utils(alloc)?))?)?;
+        Ok(Tables { rows })
+    }
+
+    /// Makes the row of the draft ready to stand. This takes all the memory that the change needs.
+    pub fn prepare_put(
+        &mut self,
+        alloc: Global,
+        draft: Draft,
+        overwrite: bool,
+    ) -> Result<Ready, TableRefusal>
+        ensures unrefused { OnOk result (put_refusal draft overwrite self.old.rows ≡ None) }
+        ensures refused { IfErr result (λ e. e ≢ TableRefusal.NoMemory → put_refusal draft overwrite self.old.rows ≡ Some e) }
+        ensures row { IfOk result (λ r. finished draft (old_row draft self.old.rows) ≡ Ok r.row) }
+        ensures fits { IsFitDraft draft → IfSome (old_row draft self.old.rows) IsFit → IfOk result (λ r. IsFit r.row) }
+        ensures puts { IfOk result (λ r. r.removes ≡ false) }
+        ensures rows { self.new.rows ≡ self.old.rows }
+        ensures room { OnOk result (1 ≤ self.new.room) }
+        ensures unchanged { OnErr result (self.new ≡ self.old) }
+    {
+        self.check_package(alloc, draft.name())?;
+        let row = self.finished(alloc, draft, overwrite)?;
+        let row = Box::new(alloc, row)?;
+        self.rows.reserve(1)?;
+        Ok(Ready {
+            row,
+            removes: false,
+        })
+    }
+
+    /// Makes the row of the kind and the name ready to be taken out.
+    pub fn prepare_remove(
+        &mut self,
+        alloc: Global,
+        kind: EntityKind,
+        name: &FullName,
+    ) -> Result<Ready, TableRefusal>
+        ensures refused { IfErr result (λ e. e ≢ TableRefusal.NoMemory → remove_refusal kind name.now self.old.rows ≡ Some e) }
+        ensures row { IfOk result (λ r. found kind name.now self.old.rows ≡ Some r.row) }
+        ensures removes { IfOk result (λ r. r.removes ≡ true) }
+        ensures unchanged { self.new ≡ self.old }
+    {
+        let row = self.get(kind, name)?.copy(alloc)?;
+        Ok(Ready {
+            row: Box::new(alloc, row)?,
+            removes: true,
+        })
+    }
+
+    /// Makes the change. This takes no memory.
+    pub fn apply(&mut self, ready: Ready)
+        requires { ready.removes ≡ false → 1 ≤ self.old.room }
+        ensures { self.new.rows ≡ changed ready self.old.rows }
+    {
+        let Ready { row, removes } = ready;
+        if removes {
+            self.take_out(&row);
+        } else {
+            self.put_in(row);
+        }
+    }
+
+    /// The row of the kind and the name.
+    pub fn get(&self, kind: EntityKind, name: &FullName) -> Result<&Row, TableRefusal>
+        ensures { MatchResult result (λ r. found kind name.now self.now.rows ≡ Some r.now)
+            (λ e. (found kind name.now self.now.rows ≡ None) × (e ≡ TableRefusal.NotFound)) }
+    {
+        self.row(kind, name).ok_or(TableRefusal::NotFound)
+    }
+
+    /// What lists show of the rows of the kind that stand in the namespace, in packages too: by name, but for the first
+    /// `skip`, and at most `limit`.
+    pub fn list(
+        &self,
+        alloc: Global,
+        kind: EntityKind,
+        namespace: &EntityName,
+        skip: u64,
+        limit: u64,
+    ) -> Result<Vals, NoMemory>
+        ensures value { IfOk result (λ vs. vs ≡ listing kind namespace.now skip limit self.now.rows) }
+        ensures order { AreRows self.now.rows }
+    {
+        listing(alloc, &self.rows, kind, namespace, skip, limit)
+    }
+
+    pub fn copy(&self, alloc: Global) -> Result<Tables, NoMemory>
+        ensures { IfOk result (λ t. t.rows ≡ self.now.rows) }
+    {
+        let mut rows = Vec::with_capacity(alloc, self.rows.len())?;
+        for row in &self.rows {
+            rows.push(Box::new(alloc, row.copy(alloc)?)?)?;
+        }
+        Ok(Tables { rows })
+    }
+
+    // That the package in which the name lies stands.
+    fn check_package(&self, alloc: Global, name: &FullName) -> Result<(), TableRefusal>
+        ensures { MatchResult result (λ _. package_missing (package_of name.now) self.now.rows ≡ None)
+            (λ e. e ≢ TableRefusal.NoMemory → package_missing (package_of name.now) self.now.rows ≡ Some e) }
+    {
+        let Some(package) = &name.package else {
+            return Ok(());
+        };
+        let package = FullName {
+            namespace: name.namespace.copy(alloc)?,
+            package: None,
+            name: package.copy(alloc)?,
+        };
+        self.get(EntityKind::Package, &package)?;
+        Ok(())
+    }
+
+    // The row of the draft, over the one that stands, if any.
+    fn finished(&self, alloc: Global, draft: Draft, overwrite: bool) -> Result<Row, TableRefusal>
+        ensures way { OnOk result (in_the_way overwrite (old_row draft self.now.rows) ≡ None) }
+        ensures row { IfOk result (λ r. finished draft (old_row draft self.now.rows) ≡ Ok r) }
+        ensures fits { IsFitDraft draft → IfSome (old_row draft self.now.rows) IsFit → IfOk result IsFit }
+        ensures refused { IfErr result (λ e. e ≢ TableRefusal.NoMemory
+            → first_some (in_the_way overwrite (old_row draft self.now.rows) ∷ unfinished draft (old_row draft self.now.rows) ∷ []) ≡ Some e) }
+    {
+        let old = self.row(draft.kind(), draft.name());
+        if old.is_some() && !overwrite {
+            return Err(TableRefusal::Exists);
+        }
+        Ok(finish(alloc, draft, old)?)
+    }
+
+    fn put_in(&mut self, row: Box<Row>)
+        requires { 1 ≤ self.old.room }
+        ensures { self.new.rows ≡ put_row row.value self.old.rows }
+    {
+        let namespace = &row.name().namespace;
+        namespace.compare_as_part(namespace);
+        match place(&self.rows, row.kind(), row.name()) {
+            Ok(i) => self.rows[i] = row,
+            Err(i) => {
+                let Ok(()) = self.rows.insert(i, row) else {
+                    unreachable!()
+                };
+            }
+        }
+    }
+
+    fn take_out(&mut self, row: &Row)
+        ensures { self.new.rows ≡ changed (record { row = row.now; removes = true }) self.old.rows }
+    {
+        if let Ok(i) = place(&self.rows, row.kind(), row.name()) {
+            self.rows.remove(i);
+        }
+    }
+}
+
+impl Lookup for Tables {
+    ghost use Rattle.ow_tables.specs.Rows.{found};
+
+    ghost found = { λ t kind name. found kind name t.rows };
+
+    fn row(&self, kind: EntityKind, name: &FullName) -> Option<&Row> {
+        match place(&self.rows, kind, name) {
+            Ok(i) => {
+                let row = &*self.rows[i];
+                order(row, kind, name);
+                Some(row)
+            }
+            Err(_) => None,
+        }
+    }
+}

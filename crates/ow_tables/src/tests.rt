@@ -1,0 +1,180 @@
+use crate::builtin::echo;
+use crate::{TableRefusal, Tables};
+use ow_entity::{Draft, EntityKind, Lookup, Row, read_entity};
+use ow_names::{FullName, read_name, resolve};
+use ow_value::{Val, Vals, read_val};
+use std::alloc::Global;
+use std::test::Fail;
+
+const CODE: &str = "{\"exec\":{\"code\":\"no program\",\"kind\":\"program:1\"}}";
+
+fn full(alloc: Global, path: &str) -> Result<FullName, Fail> {
+    let guest = read_name(alloc, b"guest")?;
+    Ok(resolve(alloc, path, &guest)?)
+}
+
+fn draft(alloc: Global, path: &str, body: &str) -> Result<Draft, Fail> {
+    let body = read_val(alloc, body.as_bytes())?;
+    let name = full(alloc, path)?;
+    Ok(read_entity(alloc, EntityKind::Action, &name, &body)?)
+}
+
+fn put(
+    tables: &mut Tables,
+    alloc: Global,
+    draft: Draft,
+    overwrite: bool,
+) -> Result<(), TableRefusal> {
+    let ready = tables.prepare_put(alloc, draft, overwrite)?;
+    tables.apply(ready);
+    Ok(())
+}
+
+fn remove(
+    tables: &mut Tables,
+    alloc: Global,
+    kind: EntityKind,
+    name: &FullName,
+) -> Result<(), TableRefusal> {
+    let ready = tables.prepare_remove(alloc, kind, name)?;
+    tables.apply(ready);
+    Ok(())
+}
+
+// The number of the refusal, or 0.
+fn told(answer: Result<(), TableRefusal>) -> u32 {
+    match answer {
+        Ok(()) => 0,
+        Err(refusal) => refusal.number(),
+    }
+}
+
+// Puts an action that is at its last version.
+fn put_last(tables: &mut Tables, alloc: Global, path: &str) -> Result<(), Fail> {
+    let mut action = echo(alloc)?;
+    action.name = full(alloc, path)?;
+    action.version = u32::MAX;
+    let mut ready = tables.prepare_put(alloc, draft(alloc, path, CODE)?, false)?;
+    ready.row = Box::new(alloc, Row::Action(action))?;
+    tables.apply(ready);
+    Ok(())
+}
+
+#[test]
+fn puts_are_refused_in_order(rt: HostRuntime) -> Result<(), Fail> {
+    let alloc = rt.alloc();
+    let mut tables = Tables::new(alloc)?;
+    put_last(&mut tables, alloc, "last")?;
+    let puts = [
+        ("a", CODE, false, 0),
+        ("a", "{}", false, 17),
+        ("a", "{}", true, 0),
+        ("b", "{}", false, 9),
+        ("b", "{}", true, 9),
+        ("/whisk.system/utils/echo", CODE, false, 17),
+        ("/whisk.system/utils/b", CODE, false, 0),
+        ("/guest/utils/b", CODE, false, 14),
+        ("p/b", "{}", true, 14),
+        ("last", CODE, false, 17),
+        ("last", CODE, true, 18),
+    ];
+    for (path, body, overwrite, number) in puts.iter() {
+        let draft = draft(alloc, path, body)?;
+        assert_eq!(rt; told(put(&mut tables, alloc, draft, *overwrite)), *number);
+    }
+    Ok(())
+}
+
+#[test]
+fn removals_are_refused_where_no_row_stands(rt: HostRuntime) -> Result<(), Fail> {
+    let alloc = rt.alloc();
+    let mut tables = Tables::new(alloc)?;
+    put(&mut tables, alloc, draft(alloc, "a", CODE)?, false)?;
+    let removals = [
+        (EntityKind::Trigger, "a", 14),
+        (EntityKind::Action, "b", 14),
+        (EntityKind::Action, "a", 0),
+        (EntityKind::Action, "a", 14),
+        (EntityKind::Package, "/whisk.system/utils", 0),
+    ];
+    for (kind, path, number) in removals.iter() {
+        let name = full(alloc, path)?;
+        assert_eq!(rt; told(remove(&mut tables, alloc, *kind, &name)), *number);
+    }
+    assert_eq!(rt; TableRefusal::NoMemory.number(), 0);
+    Ok(())
+}
+
+// The names that a list shows, each with a space behind it.
+fn names(alloc: Global, shown: &Vals) -> Result<String, Fail> {
+    let mut names = String::new(alloc);
+    for value in shown.items() {
+        if let Val::Object(fields) = value
+            && let Some(Val::Text(name)) = fields.find("name")
+        {
+            names.push_str(name.as_str())?;
+            names.push(' ')?;
+        }
+    }
+    Ok(names)
+}
+
+fn listed(
+    alloc: Global,
+    tables: &Tables,
+    kind: EntityKind,
+    namespace: &str,
+    part: (u64, u64),
+) -> Result<String, Fail> {
+    let namespace = read_name(alloc, namespace.as_bytes())?;
+    let shown = tables.list(alloc, kind, &namespace, part.0, part.1)?;
+    names(alloc, &shown)
+}
+
+// Some actions, of which one is put twice.
+fn filled(alloc: Global) -> Result<Tables, Fail> {
+    let mut tables = Tables::new(alloc)?;
+    for path in ["c", "/other/d", "a", "b", "a"].iter() {
+        put(&mut tables, alloc, draft(alloc, path, CODE)?, true)?;
+    }
+    Ok(tables)
+}
+
+#[test]
+fn lists_are_by_name(rt: HostRuntime) -> Result<(), Fail> {
+    let alloc = rt.alloc();
+    let tables = filled(alloc)?.copy(alloc)?;
+    let lists = [
+        (EntityKind::Action, "guest", (0, 10), "a b c "),
+        (EntityKind::Action, "guest", (1, 1), "b "),
+        (EntityKind::Action, "guest", (2, 5), "c "),
+        (EntityKind::Action, "guest", (3, 5), ""),
+        (EntityKind::Action, "guest", (0, 0), ""),
+        (EntityKind::Action, "guest", (u64::MAX, u64::MAX), ""),
+        (EntityKind::Trigger, "guest", (0, 10), ""),
+        (EntityKind::Action, "other", (0, 10), "d "),
+        (EntityKind::Action, "whisk.system", (0, 10), "echo "),
+        (EntityKind::Package, "whisk.system", (0, 10), "utils "),
+    ];
+    for (kind, namespace, part, names) in lists.iter() {
+        let shown = listed(alloc, &tables, *kind, namespace, *part)?;
+        assert_eq!(rt; shown.as_str(), *names);
+    }
+    Ok(())
+}
+
+#[test]
+fn rows_are_found_by_kind_and_name(rt: HostRuntime) -> Result<(), Fail> {
+    let alloc = rt.alloc();
+    let tables = filled(alloc)?;
+    let a = full(alloc, "a")?;
+    assert_eq!(rt; tables.get(EntityKind::Action, &a)?.version(), 2);
+    assert!(rt; tables.get(EntityKind::Rule, &a).is_err());
+    let b = full(alloc, "b")?;
+    assert!(rt;
+        tables
+            .row(EntityKind::Action, &b)
+            .is_some_and(|row| row.version() == 1)
+    );
+    Ok(())
+}
