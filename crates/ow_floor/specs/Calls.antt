@@ -15,11 +15,12 @@ use Rattle.ow_floor.specs.declared.answers.Happening.{Happening}
 use Rattle.ow_floor.specs.declared.answers.Happening.TheVariants as happenings
 use Rattle.ow_floor.specs.declared.answers.Answered.{Answered}
 use Rattle.ow_floor.specs.declared.answers.Answered.TheVariants as answers
+use Rattle.ow_floor.specs.declared.answers.AnsweredTwice.{AnsweredTwice}
 use Rattle.ow_floor.specs.declared.answers.AnswerRefusal.{AnswerRefusal}
 use Rattle.ow_floor.specs.declared.answers.AnswerRefusal.TheVariants.{NoRun, NoMemory}
 use Rattle.ow_floor.specs.declared.answers.Drain.{Drain}
 use Rattle.ow_floor.specs.declared.answers.Drain.TheVariants.{Drained, StillOpen}
-use Rattle.ow_floor.specs.View.{FloorView, carries, with_run, with_end}
+use Rattle.ow_floor.specs.View.{FloorView, carries, order_for, with_run, with_end}
 use Rattle.ow_floor.specs.Trace as trace
 use Rattle.ow_floor.specs.Trace.{Trace, Run, End, grown, accepted, open_items, record_of, run_count, last, head, carried}
 use Rattle.ow_floor.specs.Laws.{Stands, IsSound, AreAllRecorded}
@@ -30,7 +31,16 @@ IsNext id T = id.count ≡ last T id.namespace + 1
 
 -- the activation that a plan becomes at this moment
 abbrev pub activation_of : ℕ → Plan → Activation
-activation_of at plan = record { id = plan.id; at = at; params = plan.params; limits = plan.limits }
+activation_of at plan = record {
+  id = plan.id;
+  at = at;
+  namespace = plan.namespace;
+  action = plan.action;
+  params = plan.params;
+  subject = plan.subject;
+  cause = plan.cause;
+  until = plan.until;
+}
 
 -- what is told of an acceptance
 abbrev pub happened_accepted : Id → List Happening
@@ -38,7 +48,7 @@ happened_accepted id = happenings.Accepted id ∷ []
 
 -- what is told of an end: the code is that of the outcome
 abbrev pub happened_recorded : End → List Happening
-happened_recorded e = happenings.Recorded e.task.id (outcome e.ending e.task.limits).code ∷ []
+happened_recorded e = happenings.Recorded e.task.id (outcome e.ending e.task.action.limits).code ∷ []
 
 -- the trace after `accept`
 abbrev pub after_accept : ℕ → Plan → Trace → Trace
@@ -47,7 +57,7 @@ after_accept at plan T = grown (trace.Accepted (activation_of at plan)) T
 -- what `next` answers, over the first that waits
 abbrev pub order_of : ℕ → Option Open → Order
 order_of run None = orders.Nothing Empty
-order_of run (Some o) = orders.Run (record { run = run; id = o.task.id; params = o.task.params; timeout = o.task.limits.timeout })
+order_of run (Some o) = orders.Run (order_for run o.task)
 
 -- the trace after `next`, over the first that waits
 abbrev pub after_order : ℕ → ℕ → Option Open → Trace → Trace
@@ -114,6 +124,11 @@ Orders old new at order = (T : Trace) → Stands old T → (order ≡ next_order
 abbrev pub Answers : FloorView → FloorView → ℕ → ℕ → RunReply → Result Answered AnswerRefusal → Type 0
 Answers old new at run reply (Err (NoMemory back)) = (T : Trace) → Stands old T → IsSome (carried T run)
 Answers old new at run reply result = (T : Trace) → Stands old T → (result ≡ answer_to at run reply T) × Stands new (after_answered at run reply T)
+
+-- the answer that is given, of the two
+abbrev pub given_of : Result AnsweredTwice AnswerRefusal → Result Answered AnswerRefusal
+given_of (Ok two) = Ok two.given
+given_of (Err refusal) = Err refusal
 
 -- a refusal hands back the run's number and the reply
 abbrev pub HandsBack : ℕ → RunReply → AnswerRefusal → Type 0

@@ -32,7 +32,7 @@ abbrev pub IsAmong : Activation → List Activation → Type 0
 IsAmong a [] = ⊥
 IsAmong a (x ∷ xs) = (a ≡ x) ⊎ IsAmong a xs
 
--- what has ended was accepted, with the same parameters and limits
+-- what has ended was accepted, as it was planned
 abbrev pub EndedWereAccepted : Trace → Type 0
 EndedWereAccepted T = AllByRecursion (λ e. IsAmong e.task (accepted T)) (ends T)
 

@@ -65,7 +65,7 @@ ends (item ∷ T) = ends_after item (ends T)
 
 -- the record of an end: the response is the outcome of what ended it
 abbrev pub record_of : End → Record
-record_of e = record { id = e.task.id; at = e.at; response = outcome e.ending e.task.limits }
+record_of e = record { id = e.task.id; at = e.at; response = outcome e.ending e.task.action.limits }
 
 -- the records, by their order
 abbrev pub records : Trace → List Record

@@ -1,12 +1,20 @@
 -- What a floor is seen as, and what its calls change there.
 use Rattle.std.specs.Prelude.{◌≡◌, ◌==◌, ◌<◌, ◌+◌, ◌++◌, ℕ, Bool, true, false, List, [], ◌∷◌, Option, Some, None, if◌then◌else◌, length, not, slice_index_or, slice_set, remove, map}
 use Rattle.std.specs.List.{find, filter}
+use Rattle.ow_traits.specs.declared.replies.Kind.{Kind}
+use Rattle.ow_traits.specs.declared.replies.Kind.TheVariants as runners
+use Rattle.ow_entity.specs.declared.code.Exec.{Exec}
+use Rattle.ow_entity.specs.declared.code.Exec.TheVariants.{Plain, Program}
+use Rattle.ow_entity.specs.Exec.{exec_code}
 use Rattle.ow_records.specs.declared.ids.Id.{Id}
 use Rattle.ow_floor.specs.declared.activations.Activation.{Activation}
 use Rattle.ow_floor.specs.declared.activations.Open.{Open}
 use Rattle.ow_floor.specs.declared.activations.Ended.{Ended}
 use Rattle.ow_floor.specs.declared.activations.State.{State}
 use Rattle.ow_floor.specs.declared.activations.State.TheVariants.{Waiting, Running}
+use Rattle.ow_floor.specs.declared.answers.Order.{Order}
+use Rattle.ow_floor.specs.declared.answers.Order.TheVariants.{Nothing}
+use Rattle.ow_floor.specs.declared.answers.RunOrder.{RunOrder}
 
 -- the activations that have not ended, by acceptance; the records of those that have, by their ends; the last
 -- id of each namespace; how many runs were ordered; the moment of the newest thing; whether it drains
@@ -99,6 +107,27 @@ pub record IsPlace {X : Type 0} (p : X → Bool) (xs : List X) (place : ℕ) : T
 abbrev pub PlaceOf : {X : Type 0} → (X → Bool) → List X → Option ℕ → Type 0
 PlaceOf p xs None = find p xs ≡ None
 PlaceOf p xs (Some place) = IsPlace p xs place
+
+abbrev pub is_nothing : Order → Bool
+is_nothing (Nothing idle) = true
+is_nothing order = false
+
+-- the kind of runner that a code needs
+abbrev pub kind_of : Exec → Kind
+kind_of (Plain code) = runners.Plain
+kind_of (Program code) = runners.Program
+
+-- what a runner is told of an activation
+abbrev pub order_for : ℕ → Activation → RunOrder
+order_for run a = record {
+  run = run;
+  id = a.id;
+  kind = kind_of a.action.exec;
+  code = exec_code a.action.exec;
+  memory = a.action.limits.memory;
+  params = a.params;
+  timeout = a.action.limits.timeout;
+}
 
 -- an open activation that a run carries
 abbrev pub started : ℕ → Open → Open

@@ -1,26 +1,74 @@
 // Activations: as planned, as accepted, as open, and as ended.
 ghost use Rattle.std.specs.Prelude.{◌≡◌, ◌↔◌, IsTrue, IfOk};
 
-use ow_entity::Limits;
+use ow_entity::Action;
+use ow_names::EntityName;
 use ow_records::{Id, Response};
-use ow_value::{NoMemory, Params};
+use ow_value::{NoMemory, Params, Str};
 use std::alloc::Global;
 
-/// What is to be accepted: an id, the merged parameters of the call, and the limits of its action.
+/// What is to be accepted.
 #[derive(Drop)]
 pub struct Plan {
     pub id: Id,
+    /// The namespace that is charged for it.
+    pub namespace: EntityName,
+    /// The action as it stands at the acceptance.
+    pub action: Action,
+    /// The merged parameters, with which it is run.
     pub params: Params,
-    pub limits: Limits,
+    /// In whose name it is run.
+    pub subject: Str,
+    /// The activation that it is a part of.
+    pub cause: Option<Id>,
+    /// Up to which moment, in milliseconds, the request that made it waits for the end.
+    pub until: Option<u64>,
 }
 
-/// What was accepted. `at` is the moment of the acceptance, in milliseconds.
+/// What was accepted. `at` is the moment of the acceptance, in milliseconds, and the rest is that of its plan.
 #[derive(Drop)]
 pub struct Activation {
     pub id: Id,
     pub at: u64,
+    pub namespace: EntityName,
+    pub action: Action,
     pub params: Params,
-    pub limits: Limits,
+    pub subject: Str,
+    pub cause: Option<Id>,
+    pub until: Option<u64>,
+}
+
+impl Plan {
+    /// An equal plan.
+    pub fn copy(&self, alloc: Global) -> Result<Plan, NoMemory>
+        ensures { IfOk result (λ p. p ≡ self.now) }
+    {
+        let namespace = self.namespace.copy(alloc)?;
+        let action = self.action.copy(alloc)?;
+        let params = self.params.copy(alloc)?;
+        let subject = self.subject.copy(alloc)?;
+        Ok(Plan {
+            id: self.id,
+            namespace,
+            action,
+            params,
+            subject,
+            cause: self.cause,
+            until: self.until,
+        })
+    }
+
+    pub fn same(&self, other: &Plan) -> bool
+        ensures { IsTrue result ↔ (self.now ≡ other.now) }
+    {
+        self.id == other.id
+            && self.namespace.same(&other.namespace)
+            && self.action.same(&other.action)
+            && self.params.same(&other.params)
+            && self.subject.same(&other.subject)
+            && self.cause == other.cause
+            && self.until == other.until
+    }
 }
 
 impl Activation {
@@ -28,11 +76,19 @@ impl Activation {
     pub fn copy(&self, alloc: Global) -> Result<Activation, NoMemory>
         ensures { IfOk result (λ a. a ≡ self.now) }
     {
+        let namespace = self.namespace.copy(alloc)?;
+        let action = self.action.copy(alloc)?;
+        let params = self.params.copy(alloc)?;
+        let subject = self.subject.copy(alloc)?;
         Ok(Activation {
             id: self.id,
             at: self.at,
-            params: self.params.copy(alloc)?,
-            limits: self.limits,
+            namespace,
+            action,
+            params,
+            subject,
+            cause: self.cause,
+            until: self.until,
         })
     }
 
@@ -41,8 +97,12 @@ impl Activation {
     {
         self.id == other.id
             && self.at == other.at
+            && self.namespace.same(&other.namespace)
+            && self.action.same(&other.action)
             && self.params.same(&other.params)
-            && self.limits == other.limits
+            && self.subject.same(&other.subject)
+            && self.cause == other.cause
+            && self.until == other.until
     }
 }
 

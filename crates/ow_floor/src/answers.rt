@@ -1,19 +1,88 @@
 // What the calls of a floor answer.
-ghost use Rattle.std.specs.Prelude.{◌≡◌, [], ◌∷◌, IfOk};
+ghost use Rattle.std.specs.Prelude.{◌≡◌, ◌↔◌, [], ◌∷◌, IsTrue, IfOk};
+ghost use Rattle.ow_floor.specs.View.{kind_of};
 
+use crate::Activation;
+use ow_entity::Exec;
 use ow_records::Id;
-use ow_traits::RunReply;
-use ow_value::{NoMemory, Params};
+use ow_traits::{Kind, RunReply};
+use ow_value::{NoMemory, Params, Str};
 use std::alloc::Global;
 use std::marker::Model;
 
-/// What a runner needs to run an activation. `timeout` is in milliseconds.
+/// What a runner needs to run an activation.
 #[derive(Drop)]
 pub struct RunOrder {
     pub run: u64,
     pub id: Id,
+    pub kind: Kind,
+    pub code: Str,
+    /// In MB.
+    pub memory: u32,
     pub params: Params,
+    /// In milliseconds.
     pub timeout: u32,
+}
+
+impl RunOrder {
+    ghost use Rattle.ow_floor.specs.View.{order_for};
+
+    /// An equal order.
+    pub fn copy(&self, alloc: Global) -> Result<RunOrder, NoMemory>
+        ensures { IfOk result (λ order. order ≡ self.now) }
+    {
+        let code = self.code.copy(alloc)?;
+        let params = self.params.copy(alloc)?;
+        Ok(RunOrder {
+            run: self.run,
+            id: self.id,
+            kind: self.kind,
+            code,
+            memory: self.memory,
+            params,
+            timeout: self.timeout,
+        })
+    }
+
+    pub fn same(&self, other: &RunOrder) -> bool
+        ensures { IsTrue result ↔ (self.now ≡ other.now) }
+    {
+        self.run == other.run
+            && self.id == other.id
+            && self.kind == other.kind
+            && self.code.same(&other.code)
+            && self.memory == other.memory
+            && self.params.same(&other.params)
+            && self.timeout == other.timeout
+    }
+
+    // The order to run an activation under this number.
+    pub(crate) fn of(alloc: Global, run: u64, task: &Activation) -> Result<RunOrder, NoMemory>
+        ensures { IfOk result (λ order. order ≡ order_for run task.now) }
+    {
+        let action = &task.action;
+        let code = action.exec.code().copy(alloc)?;
+        let params = task.params.copy(alloc)?;
+        Ok(RunOrder {
+            run,
+            id: task.id,
+            kind: kind_of(&action.exec),
+            code,
+            memory: action.limits.memory,
+            params,
+            timeout: action.limits.timeout,
+        })
+    }
+}
+
+// The kind of runner that a code needs.
+fn kind_of(exec: &Exec) -> Kind
+    ensures { result ≡ kind_of exec.now }
+{
+    match exec {
+        Exec::Plain { .. } => Kind::Plain,
+        Exec::Program { .. } => Kind::Program,
+    }
 }
 
 /// Why nothing is to run.
@@ -28,6 +97,36 @@ pub enum Idle {
 pub enum Order {
     Run(RunOrder),
     Nothing(Idle),
+}
+
+impl Order {
+    ghost use Rattle.ow_floor.specs.View.{is_nothing};
+
+    pub fn is_nothing(&self) -> bool
+        ensures { result ≡ is_nothing self.now }
+    {
+        matches!(self, Order::Nothing(_))
+    }
+
+    /// An equal order.
+    pub fn copy(&self, alloc: Global) -> Result<Order, NoMemory>
+        ensures { IfOk result (λ order. order ≡ self.now) }
+    {
+        match self {
+            Order::Run(order) => Ok(Order::Run(order.copy(alloc)?)),
+            Order::Nothing(idle) => Ok(Order::Nothing(*idle)),
+        }
+    }
+
+    pub fn same(&self, other: &Order) -> bool
+        ensures { IsTrue result ↔ (self.now ≡ other.now) }
+    {
+        match (self, other) {
+            (Order::Run(a), Order::Run(b)) => a.same(b),
+            (Order::Nothing(a), Order::Nothing(b)) => a == b,
+            _ => false,
+        }
+    }
 }
 
 /// One thing that happened to an activation.
@@ -55,8 +154,17 @@ impl Model for Happened {
 }
 
 impl Happened {
+    /// Nothing happened. This takes no memory.
+    pub fn none(alloc: Global) -> Happened
+        ensures { result ≡ [] }
+    {
+        Happened {
+            items: Vec::new(alloc),
+        }
+    }
+
     /// One thing happened.
-    pub(crate) fn one(alloc: Global, happening: Happening) -> Result<Happened, NoMemory>
+    pub fn one(alloc: Global, happening: Happening) -> Result<Happened, NoMemory>
         ensures { IfOk result (λ h. h ≡ happening ∷ []) }
     {
         let mut items = Vec::with_capacity(alloc, 1)?;
@@ -70,12 +178,59 @@ impl Happened {
     {
         self.items.as_slice()
     }
+
+    /// An equal list.
+    pub fn copy(&self, alloc: Global) -> Result<Happened, NoMemory>
+        ensures { IfOk result (λ h. h ≡ self.now) }
+    {
+        Ok(Happened {
+            items: Vec::from_slice(alloc, self.items.as_slice())?,
+        })
+    }
+
+    pub fn same(&self, other: &Happened) -> bool
+        ensures { IsTrue result ↔ (self.now ≡ other.now) }
+    {
+        if self.items.len() != other.items.len() {
+            return false;
+        }
+        for i in 0..self.items.len() {
+            if self.items[i] != other.items[i] {
+                return false;
+            }
+        }
+        true
+    }
 }
 
 /// What became of a runner's reply.
 #[derive(Drop)]
 pub enum Answered {
     Recorded(Happened),
+}
+
+impl Answered {
+    /// An equal answer.
+    pub fn copy(&self, alloc: Global) -> Result<Answered, NoMemory>
+        ensures { IfOk result (λ a. a ≡ self.now) }
+    {
+        let Answered::Recorded(happened) = self;
+        Ok(Answered::Recorded(happened.copy(alloc)?))
+    }
+
+    pub fn same(&self, other: &Answered) -> bool
+        ensures { IsTrue result ↔ (self.now ≡ other.now) }
+    {
+        let (Answered::Recorded(happened), Answered::Recorded(other_happened)) = (self, other);
+        happened.same(other_happened)
+    }
+}
+
+/// What became of a reply, twice: to be given, and to be kept.
+#[derive(Drop)]
+pub struct AnsweredTwice {
+    pub given: Answered,
+    pub kept: Answered,
 }
 
 /// Why a runner's reply was not taken. Each hands the reply back.

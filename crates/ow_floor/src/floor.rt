@@ -4,12 +4,12 @@ ghost use Rattle.std.specs.List.{find};
 ghost use Rattle.ow_floor.specs.View.{PlaceOf, carries, last_of, put_id, waits, with_accepted, with_drain, with_end, with_run};
 ghost use Rattle.ow_floor.specs.Trace.{Trace, head, is_draining, last, latest, record_of};
 ghost use Rattle.ow_floor.specs.Laws.{Stands};
-ghost use Rattle.ow_floor.specs.Calls.{Accepts, AllRecorded, Answers, Drains, HandsBack, IsAnswered, IsStarted, Orders, activation_of, end_of, happened_accepted, happened_recorded, order_of};
+ghost use Rattle.ow_floor.specs.Calls.{Accepts, AllRecorded, Answers, Drains, HandsBack, IsAnswered, IsStarted, Orders, activation_of, end_of, given_of, happened_accepted, happened_recorded, next_order, order_of};
 
 use crate::places::{namespace_place, note_id, run_place, waiting_place};
 use crate::{
-    Activation, AnswerRefusal, Answered, Drain, Ended, Happened, Happening, Idle, Open, Order,
-    Plan, RunOrder, State,
+    Activation, AnswerRefusal, Answered, AnsweredTwice, Drain, Ended, Happened, Happening, Idle,
+    Open, Order, Plan, RunOrder, State,
 };
 use ow_records::{Ending, Id, outcome_in};
 use ow_traits::RunReply;
@@ -138,13 +138,21 @@ impl Floor {
     {
         let happened = Happened::one(alloc, Happening::Accepted { id: plan.id })?;
         self.reserve(1)?;
-        self.place(Activation {
-            id: plan.id,
-            at,
-            params: plan.params,
-            limits: plan.limits,
-        });
+        self.place(activation_of(at, plan));
         Ok(happened)
+    }
+
+    /// What `next` would order now.
+    pub fn coming(&self, alloc: Global) -> Result<Order, NoMemory>
+        requires { self.now.lists.runs + 1 < 2 ^ 64 }
+        ensures order { IfOk result (λ order. order ≡ order_of (self.now.lists.runs + 1) (find waits self.now.lists.open_items)) }
+        ensures trace { IfOk result (λ order. (T : Trace) → Stands self.now.lists T → order ≡ next_order T) }
+    {
+        let Some(place) = waiting_place(&self.open_items) else {
+            return Ok(Order::Nothing(Idle::Empty));
+        };
+        let task = &self.open_items[place].task;
+        Ok(Order::Run(RunOrder::of(alloc, self.runs + 1, task)?))
     }
 
     /// Runs what has waited longest, if anything waits. Runs are numbered from 1.
@@ -174,6 +182,24 @@ impl Floor {
         ensures room { self.old.room ≤ self.new.room + 1 }
         ensures runs { self.new.lists.runs ≡ self.old.lists.runs }
     {
+        given_of(self.end(alloc, at, run, reply))
+    }
+
+    /// The same, with the answer twice, so that one can be kept.
+    pub fn answered_twice(
+        &mut self,
+        alloc: Global,
+        at: u64,
+        run: u64,
+        reply: RunReply,
+    ) -> Result<AnsweredTwice, AnswerRefusal>
+        ensures trace { Answers self.old.lists self.new.lists at run reply (given_of result) }
+        ensures same { IfOk result (λ two. two.kept ≡ two.given) }
+        ensures refused { IfErr result (λ refusal. HandsBack run reply refusal) }
+        ensures err { OnErr result (self.new.lists ≡ self.old.lists) }
+        ensures room { self.old.room ≤ self.new.room + 1 }
+        ensures runs { self.new.lists.runs ≡ self.old.lists.runs }
+    {
         self.end(alloc, at, run, reply)
     }
 
@@ -194,31 +220,66 @@ impl Floor {
     }
 }
 
-// The record of an activation that ends so, and what is told of it.
+// The answer that is given, of the two.
+fn given_of(answered: Result<AnsweredTwice, AnswerRefusal>) -> Result<Answered, AnswerRefusal>
+    ensures { result ≡ given_of answered }
+{
+    match answered {
+        Ok(two) => Ok(two.given),
+        Err(refusal) => Err(refusal),
+    }
+}
+
+// The activation that a plan becomes at this moment.
+fn activation_of(at: u64, plan: Plan) -> Activation
+    ensures { result ≡ activation_of at plan }
+{
+    let Plan {
+        id,
+        namespace,
+        action,
+        params,
+        subject,
+        cause,
+        until,
+    } = plan;
+    Activation {
+        id,
+        at,
+        namespace,
+        action,
+        params,
+        subject,
+        cause,
+        until,
+    }
+}
+
+// The record of an activation that ends so, and what is told of it, twice.
 fn record_end(
     alloc: Global,
     scratch: &mut Scratch,
     at: u64,
     task: &Activation,
     ending: &Ending,
-) -> Result<(Ended, Happened), NoMemory>
+) -> Result<(Ended, AnsweredTwice), NoMemory>
     ensures entry { IfOk result (λ r. r.0 ≡ record_of (end_of at ending.now task.now)) }
-    ensures told { IfOk result (λ r. r.1 ≡ happened_recorded (end_of at ending.now task.now)) }
+    ensures told { IfOk result (λ r. r.1.given ≡ Answered.Recorded (happened_recorded (end_of at ending.now task.now))) }
+    ensures same { IfOk result (λ r. r.1.kept ≡ r.1.given) }
 {
-    let response = outcome_in(alloc, scratch, ending, &task.limits)?;
-    let happened = Happened::one(
-        alloc,
-        Happening::Recorded {
-            id: task.id,
-            code: response.code(),
-        },
-    )?;
+    let response = outcome_in(alloc, scratch, ending, &task.action.limits)?;
+    let happening = Happening::Recorded {
+        id: task.id,
+        code: response.code(),
+    };
+    let given = Answered::Recorded(Happened::one(alloc, happening)?);
+    let kept = Answered::Recorded(Happened::one(alloc, happening)?);
     let ended = Ended {
         id: task.id,
         at,
         response,
     };
-    Ok((ended, happened))
+    Ok((ended, AnsweredTwice { given, kept }))
 }
 
 impl Floor {
@@ -249,12 +310,7 @@ impl Floor {
             return Ok(Order::Nothing(Idle::Empty));
         };
         let item = &mut self.open_items[place];
-        let order = RunOrder {
-            run: self.runs + 1,
-            id: item.task.id,
-            params: item.task.params.copy(alloc)?,
-            timeout: item.task.limits.timeout,
-        };
+        let order = RunOrder::of(alloc, self.runs + 1, &item.task)?;
         item.state = State::Running(order.run);
         self.runs = order.run;
         self.latest = at;
@@ -268,8 +324,9 @@ impl Floor {
         at: u64,
         run: u64,
         reply: RunReply,
-    ) -> Result<Answered, AnswerRefusal>
-        ensures answer { IsAnswered self.old.lists self.new.lists at run reply result (find (carries run) self.old.lists.open_items) }
+    ) -> Result<AnsweredTwice, AnswerRefusal>
+        ensures answer { IsAnswered self.old.lists self.new.lists at run reply (given_of result) (find (carries run) self.old.lists.open_items) }
+        ensures same { IfOk result (λ two. two.kept ≡ two.given) }
         ensures refused { IfErr result (λ refusal. HandsBack run reply refusal) }
         ensures err { OnErr result (self.new.lists ≡ self.old.lists) }
         ensures room { self.old.room ≤ self.new.room + 1 }
@@ -280,7 +337,7 @@ impl Floor {
         };
         let ending = Ending::Replied(reply);
         let task = &self.open_items[place].task;
-        let Ok((ended, happened)) = record_end(alloc, &mut self.scratch, at, task, &ending) else {
+        let Ok((ended, answered)) = record_end(alloc, &mut self.scratch, at, task, &ending) else {
             let Ending::Replied(reply) = ending;
             return Err(AnswerRefusal::NoMemory(reply));
         };
@@ -290,6 +347,6 @@ impl Floor {
         }
         let _ = self.open_items.remove(place);
         self.latest = at;
-        Ok(Answered::Recorded(happened))
+        Ok(answered)
     }
 }

@@ -26,7 +26,7 @@ pub fn runs_carry_one_each()
     ensures { (T : Trace) → IsSound T → (run : ℕ) → loads run (open_items T) ≤ 1 }
 {}
 
-/// In a sound trace what has ended was accepted, with the same parameters and limits.
+/// In a sound trace what has ended was accepted, as it was planned.
 pub fn ended_were_accepted()
     ensures { (T : Trace) → IsSound T → EndedWereAccepted T }
 {}

@@ -10,7 +10,9 @@ mod places;
 mod tests;
 
 pub use activations::{Activation, Ended, Open, Plan, State};
-pub use answers::{AnswerRefusal, Answered, Drain, Happened, Happening, Idle, Order, RunOrder};
+pub use answers::{
+    AnswerRefusal, Answered, AnsweredTwice, Drain, Happened, Happening, Idle, Order, RunOrder,
+};
 pub use floor::Floor;
 pub use laws::{
     calls_keep_traces_sound, ended_were_accepted, runs_carry_one_each, sound_traces_are_parted,

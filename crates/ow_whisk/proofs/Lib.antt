@@ -2,8 +2,9 @@ pub mod Utf8
 pub mod Newlines
 pub mod Reading
 pub mod Results
-pub mod Calling
 pub mod Days
+pub mod Carrying
+pub mod Meeting
+pub mod Telling
 pub mod Runs
-pub mod Growth
 pub mod Keeping

@@ -5,8 +5,10 @@ pub mod Status
 pub mod Words
 pub mod Texts
 pub mod Called
+pub mod Request
 pub mod Machine
 pub mod Session
 pub mod Day
+pub mod First
 pub mod Office
 pub mod Run

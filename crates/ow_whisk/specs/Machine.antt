@@ -1,83 +1,75 @@
--- The plain machine of a day: what each statement writes over what happened before, and what happens by it.
-use Rattle.std.specs.Prelude.{◌≡◌, ◌+◌, ◌++◌, ℕ, List, [], codes, max}
-use Rattle.ow_value.specs.Value.{V}
-use Rattle.ow_traits.specs.declared.replies.RunReply.{RunReply}
-use Rattle.ow_traits.specs.declared.replies.RunReply.TheVariants as replies
-use Rattle.ow_records.specs.declared.ids.Id.{Id}
-use Rattle.ow_entity.specs.declared.bounds.Limits.{Limits}
-use Rattle.ow_floor.specs.declared.activations.Plan.{Plan}
-use Rattle.ow_floor.specs.Trace.{Trace, last, latest}
-use Rattle.ow_floor.specs.Laws.{Stands}
-use Rattle.ow_floor.specs.Calls.{happened_accepted, after_accept, next_order, after_next, answer_to, after_answered, drain_answer, after_drain}
-use Rattle.ow_whisk.specs.declared.calls.Called.{Called}
-use Rattle.ow_whisk.specs.declared.calls.Called.TheVariants.{NoObject, NoAction, Calls}
-use Rattle.ow_whisk.specs.declared.session.Session.{Session}
+-- The plain machine of a day: what each statement writes over the book so far, and what is booked by it.
+use Rattle.std.specs.Prelude.{◌≡◌, ◌++◌, ℕ, List, [], ◌∷◌, Result, Ok, Err}
+use Rattle.ow_traits.specs.declared.replies.RunReply.TheVariants as runs
+use Rattle.ow_http.specs.Refusal.{refusal_number}
+use Rattle.ow_http.specs.Refused.{refusal_of}
+use Rattle.ow_http.specs.declared.http_refusal.HttpRefusal.{HttpRefusal}
+use Rattle.ow_http.specs.declared.request.Request.{Request}
+use Rattle.ow_hall.specs.Book.{opened}
+use Rattle.ow_hall.specs.History.{answer, counted, moment}
+use Rattle.ow_hall.specs.Ledger.{Ledger, posted}
+use Rattle.ow_hall.specs.Reasons.{plain}
+use Rattle.ow_hall.specs.declared.entry.Event.{Event}
+use Rattle.ow_hall.specs.declared.entry.Event.TheVariants as events
+use Rattle.ow_whisk.specs.declared.calls.Asked.TheVariants as calls
+use Rattle.ow_whisk.specs.declared.calls.Asked as code
 use Rattle.ow_whisk.specs.Called.{called}
-use Rattle.ow_whisk.specs.Statement.{Statement, At, Call, Next, Answer, Drain, End}
-use Rattle.ow_whisk.specs.Texts.{happenings_text, order_text, answer_text, drain_text}
+use Rattle.ow_whisk.specs.Request.{IsRead}
+use Rattle.ow_whisk.specs.Statement.{Statement, At, Call, Ask, Next, Answer, Drain, End}
+use Rattle.ow_whisk.specs.Texts.{event_text, refused_text, reply_text}
 
--- what happened, and the moment that the day gave last
+-- the book so far, and the moment that the day gave last
 pub record Machine : Type 0 where
-  pub trace : Trace
+  pub ledger : Ledger
   pub given : ℕ
 
--- nothing happened, at moment 0
+-- the service was just opened, at moment 0
 abbrev pub start : Machine
-start = record { trace = []; given = 0 }
+start = record { ledger = opened 0; given = 0 }
 
--- the moment of what happens now: the given one, or that of the newest thing where it is later
-abbrev pub moment : Machine → ℕ
-moment M = max (latest M.trace) M.given
+-- the moment of what is booked now
+abbrev pub now : Machine → ℕ
+now M = moment M.ledger.entries M.given
 
--- the next id of the built-in namespace
-abbrev pub next_id : Trace → Id
-next_id T = record { namespace = 0; count = last T 0 + 1 }
+-- what a statement comes to: the day gives a moment, the hall meets an event, or something is answered without the hall
+pub data Act : Type 0 where
+  Gives : (moment : ℕ) → Act
+  Meets : (event : Event) → Act
+  Says : (lines : List ℕ) → Act
 
--- the limits of the built-in action: 60,000 milliseconds, 256 MB, and 10 MB of logs
-abbrev pub echo_limits : Limits
-echo_limits = record { timeout = 60000; memory = 256; logs = 10 }
+-- a call that is refused for its own words doesn't reach the hall
+abbrev pub call_act : code.Asked → Act
+call_act (calls.Refused reason) = Says (refused_text reason)
+call_act (calls.Calls name params) = Meets (events.Called name params)
 
-abbrev pub plan_of : Trace → List (List ℕ × V) → Plan
-plan_of T params = record { id = next_id T; params = params; limits = echo_limits }
+-- nor do bytes that are no request
+abbrev pub ask_act : Result Request HttpRefusal → Act
+ask_act (Ok request) = Meets (events.Asked request)
+ask_act (Err e) = Says (reply_text (refusal_of (plain (refusal_number e))))
 
-abbrev pub call_text : Machine → Called → List ℕ
-call_text M NoObject = codes "refused 1 The text is no JSON.\n"
-call_text M NoAction = codes "refused 14 The resource does not exist.\n"
-call_text M (Calls params) = happenings_text (happened_accepted (next_id M.trace))
+-- the statement comes to this act
+abbrev pub ComesTo : Machine → Statement → Act → Type 0
+ComesTo M (At moment) act = act ≡ Gives moment
+ComesTo M (Call name text) act = act ≡ call_act (called (counted M.ledger.entries) name text)
+ComesTo M (Ask bytes) act = (read : Result Request HttpRefusal) × IsRead bytes read × (act ≡ ask_act read)
+ComesTo M Next act = act ≡ Meets events.Next
+ComesTo M (Answer run text) act = act ≡ Meets (events.Answered run (runs.Answer text []))
+ComesTo M Drain act = act ≡ Meets events.Drain
+ComesTo M End act = act ≡ Says []
 
-abbrev pub call_after : Machine → Called → Machine
-call_after M (Calls params) = record M { trace = after_accept (moment M) (plan_of M.trace params) M.trace }
-call_after M refused = M
-
-abbrev pub reply_of : List ℕ → RunReply
-reply_of text = replies.Answer text []
-
--- what is written for a statement
-abbrev pub text : Machine → Statement → List ℕ
-text M (At given) = []
-text M (Call name words) = call_text M (called name words)
-text M Next = order_text (next_order M.trace)
-text M (Answer run words) = answer_text (answer_to (moment M) run (reply_of words) M.trace)
-text M Drain = drain_text (drain_answer M.trace)
-text M End = []
+-- what is written for it
+abbrev pub text : Machine → Act → List ℕ
+text M (Gives moment) = []
+text M (Meets event) = event_text event (answer M.ledger.entries (now M) event)
+text M (Says lines) = lines
 
 -- the machine after it
-abbrev pub after : Machine → Statement → Machine
-after M (At given) = record M { given = given }
-after M (Call name words) = call_after M (called name words)
-after M Next = record M { trace = after_next (moment M) M.trace }
-after M (Answer run words) = record M { trace = after_answered (moment M) run (reply_of words) M.trace }
-after M Drain = record M { trace = after_drain (moment M) M.trace }
-after M End = M
+abbrev pub after : Machine → Act → Machine
+after M (Gives moment) = record M { given = moment }
+after M (Meets event) = record M { ledger = posted M.ledger (now M) event }
+after M (Says lines) = M
 
--- the code's session stands as the machine says
-pub record IsAt (s : Session) (M : Machine) : Type 0 where
-  pub stands : Stands s.floor.lists M.trace
-  pub given : s.given ≡ M.given
-
--- whichever machine the session stood as, this is written for the statement, and so it stands afterwards
-abbrev pub CarriesOut : Session → Session → Statement → List ℕ → List ℕ → Type 0
-CarriesOut old new s before now = (M : Machine) → IsAt old M → (now ≡ before ++ text M s) × IsAt new (after M s)
-
-abbrev pub CallsOut : Session → Session → Called → List ℕ → List ℕ → Type 0
-CallsOut old new c before now = (M : Machine) → IsAt old M → (now ≡ before ++ call_text M c) × IsAt new (call_after M c)
+-- these statements are carried out one after the other: this is written, and so the machine stands afterwards
+abbrev pub CarriesOut : Machine → List Statement → List ℕ → Machine → Type 0
+CarriesOut M [] lines N = (lines ≡ []) × (N ≡ M)
+CarriesOut M (s ∷ ss) lines N = (act : Act) × (later : List ℕ) × ComesTo M s act × (lines ≡ text M act ++ later) × CarriesOut (after M act) ss later N

@@ -1,20 +1,26 @@
--- What a line does to a session.
-use Rattle.std.specs.Prelude.{◌≡◌, ◌<◌, ◌+◌, ◌^◌, ℕ, List, Some, None}
-use Rattle.ow_floor.specs.View.{last_of}
+-- What a statement does to a session.
+use Rattle.std.specs.Prelude.{◌≡◌, ◌++◌, ℕ, List}
 use Rattle.ow_whisk.specs.declared.session.Session.{Session}
 use Rattle.ow_whisk.specs.declared.session.Step.{Step}
 use Rattle.ow_whisk.specs.declared.session.Step.TheVariants as steps
-use Rattle.ow_whisk.specs.Statement.{Statement, End, statement_of}
-use Rattle.ow_whisk.specs.Machine.{CarriesOut}
+use Rattle.ow_whisk.specs.Machine.{Machine, Act, ComesTo, text, after}
+use Rattle.ow_whisk.specs.Statement.{Statement, End}
 
--- one more run and one more id can be numbered
-pub record Fits (s : Session) : Type 0 where
-  pub runs : s.floor.lists.runs + 1 < 2 ^ 64
-  pub count : last_of s.floor.lists.drawn 0 + 1 < 2 ^ 64
+-- the machine that a session of the code is
+abbrev pub machine_of : {P : Type 0} → Session P → Machine
+machine_of s = record { ledger = s.hall.ledger; given = s.given }
 
--- a line is carried out, or ends the day, or is no statement
-abbrev pub CarriesLine : Session → Session → List ℕ → List ℕ → List ℕ → Step → Type 0
-CarriesLine old new line before now steps.Done = (s : Statement) × (statement_of line ≡ Some s) × (s ≡ End → ⊥) × CarriesOut old new s before now
-CarriesLine old new line before now steps.End = (statement_of line ≡ Some End) × (now ≡ before)
-CarriesLine old new line before now steps.Bad = (statement_of line ≡ None) × (now ≡ before)
-CarriesLine old new line before now steps.NoMemory = Unit {0}
+-- an act was done, and its lines stand behind what was written before
+abbrev pub Does : {P : Type 0} → Session P → Session P → Act → List ℕ → List ℕ → Type 0
+Does old new act before now = (now ≡ before ++ text (machine_of old) act) × (machine_of new ≡ after (machine_of old) act)
+
+-- what a statement comes to was done
+abbrev pub Performs : {P : Type 0} → Session P → Session P → Statement → List ℕ → List ℕ → Type 0
+Performs old new s before now = (act : Act) × ComesTo (machine_of old) s act × Does old new act before now
+
+-- a statement was carried out, or ends the day
+abbrev pub CarriesOut : {P : Type 0} → Session P → Session P → Statement → List ℕ → List ℕ → Step → Type 0
+CarriesOut old new s before now steps.Done = (s ≡ End → ⊥) × Performs old new s before now
+CarriesOut old new s before now steps.End = (s ≡ End) × (now ≡ before) × (machine_of new ≡ machine_of old)
+CarriesOut old new s before now steps.NoMemory = Unit {0}
+CarriesOut old new s before now other = ⊥

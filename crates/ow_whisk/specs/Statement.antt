@@ -1,4 +1,4 @@
--- The statements of a day file, by the text of a line.
+-- The statements of a day file, and what its lines are.
 use Rattle.std.specs.Prelude.{◌==◌, ◌+◌, ◌-◌, ◌*◌, ◌^◌, ◌&&◌, ℕ, nat_lt, List, [], ◌∷◌, Option, Some, None, if◌then◌else◌, length, take, drop, position, codes, option_and_then}
 use Rattle.std.specs.Char.{is_ascii_digit}
 use Rattle.std.specs.Str.{bytes_eq, is_utf8}
@@ -6,10 +6,16 @@ use Rattle.std.specs.Str.{bytes_eq, is_utf8}
 pub data Statement : Type 0 where
   At : (moment : ℕ) → Statement
   Call : (name text : List ℕ) → Statement
+  Ask : (request : List ℕ) → Statement
   Next : Statement
   Answer : (run : ℕ) (text : List ℕ) → Statement
   Drain : Statement
   End : Statement
+
+-- what a line is: a whole statement, or the head of one that asks by so many bytes behind it
+pub data Reading : Type 0 where
+  Whole : (statement : Statement) → Reading
+  Asks : (count : ℕ) → Reading
 
 -- a number with one more digit, below 2 ^ 64
 abbrev pub digit_after : ℕ → ℕ → Option ℕ
@@ -38,54 +44,63 @@ parted line = parted_at line (position (λ c. c == 32) line)
 abbrev pub utf8_text : List ℕ → Option (List ℕ)
 utf8_text bytes = if is_utf8 bytes then Some bytes else None
 
-abbrev pub called : Option (List ℕ) → Option (List ℕ) → Option Statement
+abbrev pub called : Option (List ℕ) → Option (List ℕ) → Option Reading
 called None text = None
 called (Some name) None = None
-called (Some name) (Some text) = Some (Call name text)
+called (Some name) (Some text) = Some (Whole (Call name text))
 
-abbrev pub call_in : Option (List ℕ × List ℕ) → Option Statement
+abbrev pub call_in : Option (List ℕ × List ℕ) → Option Reading
 call_in None = None
 call_in (Some parts) = if length parts.0 == 0 then None else called (utf8_text parts.0) (utf8_text parts.1)
 
 -- `call NAME TEXT`: the name is a word, and the rest of the line the text
-unfoldable pub call_of : List ℕ → Option Statement
+unfoldable pub call_of : List ℕ → Option Reading
 call_of rest = call_in (parted rest)
 
-abbrev pub answered : Option ℕ → Option (List ℕ) → Option Statement
+abbrev pub answered : Option ℕ → Option (List ℕ) → Option Reading
 answered None text = None
 answered (Some run) None = None
-answered (Some run) (Some text) = Some (Answer run text)
+answered (Some run) (Some text) = Some (Whole (Answer run text))
 
-abbrev pub answer_in : Option (List ℕ × List ℕ) → Option Statement
+abbrev pub answer_in : Option (List ℕ × List ℕ) → Option Reading
 answer_in None = None
 answer_in (Some parts) = answered (number_of parts.0) (utf8_text parts.1)
 
 -- `answer RUN TEXT`
-unfoldable pub answer_of : List ℕ → Option Statement
+unfoldable pub answer_of : List ℕ → Option Reading
 answer_of rest = answer_in (parted rest)
 
-abbrev pub at_moment : Option ℕ → Option Statement
+abbrev pub at_moment : Option ℕ → Option Reading
 at_moment None = None
-at_moment (Some moment) = if nat_lt 253402300799999 moment then None else Some (At moment)
+at_moment (Some moment) = if nat_lt 253402300799999 moment then None else Some (Whole (At moment))
 
 -- `at MOMENT`: milliseconds, up to the last of the year 9999
-unfoldable pub at_of : List ℕ → Option Statement
+unfoldable pub at_of : List ℕ → Option Reading
 at_of rest = at_moment (number_of rest)
 
--- the statement that begins with this word, and goes on with the rest
-unfoldable pub worded : List ℕ → List ℕ → Option Statement
+abbrev pub asks_for : Option ℕ → Option Reading
+asks_for None = None
+asks_for (Some count) = if nat_lt 8388608 count then None else Some (Asks count)
+
+-- `ask N`: at most 8,388,608 bytes
+unfoldable pub ask_of : List ℕ → Option Reading
+ask_of rest = asks_for (number_of rest)
+
+-- the line that begins with this word, and goes on with the rest
+unfoldable pub worded : List ℕ → List ℕ → Option Reading
 worded word rest = if bytes_eq word (codes "call") then call_of rest
     else (if bytes_eq word (codes "answer") then answer_of rest
-    else (if bytes_eq word (codes "at") then at_of rest else None))
+    else (if bytes_eq word (codes "at") then at_of rest
+    else (if bytes_eq word (codes "ask") then ask_of rest else None)))
 
-abbrev pub worded_in : Option (List ℕ × List ℕ) → Option Statement
+abbrev pub worded_in : Option (List ℕ × List ℕ) → Option Reading
 worded_in None = None
 worded_in (Some parts) = worded parts.0 parts.1
 
--- the statement of a line, which has no newline
-unfoldable pub statement_of : List ℕ → Option Statement
-statement_of line = if nat_lt 8388608 (length line) then None
-    else (if bytes_eq line (codes "next") then Some Next
-    else (if bytes_eq line (codes "drain") then Some Drain
-    else (if bytes_eq line (codes "end") then Some End
+-- what a line is, which has no newline
+unfoldable pub line_of : List ℕ → Option Reading
+line_of line = if nat_lt 8388608 (length line) then None
+    else (if bytes_eq line (codes "next") then Some (Whole Next)
+    else (if bytes_eq line (codes "drain") then Some (Whole Drain)
+    else (if bytes_eq line (codes "end") then Some (Whole End)
     else worded_in (parted line))))

@@ -1,5 +1,5 @@
 // The bytes of a day as they come: read in pieces, kept until they are carried out.
-ghost use Rattle.std.specs.Prelude.{◌≡◌, ◌==◌, ◌≤◌, ◌<◌, ◌+◌, ◌-◌, ℕ, [], length, take, drop, position, IfOk, OnOk, OnErr, Err, ◌++◌};
+ghost use Rattle.std.specs.Prelude.{◌≡◌, ◌==◌, ◌≤◌, ◌<◌, ◌+◌, ◌-◌, ℕ, [], length, drop, position, IfOk, OnOk, OnErr, Err, ◌++◌};
 ghost use Rattle.ow_traits.specs.Streams.{Rose};
 ghost use Rattle.ow_whisk.specs.Input.{Fills, IsPast, ReadsBehind, is_newline};
 
@@ -77,12 +77,11 @@ impl Input {
         self.bytes.len() - self.start
     }
 
-    /// The first `n` bytes that wait.
-    pub fn front(&self, n: usize) -> &[u8]
-        requires { n ≤ length self.now.pending }
-        ensures { result.now ≡ take n self.now.pending }
+    /// The bytes that wait.
+    pub fn pending(&self) -> &[u8]
+        ensures { result.now ≡ self.now.pending }
     {
-        &self.bytes[self.start..self.start + n]
+        &self.bytes[self.start..]
     }
 
     /// The place of the first newline. No byte is searched twice.
@@ -113,6 +112,9 @@ impl Input {
     fn compact(&mut self)
         ensures { self.new ≡ self.old }
     {
+        if self.start == 0 {
+            return;
+        }
         let searched = self.searched - self.start;
         drop_front(&mut self.bytes, self.start);
         self.start = 0;

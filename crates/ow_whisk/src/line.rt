@@ -1,51 +1,64 @@
-// The statements of a day, as they are read from its lines.
+// The lines of a day, and the statements that they are.
 ghost use Rattle.std.specs.Prelude.{◌≡◌, ◌==◌, position};
 ghost use Rattle.std.specs.Option.{option_map};
-ghost use Rattle.ow_whisk.specs.Statement.{answer_of, at_of, call_of, digit_after, number_after, number_of, parted, statement_of, utf8_text, worded};
-ghost use Rattle.ow_whisk.specs.Line.{statement};
+ghost use Rattle.ow_whisk.specs.Statement.{answer_of, ask_of, at_of, call_of, digit_after, line_of, number_after, number_of, parted, utf8_text, worded};
+ghost use Rattle.ow_whisk.specs.Line.{reading};
 
 /// The most bytes of a line, without its newline.
 pub const LONGEST_LINE: usize = 8_388_608;
 
+/// The most bytes of a request.
+const MOST_ASKED: u64 = 8_388_608;
+
 /// The greatest moment, in milliseconds: the last of the year 9999.
 pub const GREATEST_MOMENT: u64 = 253_402_300_799_999;
 
-/// A statement, its words lent from its line.
+/// A statement, its words and its request lent from the day.
 #[derive(Clone, Copy)]
-pub enum Line<'a> {
+pub enum Statement<'a> {
     At(u64),
     Call(&'a str, &'a str),
+    /// The bytes of a request.
+    Ask(&'a [u8]),
     Next,
     Answer(u64, &'a str),
     Drain,
     End,
 }
 
-/// The statement of a line, which has no newline.
-#[tactic(auto, unfolding(crate::specs::Statement::statement_of))]
-pub fn statement_of(line: &[u8]) -> Option<Line<'_>>
-    ensures { option_map statement result ≡ statement_of line.now }
+/// What a line is.
+#[derive(Clone, Copy)]
+pub enum Line<'a> {
+    Whole(Statement<'a>),
+    /// A request of so many bytes stands behind it.
+    Asks(usize),
+}
+
+/// What a line is, which has no newline.
+#[tactic(auto, unfolding(crate::specs::Statement::line_of))]
+pub fn line_of(line: &[u8]) -> Option<Line<'_>>
+    ensures { option_map reading result ≡ line_of line.now }
 {
     if line.len() > LONGEST_LINE {
         return None;
     }
     if line == b"next".as_slice() {
-        return Some(Line::Next);
+        return Some(Line::Whole(Statement::Next));
     }
     if line == b"drain".as_slice() {
-        return Some(Line::Drain);
+        return Some(Line::Whole(Statement::Drain));
     }
     if line == b"end".as_slice() {
-        return Some(Line::End);
+        return Some(Line::Whole(Statement::End));
     }
     let (word, rest) = parted(line)?;
     worded(word, rest)
 }
 
-// The statement that begins with this word.
+// The line that begins with this word.
 #[tactic(auto, unfolding(crate::specs::Statement::worded))]
 fn worded<'a>(word: &[u8], rest: &'a [u8]) -> Option<Line<'a>>
-    ensures { option_map statement result ≡ worded word.now rest.now }
+    ensures { option_map reading result ≡ worded word.now rest.now }
 {
     if word == b"call".as_slice() {
         return call_of(rest);
@@ -56,12 +69,15 @@ fn worded<'a>(word: &[u8], rest: &'a [u8]) -> Option<Line<'a>>
     if word == b"at".as_slice() {
         return at_of(rest);
     }
+    if word == b"ask".as_slice() {
+        return ask_of(rest);
+    }
     None
 }
 
 #[tactic(auto, unfolding(crate::specs::Statement::call_of))]
 fn call_of(rest: &[u8]) -> Option<Line<'_>>
-    ensures { option_map statement result ≡ call_of rest.now }
+    ensures { option_map reading result ≡ call_of rest.now }
 {
     let (name, text) = parted(rest)?;
     if name.is_empty() {
@@ -69,28 +85,39 @@ fn call_of(rest: &[u8]) -> Option<Line<'_>>
     }
     let name = text_of(name)?;
     let text = text_of(text)?;
-    Some(Line::Call(name, text))
+    Some(Line::Whole(Statement::Call(name, text)))
 }
 
 #[tactic(auto, unfolding(crate::specs::Statement::answer_of))]
 fn answer_of(rest: &[u8]) -> Option<Line<'_>>
-    ensures { option_map statement result ≡ answer_of rest.now }
+    ensures { option_map reading result ≡ answer_of rest.now }
 {
     let (number, text) = parted(rest)?;
     let run = number_of(number)?;
     let text = text_of(text)?;
-    Some(Line::Answer(run, text))
+    Some(Line::Whole(Statement::Answer(run, text)))
 }
 
 #[tactic(auto, unfolding(crate::specs::Statement::at_of))]
 fn at_of(rest: &[u8]) -> Option<Line<'_>>
-    ensures { option_map statement result ≡ at_of rest.now }
+    ensures { option_map reading result ≡ at_of rest.now }
 {
     let moment = number_of(rest)?;
     if moment > GREATEST_MOMENT {
         return None;
     }
-    Some(Line::At(moment))
+    Some(Line::Whole(Statement::At(moment)))
+}
+
+#[tactic(auto, unfolding(crate::specs::Statement::ask_of))]
+fn ask_of(rest: &[u8]) -> Option<Line<'_>>
+    ensures { option_map reading result ≡ ask_of rest.now }
+{
+    let count = number_of(rest)?;
+    if count > MOST_ASKED {
+        return None;
+    }
+    Some(Line::Asks(count as usize))
 }
 
 // The bytes as text, where they are UTF-8.

@@ -2,9 +2,11 @@
 #![tactic(auto)]
 
 mod calls;
+mod first;
 mod input;
 mod line;
 mod office;
+mod reasons;
 mod run;
 mod session;
 mod status;

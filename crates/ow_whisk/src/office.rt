@@ -1,5 +1,5 @@
 // The top call: what the words ask for, over what lies outside.
-ghost use Rattle.std.specs.Prelude.{◌≡◌, ◌↔◌, ℕ, List, Some, None, map, string_bytes};
+ghost use Rattle.std.specs.Prelude.{◌≡◌, ◌↔◌, ℕ, List, Some, None, IfSome, map, string_bytes};
 ghost use Rattle.ow_traits.specs.Streams.{Rose, Takes, TakesFront};
 ghost use Rattle.ow_whisk.specs.Words.{command_of};
 ghost use Rattle.ow_whisk.specs.Status.{err_text};
@@ -21,24 +21,34 @@ fn write_text<O: Sink>(out: &mut O, text: &[u8]) -> Status
     }
 }
 
-fn perform<S: Source, O: Sink>(alloc: Global, words: &[String], day: &mut S, out: &mut O) -> Status
-    ensures told { TellsCommand HELP.now VERSION.now (command_of (map string_bytes words.now)) (S.left day.old) (O.taken out.old) (O.taken out.new) result }
-    ensures words { (result ≡ Status.BadWords) ↔ (command_of (map string_bytes words.now) ≡ None) }
-    ensures read { result ≡ Status.ReadFault → Rose (S.faults day.old) (S.faults day.new) }
-    ensures write { result ≡ Status.WriteFault → Rose (O.faults out.old) (O.faults out.new) }
+fn perform<S: Source, O: Sink, P: Keeper + Drop>(
+    alloc: Global,
+    words: &[String],
+    store: P,
+    day: &mut S,
+    out: &mut O,
+) -> (Status, Option<P>)
+    ensures told { TellsCommand HELP.now VERSION.now (command_of (map string_bytes words.now)) (S.left day.old) (O.taken out.old) (O.taken out.new) result.0 }
+    ensures words { (result.0 ≡ Status.BadWords) ↔ (command_of (map string_bytes words.now) ≡ None) }
+    ensures read { result.0 ≡ Status.ReadFault → Rose (S.faults day.old) (S.faults day.new) }
+    ensures write { result.0 ≡ Status.WriteFault → Rose (O.faults out.old) (O.faults out.new) }
+    ensures store { IfSome result.1 (λ back. back ≡ store) }
+    ensures lost { result.1 ≡ None → result.0 ≡ Status.NoMemory }
+    ensures untouched { (command_of (map string_bytes words.now) ≡ Some Command.Day → ⊥) → result.1 ≡ Some store }
 {
     match command_of(words) {
-        Some(Command::Day) => run_day(alloc, day, out),
-        Some(Command::Help) => write_text(out, HELP),
-        Some(Command::Version) => write_text(out, VERSION),
-        None => Status::BadWords,
+        Some(Command::Day) => run_day(alloc, store, day, out),
+        Some(Command::Help) => (write_text(out, HELP), Some(store)),
+        Some(Command::Version) => (write_text(out, VERSION), Some(store)),
+        None => (Status::BadWords, Some(store)),
     }
 }
 
-/// Does what the words say: for `day`, carries out the statements of the day as they come, and writes
-/// each answer before it asks for more of the day. The words are looked at first. The store is handed
-/// back as it was; neither it nor the table is looked at yet.
-pub fn office<T: Source, S: Source, O: Sink, E: Sink, P: Keeper>(
+/// Does what the words say: for `day`, opens the service over the store, carries out the statements of the
+/// day as they come, and writes each answer before it asks for more of the day. The words are looked at
+/// first. The store is handed back as it was, unless memory was wanted to open the service; neither it nor
+/// the table is looked at yet.
+pub fn office<T: Source, S: Source, O: Sink, E: Sink, P: Keeper + Drop>(
     alloc: Global,
     words: &[String],
     table: &mut T,
@@ -59,10 +69,12 @@ pub fn office<T: Source, S: Source, O: Sink, E: Sink, P: Keeper>(
     ensures write { result.0 ≡ Status.WriteFault → Rose (O.faults out.old) (O.faults out.new) }
 
     // What comes back.
-    ensures store { result.1 ≡ Some store }
+    ensures store { IfSome result.1 (λ back. back ≡ store) }
+    ensures lost { result.1 ≡ None → result.0 ≡ Status.NoMemory }
+    ensures untouched { (command_of (map string_bytes words.now) ≡ Some Command.Day → ⊥) → result.1 ≡ Some store }
     ensures table { table.new ≡ table.old }
 {
-    let status = perform(alloc, words, day, out);
+    let (status, store) = perform(alloc, words, store, day, out);
     let _ = report(status, err);
-    (status, Some(store))
+    (status, store)
 }

@@ -1,58 +1,62 @@
 // A day read as a stream: each statement is carried out as soon as its bytes are there, and the answers are
 // written before more of the day is asked for.
-ghost use Rattle.std.specs.Prelude.{◌≡◌, ◌≢◌, ◌<◌, ◌≤◌, [], position, IfSome, IfNone};
+ghost use Rattle.std.specs.Prelude.{◌≡◌, ◌≢◌, ◌<◌, ◌≤◌, if◌then◌else◌, false, true, Some, None, IfSome, IfNone};
 ghost use Rattle.ow_traits.specs.Streams.{Rose};
-ghost use Rattle.ow_whisk.specs.Input.{is_newline};
-ghost use Rattle.ow_whisk.specs.Day.{day_of};
+ghost use Rattle.ow_whisk.specs.Day.{Cut as CutFirst, day_of, first_statement};
 ghost use Rattle.ow_whisk.specs.Office.{Tells};
-ghost use Rattle.ow_whisk.specs.Run.{Closes, IsBounded, IsOfDay, StepsLast, StepsOn, Turns, work};
+ghost use Rattle.ow_whisk.specs.Run.{Closes, IsBounded, IsOfDay, StepsOn, Turns, work};
 
+use crate::first::{First, first_statement};
 use crate::input::{FillError, Filled, Input};
-use crate::line::LONGEST_LINE;
 use crate::session::{Session, Step};
 use crate::status::Status;
-use ow_traits::{Sink, Source, write_all};
+use ow_traits::{Keeper, Sink, Source, write_all};
 use std::alloc::Global;
 
 /// A day under way: what was read of it, and the answers that aren't written yet. `number` is that of the
 /// next statement, counted from 1.
 #[derive(Drop)]
-pub struct Run {
-    pub session: Session,
+pub struct Run<P: Keeper + Drop> {
+    pub session: Session<P>,
     pub input: Input,
+    /// The end of the day was read.
+    pub ended: bool,
     pub answers: Vec<u8>,
     pub number: u64,
 }
 
-impl Run {
-    // Carries out the line that ends at the newline at this place.
-    fn carry_line(&mut self, alloc: Global, place: usize) -> Step
-        requires bounded { IsBounded self.old }
-        requires newline { position is_newline self.old.input.pending ≡ Some place }
+impl<P: Keeper + Drop> Run<P> {
+    // Carries out the first statement of what waits.
+    fn step(&mut self, alloc: Global) -> Step
+        requires { IsBounded self.old }
         ensures steps { StepsOn self.old self.new result }
         ensures bounded { result ≡ Step.Done → IsBounded self.new }
         ensures falls { result ≡ Step.Done → work self.new < work self.old }
-    {
-        let line = self.input.front(place);
-        let step = self.session.carry_out(alloc, line, &mut self.answers);
-        if let Step::Done = step {
-            self.input.skip(place + 1);
-            self.number += 1;
-        }
-        step
-    }
-
-    // Carries out what was read behind the last newline, where the day is at its end.
-    fn carry_last(&mut self, alloc: Global) -> Step
-        requires bounded { IsBounded self.old }
-        requires none { position is_newline self.old.input.pending ≡ None }
-        ensures { StepsLast (Some []) self.old self.new result }
+        ensures store { self.new.session.hall.store ≡ self.old.session.hall.store }
     {
         if self.input.len() == 0 {
-            return Step::Done;
+            return self.without_bytes();
         }
-        let line = self.input.front(self.input.len());
-        self.session.carry_out(alloc, line, &mut self.answers)
+        let newline = self.input.newline();
+        match first_statement(!self.ended, self.input.pending(), newline) {
+            First::Found { statement, used } => {
+                let step = self.session.carry_out(alloc, statement, &mut self.answers);
+                if let Step::Done = step {
+                    self.input.skip(used);
+                    self.number += 1;
+                }
+                step
+            }
+            First::Wrong => Step::Bad,
+            First::Cut => Step::Cut,
+        }
+    }
+
+    // No byte waits.
+    fn without_bytes(&self) -> Step
+        ensures { result ≡ (if self.now.ended then Step.End else Step.Cut) }
+    {
+        if self.ended { Step::End } else { Step::Cut }
     }
 
     // Writes the answers, and ends as the step does.
@@ -64,11 +68,11 @@ impl Run {
         ensures later { O.faults out.old ≤ O.faults out.new }
     {
         let status = match step {
-            Step::Done | Step::End => Status::Ok,
+            Step::End => Status::Ok,
             Step::Bad => Status::BadDay {
                 statement: self.number,
             },
-            Step::NoMemory => return Status::NoMemory,
+            Step::Done | Step::Cut | Step::NoMemory => return Status::NoMemory,
         };
         match write_all(out, &self.answers) {
             Ok(()) => status,
@@ -76,27 +80,21 @@ impl Run {
         }
     }
 
-    // Reads on, where no newline stands among the bytes that wait. The answers are written before.
-    fn read_on<S: Source, O: Sink>(
-        &mut self,
-        alloc: Global,
-        day: &mut S,
-        out: &mut O,
-    ) -> Option<Status>
+    // Reads on, where the first statement is cut. The answers are written before.
+    fn read_on<S: Source, O: Sink>(&mut self, day: &mut S, out: &mut O) -> Option<Status>
         requires bounded { IsBounded self.old }
-        requires none { position is_newline self.old.input.pending ≡ None }
+        requires unended { self.old.ended ≡ false }
+        requires cut { first_statement true self.old.input.pending ≡ CutFirst }
         ensures told { Turns (S.left day.old) (S.left day.new) (O.taken out.old) (O.taken out.new) self.old self.new result }
         ensures bounded { IfNone result (IsBounded self.new) }
         ensures falls { IfNone result (work self.new < work self.old) }
         ensures own { IfSome result IsOfDay }
+        ensures store { self.new.session.hall.store ≡ self.old.session.hall.store }
         ensures read { result ≡ Some Status.ReadFault → Rose (S.faults day.old) (S.faults day.new) }
         ensures write { result ≡ Some Status.WriteFault → Rose (O.faults out.old) (O.faults out.new) }
         ensures day_later { S.faults day.old ≤ S.faults day.new }
         ensures out_later { O.faults out.old ≤ O.faults out.new }
     {
-        if self.input.len() > LONGEST_LINE {
-            return Some(self.close(out, Step::Bad));
-        }
         if write_all(out, &self.answers).is_err() {
             return Some(Status::WriteFault);
         }
@@ -104,8 +102,8 @@ impl Run {
         match self.input.fill(day) {
             Ok(Filled::More) => None,
             Ok(Filled::End) => {
-                let step = self.carry_last(alloc);
-                Some(self.close(out, step))
+                self.ended = true;
+                None
             }
             Ok(Filled::Past) => Some(Status::DayTooLong),
             Err(FillError::Failed) => Some(Status::ReadFault),
@@ -113,7 +111,7 @@ impl Run {
         }
     }
 
-    // Carries out one line, or reads on.
+    // Carries out one statement, or reads on.
     fn turn<S: Source, O: Sink>(
         &mut self,
         alloc: Global,
@@ -125,40 +123,59 @@ impl Run {
         ensures bounded { IfNone result (IsBounded self.new) }
         ensures falls { IfNone result (work self.new < work self.old) }
         ensures own { IfSome result IsOfDay }
+        ensures store { self.new.session.hall.store ≡ self.old.session.hall.store }
         ensures read { result ≡ Some Status.ReadFault → Rose (S.faults day.old) (S.faults day.new) }
         ensures write { result ≡ Some Status.WriteFault → Rose (O.faults out.old) (O.faults out.new) }
         ensures day_later { S.faults day.old ≤ S.faults day.new }
         ensures out_later { O.faults out.old ≤ O.faults out.new }
     {
-        let Some(place) = self.input.newline() else {
-            return self.read_on(alloc, day, out);
-        };
-        match self.carry_line(alloc, place) {
+        match self.step(alloc) {
             Step::Done => None,
+            Step::Cut => self.read_on(day, out),
             step => Some(self.close(out, step)),
         }
     }
+
+    // The store.
+    fn finish(self) -> P
+        ensures { result ≡ self.session.hall.store }
+    {
+        let Run { session, .. } = self;
+        session.finish()
+    }
 }
 
-/// Carries out the statements of a day as they come, and writes their answers.
-pub fn run_day<S: Source, O: Sink>(alloc: Global, day: &mut S, out: &mut O) -> Status
-    ensures told { IfSome (S.left day.old) (λ bytes. Tells (O.taken out.old) (O.taken out.new) result (day_of bytes)) }
-    ensures own { IsOfDay result }
-    ensures read { result ≡ Status.ReadFault → Rose (S.faults day.old) (S.faults day.new) }
-    ensures write { result ≡ Status.WriteFault → Rose (O.faults out.old) (O.faults out.new) }
+/// Carries out the statements of a day as they come, and writes their answers. The store is lost where memory is wanted
+/// before the first of them.
+pub fn run_day<S: Source, O: Sink, P: Keeper + Drop>(
+    alloc: Global,
+    store: P,
+    day: &mut S,
+    out: &mut O,
+) -> (Status, Option<P>)
+    ensures told { IfSome (S.left day.old) (λ bytes. Tells (O.taken out.old) (O.taken out.new) result.0 (day_of bytes)) }
+    ensures own { IsOfDay result.0 }
+    ensures read { result.0 ≡ Status.ReadFault → Rose (S.faults day.old) (S.faults day.new) }
+    ensures write { result.0 ≡ Status.WriteFault → Rose (O.faults out.old) (O.faults out.new) }
+    ensures store { IfSome result.1 (λ back. back ≡ store) }
+    ensures lost { result.1 ≡ None → result.0 ≡ Status.NoMemory }
 {
     let Ok(input) = Input::new(alloc) else {
-        return Status::NoMemory;
+        return (Status::NoMemory, Some(store));
+    };
+    let Ok(session) = Session::new(alloc, store) else {
+        return (Status::NoMemory, None);
     };
     let mut run = Run {
-        session: Session::new(alloc),
+        session,
         input,
+        ended: false,
         answers: Vec::new(alloc),
         number: 1,
     };
     'turns: loop {
         if let Some(status) = run.turn(alloc, day, out) {
-            return status;
+            return (status, Some(run.finish()));
         }
     }
 }

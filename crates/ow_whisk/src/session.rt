@@ -1,97 +1,116 @@
-// A day under way: statements carried out on the floor.
-ghost use Rattle.std.specs.Prelude.{◌≡◌, ◌+◌, ◌^◌, ◌<◌, OnOk};
-ghost use Rattle.ow_floor.specs.View.{last_of};
-ghost use Rattle.ow_whisk.specs.Statement.{Statement, At, Call, Next, Answer, Drain as DrainStatement};
+// A day under way: statements carried out over the hall.
+ghost use Rattle.std.specs.Prelude.{◌≡◌, ◌++◌, [], IfOk, OnOk};
+ghost use Rattle.ow_hall.specs.Reasons.{plain};
+ghost use Rattle.ow_hall.specs.declared.entry.Event.TheVariants as events;
+ghost use Rattle.ow_http.specs.Refusal.{refusal_number};
+ghost use Rattle.ow_http.specs.Refused.{refusal_of};
+ghost use Rattle.ow_traits.specs.declared.replies.RunReply.TheVariants as replies;
 ghost use Rattle.ow_whisk.specs.Line.{statement};
-ghost use Rattle.ow_whisk.specs.Machine.{CallsOut, CarriesOut, IsAt, Machine, moment, start};
-ghost use Rattle.ow_whisk.specs.Session.{CarriesLine, Fits};
+ghost use Rattle.ow_whisk.specs.Request.{IsRead};
+ghost use Rattle.ow_whisk.specs.Machine.{Meets, call_act, start};
+ghost use Rattle.ow_whisk.specs.Called.{IsTold};
+ghost use Rattle.ow_whisk.specs.Session.{CarriesOut, Does, Performs, machine_of};
+ghost use Rattle.ow_whisk.specs.Texts.{reply_text};
+ghost use Rattle.ow_whisk.specs.Statement.{Ask, Call};
 
-use crate::calls::{Called, asked_of};
-use crate::line::{Line, statement_of};
-use crate::texts::{push, push_drain, push_happened, push_no_run, push_order};
-use ow_entity::Limits;
-use ow_floor::{AnswerRefusal, Answered, Floor, Plan};
-use ow_records::Id;
-use ow_traits::RunReply;
+use crate::calls::{Asked, asked_of};
+use crate::line::Statement;
+use crate::reasons::plain;
+use crate::texts::{
+    push_answered, push_asked, push_called, push_drain, push_order, push_refused, push_reply,
+    push_unanswered,
+};
+use ow_hall::Hall;
+use ow_http::{HttpRefusal, Request, Routes, refusal};
+use ow_names::FullName;
+use ow_traits::{Keeper, RunReply};
 use ow_value::{Lines, NoMemory, Params, Scratch, Str};
 use std::alloc::Global;
 
-/// The floor, and the moment in milliseconds that the day gave last.
+/// The hall, and the moment in milliseconds that the day gave last.
 #[derive(Drop)]
-pub struct Session {
-    pub floor: Floor,
+pub struct Session<P: Keeper + Drop> {
+    pub hall: Hall<P>,
     pub given: u64,
     // In which the texts of calls are read.
     pub scratch: Scratch,
+    // By which requests are read.
+    pub routes: Routes,
 }
 
-/// What became of a line.
+/// What became of the first statement of a day.
 #[derive(Clone, Copy, Debug, PartialEq, Eq)]
 pub enum Step {
     /// It was carried out.
     Done,
-    /// It ends the day.
+    /// It ends the day, or the day has no more.
     End,
-    /// It is no statement.
+    /// It is none.
     Bad,
+    /// More of it is to be read.
+    Cut,
     /// There is no memory.
     NoMemory,
 }
 
-impl Session {
-    /// Nothing happened, at moment 0.
-    pub fn new(alloc: Global) -> Self
-        ensures { IsAt result start }
+impl<P: Keeper + Drop> Session<P> {
+    /// A service that was just opened, at moment 0. Without memory the store is lost.
+    pub fn new(alloc: Global, store: P) -> Result<Self, NoMemory>
+        ensures machine { IfOk result (λ s. machine_of s ≡ start) }
+        ensures store { IfOk result (λ s. s.hall.store ≡ store) }
     {
-        Session {
-            floor: Floor::new(alloc),
+        Ok(Session {
+            hall: Hall::start(alloc, store, 0)?,
             given: 0,
             scratch: Scratch::new(alloc),
-        }
+            routes: Routes::new(alloc)?,
+        })
     }
 
-    fn moment(&self) -> u64
-        ensures { (M : Machine) → IsAt self.now M → result ≡ moment M }
+    /// The store.
+    pub fn finish(self) -> P
+        ensures { result ≡ self.hall.store }
     {
-        self.floor.latest().max(self.given)
+        let Session { hall, .. } = self;
+        let (store, _) = hall.finish();
+        store
     }
 
-    /// Carries out the statement of a line, and puts its lines behind the answers.
-    pub fn carry_out(&mut self, alloc: Global, line: &[u8], answers: &mut Vec<u8>) -> Step
-        requires { Fits self.old }
-        ensures { CarriesLine self.old self.new line.now answers.old.items answers.new.items result }
+    /// Carries out a statement, unless it ends the day.
+    pub fn carry_out(&mut self, alloc: Global, said: Statement<'_>, answers: &mut Vec<u8>) -> Step
+        ensures step { CarriesOut self.old self.new (statement said.entry) answers.old.items answers.new.items result }
+        ensures store { self.new.hall.store ≡ self.old.hall.store }
     {
-        let Some(statement) = statement_of(line) else {
-            return Step::Bad;
-        };
-        if let Line::End = statement {
+        if let Statement::End = said {
             return Step::End;
         }
-        match self.perform(alloc, statement, answers) {
+        match self.perform(alloc, said, answers) {
             Ok(()) => Step::Done,
             Err(NoMemory) => Step::NoMemory,
         }
     }
 
+    // Does what a statement comes to, and puts its lines behind the answers.
     fn perform(
         &mut self,
         alloc: Global,
-        line: Line<'_>,
+        said: Statement<'_>,
         answers: &mut Vec<u8>,
     ) -> Result<(), NoMemory>
-        requires { Fits self.old }
-        ensures { OnOk result (CarriesOut self.old self.new (statement line.entry) answers.old.items answers.new.items) }
+        ensures ok { OnOk result (Performs self.old self.new (statement said.entry) answers.old.items answers.new.items) }
+        ensures store { self.new.hall.store ≡ self.old.hall.store }
     {
-        match line {
-            Line::At(moment) => {
+        match said {
+            Statement::At(moment) => {
                 self.given = moment;
                 Ok(())
             }
-            Line::Call(name, text) => self.call(alloc, name, text, answers),
-            Line::Next => self.next(alloc, answers),
-            Line::Answer(run, text) => self.answer(alloc, run, text, answers),
-            Line::Drain => self.drain(answers),
-            Line::End => Ok(()),
+            Statement::Call(name, text) => self.call(alloc, name, text, answers),
+            Statement::Ask(request) => self.ask(alloc, request, answers),
+            Statement::Next => self.next(alloc, answers),
+            Statement::Answer(run, text) => self.answer(alloc, run, text, answers),
+            Statement::Drain => self.drain(alloc, answers),
+            Statement::End => Ok(()),
         }
     }
 
@@ -102,58 +121,72 @@ impl Session {
         text: &str,
         answers: &mut Vec<u8>,
     ) -> Result<(), NoMemory>
-        requires { Fits self.old }
-        ensures { OnOk result (CarriesOut self.old self.new (Call name.now text.now) answers.old.items answers.new.items) }
+        ensures ok { OnOk result (Performs self.old self.new (Call name.now text.now) answers.old.items answers.new.items) }
+        ensures store { self.new.hall.store ≡ self.old.hall.store }
     {
-        let asked = asked_of(alloc, &mut self.scratch, name, text)?;
+        let counted = self.hall.book().counted();
+        let asked = asked_of(alloc, &mut self.scratch, counted, name, text)?;
         self.perform_call(alloc, asked, answers)
     }
 
     fn perform_call(
         &mut self,
         alloc: Global,
-        asked: Called,
+        asked: Asked,
         answers: &mut Vec<u8>,
     ) -> Result<(), NoMemory>
-        requires { Fits self.old }
-        ensures { OnOk result (CallsOut self.old self.new asked answers.old.items answers.new.items) }
+        requires { IsTold asked }
+        ensures ok { OnOk result (Does self.old self.new (call_act asked) answers.old.items answers.new.items) }
+        ensures store { self.new.hall.store ≡ self.old.hall.store }
     {
         match asked {
-            Called::NoObject => push(answers, b"refused 1 The text is no JSON.\n"),
-            Called::NoAction => push(answers, b"refused 14 The resource does not exist.\n"),
-            Called::Calls(params) => self.accept(alloc, params, answers),
+            Asked::Refused(reason) => push_refused(alloc, answers, &reason),
+            Asked::Calls { name, params } => self.invoke(alloc, &name, params, answers),
         }
     }
 
-    fn accept(
+    fn invoke(
         &mut self,
         alloc: Global,
+        name: &FullName,
         params: Params,
         answers: &mut Vec<u8>,
     ) -> Result<(), NoMemory>
-        requires { Fits self.old }
-        ensures { OnOk result (CallsOut self.old self.new (Called.Calls params) answers.old.items answers.new.items) }
+        ensures ok { OnOk result (Does self.old self.new (Meets (events.Called name.now params)) answers.old.items answers.new.items) }
+        ensures store { self.new.hall.store ≡ self.old.hall.store }
     {
-        let at = self.moment();
-        let id = Id {
-            namespace: 0,
-            count: self.floor.last(0) + 1,
-        };
-        let plan = Plan {
-            id,
-            params,
-            limits: Limits::DEFAULT,
-        };
-        let happened = self.floor.accept(alloc, at, plan)?;
-        push_happened(answers, &happened)
+        let called = self.hall.call(alloc, self.given, name, params)?;
+        push_called(alloc, answers, &called)
+    }
+
+    fn ask(&mut self, alloc: Global, request: &[u8], answers: &mut Vec<u8>) -> Result<(), NoMemory>
+        ensures ok { OnOk result (Performs self.old self.new (Ask request.now) answers.old.items answers.new.items) }
+        ensures store { self.new.hall.store ≡ self.old.hall.store }
+    {
+        match read(alloc, &self.routes, request)? {
+            Ok(request) => self.request(alloc, &request, answers),
+            Err(refusal) => push_unread(alloc, refusal, answers),
+        }
+    }
+
+    fn request(
+        &mut self,
+        alloc: Global,
+        request: &Request,
+        answers: &mut Vec<u8>,
+    ) -> Result<(), NoMemory>
+        ensures ok { OnOk result (Does self.old self.new (Meets (events.Asked request.now)) answers.old.items answers.new.items) }
+        ensures store { self.new.hall.store ≡ self.old.hall.store }
+    {
+        let reply = self.hall.ask(alloc, self.given, request)?;
+        push_asked(alloc, answers, &reply)
     }
 
     fn next(&mut self, alloc: Global, answers: &mut Vec<u8>) -> Result<(), NoMemory>
-        requires { Fits self.old }
-        ensures { OnOk result (CarriesOut self.old self.new Next answers.old.items answers.new.items) }
+        ensures ok { OnOk result (Does self.old self.new (Meets events.Next) answers.old.items answers.new.items) }
+        ensures store { self.new.hall.store ≡ self.old.hall.store }
     {
-        let at = self.moment();
-        let order = self.floor.next(alloc, at)?;
+        let order = self.hall.next(alloc, self.given)?;
         push_order(answers, &order)
     }
 
@@ -164,24 +197,52 @@ impl Session {
         text: &str,
         answers: &mut Vec<u8>,
     ) -> Result<(), NoMemory>
-        ensures { OnOk result (CarriesOut self.old self.new (Answer run text.now) answers.old.items answers.new.items) }
+        ensures ok { OnOk result (Does self.old self.new (Meets (events.Answered run (replies.Answer text.now []))) answers.old.items answers.new.items) }
+        ensures store { self.new.hall.store ≡ self.old.hall.store }
     {
-        let at = self.moment();
         let reply = RunReply::Answer {
             text: Str::of(alloc, text)?,
             logs: Lines::new(alloc),
         };
-        match self.floor.answered(alloc, at, run, reply) {
-            Ok(Answered::Recorded(happened)) => push_happened(answers, &happened),
-            Err(AnswerRefusal::NoRun { run, reply: _ }) => push_no_run(answers, run),
-            Err(AnswerRefusal::NoMemory(_)) => Err(NoMemory),
+        match self.hall.answered(alloc, self.given, run, reply) {
+            Ok(answered) => push_answered(answers, &answered),
+            Err(refusal) => push_unanswered(answers, &refusal),
         }
     }
 
-    fn drain(&mut self, answers: &mut Vec<u8>) -> Result<(), NoMemory>
-        ensures { OnOk result (CarriesOut self.old self.new DrainStatement answers.old.items answers.new.items) }
+    fn drain(&mut self, alloc: Global, answers: &mut Vec<u8>) -> Result<(), NoMemory>
+        ensures ok { OnOk result (Does self.old self.new (Meets events.Drain) answers.old.items answers.new.items) }
+        ensures store { self.new.hall.store ≡ self.old.hall.store }
     {
-        let at = self.moment();
-        push_drain(answers, self.floor.drain(at))
+        let drain = self.hall.drain(alloc, self.given)?;
+        push_drain(answers, drain)
     }
+}
+
+// The request that the bytes begin with, or why they begin with none.
+#[tactic(auto, using(crate::proofs::Telling::unread))]
+fn read(
+    alloc: Global,
+    routes: &Routes,
+    bytes: &[u8],
+) -> Result<Result<Request, HttpRefusal>, NoMemory>
+    ensures { IfOk result (λ read. IsRead bytes.now read) }
+{
+    match routes.read(alloc, bytes) {
+        Ok(read) => Ok(Ok(read.request)),
+        Err(refusal) => {
+            if refusal == HttpRefusal::NoMemory {
+                return Err(NoMemory);
+            }
+            Ok(Err(refusal))
+        }
+    }
+}
+
+// Puts the reply to bytes that are no request.
+fn push_unread(alloc: Global, refused: HttpRefusal, answers: &mut Vec<u8>) -> Result<(), NoMemory>
+    ensures { OnOk result (answers.new.items ≡ answers.old.items ++ reply_text (refusal_of (plain (refusal_number refused)))) }
+{
+    let answer = refusal(alloc, &plain(alloc, refused.number()))?;
+    push_reply(alloc, answers, &answer)
 }

@@ -66,7 +66,7 @@ const CASES: [(&[u8], &[u8], Status); 17] = [
     ),
     (
         b"call /whisk.system/utils/no x\ncall /whisk.system/utils/echo [1]\ncall /whisk.system/utils/echo {\"a\":0.5}\ncall /whisk.system/utils/echo \n",
-        b"refused 1 The text is no JSON.\nrefused 1 The text is no JSON.\nrefused 1 The text is no JSON.\nrefused 1 The text is no JSON.\n",
+        b"refused 1 The text is no JSON.\nrefused 10 The field body has a wrong type.\nrefused 2 A number is not a whole number of 64 bits.\nrefused 1 The text is no JSON.\n",
         Status::Ok,
     ),
     (b"next\nend\nnonsense\n", b"nothing empty\n", Status::Ok),
@@ -95,6 +95,67 @@ const CASES: [(&[u8], &[u8], Status); 17] = [
         b"",
         Status::BadDay { statement: 1 },
     ),
+];
+
+const MALFORMED: &[u8] = b"{\"code\":35,\"error\":\"The request head is malformed.\"}\n";
+
+// Requests among other statements, and refusals of calls.
+const ASKS: [(&[u8], &[u8], Status); 15] = [
+    (
+        b"call /whisk.system/utils/echo {}\nnext\ndrain\ncall /whisk.system/utils/echo {}\n",
+        b"accepted 00000000000000000000000000000001\nrun 1 00000000000000000000000000000001\nopen 1\nrefused 32 The office is draining.\n",
+        Status::Ok,
+    ),
+    (
+        b"ask 51\nGET /api/v1/namespaces/_/actions/hello HTTP/1.1\r\n\r\n\nask 55\nGET /api/v1/namespaces/_/actions?limit=201 HTTP/1.1\r\n\r\n\n",
+        b"reply 128\nHTTP/1.1 404 Not Found\r\nContent-Type: application/json\r\nContent-Length: 50\r\n\r\n{\"code\":14,\"error\":\"The resource does not exist.\"}\nreply 133\nHTTP/1.1 400 Bad Request\r\nContent-Type: application/json\r\nContent-Length: 53\r\n\r\n{\"code\":39,\"error\":\"The query value limit is wrong.\"}\n",
+        Status::Ok,
+    ),
+    (
+        b"ask 272\nPUT /api/v1/namespaces/_/actions/hello HTTP/1.1\r\nHost: localhost\r\nUser-Agent: curl/8.5.0\r\nAccept: */*\r\nX-Whisk-Key: k1\r\nContent-Type: application/json\r\nContent-Length: 98\r\n\r\n{\"exec\":{\"kind\":\"plain:1\",\"code\":\"{\\\"cases\\\":[{\\\"when\\\":{},\\\"give\\\":{\\\"greeting\\\":\\\"Hello\\\"}}]}\"}}\nask 272\nPUT /api/v1/namespaces/_/actions/hello HTTP/1.1\r\nHost: localhost\r\nUser-Agent: curl/8.5.0\r\nAccept: */*\r\nX-Whisk-Key: k1\r\nContent-Type: application/json\r\nContent-Length: 98\r\n\r\n{\"exec\":{\"kind\":\"plain:1\",\"code\":\"{\\\"cases\\\":[{\\\"when\\\":{},\\\"give\\\":{\\\"greeting\\\":\\\"Hello\\\"}}]}\"}}\nask 287\nPUT /api/v1/namespaces/_/actions/hello?overwrite=true HTTP/1.1\r\nHost: localhost\r\nUser-Agent: curl/8.5.0\r\nAccept: */*\r\nX-Whisk-Key: k1\r\nContent-Type: application/json\r\nContent-Length: 98\r\n\r\n{\"exec\":{\"kind\":\"plain:1\",\"code\":\"{\\\"cases\\\":[{\\\"when\\\":{},\\\"give\\\":{\\\"greeting\\\":\\\"Hello\\\"}}]}\"}}\nask 290\nPUT /api/v1/namespaces/_/actions/hello?overwrite=true HTTP/1.1\r\nHost: localhost\r\nUser-Agent: curl/8.5.0\r\nAccept: */*\r\nX-Whisk-Key: k1\r\nContent-Type: application/json\r\nContent-Length: 100\r\n\r\n{\"exec\":{\"kind\":\"nodejs:20\",\"code\":\"{\\\"cases\\\":[{\\\"when\\\":{},\\\"give\\\":{\\\"greeting\\\":\\\"Hello\\\"}}]}\"}}\nask 58\nDELETE /api/v1/namespaces/guest/actions/hello HTTP/1.1\r\n\r\n\nask 58\nDELETE /api/v1/namespaces/guest/actions/hello HTTP/1.1\r\n\r\n\n",
+        b"reply 322\nHTTP/1.1 200 OK\r\nContent-Type: application/json\r\nContent-Length: 250\r\n\r\n{\"annotations\":[],\"exec\":{\"code\":\"{\\\"cases\\\":[{\\\"when\\\":{},\\\"give\\\":{\\\"greeting\\\":\\\"Hello\\\"}}]}\",\"kind\":\"plain:1\"},\"limits\":{\"logs\":10,\"memory\":256,\"timeout\":60000},\"name\":\"hello\",\"namespace\":\"guest\",\"parameters\":[],\"publish\":false,\"version\":\"0.0.1\"}\nreply 119\nHTTP/1.1 409 Conflict\r\nContent-Type: application/json\r\nContent-Length: 42\r\n\r\n{\"code\":17,\"error\":\"The resource exists.\"}\nreply 322\nHTTP/1.1 200 OK\r\nContent-Type: application/json\r\nContent-Length: 250\r\n\r\n{\"annotations\":[],\"exec\":{\"code\":\"{\\\"cases\\\":[{\\\"when\\\":{},\\\"give\\\":{\\\"greeting\\\":\\\"Hello\\\"}}]}\",\"kind\":\"plain:1\"},\"limits\":{\"logs\":10,\"memory\":256,\"timeout\":60000},\"name\":\"hello\",\"namespace\":\"guest\",\"parameters\":[],\"publish\":false,\"version\":\"0.0.2\"}\nreply 122\nHTTP/1.1 400 Bad Request\r\nContent-Type: application/json\r\nContent-Length: 42\r\n\r\n{\"code\":12,\"error\":\"The kind is unknown.\"}\nreply 322\nHTTP/1.1 200 OK\r\nContent-Type: application/json\r\nContent-Length: 250\r\n\r\n{\"annotations\":[],\"exec\":{\"code\":\"{\\\"cases\\\":[{\\\"when\\\":{},\\\"give\\\":{\\\"greeting\\\":\\\"Hello\\\"}}]}\",\"kind\":\"plain:1\"},\"limits\":{\"logs\":10,\"memory\":256,\"timeout\":60000},\"name\":\"hello\",\"namespace\":\"guest\",\"parameters\":[],\"publish\":false,\"version\":\"0.0.2\"}\nreply 128\nHTTP/1.1 404 Not Found\r\nContent-Type: application/json\r\nContent-Length: 50\r\n\r\n{\"code\":14,\"error\":\"The resource does not exist.\"}\n",
+        Status::Ok,
+    ),
+    (
+        b"ask 272\nPUT /api/v1/namespaces/_/actions/hello HTTP/1.1\r\nHost: localhost\r\nUser-Agent: curl/8.5.0\r\nAccept: */*\r\nX-Whisk-Key: k1\r\nContent-Type: application/json\r\nContent-Length: 98\r\n\r\n{\"exec\":{\"kind\":\"plain:1\",\"code\":\"{\\\"cases\\\":[{\\\"when\\\":{},\\\"give\\\":{\\\"greeting\\\":\\\"Hello\\\"}}]}\"}}\nat 5\ncall /guest/hello {\"a\":1}\nnext\nask 55\nGET /api/v1/namespaces/_/actions/hello HTTP/1.1\r\n\r\nmore\nanswer 1 {}\ndrain\nask 45\nGET /api/v1/namespaces/_/actions HTTP/1.1\r\n\r\n\n",
+        b"reply 322\nHTTP/1.1 200 OK\r\nContent-Type: application/json\r\nContent-Length: 250\r\n\r\n{\"annotations\":[],\"exec\":{\"code\":\"{\\\"cases\\\":[{\\\"when\\\":{},\\\"give\\\":{\\\"greeting\\\":\\\"Hello\\\"}}]}\",\"kind\":\"plain:1\"},\"limits\":{\"logs\":10,\"memory\":256,\"timeout\":60000},\"name\":\"hello\",\"namespace\":\"guest\",\"parameters\":[],\"publish\":false,\"version\":\"0.0.1\"}\naccepted 00000000000000010000000000000001\nrun 1 00000000000000010000000000000001\nreply 322\nHTTP/1.1 200 OK\r\nContent-Type: application/json\r\nContent-Length: 250\r\n\r\n{\"annotations\":[],\"exec\":{\"code\":\"{\\\"cases\\\":[{\\\"when\\\":{},\\\"give\\\":{\\\"greeting\\\":\\\"Hello\\\"}}]}\",\"kind\":\"plain:1\"},\"limits\":{\"logs\":10,\"memory\":256,\"timeout\":60000},\"name\":\"hello\",\"namespace\":\"guest\",\"parameters\":[],\"publish\":false,\"version\":\"0.0.1\"}\nrecorded 00000000000000010000000000000001 0\ndrained 1\nreply 160\nHTTP/1.1 200 OK\r\nContent-Type: application/json\r\nContent-Length: 89\r\n\r\n[{\"annotations\":[],\"name\":\"hello\",\"namespace\":\"guest\",\"publish\":false,\"version\":\"0.0.1\"}]\n",
+        Status::Ok,
+    ),
+    (
+        b"call x x\ncall /guest x\ncall /a/b/c/d x\ncall //b x\ncall /-a/b x\ncall /a%20/b x\ncall /guest/%zz x\ncall /guest/x%80 x\ncall /guest/x x\ncall /guest/x 1.5\ncall /guest/x [[[[[[[[[[[[[[[[[[[[[[[[[[[[[[[[[[[[[[[[[[[[[[[[[[[[[[[[[[[[[[[[[[[[[[[[[[[[[[[[[[[[[[[[[[[[[[[[[[[[[]]]]]]]]]]]]]]]]]]]]]]]]]]]]]]]]]]]]]]]]]]]]]]]]]]]]]]]]]]]]]]]]]]]]]]]]]]]]]]]]]]]]]]]]]]]]]]]]]]]]]\ncall /guest/x 7\ncall /_/x {}\ncall %2fwhisk.system%2Futils/echo {}\n",
+        b"refused 8 The path names no entity.\nrefused 8 The path names no entity.\nrefused 8 The path names no entity.\nrefused 4 A name is empty.\nrefused 6 A name has a wrong byte at 0.\nrefused 7 A name ends in a space.\nrefused 6 A name has a wrong byte at 0.\nrefused 6 A name has a wrong byte at 1.\nrefused 1 The text is no JSON.\nrefused 2 A number is not a whole number of 64 bits.\nrefused 3 The value is nested deeper than 100.\nrefused 10 The field body has a wrong type.\nrefused 14 The resource does not exist.\naccepted 00000000000000000000000000000001\n",
+        Status::Ok,
+    ),
+    (
+        b"ask 0",
+        b"reply 127\nHTTP/1.1 400 Bad Request\r\nContent-Type: application/json\r\nContent-Length: 47\r\n\r\n{\"code\":40,\"error\":\"The request is cut short.\"}\n",
+        Status::Ok,
+    ),
+    (
+        b"ask 0\n\nnext\n",
+        b"reply 127\nHTTP/1.1 400 Bad Request\r\nContent-Type: application/json\r\nContent-Length: 47\r\n\r\n{\"code\":40,\"error\":\"The request is cut short.\"}\nnothing empty\n",
+        Status::Ok,
+    ),
+    (
+        b"ask 3\nabc",
+        b"reply 127\nHTTP/1.1 400 Bad Request\r\nContent-Type: application/json\r\nContent-Length: 47\r\n\r\n{\"code\":40,\"error\":\"The request is cut short.\"}\n",
+        Status::Ok,
+    ),
+    (
+        b"ask 40\nxxxxxxxxxxxxxxxxxxxxxxxxxxxxxxxxxxxxxxx",
+        b"",
+        Status::BadDay { statement: 1 },
+    ),
+    (b"ask 3\nabcd\n", b"", Status::BadDay { statement: 1 }),
+    (b"ask 3\nabcd", b"", Status::BadDay { statement: 1 }),
+    (
+        b"next\nask 1",
+        b"nothing empty\n",
+        Status::BadDay { statement: 2 },
+    ),
+    (b"ask 8388609\n", b"", Status::BadDay { statement: 1 }),
+    (b"ask 00\n\n", b"", Status::BadDay { statement: 1 }),
+    (b"ask\n", b"", Status::BadDay { statement: 1 }),
 ];
 
 #[test]
@@ -133,6 +194,34 @@ fn long_answer(alloc: Global, size: usize) -> Result<Vec<u8>, Fail> {
     }
     day.extend_from_slice(b"\"}")?;
     Ok(day)
+}
+
+#[test]
+fn requests_are_answered(rt: HostRuntime) -> Result<(), Fail> {
+    for (day, text, status) in ASKS.iter() {
+        let told = office_over(rt.alloc(), "day", day, &[], &[])?;
+        assert_eq!(rt; told.status, *status);
+        assert_eq!(rt; told.out.bytes(), *text);
+    }
+    Ok(())
+}
+
+// A day that asks by so many bytes, which are no request.
+fn long_request(alloc: Global, head: &str, size: usize) -> Result<Vec<u8>, Fail> {
+    let mut day = Vec::from_slice(alloc, head.as_bytes())?;
+    for _ in 0..size {
+        day.push(b'x')?;
+    }
+    Ok(day)
+}
+
+#[test]
+fn a_long_request_is_read_in_pieces(rt: HostRuntime) -> Result<(), Fail> {
+    let day = long_request(rt.alloc(), "ask 200000\n", 200_000)?;
+    let told = office_over(rt.alloc(), "day", &day, &[], &[])?;
+    assert_eq!(rt; told.status, Status::Ok);
+    assert!(rt; told.out.bytes().ends_with(MALFORMED));
+    Ok(())
 }
 
 #[test]

@@ -1,11 +1,18 @@
 // The lines that answer statements.
-ghost use Rattle.std.specs.Prelude.{◌≡◌, ◌++◌, OnOk, codes};
+ghost use Rattle.std.specs.Prelude.{◌≡◌, ◌++◌, OnOk, IsSome, codes};
 ghost use Rattle.std.specs.Fmt.{decimal};
-ghost use Rattle.ow_whisk.specs.Texts.{drain_text, happening_text, happenings_text, no_run_text, order_text, run_text};
+ghost use Rattle.ow_hall.specs.Works.{IsTellable};
+ghost use Rattle.ow_http.specs.Reason.{told};
+ghost use Rattle.ow_records.specs.Id.{id_text};
+ghost use Rattle.ow_whisk.specs.Texts.{TellsNoRun, answered_text, asked_text, called_text, drain_text, happening_text, happenings_text, no_run_text, order_text, refused_text, reply_text, run_text};
 
 use itoa::Buffer;
-use ow_floor::{Drain, Happened, Happening, Order, RunOrder};
+use ow_floor::{AnswerRefusal, Answered, Drain, Happened, Happening, Order, RunOrder};
+use ow_hall::{Called, Reply};
+use ow_http::{Answer, Reason, reason_text, write_reply};
+use ow_records::Id;
 use ow_value::NoMemory;
+use std::alloc::Global;
 
 /// Puts the bytes behind those that are there.
 pub fn push(answers: &mut Vec<u8>, bytes: &[u8]) -> Result<(), NoMemory>
@@ -40,8 +47,8 @@ fn push_happening(answers: &mut Vec<u8>, happening: Happening) -> Result<(), NoM
     }
 }
 
-/// Puts a line for each thing that happened.
-pub fn push_happened(answers: &mut Vec<u8>, happened: &Happened) -> Result<(), NoMemory>
+// Puts a line for each thing that happened.
+fn push_happened(answers: &mut Vec<u8>, happened: &Happened) -> Result<(), NoMemory>
     ensures ok { OnOk result (answers.new.items ≡ answers.old.items ++ happenings_text happened.now) }
 {
     for happening in happened.items() {
@@ -70,13 +77,31 @@ fn push_run(answers: &mut Vec<u8>, order: &RunOrder) -> Result<(), NoMemory>
     push(answers, b"\n")
 }
 
-/// Puts the line that no run has this number.
-pub fn push_no_run(answers: &mut Vec<u8>, run: u64) -> Result<(), NoMemory>
+/// Puts what became of a runner's reply.
+pub fn push_answered(answers: &mut Vec<u8>, answered: &Answered) -> Result<(), NoMemory>
+    ensures ok { OnOk result (answers.new.items ≡ answers.old.items ++ answered_text answered.now) }
+{
+    match answered {
+        Answered::Recorded(happened) => push_happened(answers, happened),
+    }
+}
+
+fn push_no_run(answers: &mut Vec<u8>, run: u64) -> Result<(), NoMemory>
     ensures ok { OnOk result (answers.new.items ≡ answers.old.items ++ no_run_text run) }
 {
     push(answers, b"refused 29 No run ")?;
     push_number(answers, run)?;
     push(answers, b".\n")
+}
+
+/// Puts the line that no run has the number.
+pub fn push_unanswered(answers: &mut Vec<u8>, refusal: &AnswerRefusal) -> Result<(), NoMemory>
+    ensures ok { OnOk result (TellsNoRun refusal.now answers.old.items answers.new.items) }
+{
+    match refusal {
+        AnswerRefusal::NoRun { run, .. } => push_no_run(answers, *run),
+        AnswerRefusal::NoMemory(_) => Err(NoMemory),
+    }
 }
 
 /// Puts the line of a drain.
@@ -95,4 +120,58 @@ fn push_counted(answers: &mut Vec<u8>, word: &[u8], n: u64) -> Result<(), NoMemo
     push(answers, word)?;
     push_number(answers, n)?;
     push(answers, b"\n")
+}
+
+/// Puts the line of a refusal.
+pub fn push_refused(alloc: Global, answers: &mut Vec<u8>, reason: &Reason) -> Result<(), NoMemory>
+    requires { IsSome (told reason.now) }
+    ensures ok { OnOk result (answers.new.items ≡ answers.old.items ++ refused_text reason.now) }
+{
+    let text = reason_text(alloc, reason)?;
+    push(answers, b"refused ")?;
+    push_number(answers, u64::from(reason.number))?;
+    push(answers, b" ")?;
+    push(answers, text.as_str().as_bytes())?;
+    push(answers, b"\n")
+}
+
+/// Puts what became of a call.
+pub fn push_called(alloc: Global, answers: &mut Vec<u8>, called: &Called) -> Result<(), NoMemory>
+    requires { IsTellable called.now }
+    ensures ok { OnOk result (answers.new.items ≡ answers.old.items ++ called_text called.now) }
+{
+    match called {
+        Called::Happened(happened) => push_happened(answers, happened),
+        Called::Refused(reason) => push_refused(alloc, answers, reason),
+    }
+}
+
+/// Puts the bytes of a reply, with how many they are.
+pub fn push_reply(alloc: Global, answers: &mut Vec<u8>, answer: &Answer) -> Result<(), NoMemory>
+    ensures ok { OnOk result (answers.new.items ≡ answers.old.items ++ reply_text answer.now) }
+{
+    let reply = write_reply(alloc, answer)?;
+    push(answers, b"reply ")?;
+    push_number(answers, reply.len() as u64)?;
+    push(answers, b"\n")?;
+    push(answers, &reply)?;
+    push(answers, b"\n")
+}
+
+fn push_waiting(answers: &mut Vec<u8>, id: Id) -> Result<(), NoMemory>
+    ensures ok { OnOk result (answers.new.items ≡ answers.old.items ++ (codes "waiting " ++ (id_text id ++ codes "\n"))) }
+{
+    push(answers, b"waiting ")?;
+    id.push_text(answers)?;
+    push(answers, b"\n")
+}
+
+/// Puts the answer to a request, or the id for which it waits.
+pub fn push_asked(alloc: Global, answers: &mut Vec<u8>, reply: &Reply) -> Result<(), NoMemory>
+    ensures ok { OnOk result (answers.new.items ≡ answers.old.items ++ asked_text reply.now) }
+{
+    match reply {
+        Reply::Now(answer) => push_reply(alloc, answers, answer),
+        Reply::Waiting { id, .. } => push_waiting(answers, *id),
+    }
 }

@@ -22,6 +22,7 @@ usage: ow_whisk day < FILE     carries out the statements of a day, and writes e
 
 A day has one statement a line:
   at MOMENT           sets the moment, in milliseconds; 0 at first
+  ask N               asks by an HTTP request, whose N bytes and a newline follow this line
   call NAME TEXT      calls an action with a JSON object; /whisk.system/utils/echo is built in
   next                orders what has waited longest to run
   answer RUN TEXT     is a runner's answer to the run of this number

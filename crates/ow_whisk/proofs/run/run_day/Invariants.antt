@@ -6,6 +6,7 @@ abbrev pub invariant-turns : goal.invariant-turns
 invariant-turns g l = record {
   under_way : (bytes : List ℕ) → g.S.Source.left l.fn.day ≡ Some bytes → IsUnderWay bytes (g.O.Sink.taken l.fn.out) (g.S.Source.left l.day) (g.O.Sink.taken l.out) l.run;
   bounded : IsBounded l.run;
+  store : l.run.session.hall.store ≡ l.fn.store;
   day_later : g.S.Source.faults l.fn.day ≤ g.S.Source.faults l.day;
   out_later : g.O.Sink.faults l.fn.out ≤ g.O.Sink.faults l.out;
 }

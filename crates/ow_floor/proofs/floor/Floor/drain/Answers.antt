@@ -1,5 +1,5 @@
-use Rattle.std.proofs.Common.{◌≡◌, rules, sym, subst}
-use Rattle.ow_floor.specs.Calls.{AllRecorded, drain_answer}
+use Rattle.std.proofs.Common.{◌≡◌, rules}
+use Rattle.ow_floor.specs.Calls.{drain_answer}
 use Rattle.ow_floor.proofs.Soundness.{all_recorded}
 use Rattle.ow_floor.proofs.floor.Floor.drain.Goals as goal
 

@@ -1,13 +1,9 @@
-use Rattle.std.proofs.Common.{arith, refl}
+use Rattle.std.proofs.Common.{refl}
 use Rattle.ow_traits.specs.Streams.{Takes}
 use Rattle.ow_traits.proofs.Taking.{took_all}
 use Rattle.ow_whisk.specs.declared.run.Run.{Run}
-use Rattle.ow_whisk.proofs.Runs.{at_err, at_ok, end_tells, filled, front_with, long_tells, past_tells, written}
+use Rattle.ow_whisk.proofs.Runs.{at_err, at_ok, end_read, filled, front_with, past_tells, written}
 use Rattle.ow_whisk.proofs.run.Run.read_on.Goals as goal
-
-pub returns-then-len-gt-LONGEST_LINE-clause-told : goal.returns-then-len-gt-LONGEST_LINE-clause-told
-returns-then-len-gt-LONGEST_LINE-clause-told g c =
-    λ bytes before u. long_tells bytes before _ _ _ c.args.self.now c.close.result c.requires.none (omega (arith, c.len.ensures, c.if-len-gt-LONGEST_LINE.true)) c.close.ensures.told u
 
 pub returns-then-is_err-clause-told : goal.returns-then-is_err-clause-told
 returns-then-is_err-clause-told g c =
@@ -15,38 +11,30 @@ returns-then-is_err-clause-told g c =
 
 pub returns-in-Ok-More-clause-told : goal.returns-in-Ok-More-clause-told
 returns-in-Ok-More-clause-told g c =
-    let took : Takes (g.O.Sink.taken c.args.out.now) (g.O.Sink.taken c.write_all.new.out) c.args.self.now.answers.items =
-    rw c.deref.ensures.value at (at_ok c.write_all.result c.is_err.result c.is_err.ensures.value c.if-is_err.false c.write_all.ensures.ok) in
-    let flushed : Run = record { session = c.args.self.now.session; input = c.args.self.now.input; answers = c.clear.new.self; number = c.args.self.now.number } in
-    λ bytes before u. filled bytes before _ _ _ flushed _ (rw c.in-Ok-More.field-0-is at c.in-Ok-More.ensures.told) refl refl refl
-    (written bytes before _ _ _ c.args.self.now flushed took c.clear.ensures.items refl refl refl u)
+    let took : Takes (g.O.Sink.taken c.args.out.now) (g.O.Sink.taken c.write_all.new.out) c.args.self.now.answers.items = rw c.deref.ensures.value at (at_ok c.write_all.result c.is_err.result c.is_err.ensures.value c.if-is_err.false c.write_all.ensures.ok) in
+    let flushed : Run g.row.P.Denot = record { session = c.args.self.now.session; input = c.args.self.now.input; ended = c.args.self.now.ended; answers = c.clear.new.self; number = c.args.self.now.number } in
+    λ bytes before u. filled bytes before _ _ _ flushed _ (rw c.in-Ok-More.field-0-is at c.in-Ok-More.ensures.told) refl refl refl refl c.requires.unended (written bytes before _ _ _ c.args.self.now flushed took c.clear.ensures.items refl refl refl refl u)
 
 pub returns-in-Ok-End-clause-told : goal.returns-in-Ok-End-clause-told
 returns-in-Ok-End-clause-told g c =
-    let took : Takes (g.O.Sink.taken c.args.out.now) (g.O.Sink.taken c.write_all.new.out) c.args.self.now.answers.items =
-    rw c.deref.ensures.value at (at_ok c.write_all.result c.is_err.result c.is_err.ensures.value c.if-is_err.false c.write_all.ensures.ok) in
-    let flushed : Run = record { session = c.args.self.now.session; input = c.fill.new.self; answers = c.clear.new.self; number = c.args.self.now.number } in
+    let took : Takes (g.O.Sink.taken c.args.out.now) (g.O.Sink.taken c.write_all.new.out) c.args.self.now.answers.items = rw c.deref.ensures.value at (at_ok c.write_all.result c.is_err.result c.is_err.ensures.value c.if-is_err.false c.write_all.ensures.ok) in
+    let flushed : Run g.row.P.Denot = record { session = c.args.self.now.session; input = c.args.self.now.input; ended = c.args.self.now.ended; answers = c.clear.new.self; number = c.args.self.now.number } in
     let end = rw c.in-Ok-End.field-0-is at c.in-Ok-End.ensures.told in
-    λ bytes before u. end_tells bytes before _ _ _ flushed c.carry_last-step.new.self c.carry_last-step.result c.close-in-Ok-End.result end.1 c.carry_last-step.ensures c.close-in-Ok-End.ensures.told
-    (written bytes before _ _ _ c.args.self.now flushed took c.clear.ensures.items end.0 refl refl u)
+    λ bytes before u. end_read bytes before _ _ _ flushed _ end.1 c.requires.unended refl end.0 refl refl refl (written bytes before _ _ _ c.args.self.now flushed took c.clear.ensures.items refl refl refl refl u)
 
 pub returns-in-Ok-Past-clause-told : goal.returns-in-Ok-Past-clause-told
 returns-in-Ok-Past-clause-told g c =
-    let took : Takes (g.O.Sink.taken c.args.out.now) (g.O.Sink.taken c.write_all.new.out) c.args.self.now.answers.items =
-    rw c.deref.ensures.value at (at_ok c.write_all.result c.is_err.result c.is_err.ensures.value c.if-is_err.false c.write_all.ensures.ok) in
-    let flushed : Run = record { session = c.args.self.now.session; input = c.args.self.now.input; answers = c.clear.new.self; number = c.args.self.now.number } in
+    let took : Takes (g.O.Sink.taken c.args.out.now) (g.O.Sink.taken c.write_all.new.out) c.args.self.now.answers.items = rw c.deref.ensures.value at (at_ok c.write_all.result c.is_err.result c.is_err.ensures.value c.if-is_err.false c.write_all.ensures.ok) in
+    let flushed : Run g.row.P.Denot = record { session = c.args.self.now.session; input = c.args.self.now.input; ended = c.args.self.now.ended; answers = c.clear.new.self; number = c.args.self.now.number } in
     let past = rw c.in-Ok-Past.field-0-is at c.in-Ok-Past.ensures.told in
-    λ bytes before u. past_tells bytes before _ _ flushed c.requires.none (omega (arith, c.len.ensures, c.if-len-gt-LONGEST_LINE.false)) c.clear.ensures.items past.1 past.2
-    (written bytes before _ _ _ c.args.self.now flushed took c.clear.ensures.items refl refl refl u)
+    λ bytes before u. past_tells bytes before _ _ flushed c.requires.cut c.requires.unended c.clear.ensures.items past.1 past.2 (written bytes before _ _ _ c.args.self.now flushed took c.clear.ensures.items refl refl refl refl u)
 
 pub returns-in-Err-Failed-clause-told : goal.returns-in-Err-Failed-clause-told
 returns-in-Err-Failed-clause-told g c =
-    let took : Takes (g.O.Sink.taken c.args.out.now) (g.O.Sink.taken c.write_all.new.out) c.args.self.now.answers.items =
-    rw c.deref.ensures.value at (at_ok c.write_all.result c.is_err.result c.is_err.ensures.value c.if-is_err.false c.write_all.ensures.ok) in
+    let took : Takes (g.O.Sink.taken c.args.out.now) (g.O.Sink.taken c.write_all.new.out) c.args.self.now.answers.items = rw c.deref.ensures.value at (at_ok c.write_all.result c.is_err.result c.is_err.ensures.value c.if-is_err.false c.write_all.ensures.ok) in
     λ bytes before u. front_with bytes before _ _ _ c.args.self.now (took_all _ _ c.args.self.now.answers.items took) u
 
 pub returns-in-Err-NoMemory-clause-told : goal.returns-in-Err-NoMemory-clause-told
 returns-in-Err-NoMemory-clause-told g c =
-    let took : Takes (g.O.Sink.taken c.args.out.now) (g.O.Sink.taken c.write_all.new.out) c.args.self.now.answers.items =
-    rw c.deref.ensures.value at (at_ok c.write_all.result c.is_err.result c.is_err.ensures.value c.if-is_err.false c.write_all.ensures.ok) in
+    let took : Takes (g.O.Sink.taken c.args.out.now) (g.O.Sink.taken c.write_all.new.out) c.args.self.now.answers.items = rw c.deref.ensures.value at (at_ok c.write_all.result c.is_err.result c.is_err.ensures.value c.if-is_err.false c.write_all.ensures.ok) in
     λ bytes before u. front_with bytes before _ _ _ c.args.self.now (took_all _ _ c.args.self.now.answers.items took) u

@@ -1,0 +1,5 @@
+mod RequestLaws
+mod AskLaws
+mod Bounds
+mod HallLaws
+mod ReasonLaws

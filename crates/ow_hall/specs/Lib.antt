@@ -1,0 +1,10 @@
+pub mod Spaces
+pub mod Reasons
+pub mod Acts
+pub mod Asks
+pub mod Calls
+pub mod Decisions
+pub mod History
+pub mod Ledger
+pub mod Works
+pub mod Book

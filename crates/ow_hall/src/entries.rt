@@ -1,0 +1,98 @@
+ghost use Rattle.std.specs.Prelude.{◌≡◌, ◌+◌, ◌<◌, ◌≤◌, ◌++◌, ◌^◌, ◌↔◌, [], ◌∷◌, length, IsTrue, IfOk, OnOk};
+
+use crate::entry::Entry;
+use ow_value::NoMemory;
+use std::alloc::Global;
+use std::marker::Model;
+
+/// A list of entries, the oldest first.
+#[derive(Drop)]
+pub struct Entries {
+    items: Vec<Entry>,
+}
+
+impl Model for Entries {
+    ghost use Rattle.std.specs.Prelude.{◌-◌, vec_len, vec_capacity};
+    ghost use Rattle.ow_hall.specs.Ledger.{EntriesView};
+    ghost use Rattle.std.specs.Coded.{codes};
+    ghost use Rattle.ow_value.specs.Code.{value_code};
+
+    ghost Value = { EntriesView };
+
+    ghost coded = { Prim.hlevel (codes, value_code) };
+
+    ghost view = { λ e. record { items = e.items.items; room = vec_capacity e.items - vec_len e.items } };
+}
+
+impl Entries {
+    /// No entry. This takes no memory.
+    pub fn new(alloc: Global) -> Entries
+        ensures { result.items ≡ [] }
+    {
+        Entries {
+            items: Vec::new(alloc),
+        }
+    }
+
+    pub fn as_slice(&self) -> &[Entry]
+        ensures { result.now ≡ self.now.items }
+    {
+        self.items.as_slice()
+    }
+
+    pub fn len(&self) -> usize
+        ensures value { result ≡ length self.now.items }
+        ensures small { result < 2 ^ 63 }
+    {
+        self.items.len()
+    }
+
+    pub fn is_empty(&self) -> bool
+        ensures { IsTrue result ↔ (self.now.items ≡ []) }
+    {
+        self.items.is_empty()
+    }
+
+    /// Makes room for one more.
+    pub(crate) fn reserve(&mut self) -> Result<(), NoMemory>
+        ensures items { self.new.items ≡ self.old.items }
+        ensures room { OnOk result (1 ≤ self.new.room) }
+    {
+        self.items.reserve(1)?;
+        Ok(())
+    }
+
+    /// Puts an entry behind the others.
+    pub(crate) fn push(&mut self, entry: Entry)
+        requires { 1 ≤ self.old.room }
+        ensures { self.new.items ≡ self.old.items ++ entry ∷ [] }
+    {
+        let _ = self.items.push(entry);
+    }
+
+    /// An equal list.
+    pub fn copy(&self, alloc: Global) -> Result<Entries, NoMemory>
+        ensures { IfOk result (λ e. e.items ≡ self.now.items) }
+    {
+        let mut items = Vec::with_capacity(alloc, self.items.len())?;
+        for entry in &self.items {
+            let copied = entry.copy(alloc)?;
+            items.push(copied)?;
+        }
+        Ok(Entries { items })
+    }
+
+    pub fn same(&self, other: &Entries) -> bool
+        ensures { IsTrue result ↔ (self.now.items ≡ other.now.items) }
+    {
+        if self.items.len() != other.items.len() {
+            return false;
+        }
+        for i in 0..self.items.len() {
+            if !self.items[i].same(&other.items[i]) {
+                return false;
+            }
+        }
+        true
+    }
+}

@@ -1,0 +1,141 @@
+// What the book holds.
+ghost use Rattle.std.specs.Prelude.{◌≡◌, ◌↔◌, IsTrue, IfOk};
+
+use crate::replies::{Called, Reply};
+use ow_floor::{Answered, Drain, Happened, Order};
+use ow_http::Request;
+use ow_names::FullName;
+use ow_traits::{Rows, RunReply};
+use ow_value::{NoMemory, Params};
+use std::alloc::Global;
+
+/// Something that comes to the service from outside.
+#[derive(Drop)]
+pub enum Event {
+    /// The service is opened over the kept rows.
+    Opened(Rows),
+    Asked(Request),
+    /// The office itself calls an action.
+    Called { name: FullName, params: Params },
+    /// A runner asks what to run.
+    Next,
+    /// A runner replies to a run.
+    Answered { run: u64, reply: RunReply },
+    /// The office asks whether all has ended, and takes no more calls.
+    Drain,
+}
+
+/// What is answered to an event.
+#[derive(Drop)]
+pub enum Told {
+    Opened(Happened),
+    Asked(Reply),
+    Called(Called),
+    Next(Order),
+    Answered(Answered),
+    Drain(Drain),
+}
+
+/// An event with its moment, in milliseconds, and its answer.
+#[derive(Drop)]
+pub struct Entry {
+    pub at: u64,
+    pub event: Event,
+    pub answer: Told,
+}
+
+impl Event {
+    pub fn same(&self, other: &Event) -> bool
+        ensures { IsTrue result ↔ (self.now ≡ other.now) }
+    {
+        match (self, other) {
+            (Event::Opened(a), Event::Opened(b)) => a.same(b),
+            (Event::Asked(a), Event::Asked(b)) => a.same(b),
+            (
+                Event::Called { name, params },
+                Event::Called {
+                    name: other_name,
+                    params: other_params,
+                },
+            ) => name.same(other_name) && params.same(other_params),
+            (
+                Event::Answered { run, reply },
+                Event::Answered {
+                    run: other_run,
+                    reply: other_reply,
+                },
+            ) => run == other_run && reply.same(other_reply),
+            (Event::Next, Event::Next) | (Event::Drain, Event::Drain) => true,
+            _ => false,
+        }
+    }
+
+    pub fn copy(&self, alloc: Global) -> Result<Event, NoMemory>
+        ensures { IfOk result (λ e. e ≡ self.now) }
+    {
+        match self {
+            Event::Opened(rows) => Ok(Event::Opened(rows.copy(alloc)?)),
+            Event::Asked(request) => Ok(Event::Asked(request.copy(alloc)?)),
+            Event::Called { name, params } => {
+                let name = name.copy(alloc)?;
+                let params = params.copy(alloc)?;
+                Ok(Event::Called { name, params })
+            }
+            Event::Next => Ok(Event::Next),
+            Event::Answered { run, reply } => Ok(Event::Answered {
+                run: *run,
+                reply: reply.copy(alloc)?,
+            }),
+            Event::Drain => Ok(Event::Drain),
+        }
+    }
+}
+
+impl Told {
+    pub fn same(&self, other: &Told) -> bool
+        ensures { IsTrue result ↔ (self.now ≡ other.now) }
+    {
+        match (self, other) {
+            (Told::Opened(a), Told::Opened(b)) => a.same(b),
+            (Told::Asked(a), Told::Asked(b)) => a.same(b),
+            (Told::Called(a), Told::Called(b)) => a.same(b),
+            (Told::Next(a), Told::Next(b)) => a.same(b),
+            (Told::Answered(a), Told::Answered(b)) => a.same(b),
+            (Told::Drain(a), Told::Drain(b)) => a == b,
+            _ => false,
+        }
+    }
+
+    pub fn copy(&self, alloc: Global) -> Result<Told, NoMemory>
+        ensures { IfOk result (λ t. t ≡ self.now) }
+    {
+        match self {
+            Told::Opened(happened) => Ok(Told::Opened(happened.copy(alloc)?)),
+            Told::Asked(reply) => Ok(Told::Asked(reply.copy(alloc)?)),
+            Told::Called(called) => Ok(Told::Called(called.copy(alloc)?)),
+            Told::Next(order) => Ok(Told::Next(order.copy(alloc)?)),
+            Told::Answered(answered) => Ok(Told::Answered(answered.copy(alloc)?)),
+            Told::Drain(drain) => Ok(Told::Drain(*drain)),
+        }
+    }
+}
+
+impl Entry {
+    pub fn same(&self, other: &Entry) -> bool
+        ensures { IsTrue result ↔ (self.now ≡ other.now) }
+    {
+        self.at == other.at && self.event.same(&other.event) && self.answer.same(&other.answer)
+    }
+
+    pub fn copy(&self, alloc: Global) -> Result<Entry, NoMemory>
+        ensures { IfOk result (λ e. e ≡ self.now) }
+    {
+        let event = self.event.copy(alloc)?;
+        let answer = self.answer.copy(alloc)?;
+        Ok(Entry {
+            at: self.at,
+            event,
+            answer,
+        })
+    }
+}

@@ -1,0 +1,74 @@
+// What requests and calls are answered.
+ghost use Rattle.std.specs.Prelude.{◌≡◌, ◌↔◌, IsTrue, IfOk};
+
+use ow_floor::Happened;
+use ow_http::{Answer, Reason};
+use ow_records::Id;
+use ow_value::NoMemory;
+use std::alloc::Global;
+
+/// What a request is answered.
+#[derive(Drop)]
+pub enum Reply {
+    Now(Answer),
+    /// The answer comes once the activation has ended, or the moment `until`, in milliseconds, is there.
+    Waiting { id: Id, until: u64 },
+}
+
+/// What the office's own invocation is answered.
+#[derive(Drop)]
+pub enum Called {
+    Happened(Happened),
+    Refused(Reason),
+}
+
+impl Reply {
+    pub fn same(&self, other: &Reply) -> bool
+        ensures { IsTrue result ↔ (self.now ≡ other.now) }
+    {
+        match (self, other) {
+            (Reply::Now(a), Reply::Now(b)) => a.same(b),
+            (
+                Reply::Waiting { id, until },
+                Reply::Waiting {
+                    id: other_id,
+                    until: other_until,
+                },
+            ) => id == other_id && until == other_until,
+            _ => false,
+        }
+    }
+
+    pub fn copy(&self, alloc: Global) -> Result<Reply, NoMemory>
+        ensures { IfOk result (λ r. r ≡ self.now) }
+    {
+        match self {
+            Reply::Now(answer) => Ok(Reply::Now(answer.copy(alloc)?)),
+            Reply::Waiting { id, until } => Ok(Reply::Waiting {
+                id: *id,
+                until: *until,
+            }),
+        }
+    }
+}
+
+impl Called {
+    pub fn same(&self, other: &Called) -> bool
+        ensures { IsTrue result ↔ (self.now ≡ other.now) }
+    {
+        match (self, other) {
+            (Called::Happened(a), Called::Happened(b)) => a.same(b),
+            (Called::Refused(a), Called::Refused(b)) => a.same(b),
+            _ => false,
+        }
+    }
+
+    pub fn copy(&self, alloc: Global) -> Result<Called, NoMemory>
+        ensures { IfOk result (λ r. r ≡ self.now) }
+    {
+        match self {
+            Called::Happened(happened) => Ok(Called::Happened(happened.copy(alloc)?)),
+            Called::Refused(reason) => Ok(Called::Refused(reason.copy(alloc)?)),
+        }
+    }
+}

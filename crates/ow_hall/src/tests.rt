@@ -1,0 +1,177 @@
+// Requests and calls over one book.
+use crate::{Called, Hall, Reply, Told};
+use ow_floor::{Drain, Order};
+use ow_http::{Request, read_request, write_reply};
+use ow_names::{FullName, read_name, resolve};
+use ow_traits::{MemoryKeeper, RunReply};
+use ow_value::{Lines, Params, Str};
+use std::alloc::Global;
+use std::test::Fail;
+
+type Office = Hall<MemoryKeeper>;
+
+fn office(alloc: Global) -> Result<Office, Fail> {
+    Ok(Hall::start(alloc, MemoryKeeper::new(alloc), 0)?)
+}
+
+// The bytes of the answer to a request, where it comes at once.
+fn reply_to(alloc: Global, hall: &mut Office, request: &Request) -> Result<Vec<u8>, Fail> {
+    match hall.ask(alloc, 0, request)? {
+        Reply::Now(answer) => Ok(write_reply(alloc, &answer)?),
+        Reply::Waiting { .. } => Ok(Vec::new(alloc)),
+    }
+}
+
+fn asked(alloc: Global, hall: &mut Office, request: &str) -> Result<Vec<u8>, Fail> {
+    let read = read_request(alloc, request.as_bytes())?;
+    reply_to(alloc, hall, &read.request)
+}
+
+fn is_answered(
+    alloc: Global,
+    hall: &mut Office,
+    request: &str,
+    status: &str,
+    body: &str,
+) -> Result<bool, Fail> {
+    let reply = asked(alloc, hall, request)?;
+    let length = body.len();
+    let expected = format!(in alloc;
+        "HTTP/1.1 {status}\r\nContent-Type: application/json\r\nContent-Length: {length}\r\n\r\n{body}"
+    )?;
+    Ok(reply.as_slice() == expected.as_bytes())
+}
+
+// A request as curl sends it.
+fn request_of(alloc: Global, head: &str, body: &str) -> Result<String, Fail> {
+    let length = body.len();
+    Ok(format!(in alloc;
+        "{head} HTTP/1.1\r\nHost: localhost\r\nUser-Agent: curl/8.5.0\r\nAccept: */*\r\nX-Whisk-Key: k1\r\nContent-Type: application/json\r\nContent-Length: {length}\r\n\r\n{body}"
+    )?)
+}
+
+// Whether a row of the table is answered so.
+fn holds(alloc: Global, hall: &mut Office, row: &str) -> Result<bool, Fail> {
+    let mut parts = row.split('|');
+    let (Some(head), Some(body), Some(status), Some(shown)) = (
+        parts.next(),
+        parts.next(),
+        parts.next(),
+        parts.next(),
+    ) else {
+        return Ok(false);
+    };
+    let request = request_of(alloc, head, body)?;
+    is_answered(alloc, hall, &request, status, shown)
+}
+
+// Method and target, body, status and the body that answers.
+const ROWS: &str =
+    "GET /api/v1/namespaces/_/actions/hello||404 Not Found|{\"code\":14,\"error\":\"The resource does not exist.\"}\nPUT /api/v1/namespaces/_/actions/hello|{\"exec\":{\"kind\":\"plain:1\",\"code\":\"{\\\"cases\\\":[{\\\"when\\\":{},\\\"give\\\":{\\\"greeting\\\":\\\"Hello\\\"}}]}\"}}|200 OK|{\"annotations\":[],\"exec\":{\"code\":\"{\\\"cases\\\":[{\\\"when\\\":{},\\\"give\\\":{\\\"greeting\\\":\\\"Hello\\\"}}]}\",\"kind\":\"plain:1\"},\"limits\":{\"logs\":10,\"memory\":256,\"timeout\":60000},\"name\":\"hello\",\"namespace\":\"guest\",\"parameters\":[],\"publish\":false,\"version\":\"0.0.1\"}\nPUT /api/v1/namespaces/_/actions/hello|{\"exec\":{\"kind\":\"plain:1\",\"code\":\"{\\\"cases\\\":[{\\\"when\\\":{},\\\"give\\\":{\\\"greeting\\\":\\\"Hello\\\"}}]}\"}}|409 Conflict|{\"code\":17,\"error\":\"The resource exists.\"}\nGET /api/v1/namespaces/_/actions/hello||200 OK|{\"annotations\":[],\"exec\":{\"code\":\"{\\\"cases\\\":[{\\\"when\\\":{},\\\"give\\\":{\\\"greeting\\\":\\\"Hello\\\"}}]}\",\"kind\":\"plain:1\"},\"limits\":{\"logs\":10,\"memory\":256,\"timeout\":60000},\"name\":\"hello\",\"namespace\":\"guest\",\"parameters\":[],\"publish\":false,\"version\":\"0.0.1\"}\nGET /api/v1/namespaces/_/actions||200 OK|[{\"annotations\":[],\"name\":\"hello\",\"namespace\":\"guest\",\"publish\":false,\"version\":\"0.0.1\"}]\nGET /api/v1/namespaces/_/actions?limit=201||400 Bad Request|{\"code\":39,\"error\":\"The query value limit is wrong.\"}\nGET /api/v1/namespaces/whisk.system/actions/hello||403 Forbidden|{\"code\":24,\"error\":\"The namespace is not granted.\"}\nGET /api/v1/namespaces/whisk.system/actions?limit=201||403 Forbidden|{\"code\":24,\"error\":\"The namespace is not granted.\"}\nPOST /api/v1/namespaces/_/actions/hello||404 Not Found|{\"code\":36,\"error\":\"There is no such route.\"}\nPUT /api/v1/namespaces/_/actions/other||400 Bad Request|{\"code\":9,\"error\":\"The field exec is missing.\"}\nPUT /api/v1/namespaces/_/actions/hello|{\"exec\":1}|400 Bad Request|{\"code\":10,\"error\":\"The field exec has a wrong type.\"}\nPUT /api/v1/namespaces/_/actions/hello?overwrite=true|{\"exec\":{\"kind\":\"plain:1\",\"code\":\"{\\\"cases\\\":[{\\\"when\\\":{},\\\"give\\\":{\\\"greeting\\\":\\\"Hello\\\"}}]}\"}}|200 OK|{\"annotations\":[],\"exec\":{\"code\":\"{\\\"cases\\\":[{\\\"when\\\":{},\\\"give\\\":{\\\"greeting\\\":\\\"Hello\\\"}}]}\",\"kind\":\"plain:1\"},\"limits\":{\"logs\":10,\"memory\":256,\"timeout\":60000},\"name\":\"hello\",\"namespace\":\"guest\",\"parameters\":[],\"publish\":false,\"version\":\"0.0.2\"}\nDELETE /api/v1/namespaces/guest/actions/hello||200 OK|{\"annotations\":[],\"exec\":{\"code\":\"{\\\"cases\\\":[{\\\"when\\\":{},\\\"give\\\":{\\\"greeting\\\":\\\"Hello\\\"}}]}\",\"kind\":\"plain:1\"},\"limits\":{\"logs\":10,\"memory\":256,\"timeout\":60000},\"name\":\"hello\",\"namespace\":\"guest\",\"parameters\":[],\"publish\":false,\"version\":\"0.0.2\"}\nDELETE /api/v1/namespaces/guest/actions/hello||404 Not Found|{\"code\":14,\"error\":\"The resource does not exist.\"}\n";
+
+const GET: &str = "GET /api/v1/namespaces/_/actions/hello HTTP/1.1\r\n\r\n";
+
+#[test]
+fn actions_are_put_read_and_deleted(rt: HostRuntime) -> Result<(), Fail> {
+    let alloc = rt.alloc();
+    let mut hall = office(alloc)?;
+    for row in ROWS.lines() {
+        assert!(rt; holds(alloc, &mut hall, row)?);
+    }
+    assert_eq!(rt; hall.book().entries().len(), 15);
+    Ok(())
+}
+
+// A request of the greatest size that a new book has room for, and the one after it.
+// The status that a request is answered with at once, or 0.
+fn status_of(alloc: Global, hall: &mut Office, request: &Request) -> Result<u16, Fail> {
+    match hall.ask(alloc, 0, request)? {
+        Reply::Now(answer) => Ok(answer.status),
+        Reply::Waiting { .. } => Ok(0),
+    }
+}
+
+// The status of a get that counts so many bytes.
+fn get_of(alloc: Global, hall: &mut Office, size: u64) -> Result<u16, Fail> {
+    let mut read = read_request(alloc, GET.as_bytes())?;
+    read.request.size = size;
+    status_of(alloc, hall, &read.request)
+}
+
+// Whether the book takes what it has room for, and no more.
+fn fills(alloc: Global, hall: &mut Office) -> Result<bool, Fail> {
+    let over = get_of(alloc, hall, 1_073_741_697)?;
+    let last = get_of(alloc, hall, 1_073_741_696)?;
+    let counted = hall.book().counted();
+    let next = get_of(alloc, hall, 0)?;
+    Ok((over, last, next) == (503, 404, 503) && counted == 1_073_741_874)
+}
+
+#[test]
+fn the_book_is_full_at_its_number(rt: HostRuntime) -> Result<(), Fail> {
+    let alloc = rt.alloc();
+    let mut hall = office(alloc)?;
+    assert!(rt; fills(alloc, &mut hall)?);
+    assert!(rt; hall.next(alloc, 0)?.is_nothing());
+    assert_eq!(rt; hall.book().entries().len(), 3);
+    Ok(())
+}
+
+fn echo(alloc: Global) -> Result<FullName, Fail> {
+    let guest = read_name(alloc, b"guest")?;
+    Ok(resolve(alloc, "/whisk.system/utils/echo", &guest)?)
+}
+
+// The number of the refusal of a call, or 0.
+fn called(alloc: Global, hall: &mut Office, at: u64) -> Result<u32, Fail> {
+    let name = echo(alloc)?;
+    match hall.call(alloc, at, &name, Params::new(alloc))? {
+        Called::Happened(_) => Ok(0),
+        Called::Refused(reason) => Ok(reason.number),
+    }
+}
+
+// The number of the run that is ordered, or 0.
+fn ordered(alloc: Global, hall: &mut Office, at: u64) -> Result<u64, Fail> {
+    match hall.next(alloc, at)? {
+        Order::Run(run) => Ok(run.run),
+        Order::Nothing(_) => Ok(0),
+    }
+}
+
+// Whether an empty object as the answer of this run is recorded.
+fn ended(alloc: Global, hall: &mut Office, at: u64, run: u64) -> Result<bool, Fail> {
+    let reply = RunReply::Answer {
+        text: Str::of(alloc, "{}")?,
+        logs: Lines::new(alloc),
+    };
+    Ok(hall.answered(alloc, at, run, reply).is_ok())
+}
+
+// Whether a call runs, ends once, and is the last one before a drain.
+fn runs(alloc: Global, hall: &mut Office) -> Result<bool, Fail> {
+    let before = called(alloc, hall, 5)?;
+    let runs = (
+        ordered(alloc, hall, 3)?,
+        ordered(alloc, hall, 7)?,
+        ordered(alloc, hall, 8)?,
+    );
+    let ends = (ended(alloc, hall, 9, 1)?, ended(alloc, hall, 9, 1)?);
+    let drained = hall.drain(alloc, 4)? == Drain::Drained(1);
+    let after = called(alloc, hall, 10)?;
+    Ok((before, after) == (0, 32) && runs == (1, 0, 0) && ends == (true, false) && drained)
+}
+
+#[test]
+fn a_call_runs_and_the_drain_ends_calls(rt: HostRuntime) -> Result<(), Fail> {
+    let alloc = rt.alloc();
+    let mut hall = office(alloc)?;
+    assert!(rt; runs(alloc, &mut hall)?);
+    let (_store, book) = hall.finish();
+    assert_eq!(rt; (book.quiet(), book.denied(), book.stored()), (1, 1, 0));
+    let entries = book.entries().as_slice();
+    assert_eq!(rt; entries.len(), 7);
+    assert_eq!(rt; (entries[2].at, entries[5].at), (5, 9));
+    assert!(rt; matches!(entries[5].answer, Told::Drain(_)));
+    Ok(())
+}

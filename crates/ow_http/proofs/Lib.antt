@@ -1,0 +1,5 @@
+pub mod Walk
+pub mod BySegments
+pub mod ByPart
+pub mod Rows
+pub mod PlaceFound

@@ -1,0 +1,6 @@
+use Rattle.ow_http.specs.Table.{with_lists}
+use Rattle.ow_http.proofs.routes.add_lists.Goals as goal
+
+pub returns : goal.returns
+unfolding with_lists
+returns c = cc (c.in_ok-add.ensures, c.in_ok-add-2.ensures, c.in_ok-add-3.ensures, c.in_ok-add-4.ensures, c.in_ok-add-5.ensures)

@@ -1,0 +1,77 @@
+-- What a whole head asks for, or why it is refused. Of several faults the one that is told first here counts.
+use Rattle.std.specs.Prelude.{ℕ, ◌+◌, ◌||◌, not, nat_lt, if◌then◌else◌, List, length, take, codes, map, Option, Some, None, Result, Ok, Err}
+use Rattle.std.specs.List.{list_all}
+use Rattle.std.specs.Str.{is_utf8}
+use Rattle.httparse.specs.Grammar.{RequestHead, print_request}
+use Rattle.httparse.specs.Spans.{name_and_value}
+use Rattle.ow_http.specs.declared.place.Place.{Place}
+use Rattle.ow_http.specs.declared.http_refusal.HttpRefusal.{HttpRefusal}
+use Rattle.ow_http.specs.declared.http_refusal.HttpRefusal.TheVariants.{BadHead, NoRoute, BadMethod, BodyTooLarge, CutShort}
+use Rattle.ow_http.specs.declared.route.Route.{Route}
+use Rattle.ow_http.specs.declared.verb.Verb.{Verb}
+use Rattle.ow_http.specs.Fields.{Header, is_text, body_length, closes, last_named}
+use Rattle.ow_http.specs.Parts.{Parts}
+use Rattle.ow_http.specs.PlaceOf.{place_of}
+use Rattle.ow_http.specs.Query.{path_of, query_of, pairs_of}
+use Rattle.ow_http.specs.Route.{takes}
+use Rattle.ow_http.specs.RouteAt.{route_at}
+use Rattle.ow_http.specs.Verb.{verb_of}
+
+-- a head's parts, how many bytes it has, and the bytes behind it
+pub record Asked : Type 0 where
+  pub method : List ℕ
+  pub target : List ℕ
+  pub minor : ℕ
+  pub fields : List Header
+  pub head : ℕ
+  pub rest : List ℕ
+
+abbrev pub asked_of : RequestHead → List ℕ → Asked
+asked_of h rest = record {
+  method = h.method;
+  target = h.target;
+  minor = h.minor;
+  fields = map name_and_value h.fields;
+  head = length (print_request h);
+  rest = rest;
+}
+
+-- the body has at most 4,194,304 bytes, and is whole
+unfoldable pub judged_body : Verb → Route → ℕ → List ℕ → ℕ → List Header → ℕ → List ℕ → Result Parts HttpRefusal
+judged_body method route n target minor fields head rest =
+    if nat_lt 4194304 n then Err BodyTooLarge
+    else if nat_lt (length rest) n then Err CutShort
+    else Ok (record {
+      route = route;
+      method = method;
+      key = last_named (codes "x-whisk-key") fields;
+      query = pairs_of (query_of target);
+      raw_query = query_of target;
+      headers = fields;
+      body = take n rest;
+      size = head + n;
+      close = closes minor fields;
+    })
+
+-- the route takes the method
+abbrev pub judged_method : Option Verb → Route → ℕ → List ℕ → ℕ → List Header → ℕ → List ℕ → Result Parts HttpRefusal
+judged_method None route n target minor fields head rest = Err BadMethod
+judged_method (Some method) route n target minor fields head rest =
+    if takes route method then judged_body method route n target minor fields head rest else Err BadMethod
+
+-- the path has a route
+abbrev pub judged_place : Option Place → ℕ → Asked → Result Parts HttpRefusal
+judged_place None n a = Err NoRoute
+judged_place (Some place) n a =
+    judged_method (verb_of a.method) (route_at place (path_of a.target)) n a.target a.minor a.fields a.head a.rest
+
+-- the headers tell a length and nothing that isn't served
+abbrev pub judged_length : Option ℕ → Asked → Result Parts HttpRefusal
+judged_length None a = Err BadHead
+judged_length (Some n) a = judged_place (place_of (path_of a.target)) n a
+
+-- target and headers are text
+unfoldable pub judged : Asked → Result Parts HttpRefusal
+judged a =
+    if not (list_all is_text a.fields) || not (is_utf8 a.target) then Err BadHead
+    else judged_length (body_length a.fields) a

@@ -1,0 +1,34 @@
+ghost use Rattle.std.specs.Prelude.{◌≡◌, ◌↔◌, IsTrue, IfOk};
+
+use ow_value::{Bytes, NoMemory, Pairs};
+use std::alloc::Global;
+
+/// What is answered to a request.
+#[derive(Drop)]
+pub struct Answer {
+    /// Of three digits (RFC 9110, section 15).
+    pub status: u16,
+    /// Those that the reply's writer doesn't make itself, and `Content-Type` where it isn't `application/json`.
+    pub headers: Pairs,
+    pub body: Bytes,
+}
+
+impl Answer {
+    pub fn same(&self, other: &Answer) -> bool
+        ensures { IsTrue result ↔ (self.now ≡ other.now) }
+    {
+        self.status == other.status
+            && self.headers.same(&other.headers)
+            && self.body.same(&other.body)
+    }
+
+    pub fn copy(&self, alloc: Global) -> Result<Answer, NoMemory>
+        ensures { IfOk result (λ a. a ≡ self.now) }
+    {
+        Ok(Answer {
+            status: self.status,
+            headers: self.headers.copy(alloc)?,
+            body: self.body.copy(alloc)?,
+        })
+    }
+}

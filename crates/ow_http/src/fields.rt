@@ -1,0 +1,112 @@
+// What the headers of a request tell.
+ghost use Rattle.std.specs.Prelude.{◌≡◌, count_by, find, option_copied};
+ghost use Rattle.std.specs.List.{list_any, list_all};
+ghost use Rattle.std.specs.Char.{is_ascii_digit};
+ghost use Rattle.ow_http.specs.Fields.{is_named, is_refused, number_of, is_length, body_length, is_close, closes, last_named};
+
+use ow_value::Str;
+
+/// How long the body is. None where a header isn't served, or tells no length.
+#[tactic(auto, unfolding(crate::specs::Fields::body_length))]
+pub(crate) fn body_length(fields: &[(Str, Str)]) -> Option<u64>
+    ensures { result ≡ body_length fields.now }
+{
+    if has_refused(fields) {
+        return None;
+    }
+    if length_count(fields) > 1 {
+        return None;
+    }
+    match length_header(fields) {
+        None => Some(0),
+        Some(field) => number_of(field.1.as_str()),
+    }
+}
+
+/// Whether the connection is to end after the request.
+pub(crate) fn closes(minor: u8, fields: &[(Str, Str)]) -> bool
+    ensures { result ≡ closes minor fields.now }
+{
+    minor == 0 || has_close(fields)
+}
+
+/// The value of the last header of this name.
+pub(crate) fn last_named<'a>(fields: &'a [(Str, Str)], name: &str) -> Option<&'a Str>
+    ensures { option_copied result ≡ last_named name.now fields.now }
+{
+    let mut found = None;
+    for field in fields {
+        if is_named(field, name) {
+            found = Some(&field.1);
+        }
+    }
+    found
+}
+
+fn is_named(field: &(Str, Str), name: &str) -> bool
+    ensures { result ≡ is_named name.now field.now }
+{
+    field.0.as_str().eq_ignore_ascii_case(name)
+}
+
+#[tactic(auto, unfolding(crate::specs::Fields::is_refused))]
+fn is_refused(field: &(Str, Str)) -> bool
+    ensures { result ≡ is_refused field.now }
+{
+    is_named(field, "transfer-encoding")
+        || (is_named(field, "content-encoding") && field.1.as_str() != "identity")
+}
+
+fn has_refused(fields: &[(Str, Str)]) -> bool
+    ensures { result ≡ list_any is_refused fields.now }
+{
+    fields.iter().any(|f| is_refused(f))
+}
+
+fn length_count(fields: &[(Str, Str)]) -> usize
+    ensures { result ≡ count_by is_length fields.now }
+{
+    fields
+        .iter()
+        .filter(|f| is_named(f, "content-length"))
+        .count()
+}
+
+fn length_header(fields: &[(Str, Str)]) -> Option<&(Str, Str)>
+    ensures { option_copied result ≡ find is_length fields.now }
+{
+    fields.iter().find(|f| is_named(f, "content-length"))
+}
+
+fn all_digits(text: &str) -> bool
+    ensures { result ≡ list_all is_ascii_digit text.now }
+{
+    text.as_bytes().iter().all(|b| b.is_ascii_digit())
+}
+
+// A decimal number of 64 bits without a sign.
+#[tactic(auto, unfolding(crate::specs::Fields::number_of))]
+pub(crate) fn number_of(text: &str) -> Option<u64>
+    ensures { result ≡ number_of text.now }
+{
+    if !all_digits(text) {
+        return None;
+    }
+    match text.parse::<u64>() {
+        Ok(n) => Some(n),
+        Err(_) => None,
+    }
+}
+
+#[tactic(auto, unfolding(crate::specs::Fields::is_close))]
+fn is_close(field: &(Str, Str)) -> bool
+    ensures { result ≡ is_close field.now }
+{
+    is_named(field, "connection") && field.1.as_str().eq_ignore_ascii_case("close")
+}
+
+fn has_close(fields: &[(Str, Str)]) -> bool
+    ensures { result ≡ list_any is_close fields.now }
+{
+    fields.iter().any(|f| is_close(f))
+}

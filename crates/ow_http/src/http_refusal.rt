@@ -1,0 +1,58 @@
+ghost use Rattle.std.specs.Prelude.{◌≡◌};
+
+use ow_value::NoMemory;
+use std::alloc::AllocError;
+
+/// Why bytes are no request. Of several faults the one that stands first here is told.
+#[derive(Clone, Copy, PartialEq, Eq, Debug, Drop)]
+pub enum HttpRefusal {
+    /// The head is malformed or over its limits, or has a header that isn't served.
+    BadHead,
+    NoRoute,
+    BadMethod,
+    /// Over 4,194,304 bytes.
+    BodyTooLarge,
+    /// The bytes end inside head or body.
+    CutShort,
+    NoMemory,
+}
+
+impl HttpRefusal {
+    ghost use Rattle.ow_http.specs.Refusal.{refusal_number};
+
+    /// By which a client tells the refusals apart. Want of memory has 0.
+    pub fn number(self) -> u32
+        ensures { result ≡ refusal_number self }
+    {
+        match self {
+            HttpRefusal::NoMemory => 0,
+            HttpRefusal::BadHead => 35,
+            HttpRefusal::NoRoute => 36,
+            HttpRefusal::BadMethod => 37,
+            HttpRefusal::BodyTooLarge => 38,
+            HttpRefusal::CutShort => 40,
+        }
+    }
+}
+
+impl From<NoMemory> for HttpRefusal {
+    ghost use Rattle.std.specs.Prelude.{◌≡◌};
+    ghost use Rattle.ow_http.specs.declared.http_refusal.HttpRefusal.TheVariants.{NoMemory};
+
+    ghost from_gives = { λ _ e. e ≡ NoMemory };
+
+    fn from(_refused: NoMemory) -> HttpRefusal {
+        HttpRefusal::NoMemory
+    }
+}
+
+impl From<AllocError> for HttpRefusal {
+    ghost use Rattle.std.specs.Prelude.{◌≡◌};
+    ghost use Rattle.ow_http.specs.declared.http_refusal.HttpRefusal.TheVariants.{NoMemory};
+
+    ghost from_gives = { λ _ e. e ≡ NoMemory };
+
+    fn from(_refused: AllocError) -> HttpRefusal {
+        HttpRefusal::NoMemory
+    }
+}

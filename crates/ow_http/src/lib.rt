@@ -1,0 +1,43 @@
+#![tactic(auto)]
+
+// HTTP requests as bytes are read here, and answers are written as bytes.
+mod answer;
+mod call;
+mod call_refusal;
+#[cfg(test)]
+mod call_tests;
+mod calls;
+mod fields;
+mod head;
+mod http_refusal;
+mod keys;
+mod parts;
+mod place;
+mod query;
+mod read;
+mod reason;
+mod refusals;
+mod reply;
+mod request;
+mod route;
+mod routes;
+#[cfg(test)]
+mod tests;
+mod texts;
+mod values;
+mod verb;
+
+pub use answer::Answer;
+pub use call::Call;
+pub use call_refusal::CallRefusal;
+pub use calls::read_call;
+pub use http_refusal::HttpRefusal;
+pub use query::read_pairs;
+pub use read::read_request;
+pub use reason::Reason;
+pub use refusals::{reason_text, refusal};
+pub use reply::write_reply;
+pub use request::{Read, Request};
+pub use route::{Part, Route};
+pub use routes::Routes;
+pub use verb::Verb;

@@ -1,0 +1,265 @@
+// Bytes as requests.
+ghost use Rattle.std.specs.Prelude.{◌≡◌, ◌⊎◌, ℕ, List, length, IfOk, OnOk, IfErr, drop, map, true, false, MatchOption, All, ◌++◌, ◌∷◌, [], ◌+◌, ◌<◌, ◌^◌, Ok, option_copied};
+ghost use Rattle.std.specs.List.{list_all};
+ghost use Rattle.std.specs.Str.{is_utf8};
+ghost use Rattle.httparse.specs.Grammar.{RequestHead};
+ghost use Rattle.httparse.specs.Spans.{IsRequestAt, IsRequestWithin, IsHeaderWithin, header_bytes};
+ghost use Rattle.ow_http.specs.Fields.{is_text};
+ghost use Rattle.ow_http.specs.Head.{HasHead, IsBadHead, IsCutHead};
+ghost use Rattle.ow_http.specs.Judged.{judged, judged_method, judged_body, asked_of};
+ghost use Rattle.ow_http.specs.Gives.{Gives, GivesRead};
+ghost use Rattle.ow_http.specs.Route.{takes, is_whole};
+ghost use Rattle.ow_http.specs.declared.http_refusal.HttpRefusal.TheVariants.{BadHead, CutShort, NoMemory as OutOfMemory};
+
+use crate::fields::{body_length, closes, last_named};
+use crate::head::read_head;
+use crate::http_refusal::HttpRefusal;
+use crate::parts::route_at;
+use crate::query::{path_of, query_of, read_pairs};
+use crate::request::{Read, Request};
+use crate::route::Route;
+use crate::routes::Routes;
+use crate::verb::Verb;
+use httparse::spans::{EMPTY_HEADER_SPAN, HeaderSpan, RequestSpans};
+use ow_value::{Bytes, NoMemory, Pairs, Str};
+use std::alloc::Global;
+
+const MAX_BODY: u64 = 4194304;
+
+// The target of a request and what stands around it.
+#[derive(Drop)]
+struct Asked<'a> {
+    target: &'a str,
+    minor: u8,
+    fields: Pairs,
+    head: usize,
+    rest: &'a [u8],
+}
+
+/// The request at the front of the bytes. It makes the routes anew: one that reads many requests calls `Routes::read`.
+pub fn read_request(alloc: Global, bytes: &[u8]) -> Result<Read, HttpRefusal>
+    ensures judged { (h : RequestHead) (rest : List ℕ) → HasHead bytes.now h rest → GivesRead (judged (asked_of h rest)) result }
+    ensures whole { OnOk result ((h : RequestHead) × (rest : List ℕ) × HasHead bytes.now h rest) }
+    ensures headless { ((h : RequestHead) (rest : List ℕ) → ¬ (HasHead bytes.now h rest))
+        → IfErr result (λ e. ((e ≡ BadHead) × IsBadHead bytes.now) ⊎ ((e ≡ CutShort) × IsCutHead bytes.now) ⊎ (e ≡ OutOfMemory)) }
+{
+    let routes = Routes::new(alloc)?;
+    routes.read(alloc, bytes)
+}
+
+impl Routes {
+    /// The request at the front of the bytes, by routes that are there already.
+    pub fn read(&self, alloc: Global, bytes: &[u8]) -> Result<Read, HttpRefusal>
+        ensures judged { (h : RequestHead) (rest : List ℕ) → HasHead bytes.now h rest → GivesRead (judged (asked_of h rest)) result }
+        ensures whole { OnOk result ((h : RequestHead) × (rest : List ℕ) × HasHead bytes.now h rest) }
+        ensures headless { ((h : RequestHead) (rest : List ℕ) → ¬ (HasHead bytes.now h rest))
+            → IfErr result (λ e. ((e ≡ BadHead) × IsBadHead bytes.now) ⊎ ((e ≡ CutShort) × IsCutHead bytes.now) ⊎ (e ≡ OutOfMemory)) }
+    {
+        let mut headers = [EMPTY_HEADER_SPAN; 100];
+        match read_head(bytes, &mut headers) {
+            Ok(head) => read_whole(alloc, self, bytes, &headers, head),
+            Err(e) => Err(e),
+        }
+    }
+}
+
+fn read_whole(
+    alloc: Global,
+    routes: &Routes,
+    bytes: &[u8],
+    headers: &[HeaderSpan],
+    head: RequestSpans,
+) -> Result<Read, HttpRefusal>
+    requires { IsRequestWithin bytes.now headers.now head }
+    ensures { (h : RequestHead) → IsRequestAt bytes.now headers.now head h
+        → GivesRead (judged (asked_of h (drop head.len bytes.now))) result }
+{
+    match read_asked(alloc, routes, bytes, headers, head) {
+        Ok(request) => Ok(Read {
+            used: request.size as usize,
+            request,
+        }),
+        Err(e) => Err(e),
+    }
+}
+
+fn read_asked(
+    alloc: Global,
+    routes: &Routes,
+    bytes: &[u8],
+    headers: &[HeaderSpan],
+    head: RequestSpans,
+) -> Result<Request, HttpRefusal>
+    requires { IsRequestWithin bytes.now headers.now head }
+    ensures { (h : RequestHead) → IsRequestAt bytes.now headers.now head h
+        → Gives (judged (asked_of h (drop head.len bytes.now))) result }
+{
+    let fields = match read_fields(alloc, bytes, &headers[..head.headers])? {
+        Some(fields) => fields,
+        None => return Err(HttpRefusal::BadHead),
+    };
+    judge(
+        alloc,
+        routes,
+        head.method.of(bytes),
+        head.path.of(bytes),
+        head.version,
+        fields,
+        head.len,
+        &bytes[head.len..],
+    )
+}
+
+// The request that these parts ask for, or the first refusal.
+#[tactic(auto, unfolding(crate::specs::Judged::judged))]
+fn judge(
+    alloc: Global,
+    routes: &Routes,
+    method: &[u8],
+    target: &[u8],
+    minor: u8,
+    fields: Pairs,
+    head: usize,
+    rest: &[u8],
+) -> Result<Request, HttpRefusal>
+    requires text { list_all is_text fields ≡ true }
+    requires fits { head + length rest.now < 2 ^ 64 }
+    ensures { Gives (judged (record { method = method.now; target = target.now; minor = minor; fields = fields; head = head; rest = rest.now })) result }
+{
+    let Some(target) = text_of(target) else {
+        return Err(HttpRefusal::BadHead);
+    };
+    let Some(size) = body_length(fields.as_slice()) else {
+        return Err(HttpRefusal::BadHead);
+    };
+    let path = path_of(target);
+    let Some(place) = routes.find(path) else {
+        return Err(HttpRefusal::NoRoute);
+    };
+    let route = route_at(alloc, place, path)?;
+    let asked = Asked {
+        target,
+        minor,
+        fields,
+        head,
+        rest,
+    };
+    judge_method(alloc, Verb::of(method), route, size, asked)
+}
+
+fn judge_method(
+    alloc: Global,
+    method: Option<Verb>,
+    route: Route,
+    size: u64,
+    asked: Asked<'_>,
+) -> Result<Request, HttpRefusal>
+    requires whole { is_whole route ≡ true }
+    requires fits { asked.head + length asked.rest.now < 2 ^ 64 }
+    ensures { Gives (judged_method method route size asked.entry.target.now asked.entry.minor asked.entry.fields asked.entry.head asked.entry.rest.now) result }
+{
+    let method = match method {
+        Some(method) => method,
+        None => return Err(HttpRefusal::BadMethod),
+    };
+    if !route.takes(method) {
+        return Err(HttpRefusal::BadMethod);
+    }
+    finish(alloc, method, route, size, asked)
+}
+
+// The request, where its body is whole.
+#[tactic(auto, unfolding(crate::specs::Judged::judged_body))]
+fn finish(
+    alloc: Global,
+    method: Verb,
+    route: Route,
+    size: u64,
+    asked: Asked<'_>,
+) -> Result<Request, HttpRefusal>
+    requires whole { is_whole route ≡ true }
+    requires allowed { takes route method ≡ true }
+    requires fits { asked.head + length asked.rest.now < 2 ^ 64 }
+    ensures { Gives (judged_body method route size asked.entry.target.now asked.entry.minor asked.entry.fields asked.entry.head asked.entry.rest.now) result }
+{
+    if size > MAX_BODY {
+        return Err(HttpRefusal::BodyTooLarge);
+    }
+    if (asked.rest.len() as u64) < size {
+        return Err(HttpRefusal::CutShort);
+    }
+    let query = query_of(asked.target);
+    let key = copied(alloc, last_named(asked.fields.as_slice(), "x-whisk-key"))?;
+    let close = closes(asked.minor, asked.fields.as_slice());
+    Ok(Request {
+        route,
+        method,
+        key,
+        query: read_pairs(alloc, query.as_bytes())?,
+        raw_query: Str::of(alloc, query)?,
+        headers: asked.fields,
+        body: Bytes::of(alloc, &asked.rest[..size as usize])?,
+        size: asked.head as u64 + size,
+        close,
+    })
+}
+
+fn copied(alloc: Global, text: Option<&Str>) -> Result<Option<Str>, NoMemory>
+    ensures { IfOk result (λ r. r ≡ option_copied text.entry) }
+{
+    match text {
+        Some(text) => Ok(Some(text.copy(alloc)?)),
+        None => Ok(None),
+    }
+}
+
+// The headers of a head. None where one isn't text.
+fn read_fields(
+    alloc: Global,
+    bytes: &[u8],
+    headers: &[HeaderSpan],
+) -> Result<Option<Pairs>, NoMemory>
+    requires { All (IsHeaderWithin (length bytes.now)) headers.now }
+    ensures { IfOk result (λ o. MatchOption o
+        (list_all is_text (map (header_bytes bytes.now) headers.now) ≡ false)
+        (λ p. (p ≡ map (header_bytes bytes.now) headers.now) × (list_all is_text p ≡ true))) }
+{
+    let mut fields = Pairs::new(alloc);
+    for header in headers {
+        if !add_field(
+            alloc,
+            &mut fields,
+            header.name.of(bytes),
+            header.value.of(bytes),
+        )? {
+            return Ok(None);
+        }
+    }
+    Ok(Some(fields))
+}
+
+// Adds a header, if it is text.
+fn add_field(alloc: Global, fields: &mut Pairs, name: &[u8], value: &[u8]) -> Result<bool, NoMemory>
+    ensures text { IfOk result (λ b. b ≡ is_text (name.now, value.now)) }
+    ensures added { result ≡ Ok true → fields.new ≡ fields.old ++ (name.now, value.now) ∷ [] }
+{
+    let Some(name) = text_of(name) else {
+        return Ok(false);
+    };
+    let Some(value) = text_of(value) else {
+        return Ok(false);
+    };
+    let name = Str::of(alloc, name)?;
+    let value = Str::of(alloc, value)?;
+    fields.push(name, value)?;
+    Ok(true)
+}
+
+fn text_of(bytes: &[u8]) -> Option<&str>
+    ensures { MatchOption result (is_utf8 bytes.now ≡ false) (λ s. (s.now ≡ bytes.now) × (is_utf8 bytes.now ≡ true)) }
+{
+    match str::from_utf8(bytes) {
+        Ok(text) => Some(text),
+        Err(_) => None,
+    }
+}

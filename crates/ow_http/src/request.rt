@@ -1,0 +1,74 @@
+ghost use Rattle.std.specs.Prelude.{◌≡◌, true};
+ghost use Rattle.ow_http.specs.Route.{takes, is_whole};
+
+use crate::keys::{copy_key, same_key};
+use crate::route::Route;
+use crate::verb::Verb;
+use ow_value::{Bytes, NoMemory, Pairs, Str};
+use std::alloc::Global;
+
+/// A request that was read. Its route takes its method.
+#[derive(Drop)]
+pub struct Request {
+    pub route: Route,
+    pub method: Verb,
+    /// The value of the last header `X-Whisk-Key`.
+    pub key: Option<Str>,
+    /// The decoded pairs of the query, in their order (URL Standard, section 5.1).
+    pub query: Pairs,
+    /// What stands after the first `?` of the target, as it came.
+    pub raw_query: Str,
+    /// All headers in their order, with their names as they came.
+    pub headers: Pairs,
+    pub body: Bytes,
+    /// How many bytes head and body have.
+    pub size: u64,
+    /// Whether the client wants the connection to end after the reply.
+    pub close: bool,
+
+    pub ghost allowed: { takes route method ≡ true },
+    pub ghost whole: { is_whole route ≡ true },
+}
+
+impl Request {
+    ghost use Rattle.std.specs.Prelude.{◌↔◌, IsTrue, IfOk};
+    ghost use Rattle.ow_http.specs.Request.{parts_of};
+
+    pub fn same(&self, other: &Request) -> bool
+        ensures { IsTrue result ↔ (parts_of self.now ≡ parts_of other.now) }
+    {
+        self.route.same(&other.route)
+            && self.method == other.method
+            && same_key(&self.key, &other.key)
+            && self.query.same(&other.query)
+            && self.raw_query.same(&other.raw_query)
+            && self.headers.same(&other.headers)
+            && self.body.same(&other.body)
+            && self.size == other.size
+            && self.close == other.close
+    }
+
+    pub fn copy(&self, alloc: Global) -> Result<Request, NoMemory>
+        ensures { IfOk result (λ r. parts_of r ≡ parts_of self.now) }
+    {
+        Ok(Request {
+            route: self.route.copy(alloc)?,
+            method: self.method,
+            key: copy_key(alloc, &self.key)?,
+            query: self.query.copy(alloc)?,
+            raw_query: self.raw_query.copy(alloc)?,
+            headers: self.headers.copy(alloc)?,
+            body: self.body.copy(alloc)?,
+            size: self.size,
+            close: self.close,
+        })
+    }
+}
+
+/// A request and how many bytes of the input it took.
+#[derive(Drop)]
+pub struct Read {
+    pub request: Request,
+    /// The bytes of head and body, as many as the request's size.
+    pub used: usize,
+}

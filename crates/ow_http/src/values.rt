@@ -1,0 +1,166 @@
+// The values of a query that its route has.
+ghost use Rattle.std.specs.Prelude.{◌≡◌, codes, option_copied};
+ghost use Rattle.ow_http.specs.Values.{first_named, first_wrong, flag_of, has_leading_zero, is_flag, is_invocation, is_number_to, is_page, is_right, is_wrong, limit_of, number_or, wants_of};
+
+use crate::fields::number_of;
+use crate::route::Route;
+use crate::verb::Verb;
+use ow_entity::EntityKind;
+use ow_value::Str;
+
+/// Which values are looked at.
+#[derive(Clone, Copy, PartialEq, Eq, Debug, Drop)]
+pub enum Wants {
+    /// `limit` and `skip` of a list.
+    Pages,
+    /// `overwrite` of a put.
+    Overwrite,
+    /// `blocking` and `result` of an invocation.
+    Invocation,
+    Nothing,
+}
+
+/// Which values of a query a request of this route and method has.
+pub(crate) fn wants_of(route: &Route, method: Verb) -> Wants
+    ensures { result ≡ wants_of route.now method }
+{
+    match (route, method) {
+        (Route::List { .. } | Route::Activations { .. }, _) => Wants::Pages,
+        (Route::Entity { .. }, Verb::Put) => Wants::Overwrite,
+        (
+            Route::Entity {
+                kind: EntityKind::Action,
+                ..
+            },
+            Verb::Post,
+        ) => Wants::Invocation,
+        _ => Wants::Nothing,
+    }
+}
+
+/// The first pair whose value is wrong. The first pair of a name counts.
+pub(crate) fn first_wrong(wants: Wants, query: &[(Str, Str)]) -> Option<&(Str, Str)>
+    ensures { option_copied result ≡ first_wrong wants query.now }
+{
+    query.iter().find(|pair| is_wrong(wants, query, pair))
+}
+
+/// Whether the first value of the name is `true`.
+pub(crate) fn flag_of(query: &[(Str, Str)], name: &str) -> bool
+    ensures { result ≡ flag_of name.now query.now }
+{
+    match first_named(query, name) {
+        Some(value) => value.as_str() == "true",
+        None => false,
+    }
+}
+
+/// The first value of `skip`.
+pub(crate) fn skip_of(query: &[(Str, Str)]) -> u64
+    ensures { result ≡ number_or 0 (first_named (codes "skip") query.now) }
+{
+    number_or(0, first_named(query, "skip"))
+}
+
+/// How many rows a list has at most, by the first value of `limit`.
+#[tactic(auto, unfolding(crate::specs::Values::limit_of))]
+pub(crate) fn limit_of(query: &[(Str, Str)]) -> u64
+    ensures { result ≡ limit_of query.now }
+{
+    let limit = number_or(30, first_named(query, "limit"));
+    if limit == 0 { 200 } else { limit }
+}
+
+fn number_or(default: u64, value: Option<&Str>) -> u64
+    ensures { result ≡ number_or default (option_copied value.entry) }
+{
+    match value {
+        Some(value) => match number_of(value.as_str()) {
+            Some(n) => n,
+            None => default,
+        },
+        None => default,
+    }
+}
+
+fn first_named<'a>(query: &'a [(Str, Str)], name: &str) -> Option<&'a Str>
+    ensures { option_copied result ≡ first_named name.now query.now }
+{
+    match query.iter().find(|pair| pair.0.as_str() == name) {
+        Some(pair) => Some(&pair.1),
+        None => None,
+    }
+}
+
+// Whether the value is wrong, and the one that counts for its name is too.
+#[tactic(auto, unfolding(crate::specs::Values::is_wrong))]
+fn is_wrong(wants: Wants, query: &[(Str, Str)], pair: &(Str, Str)) -> bool
+    ensures { result ≡ is_wrong wants query.now pair.now }
+{
+    if is_right(wants, pair.0.as_str(), pair.1.as_str()) {
+        return false;
+    }
+    match first_named(query, pair.0.as_str()) {
+        Some(value) => !is_right(wants, pair.0.as_str(), value.as_str()),
+        None => false,
+    }
+}
+
+fn is_right(wants: Wants, name: &str, value: &str) -> bool
+    ensures { result ≡ is_right wants name.now value.now }
+{
+    match wants {
+        Wants::Pages => is_page(name, value),
+        Wants::Overwrite => name != "overwrite" || is_flag(value),
+        Wants::Invocation => is_invocation(name, value),
+        Wants::Nothing => true,
+    }
+}
+
+#[tactic(auto, unfolding(crate::specs::Values::is_page))]
+fn is_page(name: &str, value: &str) -> bool
+    ensures { result ≡ is_page name.now value.now }
+{
+    if name == "limit" {
+        is_number_to(200, value)
+    } else if name == "skip" {
+        is_number_to(4294967295, value)
+    } else {
+        true
+    }
+}
+
+#[tactic(auto, unfolding(crate::specs::Values::is_invocation))]
+fn is_invocation(name: &str, value: &str) -> bool
+    ensures { result ≡ is_invocation name.now value.now }
+{
+    if name == "blocking" || name == "result" {
+        is_flag(value)
+    } else {
+        true
+    }
+}
+
+fn is_flag(value: &str) -> bool
+    ensures { result ≡ is_flag value.now }
+{
+    value == "true" || value == "false"
+}
+
+fn is_number_to(most: u64, value: &str) -> bool
+    ensures { result ≡ is_number_to most value.now }
+{
+    if has_leading_zero(value.as_bytes()) {
+        return false;
+    }
+    match number_of(value) {
+        Some(n) => n <= most,
+        None => false,
+    }
+}
+
+fn has_leading_zero(digits: &[u8]) -> bool
+    ensures { result ≡ has_leading_zero digits.now }
+{
+    digits.len() > 1 && digits[0] == b'0'
+}
