@@ -1,6 +1,6 @@
 -- What is booked, by what the code has in hand.
-use Rattle.std.proofs.Common.{◌≡◌, ◌+◌, ◌<◌, ◌≤◌, ◌^◌, ◌∙◌, ℕ, Bool, true, false, ◌∷◌, Some, if◌then◌else◌, length, refl, sym, ap, subst, arith}
-use Rattle.std.proofs.Math.Nat.{le-max_left}
+use Rattle.std.proofs.Common.{[], ◌≡◌, ◌+◌, ◌<◌, ◌≤◌, ◌^◌, ◌∙◌, ℕ, Bool, true, false, ◌∷◌, Some, if◌then◌else◌, length, refl, sym, ap, subst, arith}
+use Rattle.std.proofs.Math.Nat.{le-max_left, max-le, min-le_right}
 use Rattle.ow_floor.specs.View.{last_of}
 use Rattle.ow_floor.specs.Laws.{Stands}
 use Rattle.ow_http.specs.Parts.{Parts}
@@ -16,7 +16,7 @@ use Rattle.ow_hall.specs.declared.entry.Told.{Told}
 use Rattle.ow_hall.specs.Asks.{asked}
 use Rattle.ow_hall.specs.Book.{Keeps}
 use Rattle.ow_hall.specs.Decisions.{Seen, Decision, Asks, told_of, after}
-use Rattle.ow_hall.specs.History.{History, answer, counted, decision, is_skipped, last_moment, moment, opens_here, seen, with_entry}
+use Rattle.ow_hall.specs.History.{AreAnswered, History, IsLegal, answer, counted, decision, is_skipped, last_moment, moment, opens_here, seen, with_entry}
 use Rattle.ow_hall.specs.Ledger.{Ledger, posted, tallied}
 use Rattle.ow_hall.specs.Works.{WorksView, IsAt, done_of, is_full_done, is_full_plan, planned_of}
 use Rattle.ow_hall.proofs.Bounds.{runs_small, last_small}
@@ -93,14 +93,21 @@ told_as L at event d t same told = sym told ∙ ap told_of (sym same)
 pub not_before : (B : History) (at : ℕ) → last_moment B ≤ moment B at
 not_before B at = le-max_left _ _
 
+newest_small : (B : History) → AreAnswered B → last_moment B ≤ 253402300799999
+newest_small [] answered = omega arith
+newest_small (e ∷ B) answered = answered.2
+
+pub not_after : (B : History) (at : ℕ) → IsLegal B → moment B at ≤ 253402300799999
+not_after B at legal = max-le (newest_small B legal.answered) (min-le_right at 253402300799999)
+
 -- an entry that is booked as it was decided, and carried out so
 pub keeps_entry : (old new : WorksView) (L : Ledger) (at : ℕ) (event : Event) (d : Decision) (t : Told) → Keeps old L
-    → last_moment L.entries ≤ at → ((b : Bool) → opens_here event L.entries b ≡ b)
+    → last_moment L.entries ≤ at → at ≤ 253402300799999 → ((b : Bool) → opens_here event L.entries b ≡ b)
     → decision L.entries at event ≡ d → told_of d ≡ Some t → IsAt new (after at d (seen L.entries)) → Keeps new (with at event t L)
-keeps_entry old new L at event d t keeps later opens same told stands = record {
+keeps_entry old new L at event d t keeps later most opens same told stands = record {
   stands = rw same stands;
   legal = record {
-    answered = (told_as L at event d t same told, later, keeps.legal.answered);
+    answered = (told_as L at event d t same told, later, most, keeps.legal.answered);
     opened = opens _ ∙ keeps.legal.opened;
   };
 }

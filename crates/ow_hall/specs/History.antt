@@ -100,10 +100,10 @@ booked B at event = if is_skipped B (decision B at event) then B else with_entry
 
 -- ---- legal books
 
--- each answer is the answer of the entries before it, and the moments don't fall
+-- each answer is the answer of the entries before it, and the moments don't fall and are at most the last of the year 9999
 abbrev pub AreAnswered : History → Type 0
 AreAnswered [] = Unit {0}
-AreAnswered (e ∷ B) = (Some e.answer ≡ answer B e.at e.event) × (last_moment B ≤ e.at) × AreAnswered B
+AreAnswered (e ∷ B) = (Some e.answer ≡ answer B e.at e.event) × (last_moment B ≤ e.at) × (e.at ≤ 253402300799999) × AreAnswered B
 
 abbrev pub is_empty : History → Bool
 is_empty [] = true

@@ -41,6 +41,7 @@ impl<P: Keeper + Drop> Model for Hall<P> {
 
 impl<P: Keeper + Drop> Hall<P> {
     /// Opens the service over a store, of which nothing is asked yet.
+    #[tactic(auto, using(crate::proofs::HallLaws::not_after))]
     pub fn start(alloc: Global, store: P, at: u64) -> Result<Hall<P>, NoMemory>
         ensures ledger { IfOk result (λ h. h.ledger ≡ opened at) }
         ensures store { IfOk result (λ h. h.store ≡ store) }
@@ -101,6 +102,7 @@ impl<P: Keeper + Drop> Hall<P> {
     }
 
     /// The office's own invocation of an action: it is charged to the namespace of the action, in the name of the office.
+    #[tactic(auto, using(crate::proofs::HallLaws::not_after))]
     pub fn call(
         &mut self,
         alloc: Global,
@@ -137,6 +139,7 @@ impl<P: Keeper + Drop> Hall<P> {
     }
 
     /// Runs what has waited longest, if anything waits.
+    #[tactic(auto, using(crate::proofs::HallLaws::not_after))]
     pub fn next(&mut self, alloc: Global, at: u64) -> Result<Order, NoMemory>
         ensures told { IfOk result (λ order. Some (Told.Next order)
             ≡ answer self.old.ledger.entries (moment self.old.ledger.entries at) Event.Next) }
@@ -158,6 +161,7 @@ impl<P: Keeper + Drop> Hall<P> {
     }
 
     /// Records the end of what the run carries. A refusal hands the reply back.
+    #[tactic(auto, using(crate::proofs::HallLaws::not_after))]
     pub fn answered(
         &mut self,
         alloc: Global,
@@ -190,6 +194,7 @@ impl<P: Keeper + Drop> Hall<P> {
     }
 
     /// Takes no more calls from now on. It tells whether all that was accepted has ended.
+    #[tactic(auto, using(crate::proofs::HallLaws::not_after))]
     pub fn drain(&mut self, alloc: Global, at: u64) -> Result<Drain, NoMemory>
         ensures told { IfOk result (λ drain. Some (Told.Drain drain)
             ≡ answer self.old.ledger.entries (moment self.old.ledger.entries at) Event.Drain) }

@@ -1,5 +1,5 @@
 // Requests and calls over one book.
-use crate::{Called, Hall, Reply, Told};
+use crate::{Called, Entries, Hall, Reply, Told};
 use ow_floor::{Drain, Order};
 use ow_http::{Request, read_request, write_reply};
 use ow_names::{FullName, read_name, resolve};
@@ -69,6 +69,12 @@ fn holds(alloc: Global, hall: &mut Office, row: &str) -> Result<bool, Fail> {
 const ROWS: &str =
     "GET /api/v1/namespaces/_/actions/hello||404 Not Found|{\"code\":14,\"error\":\"The resource does not exist.\"}\nPUT /api/v1/namespaces/_/actions/hello|{\"exec\":{\"kind\":\"plain:1\",\"code\":\"{\\\"cases\\\":[{\\\"when\\\":{},\\\"give\\\":{\\\"greeting\\\":\\\"Hello\\\"}}]}\"}}|200 OK|{\"annotations\":[],\"exec\":{\"code\":\"{\\\"cases\\\":[{\\\"when\\\":{},\\\"give\\\":{\\\"greeting\\\":\\\"Hello\\\"}}]}\",\"kind\":\"plain:1\"},\"limits\":{\"logs\":10,\"memory\":256,\"timeout\":60000},\"name\":\"hello\",\"namespace\":\"guest\",\"parameters\":[],\"publish\":false,\"version\":\"0.0.1\"}\nPUT /api/v1/namespaces/_/actions/hello|{\"exec\":{\"kind\":\"plain:1\",\"code\":\"{\\\"cases\\\":[{\\\"when\\\":{},\\\"give\\\":{\\\"greeting\\\":\\\"Hello\\\"}}]}\"}}|409 Conflict|{\"code\":17,\"error\":\"The resource exists.\"}\nGET /api/v1/namespaces/_/actions/hello||200 OK|{\"annotations\":[],\"exec\":{\"code\":\"{\\\"cases\\\":[{\\\"when\\\":{},\\\"give\\\":{\\\"greeting\\\":\\\"Hello\\\"}}]}\",\"kind\":\"plain:1\"},\"limits\":{\"logs\":10,\"memory\":256,\"timeout\":60000},\"name\":\"hello\",\"namespace\":\"guest\",\"parameters\":[],\"publish\":false,\"version\":\"0.0.1\"}\nGET /api/v1/namespaces/_/actions||200 OK|[{\"annotations\":[],\"name\":\"hello\",\"namespace\":\"guest\",\"publish\":false,\"version\":\"0.0.1\"}]\nGET /api/v1/namespaces/_/actions?limit=201||400 Bad Request|{\"code\":39,\"error\":\"The query value limit is wrong.\"}\nGET /api/v1/namespaces/whisk.system/actions/hello||403 Forbidden|{\"code\":24,\"error\":\"The namespace is not granted.\"}\nGET /api/v1/namespaces/whisk.system/actions?limit=201||403 Forbidden|{\"code\":24,\"error\":\"The namespace is not granted.\"}\nPOST /api/v1/namespaces/_/actions/hello||404 Not Found|{\"code\":36,\"error\":\"There is no such route.\"}\nPUT /api/v1/namespaces/_/actions/other||400 Bad Request|{\"code\":9,\"error\":\"The field exec is missing.\"}\nPUT /api/v1/namespaces/_/actions/hello|{\"exec\":1}|400 Bad Request|{\"code\":10,\"error\":\"The field exec has a wrong type.\"}\nPUT /api/v1/namespaces/_/actions/hello?overwrite=true|{\"exec\":{\"kind\":\"plain:1\",\"code\":\"{\\\"cases\\\":[{\\\"when\\\":{},\\\"give\\\":{\\\"greeting\\\":\\\"Hello\\\"}}]}\"}}|200 OK|{\"annotations\":[],\"exec\":{\"code\":\"{\\\"cases\\\":[{\\\"when\\\":{},\\\"give\\\":{\\\"greeting\\\":\\\"Hello\\\"}}]}\",\"kind\":\"plain:1\"},\"limits\":{\"logs\":10,\"memory\":256,\"timeout\":60000},\"name\":\"hello\",\"namespace\":\"guest\",\"parameters\":[],\"publish\":false,\"version\":\"0.0.2\"}\nDELETE /api/v1/namespaces/guest/actions/hello||200 OK|{\"annotations\":[],\"exec\":{\"code\":\"{\\\"cases\\\":[{\\\"when\\\":{},\\\"give\\\":{\\\"greeting\\\":\\\"Hello\\\"}}]}\",\"kind\":\"plain:1\"},\"limits\":{\"logs\":10,\"memory\":256,\"timeout\":60000},\"name\":\"hello\",\"namespace\":\"guest\",\"parameters\":[],\"publish\":false,\"version\":\"0.0.2\"}\nDELETE /api/v1/namespaces/guest/actions/hello||404 Not Found|{\"code\":14,\"error\":\"The resource does not exist.\"}\n";
 
+// Whether an equal list is made of them.
+fn copies(alloc: Global, entries: &Entries) -> Result<bool, Fail> {
+    let copied = entries.copy(alloc)?;
+    Ok(copied.same(entries))
+}
+
 const GET: &str = "GET /api/v1/namespaces/_/actions/hello HTTP/1.1\r\n\r\n";
 
 #[test]
@@ -79,6 +85,7 @@ fn actions_are_put_read_and_deleted(rt: HostRuntime) -> Result<(), Fail> {
         assert!(rt; holds(alloc, &mut hall, row)?);
     }
     assert_eq!(rt; hall.book().entries().len(), 15);
+    assert!(rt; copies(alloc, hall.book().entries())?);
     Ok(())
 }
 
@@ -169,6 +176,7 @@ fn a_call_runs_and_the_drain_ends_calls(rt: HostRuntime) -> Result<(), Fail> {
     assert!(rt; runs(alloc, &mut hall)?);
     let (_store, book) = hall.finish();
     assert_eq!(rt; (book.quiet(), book.denied(), book.stored()), (1, 1, 0));
+    assert!(rt; copies(alloc, book.entries())?);
     let entries = book.entries().as_slice();
     assert_eq!(rt; entries.len(), 7);
     assert_eq!(rt; (entries[2].at, entries[5].at), (5, 9));

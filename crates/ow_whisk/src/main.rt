@@ -15,6 +15,10 @@ mod tests;
 mod texts;
 mod words;
 
+ghost use Rattle.std.specs.Prelude.{◌≡◌};
+ghost use Rattle.std.specs.Process.{exit_status};
+ghost use Rattle.ow_whisk.specs.Status.{status_number};
+
 use office::office;
 use ow_traits::{MemoryKeeper, ReaderSource, WriterSink};
 use status::{Status, report};
@@ -36,6 +40,13 @@ fn words_of(rt: &HostRuntime) -> Result<Vec<String>, Status> {
     }
 }
 
+// The exit status of the program.
+fn code_of(status: Status) -> ExitCode
+    ensures { exit_status result ≡ status_number status }
+{
+    ExitCode::from(status.number())
+}
+
 // Opens what lies outside, and ends with the number of the office's status.
 fn main(rt: HostRuntime) -> ExitCode {
     let mut err = WriterSink::new(rt.stderr());
@@ -43,7 +54,7 @@ fn main(rt: HostRuntime) -> ExitCode {
         Ok(words) => words,
         Err(status) => {
             let _ = report(status, &mut err);
-            return ExitCode::from(status.number());
+            return code_of(status);
         }
     };
     let alloc = rt.alloc();
@@ -54,5 +65,5 @@ fn main(rt: HostRuntime) -> ExitCode {
     let (status, _store) = office(
         alloc, &words, &mut table, &mut day, &mut out, &mut err, store,
     );
-    ExitCode::from(status.number())
+    code_of(status)
 }

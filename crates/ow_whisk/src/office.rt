@@ -35,6 +35,7 @@ fn perform<S: Source, O: Sink, P: Keeper + Drop>(
     ensures store { IfSome result.1 (λ back. back ≡ store) }
     ensures lost { result.1 ≡ None → result.0 ≡ Status.NoMemory }
     ensures untouched { (command_of (map string_bytes words.now) ≡ Some Command.Day → ⊥) → result.1 ≡ Some store }
+    ensures idle { (command_of (map string_bytes words.now) ≡ Some Command.Day → ⊥) → day.new ≡ day.old }
 {
     match command_of(words) {
         Some(Command::Day) => run_day(alloc, store, day, out),
@@ -72,6 +73,7 @@ pub fn office<T: Source, S: Source, O: Sink, E: Sink, P: Keeper + Drop>(
     ensures store { IfSome result.1 (λ back. back ≡ store) }
     ensures lost { result.1 ≡ None → result.0 ≡ Status.NoMemory }
     ensures untouched { (command_of (map string_bytes words.now) ≡ Some Command.Day → ⊥) → result.1 ≡ Some store }
+    ensures idle { (command_of (map string_bytes words.now) ≡ Some Command.Day → ⊥) → day.new ≡ day.old }
     ensures table { table.new ≡ table.old }
 {
     let (status, store) = perform(alloc, words, store, day, out);

@@ -26,7 +26,7 @@ A day has one statement a line:
   call NAME TEXT      calls an action with a JSON object; /whisk.system/utils/echo is built in
   next                orders what has waited longest to run
   answer RUN TEXT     is a runner's answer to the run of this number
-  drain               tells whether all that was accepted has ended
+  drain               takes no more calls, and tells whether all that was accepted has ended
   end                 ends the day; what follows is not acted on
 
 exit status: 0 all was carried out, 1 bad day, 2 bad words, 3 read fault, 4 write fault,

@@ -6,7 +6,7 @@ use Rattle.ow_hall.specs.Decisions.{Asks}
 use Rattle.ow_hall.specs.History.{moment}
 use Rattle.ow_hall.specs.Ledger.{Ledger, posted}
 use Rattle.ow_hall.specs.Works.{done_of}
-use Rattle.ow_hall.proofs.HallLaws.{decided_ask, keeps_entry, not_before, posted_kept, skips_done, stays_at, with}
+use Rattle.ow_hall.proofs.HallLaws.{decided_ask, keeps_entry, not_after, not_before, posted_kept, skips_done, stays_at, with}
 use Rattle.ow_hall.proofs.RequestLaws.{told_by_parts}
 use Rattle.ow_hall.proofs.hall.Hall.ask.Goals as goal
 
@@ -19,7 +19,7 @@ invariant_of-self-2 g c =
     let decided = decided_ask c.self.inside.works ledger at c.counted.result c.in_ok-copied.copied _ c.in_ok-done.done c.self.invariant c.in_ok-done.ensures.done c.counted.ensures c.in_ok-copied.ensures in
     let given = sym (ap (λ a. Some (told.Asked (replies.Now a))) (c.in_ok-kept.ensures ∙ c.in_ok-answer.ensures)) in
     let moved = c.apply.ensures at _ (stays_at c.self.inside.works c.asked.new.self _ c.in_ok-done.ensures.floor c.in_ok-done.ensures.rows c.self.invariant.stands) in
-    let kept = keeps_entry c.self.inside.works c.apply.new.self ledger at event (Asks (done_of c.in_ok-done.done)) answered c.self.invariant (rw c.moment-at.ensures (not_before ledger.entries c.args.at)) (λ b. refl) decided given moved in
+    let kept = keeps_entry c.self.inside.works c.apply.new.self ledger at event (Asks (done_of c.in_ok-done.done)) answered c.self.invariant (rw c.moment-at.ensures (not_before ledger.entries c.args.at)) (rw c.moment-at.ensures (not_after ledger.entries c.args.at c.self.invariant.legal)) (λ b. refl) decided given moved in
     rw (c.add.ensures ∙ ap (with at event answered) c.in_ok-bytes.ensures.ledger) kept
 
 pub returns-clause-ledger : goal.returns-clause-ledger
