@@ -1,7 +1,7 @@
 #!/usr/bin/env python3
 """Shows that each statement is answered at once: holds a pipe to the program open, writes a statement, and
 writes the next one only when the answer to the last has come. Build the program first:
-cd crates/ow_whisk && rt run -- day < ../../examples/first.day"""
+(cd crates/ow_whisk && rt run -- day < ../../examples/first.day)"""
 import os
 import select
 import subprocess

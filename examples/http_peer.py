@@ -3,7 +3,7 @@
 parsers that aren't this project's: curl sends requests to a listener on the loopback, which hands their bytes to
 the program and sends its reply back, as the program wrote it. What the program told is compared with what curl
 was asked to send, and status and body as curl got them with the reply's bytes as Python's http.client reads them.
-Build the program first: cd crates/ow_http_bench && rt run -- 1"""
+Build the program first: (cd crates/ow_http_bench && rt run -- 1)"""
 import http.client
 import io
 import os

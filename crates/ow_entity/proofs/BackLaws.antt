@@ -1,7 +1,7 @@
 -- What is written of an action, read again as a body and finished over no row.
 use Rattle.std.proofs.Common.{◌≡◌, ℕ, ◌&&◌, List, [], ◌∷◌, Bool, true, false, cond, length, nat_le, is_some, Option, Some, None, Result, Ok, Err, refl, ap, ◌∙◌, arith}
 use Rattle.std.specs.Result.{result_err, result_unwrap_or}
-use Rattle.ow_value.specs.Value.{V, AreParams}
+use Rattle.ow_value.specs.Value.{V, Pairs, AreParams}
 use Rattle.ow_names.specs.declared.full.FullName.{FullName}
 use Rattle.ow_entity.specs.declared.kinds.EntityKind.TheVariants as kinds
 use Rattle.ow_entity.specs.declared.fields.FieldName.{FieldName}
@@ -20,7 +20,6 @@ use Rattle.ow_entity.specs.Body.{limits_given, exec_given, exec_in, plain_exec, 
 use Rattle.ow_entity.specs.Chain.{and_then, first_some, result_map}
 use Rattle.ow_entity.specs.Finish.{finished}
 use Rattle.ow_entity.specs.Fit.{IsBetween, IsFitExec, IsFitLimits, IsFitAction, made_of}
-use Rattle.ow_entity.specs.Pairs.{Pairs}
 use Rattle.ow_entity.specs.Plain.{plain_cases}
 use Rattle.ow_entity.specs.Written.{exec_value, limits_value, action_value}
 use Rattle.ow_entity.proofs.PairLaws.{by_size, pairs_given-value}

@@ -5,11 +5,12 @@ use Rattle.std.specs.List.Sorted.{IsStrictlySortedBy}
 use Rattle.std.specs.Map.{keys_of}
 use Rattle.std.specs.Ordering.{ordering_reverse, match_ordering}
 use Rattle.std.proofs.lemmas.Cmp.{nat_list_cmp_total}
-use Rattle.ow_value.specs.Value.{V, items_of, text_cmp, AreParams}
+use Rattle.ow_value.specs.Value.{V, Pairs, items_of, text_cmp, AreParams}
 use Rattle.ow_value.specs.Find.{with_pair}
+use Rattle.ow_value.specs.Size.{megabyte}
 use Rattle.ow_entity.specs.Chain.{result_map}
 use Rattle.ow_entity.specs.Fit.{IsFitPairs}
-use Rattle.ow_entity.specs.Pairs.{Pairs, pair_value, pairs_listed, pairs_value, pairs_given, pairs_size, put_all, standing}
+use Rattle.ow_entity.specs.Pairs.{pair_value, pairs_listed, pairs_value, pairs_given, pairs_size, put_all, standing}
 use Rattle.ow_entity.specs.declared.fields.FieldName.{FieldName}
 use Rattle.ow_entity.specs.declared.refusal.EntityRefusal.{EntityRefusal}
 use Rattle.ow_entity.specs.declared.refusal.EntityRefusal.TheVariants.{TooLarge}
@@ -52,7 +53,7 @@ pub put_all-same : (ps : Pairs) → AreParams ps → put_all [] ps ≡ ps
 put_all-same ps h = put_all-append [] ps h
 
 -- what is no larger than the bound is taken
-pub by_size : {X : Type 0} (n : ℕ) (x : Result X EntityRefusal) → n ≤ 1048576 → cond (nat_lt 1048576 n) (Err TooLarge) x ≡ x
+pub by_size : {X : Type 0} (n : ℕ) (x : Result X EntityRefusal) → n ≤ megabyte → cond (nat_lt megabyte n) (Err TooLarge) x ≡ x
 by_size n x h = grind arith
 
 -- a list that was written of pairs gives them back

@@ -1,8 +1,8 @@
 -- Reading the form of plain code.
 use Rattle.std.proofs.Common.{◌≡◌, ℕ, List, length, ap}
-use Rattle.ow_value.specs.Value.{V, object, members_of}
+use Rattle.ow_value.specs.Value.{V, Pairs, object, members_of}
 use Rattle.ow_value.specs.Field.{pairs_in-members_of}
 use Rattle.ow_entity.specs.Plain.{names_in}
 
-pub names_in_object : (ps : List (List ℕ × V)) → names_in (object (members_of ps)) ≡ length ps
+pub names_in_object : (ps : Pairs) → names_in (object (members_of ps)) ≡ length ps
 names_in_object ps = ap length (pairs_in-members_of ps)

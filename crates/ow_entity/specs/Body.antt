@@ -4,6 +4,7 @@ use Rattle.std.specs.Result.{result_err, result_unwrap_or}
 use Rattle.std.specs.Str.{bytes_eq}
 use Rattle.ow_value.specs.Value.{V, boolean, whole, text, object}
 use Rattle.ow_value.specs.Field.{field}
+use Rattle.ow_value.specs.Size.{megabyte}
 use Rattle.ow_names.specs.declared.full.FullName.{FullName}
 use Rattle.ow_entity.specs.declared.kinds.EntityKind.{EntityKind}
 use Rattle.ow_entity.specs.declared.kinds.EntityKind.TheVariants as kinds
@@ -52,7 +53,7 @@ number_field name least most v = number_given name least most (field (field_name
 -- ---- what an action runs
 
 abbrev pub code_in : V → Result (List ℕ) EntityRefusal
-code_in v = and_then (text_field fields.Code v) (λ code. if nat_lt 1048576 (length code) then Err TooLarge else Ok code)
+code_in v = and_then (text_field fields.Code v) (λ code. if nat_lt megabyte (length code) then Err TooLarge else Ok code)
 
 abbrev pub plain_exec : List ℕ → Result Exec EntityRefusal
 plain_exec code = if is_some (plain_cases code) then Ok (Plain code) else Err (WrongType fields.Code)

@@ -1,6 +1,7 @@
 -- What bodies can give, and what a body makes by itself.
 use Rattle.std.specs.Prelude.{◌≡◌, ◌≤◌, ℕ, true, length, is_some, IfSome, None, Result}
-use Rattle.ow_value.specs.Value.{V}
+use Rattle.ow_value.specs.Size.{megabyte}
+use Rattle.ow_value.specs.Value.{V, Pairs}
 use Rattle.ow_names.specs.declared.full.FullName.{FullName}
 use Rattle.ow_entity.specs.declared.kinds.EntityKind.{EntityKind}
 use Rattle.ow_entity.specs.declared.refusal.EntityRefusal.{EntityRefusal}
@@ -18,17 +19,17 @@ use Rattle.ow_entity.specs.declared.rows.Draft.TheVariants as drafts
 use Rattle.ow_entity.specs.Body.{entity_of}
 use Rattle.ow_entity.specs.Chain.{and_then}
 use Rattle.ow_entity.specs.Finish.{finished}
-use Rattle.ow_entity.specs.Pairs.{Pairs, pairs_size}
+use Rattle.ow_entity.specs.Pairs.{pairs_size}
 use Rattle.ow_entity.specs.Plain.{plain_cases}
 
 -- the pairs have at most 1 MB as an object
 pub record IsFitPairs (ps : Pairs) : Type 0 where
-  pub size : pairs_size ps ≤ 1048576
+  pub size : pairs_size ps ≤ megabyte
 
 -- the code has at most 1 MB, and plain code its form
 abbrev pub IsFitExec : Exec → Type 0
-IsFitExec (Plain code) = (length code ≤ 1048576) × (is_some (plain_cases code) ≡ true)
-IsFitExec (Program code) = length code ≤ 1048576
+IsFitExec (Plain code) = (length code ≤ megabyte) × (is_some (plain_cases code) ≡ true)
+IsFitExec (Program code) = length code ≤ megabyte
 
 abbrev pub IsBetween : ℕ → ℕ → ℕ → Type 0
 IsBetween least most n = (least ≤ n) × (n ≤ most)

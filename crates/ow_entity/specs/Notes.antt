@@ -1,6 +1,6 @@
 -- When an annotation is set.
 use Rattle.std.specs.Prelude.{ℕ, zero, pos, List, [], Bool, true, false, codes, Option, Some, None}
-use Rattle.ow_value.specs.Value.{V, null, boolean, whole, text, list, object}
+use Rattle.ow_value.specs.Value.{V, Pairs, null, boolean, whole, text, list, object}
 use Rattle.ow_value.specs.Find.{find}
 use Rattle.ow_entity.specs.declared.actions.Action.{Action}
 
@@ -16,7 +16,7 @@ counts (Some (text s)) = true
 counts (Some (list vs)) = true
 counts (Some (object ps)) = true
 
-abbrev pub is_set : List (List ℕ × V) → List ℕ → Bool
+abbrev pub is_set : Pairs → List ℕ → Bool
 is_set notes name = counts (find name notes)
 
 abbrev pub is_conductor : Action → Bool

@@ -1,9 +1,10 @@
 -- Pairs as a body lists them.
 use Rattle.std.specs.Prelude.{◌≡◌, ℕ, List, [], ◌∷◌, fold, map, length, codes, nat_lt, if◌then◌else◌, Option, Some, None, option_map, option_and_then, Result, Ok, Err}
 use Rattle.ow_entity.specs.Chain.{result_map}
-use Rattle.ow_value.specs.Value.{V, text, list, object, Items, no_items, item, items_of, members_of}
+use Rattle.ow_value.specs.Value.{V, Pairs, text, list, object, Items, no_items, item, items_of, members_of}
 use Rattle.ow_value.specs.Field.{field}
 use Rattle.ow_value.specs.Find.{with_pair}
+use Rattle.ow_value.specs.Size.{megabyte}
 use Rattle.ow_value.specs.Text.{compact}
 use Rattle.ow_value.specs.declared.val.Val.{Val}
 use Rattle.ow_value.specs.declared.val.Val.TheVariants.{Object}
@@ -11,9 +12,6 @@ use Rattle.ow_entity.specs.FieldName.{field_name}
 use Rattle.ow_entity.specs.declared.fields.FieldName.{FieldName}
 use Rattle.ow_entity.specs.declared.refusal.EntityRefusal.{EntityRefusal}
 use Rattle.ow_entity.specs.declared.refusal.EntityRefusal.TheVariants.{WrongType, TooLarge}
-
-abbrev pub Pairs : Type 0
-Pairs = List (List ℕ × V)
 
 -- `{"key": text, "value": v}`
 abbrev pub pair_value : List ℕ × V → V
@@ -44,7 +42,7 @@ abbrev pub pairs_size : Pairs → ℕ
 pairs_size ps = length (compact (object (members_of ps)))
 
 abbrev pub measured : Pairs → Result Pairs EntityRefusal
-measured ps = if nat_lt 1048576 (pairs_size ps) then Err TooLarge else Ok ps
+measured ps = if nat_lt megabyte (pairs_size ps) then Err TooLarge else Ok ps
 
 abbrev pub standing : FieldName → Option Pairs → Result (Option Pairs) EntityRefusal
 standing name None = Err (WrongType name)

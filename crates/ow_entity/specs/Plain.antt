@@ -2,13 +2,13 @@
 -- and `give`.
 use Rattle.std.specs.Prelude.{◌==◌, ℕ, List, [], ◌∷◌, length, codes, if◌then◌else◌, Option, Some, None, option_map, option_and_then}
 use Rattle.std.specs.Result.{result_ok}
-use Rattle.ow_value.specs.Value.{V, list, object, Items, no_items, item}
+use Rattle.ow_value.specs.Value.{V, Pairs, list, object, Items, no_items, item}
 use Rattle.ow_value.specs.Field.{pairs_in, field}
 use Rattle.ow_value.specs.Read.{reading}
 
 -- the parameters that a case asks for, and what it gives
 pub record Case : Type 0 where
-  pub when : List (List ℕ × V)
+  pub when : Pairs
   pub give : V
 
 -- how many names an object has

@@ -1,6 +1,6 @@
 -- How a row is shown.
 use Rattle.std.specs.Prelude.{ℕ, pos, Bool, List, [], ◌∷◌, ◌++◌, codes, decimal, Option, Some, None}
-use Rattle.ow_value.specs.Value.{V, boolean, whole, text, object, members_of}
+use Rattle.ow_value.specs.Value.{V, Pairs, boolean, whole, text, object, members_of}
 use Rattle.ow_names.specs.declared.full.FullName.{FullName}
 use Rattle.ow_entity.specs.declared.bounds.Limits.{Limits}
 use Rattle.ow_entity.specs.declared.code.Exec.{Exec}
@@ -62,7 +62,7 @@ unfoldable pub row_value : Row → V
 row_value (rows.Action a) = action_value a
 row_value (rows.Package p) = package_value p
 
-abbrev pub summary_of : FullName → List (List ℕ × V) → Bool → ℕ → V
+abbrev pub summary_of : FullName → Pairs → Bool → ℕ → V
 summary_of name notes publish version = object (members_of (
     (codes "annotations", pairs_value notes)
     ∷ (codes "name", text name.name)

@@ -1,3 +1,4 @@
+// Actions: as they stand, and as bodies give them.
 ghost use Rattle.std.specs.Prelude.{◌≡◌, ◌↔◌, IsTrue, IfOk};
 
 use crate::bounds::{GivenLimits, Limits};
@@ -32,6 +33,7 @@ pub struct ActionDraft {
 }
 
 impl Action {
+    /// Whether all fields are the same.
     pub fn same(&self, other: &Action) -> bool
         ensures { IsTrue result ↔ (self.now ≡ other.now) }
     {
@@ -44,6 +46,7 @@ impl Action {
             && self.limits == other.limits
     }
 
+    /// An equal action with memory of its own.
     pub fn copy(&self, alloc: Global) -> Result<Action, NoMemory>
         ensures { IfOk result (λ a. a ≡ self.now) }
     {
@@ -64,6 +67,7 @@ impl Action {
 }
 
 impl ActionDraft {
+    /// Whether all fields are the same.
     pub fn same(&self, other: &ActionDraft) -> bool
         ensures { IsTrue result ↔ (self.now ≡ other.now) }
     {
@@ -75,6 +79,7 @@ impl ActionDraft {
             && self.limits == other.limits
     }
 
+    /// An equal draft with memory of its own.
     pub fn copy(&self, alloc: Global) -> Result<ActionDraft, NoMemory>
         ensures { IfOk result (λ d. d ≡ self.now) }
     {

@@ -1,7 +1,8 @@
-ghost use Rattle.std.specs.Prelude.{◌≡◌, ◌≢◌, ℕ, Some, None, Ok, Err, IfOk, IfSome, MatchResult, length, ◌≤◌};
-ghost use Rattle.ow_value.specs.Value.{V, members_of, object};
+// The draft that a body gives.
+ghost use Rattle.std.specs.Prelude.{◌≡◌, ◌≢◌, Some, None, Ok, Err, IfOk, IfSome, MatchResult, length, ◌≤◌};
+ghost use Rattle.ow_value.specs.Size.{megabyte};
+ghost use Rattle.ow_value.specs.Value.{members_of, object};
 ghost use Rattle.ow_value.specs.View.{view};
-ghost use Rattle.ow_entity.specs.declared.rows.Draft.TheVariants as drafts;
 ghost use Rattle.ow_entity.specs.declared.kinds.EntityKind.TheVariants as kinds;
 ghost use Rattle.ow_entity.specs.Fit.{IsBetween, IsFitDraft, IsFitExec, IsFitGiven};
 ghost use Rattle.ow_entity.specs.Chain.{and_then, result_map};
@@ -17,7 +18,7 @@ use crate::plain::is_plain_text;
 use crate::refusal::EntityRefusal;
 use crate::rows::Draft;
 use ow_names::FullName;
-use ow_value::{Params, Str, Val};
+use ow_value::{MEGABYTE, Params, Str, Val};
 use std::alloc::Global;
 
 /// The entity of the kind and the name that a body gives. Of several wrong fields the refusal names the one that is looked at
@@ -124,10 +125,10 @@ fn read_plain(alloc: Global, exec: &Params) -> Result<Exec, EntityRefusal>
 
 fn code_in(exec: &Params) -> Result<&str, EntityRefusal>
     ensures value { result_map (λ s. s.now) result ≡ code_in (object (members_of exec.now)) }
-    ensures fits { IfOk result (λ s. length s.now ≤ 1048576) }
+    ensures fits { IfOk result (λ s. length s.now ≤ megabyte) }
 {
     match text_field(exec, FieldName::Code) {
-        Ok(code) if code.len() > 1_048_576 => Err(EntityRefusal::TooLarge),
+        Ok(code) if code.len() as u64 > MEGABYTE => Err(EntityRefusal::TooLarge),
         given => given,
     }
 }

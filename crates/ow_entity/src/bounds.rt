@@ -1,3 +1,4 @@
+// The limits of runs.
 /// What a run of an action may take.
 #[derive(Clone, Copy, PartialEq, Eq, Debug, Drop)]
 pub struct Limits {
@@ -27,6 +28,7 @@ pub struct GivenLimits {
 }
 
 impl GivenLimits {
+    /// No limit is given.
     pub const NONE: GivenLimits = GivenLimits {
         timeout: None,
         memory: None,

@@ -1,3 +1,4 @@
+// What actions run.
 ghost use Rattle.std.specs.Prelude.{◌≡◌, ◌↔◌, IsTrue, IfOk};
 
 use ow_value::{NoMemory, Str};
@@ -25,6 +26,7 @@ impl Exec {
         }
     }
 
+    /// The text of the code, or the name of the program.
     pub fn code(&self) -> &Str
         ensures { result.now ≡ exec_code self.now }
     {
@@ -33,6 +35,7 @@ impl Exec {
         }
     }
 
+    /// Whether kind and code are the same.
     pub fn same(&self, other: &Exec) -> bool
         ensures { IsTrue result ↔ (self.now ≡ other.now) }
     {
@@ -43,6 +46,7 @@ impl Exec {
         }
     }
 
+    /// An equal one with memory of its own.
     pub fn copy(&self, alloc: Global) -> Result<Exec, NoMemory>
         ensures { IfOk result (λ e. e ≡ self.now) }
     {

@@ -1,3 +1,4 @@
+// The names of the fields of bodies.
 ghost use Rattle.std.specs.Prelude.{◌≡◌};
 ghost use Rattle.ow_entity.specs.FieldName.{field_name};
 

@@ -1,4 +1,5 @@
-ghost use Rattle.std.specs.Prelude.{◌≡◌, ◌≢◌, [], unwrap_or, Some, None, Ok, Err, IfOk, IfSome, MatchResult};
+// The row that a draft makes.
+ghost use Rattle.std.specs.Prelude.{◌≡◌, ◌≢◌, unwrap_or, Some, None, Ok, Err, IfOk, IfSome, MatchResult};
 ghost use Rattle.std.specs.Option.{option_copied};
 ghost use Rattle.ow_entity.specs.Fit.{IsFit, IsFitDraft, IsFitAction, IsFitActionDraft, IsFitExec, IsFitPairs, IsFitLimits, IsFitGiven};
 ghost use Rattle.ow_entity.specs.Finish.{finished, new_action, next_action, limits_over};

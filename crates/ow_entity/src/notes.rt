@@ -1,3 +1,4 @@
+// What annotations are set.
 ghost use Rattle.std.specs.Prelude.{◌≡◌};
 ghost use Rattle.ow_entity.specs.Notes.{is_set, is_conductor};
 

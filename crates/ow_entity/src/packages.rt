@@ -1,3 +1,4 @@
+// Packages as they stand.
 ghost use Rattle.std.specs.Prelude.{◌≡◌, ◌↔◌, IsTrue, IfOk};
 
 use ow_names::FullName;
@@ -20,6 +21,7 @@ pub struct Package {
 }
 
 impl Package {
+    /// Whether all fields are the same.
     pub fn same(&self, other: &Package) -> bool
         ensures { IsTrue result ↔ (self.now ≡ other.now) }
     {
@@ -28,16 +30,17 @@ impl Package {
             && self.publish == other.publish
             && self.params.same(&other.params)
             && self.notes.same(&other.notes)
-            && same_binding(&self.binding, &other.binding)
+            && FullName::same_option(&self.binding, &other.binding)
     }
 
+    /// An equal package with memory of its own.
     pub fn copy(&self, alloc: Global) -> Result<Package, NoMemory>
         ensures { IfOk result (λ p. p ≡ self.now) }
     {
         let name = self.name.copy(alloc)?;
         let params = self.params.copy(alloc)?;
         let notes = self.notes.copy(alloc)?;
-        let binding = copy_binding(alloc, &self.binding)?;
+        let binding = FullName::copy_option(alloc, &self.binding)?;
         Ok(Package {
             name,
             version: self.version,
@@ -46,24 +49,5 @@ impl Package {
             notes,
             binding,
         })
-    }
-}
-
-fn same_binding(a: &Option<FullName>, b: &Option<FullName>) -> bool
-    ensures { IsTrue result ↔ (a.now ≡ b.now) }
-{
-    match (a, b) {
-        (Some(x), Some(y)) => x.same(y),
-        (None, None) => true,
-        _ => false,
-    }
-}
-
-fn copy_binding(alloc: Global, binding: &Option<FullName>) -> Result<Option<FullName>, NoMemory>
-    ensures { IfOk result (λ b. b ≡ binding.now) }
-{
-    match binding {
-        Some(bound) => Ok(Some(bound.copy(alloc)?)),
-        None => Ok(None),
     }
 }

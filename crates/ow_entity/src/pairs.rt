@@ -1,4 +1,5 @@
-ghost use Rattle.std.specs.Prelude.{◌≡◌, ◌≢◌, [], ◌∷◌, Some, None, Ok, Err, option_map, map, IfOk, IfSome, MatchResult};
+// Parameters and annotations as bodies list them.
+ghost use Rattle.std.specs.Prelude.{◌≡◌, ◌≢◌, [], Some, None, Ok, Err, option_map, map, IfOk, IfSome, MatchResult};
 ghost use Rattle.ow_value.specs.Value.{items_of, members_of, object};
 ghost use Rattle.ow_value.specs.View.{view};
 ghost use Rattle.ow_entity.specs.Fit.{IsFitPairs};
@@ -6,7 +7,7 @@ ghost use Rattle.ow_entity.specs.Pairs.{HasPairs, pair_of, pair_value, pairs_lis
 
 use crate::fields::FieldName;
 use crate::refusal::EntityRefusal;
-use ow_value::{NoMemory, Pair, Params, Str, Val, Vals, copy, size};
+use ow_value::{MEGABYTE, NoMemory, Pair, Params, Str, Val, Vals, copy, size};
 use std::alloc::Global;
 
 // The pairs that a field of the body lists, if it is there.
@@ -68,7 +69,7 @@ fn measured(pairs: Params) -> Result<Params, EntityRefusal>
     ensures fits { IfOk result IsFitPairs }
 {
     let whole = Val::Object(pairs);
-    if size(&whole) > 1_048_576 {
+    if size(&whole) > MEGABYTE {
         return Err(EntityRefusal::TooLarge);
     }
     Ok(pairs_of(whole))

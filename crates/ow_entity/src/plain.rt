@@ -1,4 +1,5 @@
-ghost use Rattle.std.specs.Prelude.{◌≡◌, IfOk, is_some, option_map, Some};
+// The form of plain code.
+ghost use Rattle.std.specs.Prelude.{◌≡◌, IfOk, is_some, Some};
 ghost use Rattle.ow_value.specs.Value.{items_of, members_of, object};
 ghost use Rattle.ow_value.specs.View.{view};
 ghost use Rattle.ow_entity.specs.Plain.{case_of, cases_in, cases_of, plain_cases};

@@ -1,3 +1,4 @@
+// Why a body gives no entity.
 ghost use Rattle.std.specs.Prelude.{◌≡◌};
 ghost use Rattle.ow_entity.specs.Refusal.{refusal_number};
 
@@ -13,7 +14,7 @@ pub enum EntityRefusal {
     OutOfRange { name: FieldName },
     /// The kind of the code, or of the entity, is none that the service has.
     UnknownKind,
-    /// A list of pairs, or a code, has over 1,048,576 bytes.
+    /// A list of pairs, or a code, has over 1 MB.
     TooLarge,
     /// The version of the old entity can't be raised.
     LastVersion,

@@ -1,3 +1,4 @@
+// Entities of any kind, and where they stand.
 ghost use Rattle.std.specs.Prelude.{◌≡◌, ◌↔◌, Option, IsTrue, IfOk, IfSome};
 ghost use Rattle.std.specs.Option.{option_copied};
 ghost use Rattle.ow_names.specs.declared.full.FullName.{FullName};
@@ -40,6 +41,7 @@ pub trait Lookup {
 impl Row {
     ghost use Rattle.ow_entity.specs.Row.{kind_of, name_of, version_of};
 
+    /// Of which kind it is.
     pub fn kind(&self) -> EntityKind
         ensures { result ≡ kind_of self.now }
     {
@@ -49,6 +51,7 @@ impl Row {
         }
     }
 
+    /// What it is called.
     pub fn name(&self) -> &FullName
         ensures { result.now ≡ name_of self.now }
     {
@@ -58,6 +61,7 @@ impl Row {
         }
     }
 
+    /// Its version, from 1.
     pub fn version(&self) -> u32
         ensures { result ≡ version_of self.now }
     {
@@ -67,6 +71,7 @@ impl Row {
         }
     }
 
+    /// Whether kind and fields are the same.
     pub fn same(&self, other: &Row) -> bool
         ensures { IsTrue result ↔ (self.now ≡ other.now) }
     {
@@ -77,6 +82,7 @@ impl Row {
         }
     }
 
+    /// An equal row with memory of its own.
     pub fn copy(&self, alloc: Global) -> Result<Row, NoMemory>
         ensures { IfOk result (λ r. r ≡ self.now) }
     {
@@ -90,6 +96,7 @@ impl Row {
 impl Draft {
     ghost use Rattle.ow_entity.specs.Row.{draft_kind, draft_name};
 
+    /// Of which kind the entity is.
     pub fn kind(&self) -> EntityKind
         ensures { result ≡ draft_kind self.now }
     {
@@ -98,6 +105,7 @@ impl Draft {
         }
     }
 
+    /// What the entity is called.
     pub fn name(&self) -> &FullName
         ensures { result.now ≡ draft_name self.now }
     {
@@ -106,6 +114,7 @@ impl Draft {
         }
     }
 
+    /// Whether kind and fields are the same.
     pub fn same(&self, other: &Draft) -> bool
         ensures { IsTrue result ↔ (self.now ≡ other.now) }
     {
@@ -114,6 +123,7 @@ impl Draft {
         }
     }
 
+    /// An equal draft with memory of its own.
     pub fn copy(&self, alloc: Global) -> Result<Draft, NoMemory>
         ensures { IfOk result (λ d. d ≡ self.now) }
     {

@@ -1,3 +1,4 @@
+// Entities as clients see them.
 ghost use Rattle.std.specs.Prelude.{◌≡◌, pos, Ok, IfOk, OnOk};
 ghost use Rattle.ow_value.specs.Value.{whole, text};
 ghost use Rattle.ow_value.specs.Find.{with_pair};
@@ -6,7 +7,6 @@ ghost use Rattle.ow_entity.specs.declared.kinds.EntityKind.TheVariants as kinds;
 ghost use Rattle.ow_entity.specs.declared.actions.Action.{Action};
 ghost use Rattle.ow_entity.specs.declared.rows.Row.TheVariants as rows;
 ghost use Rattle.ow_entity.specs.Fit.{IsFitAction, made_of};
-ghost use Rattle.ow_entity.specs.Pairs.{pairs_value};
 ghost use Rattle.ow_entity.specs.Written.{exec_value, limits_value, shown_namespace, shown_version, action_value, binding_value, package_value, row_value, summary_of, summary_value};
 
 use crate::actions::Action;
@@ -18,6 +18,19 @@ use crate::rows::Row;
 use ow_names::FullName;
 use ow_value::{NoMemory, Params, Str, Val, Whole};
 use std::alloc::Global;
+
+impl Limits {
+    /// The limits as an object.
+    pub fn value(self, alloc: Global) -> Result<Val, NoMemory>
+        ensures { IfOk result (λ v. view v ≡ limits_value self) }
+    {
+        let mut fields = Params::new(alloc);
+        put(alloc, &mut fields, "logs", number(self.logs))?;
+        put(alloc, &mut fields, "memory", number(self.memory))?;
+        put(alloc, &mut fields, "timeout", number(self.timeout))?;
+        Ok(Val::Object(fields))
+    }
+}
 
 /// The row as a client sees it.
 #[tactic(auto, unfolding(crate::specs::Written::row_value))]
@@ -52,19 +65,6 @@ pub fn summary(alloc: Global, row: &Row) -> Result<Val, NoMemory>
             package.publish,
             package.version,
         ),
-    }
-}
-
-impl Limits {
-    /// The limits as an object.
-    pub fn value(self, alloc: Global) -> Result<Val, NoMemory>
-        ensures { IfOk result (λ v. view v ≡ limits_value self) }
-    {
-        let mut fields = Params::new(alloc);
-        put(alloc, &mut fields, "logs", number(self.logs))?;
-        put(alloc, &mut fields, "memory", number(self.memory))?;
-        put(alloc, &mut fields, "timeout", number(self.timeout))?;
-        Ok(Val::Object(fields))
     }
 }
 

@@ -10,6 +10,7 @@ use std::alloc::Global;
 /// What is to be accepted.
 #[derive(Drop)]
 pub struct Plan {
+    /// The next id of its namespace.
     pub id: Id,
     /// The namespace that is charged for it.
     pub namespace: EntityName,
@@ -38,6 +39,32 @@ pub struct Activation {
     pub until: Option<u64>,
 }
 
+/// Whether an activation waits, or the number of the run that carries it.
+#[derive(Clone, Copy, Debug, PartialEq, Eq)]
+pub enum State {
+    /// It waits.
+    Waiting,
+    /// The run of this number carries it.
+    Running(u64),
+}
+
+/// An activation that has not ended.
+#[derive(Drop)]
+pub struct Open {
+    /// What was accepted.
+    pub task: Activation,
+    /// Whether it waits or runs.
+    pub state: State,
+}
+
+/// The record of an activation that has ended. `at` is the moment of its end, in milliseconds.
+#[derive(Drop)]
+pub struct Ended {
+    pub id: Id,
+    pub at: u64,
+    pub response: Response,
+}
+
 impl Plan {
     /// An equal plan.
     pub fn copy(&self, alloc: Global) -> Result<Plan, NoMemory>
@@ -58,6 +85,7 @@ impl Plan {
         })
     }
 
+    /// Whether both are equal.
     pub fn same(&self, other: &Plan) -> bool
         ensures { IsTrue result ↔ (self.now ≡ other.now) }
     {
@@ -92,6 +120,7 @@ impl Activation {
         })
     }
 
+    /// Whether both are equal.
     pub fn same(&self, other: &Activation) -> bool
         ensures { IsTrue result ↔ (self.now ≡ other.now) }
     {
@@ -106,24 +135,41 @@ impl Activation {
     }
 }
 
-/// Whether an activation waits, or the number of the run that carries it.
-#[derive(Clone, Copy, Debug, PartialEq, Eq)]
-pub enum State {
-    Waiting,
-    Running(u64),
+impl Open {
+    /// An equal one.
+    pub fn copy(&self, alloc: Global) -> Result<Open, NoMemory>
+        ensures { IfOk result (λ o. o ≡ self.now) }
+    {
+        Ok(Open {
+            task: self.task.copy(alloc)?,
+            state: self.state,
+        })
+    }
+
+    /// Whether both are equal.
+    pub fn same(&self, other: &Open) -> bool
+        ensures { IsTrue result ↔ (self.now ≡ other.now) }
+    {
+        self.state == other.state && self.task.same(&other.task)
+    }
 }
 
-/// An activation that has not ended.
-#[derive(Drop)]
-pub struct Open {
-    pub task: Activation,
-    pub state: State,
-}
+impl Ended {
+    /// An equal record.
+    pub fn copy(&self, alloc: Global) -> Result<Ended, NoMemory>
+        ensures { IfOk result (λ e. e ≡ self.now) }
+    {
+        Ok(Ended {
+            id: self.id,
+            at: self.at,
+            response: self.response.copy(alloc)?,
+        })
+    }
 
-/// The record of an activation that has ended. `at` is the moment of its end, in milliseconds.
-#[derive(Drop)]
-pub struct Ended {
-    pub id: Id,
-    pub at: u64,
-    pub response: Response,
+    /// Whether both are equal.
+    pub fn same(&self, other: &Ended) -> bool
+        ensures { IsTrue result ↔ (self.now ≡ other.now) }
+    {
+        self.id == other.id && self.at == other.at && self.response.same(&other.response)
+    }
 }

@@ -13,15 +13,95 @@ use std::marker::Model;
 /// What a runner needs to run an activation.
 #[derive(Drop)]
 pub struct RunOrder {
+    /// The number of the run, from 1.
     pub run: u64,
+    /// The activation that it carries.
     pub id: Id,
+    /// The kind of runner that the code needs.
     pub kind: Kind,
+    /// The code of the action.
     pub code: Str,
     /// In MB.
     pub memory: u32,
+    /// The merged parameters.
     pub params: Params,
     /// In milliseconds.
     pub timeout: u32,
+}
+
+/// Why nothing is to run.
+#[derive(Clone, Copy, Debug, PartialEq, Eq)]
+pub enum Idle {
+    /// No activation waits.
+    Empty,
+}
+
+/// What is to run next.
+#[derive(Drop)]
+pub enum Order {
+    /// This run.
+    Run(RunOrder),
+    /// Nothing, for this reason.
+    Nothing(Idle),
+}
+
+/// One thing that happened to an activation.
+#[derive(Clone, Copy, Debug, PartialEq, Eq)]
+pub enum Happening {
+    /// It was accepted, and waits.
+    Accepted { id: Id },
+    /// Its end was recorded. The code is that of the response: 0 success, 1 application error, 2 error of the action's
+    /// developer, 3 internal error.
+    Recorded { id: Id, code: u8 },
+}
+
+/// What happened in one call, in order.
+#[derive(Drop)]
+pub struct Happened {
+    items: Vec<Happening>,
+}
+
+impl Model for Happened {
+    ghost use Rattle.std.specs.Prelude.{List};
+    ghost use Rattle.ow_floor.specs.declared.answers.Happening.{Happening};
+
+    ghost Value = { List Happening };
+
+    ghost view = { λ h. h.items.items };
+}
+
+/// What became of a runner's reply.
+#[derive(Drop)]
+pub enum Answered {
+    /// The end of what the run carries is recorded: this happened.
+    Recorded(Happened),
+}
+
+/// What became of a reply, twice: to be given, and to be kept.
+#[derive(Drop)]
+pub struct AnsweredTwice {
+    /// The one to be given.
+    pub given: Answered,
+    /// Its equal, to be kept.
+    pub kept: Answered,
+}
+
+/// Why a runner's reply was not taken. Each hands the reply back.
+#[derive(Drop)]
+pub enum AnswerRefusal {
+    /// No activation is carried by a run of this number.
+    NoRun { run: u64, reply: RunReply },
+    /// Memory was wanted.
+    NoMemory(RunReply),
+}
+
+/// Whether all activations have ended.
+#[derive(Clone, Copy, Debug, PartialEq, Eq)]
+pub enum Drain {
+    /// All have: so many were accepted.
+    Drained(u64),
+    /// So many have not, at least one.
+    StillOpen(u64),
 }
 
 impl RunOrder {
@@ -44,6 +124,7 @@ impl RunOrder {
         })
     }
 
+    /// Whether both are equal.
     pub fn same(&self, other: &RunOrder) -> bool
         ensures { IsTrue result ↔ (self.now ≡ other.now) }
     {
@@ -75,33 +156,10 @@ impl RunOrder {
     }
 }
 
-// The kind of runner that a code needs.
-fn kind_of(exec: &Exec) -> Kind
-    ensures { result ≡ kind_of exec.now }
-{
-    match exec {
-        Exec::Plain { .. } => Kind::Plain,
-        Exec::Program { .. } => Kind::Program,
-    }
-}
-
-/// Why nothing is to run.
-#[derive(Clone, Copy, Debug, PartialEq, Eq)]
-pub enum Idle {
-    /// No activation waits.
-    Empty,
-}
-
-/// What is to run next.
-#[derive(Drop)]
-pub enum Order {
-    Run(RunOrder),
-    Nothing(Idle),
-}
-
 impl Order {
     ghost use Rattle.ow_floor.specs.View.{is_nothing};
 
+    /// Whether nothing is to run.
     pub fn is_nothing(&self) -> bool
         ensures { result ≡ is_nothing self.now }
     {
@@ -118,6 +176,7 @@ impl Order {
         }
     }
 
+    /// Whether both are equal.
     pub fn same(&self, other: &Order) -> bool
         ensures { IsTrue result ↔ (self.now ≡ other.now) }
     {
@@ -127,30 +186,6 @@ impl Order {
             _ => false,
         }
     }
-}
-
-/// One thing that happened to an activation.
-#[derive(Clone, Copy, Debug, PartialEq, Eq)]
-pub enum Happening {
-    Accepted { id: Id },
-    /// The code is that of the response: 0 success, 1 application error, 2 error of the action's
-    /// developer, 3 internal error.
-    Recorded { id: Id, code: u8 },
-}
-
-/// What happened in one call, in order.
-#[derive(Drop)]
-pub struct Happened {
-    items: Vec<Happening>,
-}
-
-impl Model for Happened {
-    ghost use Rattle.std.specs.Prelude.{List};
-    ghost use Rattle.ow_floor.specs.declared.answers.Happening.{Happening};
-
-    ghost Value = { List Happening };
-
-    ghost view = { λ h. h.items.items };
 }
 
 impl Happened {
@@ -188,6 +223,7 @@ impl Happened {
         })
     }
 
+    /// Whether both are equal.
     pub fn same(&self, other: &Happened) -> bool
         ensures { IsTrue result ↔ (self.now ≡ other.now) }
     {
@@ -203,12 +239,6 @@ impl Happened {
     }
 }
 
-/// What became of a runner's reply.
-#[derive(Drop)]
-pub enum Answered {
-    Recorded(Happened),
-}
-
 impl Answered {
     /// An equal answer.
     pub fn copy(&self, alloc: Global) -> Result<Answered, NoMemory>
@@ -218,6 +248,7 @@ impl Answered {
         Ok(Answered::Recorded(happened.copy(alloc)?))
     }
 
+    /// Whether both are equal.
     pub fn same(&self, other: &Answered) -> bool
         ensures { IsTrue result ↔ (self.now ≡ other.now) }
     {
@@ -226,26 +257,12 @@ impl Answered {
     }
 }
 
-/// What became of a reply, twice: to be given, and to be kept.
-#[derive(Drop)]
-pub struct AnsweredTwice {
-    pub given: Answered,
-    pub kept: Answered,
-}
-
-/// Why a runner's reply was not taken. Each hands the reply back.
-#[derive(Drop)]
-pub enum AnswerRefusal {
-    /// No activation is carried by a run of this number.
-    NoRun { run: u64, reply: RunReply },
-    NoMemory(RunReply),
-}
-
-/// Whether all activations have ended.
-#[derive(Clone, Copy, Debug, PartialEq, Eq)]
-pub enum Drain {
-    /// All have: so many were accepted.
-    Drained(u64),
-    /// So many have not, at least one.
-    StillOpen(u64),
+// The kind of runner that a code needs.
+fn kind_of(exec: &Exec) -> Kind
+    ensures { result ≡ kind_of exec.now }
+{
+    match exec {
+        Exec::Plain { .. } => Kind::Plain,
+        Exec::Program { .. } => Kind::Program,
+    }
 }

@@ -1,7 +1,7 @@
 // The floor and its calls.
 ghost use Rattle.std.specs.Prelude.{◌≡◌, ◌+◌, ◌^◌, ◌<◌, ◌≤◌, [], IfOk, IsOk, IsSome, OnOk, OnErr, IfErr};
 ghost use Rattle.std.specs.List.{find};
-ghost use Rattle.ow_floor.specs.View.{PlaceOf, carries, last_of, put_id, waits, with_accepted, with_drain, with_end, with_run};
+ghost use Rattle.ow_floor.specs.View.{carries, last_of, waits, with_accepted};
 ghost use Rattle.ow_floor.specs.Trace.{Trace, head, is_draining, last, latest, record_of};
 ghost use Rattle.ow_floor.specs.Laws.{Stands};
 ghost use Rattle.ow_floor.specs.Calls.{Accepts, AllRecorded, Answers, Drains, HandsBack, IsAnswered, IsStarted, Orders, activation_of, end_of, given_of, happened_accepted, happened_recorded, next_order, order_of};
@@ -220,68 +220,6 @@ impl Floor {
     }
 }
 
-// The answer that is given, of the two.
-fn given_of(answered: Result<AnsweredTwice, AnswerRefusal>) -> Result<Answered, AnswerRefusal>
-    ensures { result ≡ given_of answered }
-{
-    match answered {
-        Ok(two) => Ok(two.given),
-        Err(refusal) => Err(refusal),
-    }
-}
-
-// The activation that a plan becomes at this moment.
-fn activation_of(at: u64, plan: Plan) -> Activation
-    ensures { result ≡ activation_of at plan }
-{
-    let Plan {
-        id,
-        namespace,
-        action,
-        params,
-        subject,
-        cause,
-        until,
-    } = plan;
-    Activation {
-        id,
-        at,
-        namespace,
-        action,
-        params,
-        subject,
-        cause,
-        until,
-    }
-}
-
-// The record of an activation that ends so, and what is told of it, twice.
-fn record_end(
-    alloc: Global,
-    scratch: &mut Scratch,
-    at: u64,
-    task: &Activation,
-    ending: &Ending,
-) -> Result<(Ended, AnsweredTwice), NoMemory>
-    ensures entry { IfOk result (λ r. r.0 ≡ record_of (end_of at ending.now task.now)) }
-    ensures told { IfOk result (λ r. r.1.given ≡ Answered.Recorded (happened_recorded (end_of at ending.now task.now))) }
-    ensures same { IfOk result (λ r. r.1.kept ≡ r.1.given) }
-{
-    let response = outcome_in(alloc, scratch, ending, &task.action.limits)?;
-    let happening = Happening::Recorded {
-        id: task.id,
-        code: response.code(),
-    };
-    let given = Answered::Recorded(Happened::one(alloc, happening)?);
-    let kept = Answered::Recorded(Happened::one(alloc, happening)?);
-    let ended = Ended {
-        id: task.id,
-        at,
-        response,
-    };
-    Ok((ended, AnsweredTwice { given, kept }))
-}
-
 impl Floor {
     // Adds an activation, where there is room.
     fn place(&mut self, task: Activation)
@@ -349,4 +287,66 @@ impl Floor {
         self.latest = at;
         Ok(answered)
     }
+}
+
+// The answer that is given, of the two.
+fn given_of(answered: Result<AnsweredTwice, AnswerRefusal>) -> Result<Answered, AnswerRefusal>
+    ensures { result ≡ given_of answered }
+{
+    match answered {
+        Ok(two) => Ok(two.given),
+        Err(refusal) => Err(refusal),
+    }
+}
+
+// The activation that a plan becomes at this moment.
+fn activation_of(at: u64, plan: Plan) -> Activation
+    ensures { result ≡ activation_of at plan }
+{
+    let Plan {
+        id,
+        namespace,
+        action,
+        params,
+        subject,
+        cause,
+        until,
+    } = plan;
+    Activation {
+        id,
+        at,
+        namespace,
+        action,
+        params,
+        subject,
+        cause,
+        until,
+    }
+}
+
+// The record of an activation that ends so, and what is told of it, twice.
+fn record_end(
+    alloc: Global,
+    scratch: &mut Scratch,
+    at: u64,
+    task: &Activation,
+    ending: &Ending,
+) -> Result<(Ended, AnsweredTwice), NoMemory>
+    ensures entry { IfOk result (λ r. r.0 ≡ record_of (end_of at ending.now task.now)) }
+    ensures told { IfOk result (λ r. r.1.given ≡ Answered.Recorded (happened_recorded (end_of at ending.now task.now))) }
+    ensures same { IfOk result (λ r. r.1.kept ≡ r.1.given) }
+{
+    let response = outcome_in(alloc, scratch, ending, &task.action.limits)?;
+    let happening = Happening::Recorded {
+        id: task.id,
+        code: response.code(),
+    };
+    let given = Answered::Recorded(Happened::one(alloc, happening)?);
+    let kept = Answered::Recorded(Happened::one(alloc, happening)?);
+    let ended = Ended {
+        id: task.id,
+        at,
+        response,
+    };
+    Ok((ended, AnsweredTwice { given, kept }))
 }

@@ -2,6 +2,7 @@
 use Rattle.std.proofs.Common.{◌≡◌, ◌+◌, ◌≤◌, ◌==◌, ℕ, Bool, true, false, cond, [], ◌∷◌, Option, Some, None, length, refl, arith}
 use Rattle.std.proofs.lemmas.Bool.Decides.{nat_tests}
 use Rattle.ow_traits.specs.declared.replies.RunReply.{RunReply}
+use Rattle.ow_value.specs.Value.{Pairs}
 use Rattle.ow_names.specs.declared.full.FullName.{FullName}
 use Rattle.ow_floor.specs.declared.activations.Open.{Open}
 use Rattle.ow_floor.specs.Trace.{Trace, run_count, last, head, carried}
@@ -9,7 +10,7 @@ use Rattle.ow_floor.specs.Calls.{after_order, after_end}
 use Rattle.ow_http.specs.declared.reason.Reason.{Reason}
 use Rattle.ow_hall.specs.declared.entry.Event.{Event}
 use Rattle.ow_hall.specs.declared.entry.Event.TheVariants as events
-use Rattle.ow_hall.specs.Calls.{Pairs, Callee, callee, call_refusal}
+use Rattle.ow_hall.specs.Calls.{Callee, callee, call_refusal}
 use Rattle.ow_hall.specs.Decisions.{Seen, decide, accepted, trace_after, after}
 use Rattle.ow_hall.specs.History.{History, seen, counted}
 

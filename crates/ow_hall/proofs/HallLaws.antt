@@ -1,13 +1,11 @@
 -- What is booked, by what the code has in hand.
-use Rattle.std.proofs.Common.{[], ◌≡◌, ◌+◌, ◌<◌, ◌≤◌, ◌^◌, ◌∙◌, ℕ, Bool, true, false, ◌∷◌, Some, if◌then◌else◌, length, refl, sym, ap, subst, arith}
+use Rattle.std.proofs.Common.{[], ◌≡◌, ◌+◌, ◌<◌, ◌≤◌, ◌^◌, ◌∙◌, ℕ, Bool, false, ◌∷◌, Some, if◌then◌else◌, length, refl, sym, ap, subst, arith}
 use Rattle.std.proofs.Math.Nat.{le-max_left, max-le, min-le_right}
 use Rattle.ow_floor.specs.View.{last_of}
 use Rattle.ow_floor.specs.Laws.{Stands}
 use Rattle.ow_http.specs.Parts.{Parts}
 use Rattle.ow_http.specs.Request.{parts_of}
 use Rattle.ow_http.specs.declared.request.Request.{Request}
-use Rattle.ow_hall.specs.declared.calls.Planned.{Planned}
-use Rattle.ow_hall.specs.declared.calls.Planned.TheVariants as planned
 use Rattle.ow_hall.specs.declared.done.Done.{Done}
 use Rattle.ow_hall.specs.declared.done.Done.TheVariants.{Refused, Shown, Changed}
 use Rattle.ow_hall.specs.declared.entry.Event.{Event}
@@ -16,9 +14,9 @@ use Rattle.ow_hall.specs.declared.entry.Told.{Told}
 use Rattle.ow_hall.specs.Asks.{asked}
 use Rattle.ow_hall.specs.Book.{Keeps}
 use Rattle.ow_hall.specs.Decisions.{Seen, Decision, Asks, told_of, after}
-use Rattle.ow_hall.specs.History.{AreAnswered, History, IsLegal, answer, counted, decision, is_skipped, last_moment, moment, opens_here, seen, with_entry}
+use Rattle.ow_hall.specs.History.{AreAnswered, History, IsLegal, answer, counted, decision, greatest_moment, is_skipped, last_moment, moment, opens_here, seen, with_entry}
 use Rattle.ow_hall.specs.Ledger.{Ledger, posted, tallied}
-use Rattle.ow_hall.specs.Works.{WorksView, IsAt, done_of, is_full_done, is_full_plan, planned_of}
+use Rattle.ow_hall.specs.Works.{WorksView, IsAt, done_of, is_full_done}
 use Rattle.ow_hall.proofs.Bounds.{runs_small, last_small}
 
 -- ---- what is left out
@@ -27,10 +25,6 @@ pub skips_done : (B : History) (d : Done) → is_skipped B (Asks (done_of d)) �
 skips_done B (Refused reason) = refl
 skips_done B (Shown value) = refl
 skips_done B (Changed ready) = refl
-
-pub skips_planned : (B : History) (p : Planned) → is_skipped B (planned_of p) ≡ is_full_plan p
-skips_planned B (planned.Refused reason) = refl
-skips_planned B (planned.Accepted plan) = refl
 
 -- ---- numbers that fit
 
@@ -69,17 +63,10 @@ with at event t L = record L { entries = record { at = at; event = event; answer
 abbrev posting : Ledger → ℕ → Event → Decision → Ledger
 posting L at event d = if is_skipped L.entries d then tallied d L else record L { entries = with_entry at event (told_of d) L.entries }
 
-left_out : (L : Ledger) (at : ℕ) (event : Event) (d : Decision) → is_skipped L.entries d ≡ true → tallied d L ≡ posting L at event d
-left_out L at event d skipped = rw skipped refl
-
 put_in : (L : Ledger) (at : ℕ) (event : Event) (d : Decision) (t : Told) → is_skipped L.entries d ≡ false → told_of d ≡ Some t → with at event t L ≡ posting L at event d
 put_in L at event d t kept told = rw kept (rw told refl)
 
--- what is left out is tallied
-pub posted_skipped : (L : Ledger) (at : ℕ) (event : Event) (d : Decision) → decision L.entries at event ≡ d → is_skipped L.entries d ≡ true → tallied d L ≡ posted L at event
-posted_skipped L at event d same skipped = left_out L at event d skipped ∙ ap (posting L at event) (sym same)
-
--- what isn't is booked with its answer
+-- what isn't left out is booked with its answer
 pub posted_kept : (L : Ledger) (at : ℕ) (event : Event) (d : Decision) (t : Told) → decision L.entries at event ≡ d → is_skipped L.entries d ≡ false → told_of d ≡ Some t
     → with at event t L ≡ posted L at event
 posted_kept L at event d t same kept told = put_in L at event d t kept told ∙ ap (posting L at event) (sym same)
@@ -93,16 +80,16 @@ told_as L at event d t same told = sym told ∙ ap told_of (sym same)
 pub not_before : (B : History) (at : ℕ) → last_moment B ≤ moment B at
 not_before B at = le-max_left _ _
 
-newest_small : (B : History) → AreAnswered B → last_moment B ≤ 253402300799999
+newest_small : (B : History) → AreAnswered B → last_moment B ≤ greatest_moment
 newest_small [] answered = omega arith
 newest_small (e ∷ B) answered = answered.2
 
-pub not_after : (B : History) (at : ℕ) → IsLegal B → moment B at ≤ 253402300799999
-not_after B at legal = max-le (newest_small B legal.answered) (min-le_right at 253402300799999)
+pub not_after : (B : History) (at : ℕ) → IsLegal B → moment B at ≤ greatest_moment
+not_after B at legal = max-le (newest_small B legal.answered) (min-le_right at greatest_moment)
 
 -- an entry that is booked as it was decided, and carried out so
 pub keeps_entry : (old new : WorksView) (L : Ledger) (at : ℕ) (event : Event) (d : Decision) (t : Told) → Keeps old L
-    → last_moment L.entries ≤ at → at ≤ 253402300799999 → ((b : Bool) → opens_here event L.entries b ≡ b)
+    → last_moment L.entries ≤ at → at ≤ greatest_moment → ((b : Bool) → opens_here event L.entries b ≡ b)
     → decision L.entries at event ≡ d → told_of d ≡ Some t → IsAt new (after at d (seen L.entries)) → Keeps new (with at event t L)
 keeps_entry old new L at event d t keeps later most opens same told stands = record {
   stands = rw same stands;

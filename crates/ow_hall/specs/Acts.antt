@@ -20,16 +20,19 @@ is_built (route.Entity namespace kinds.Action None name) verbs.Put = true
 is_built (route.Entity namespace kinds.Action None name) verbs.Delete = true
 is_built other method = false
 
+-- a draft is put
 abbrev pub put_act : Option Draft → Bool → Act
 put_act None overwrite = Nothing
 put_act (Some draft) overwrite = Puts draft overwrite
 
+-- an entity is got, deleted or put
 abbrev pub entity_act : EntityKind → Verb → Option FullName → Call → Act
 entity_act kind verbs.Get (Some name) c = Gets kind name
 entity_act kind verbs.Delete (Some name) c = Removes kind name
 entity_act kind verbs.Put (Some name) c = put_act c.draft c.overwrite
 entity_act kind method name c = Nothing
 
+-- what a call of this route and method is to do
 abbrev pub act_of : Route → Verb → Call → Act
 act_of (route.List namespace kind) method c = Lists kind c.skip c.limit
 act_of (route.Entity namespace kind inside name) method c = entity_act kind method c.name c

@@ -3,7 +3,7 @@ use Rattle.std.specs.Prelude.{◌≡◌, ◌+◌, ◌≤◌, ℕ, Bool, true, fa
 use Rattle.ow_traits.specs.declared.replies.RunReply.{RunReply}
 use Rattle.ow_traits.specs.declared.replies.RunReply.TheVariants as runs
 use Rattle.ow_floor.specs.declared.answers.Order.TheVariants as orders
-use Rattle.ow_hall.specs.Reasons.{is_full}
+use Rattle.ow_hall.specs.Reasons.{tells_full}
 use Rattle.ow_hall.specs.declared.entry.Entry.{Entry}
 use Rattle.ow_hall.specs.declared.entry.Event.{Event}
 use Rattle.ow_hall.specs.declared.entry.Event.TheVariants as events
@@ -14,6 +14,7 @@ use Rattle.ow_hall.specs.declared.replies.Reply.TheVariants as replies
 use Rattle.ow_hall.specs.Asks.{Refused}
 use Rattle.ow_hall.specs.Decisions.{Seen, Decision, Asks, Declines, Orders, Ends, nothing_seen, decide, told_of, after}
 
+-- the entries, the newest first
 abbrev pub History : Type 0
 History = List Entry
 
@@ -26,6 +27,7 @@ reply_bytes (runs.Exit code logs) = sum (map length logs)
 reply_bytes (runs.NoStart text) = length text
 reply_bytes runs.Fault = 0
 
+-- of an event those of its request or its reply
 abbrev pub event_bytes : Event → ℕ
 event_bytes (events.Asked r) = r.size
 event_bytes (events.Answered run reply) = reply_bytes reply
@@ -36,6 +38,7 @@ abbrev pub reply_body : Reply → ℕ
 reply_body (replies.Now answer) = length answer.body
 reply_body reply = 0
 
+-- of an answer those of its body, where it answers a request
 abbrev pub told_bytes : Told → ℕ
 told_bytes (told.Asked reply) = reply_body reply
 told_bytes t = 0
@@ -52,9 +55,13 @@ abbrev pub last_moment : History → ℕ
 last_moment [] = 0
 last_moment (e ∷ B) = e.at
 
--- the moment that is booked for a given one: at most the last of the year 9999, and never before the last one booked
+-- the last moment of the year 9999
+abbrev pub greatest_moment : ℕ
+greatest_moment = 253402300799999
+
+-- the moment that is booked for a given one: at most the greatest, and never before the last one booked
 abbrev pub moment : History → ℕ → ℕ
-moment B at = max (last_moment B) (min at 253402300799999)
+moment B at = max (last_moment B) (min at greatest_moment)
 
 -- ---- what came of the entries
 
@@ -63,6 +70,7 @@ abbrev pub seen : History → Seen
 seen [] = nothing_seen
 seen (e ∷ B) = after e.at (decide (seen B) (counted B) e.at e.event) (seen B)
 
+-- what is done at an event behind these entries
 abbrev pub decision : History → ℕ → Event → Decision
 decision B at event = decide (seen B) (counted B) at event
 
@@ -72,6 +80,7 @@ answer B at event = told_of (decision B at event)
 
 -- ---- what is booked
 
+-- nothing is to run
 abbrev pub is_idle_answer : Told → Bool
 is_idle_answer (told.Next (orders.Nothing idle)) = true
 is_idle_answer t = false
@@ -86,10 +95,11 @@ is_idle (e ∷ B) = is_idle_answer e.answer
 abbrev pub is_skipped : History → Decision → Bool
 is_skipped B (Orders (orders.Nothing idle)) = is_idle B
 is_skipped B (Ends run reply (Err refusal)) = true
-is_skipped B (Asks (Refused reason)) = is_full reason
-is_skipped B (Declines reason) = is_full reason
+is_skipped B (Asks (Refused reason)) = tells_full reason
+is_skipped B (Declines reason) = tells_full reason
 is_skipped B d = false
 
+-- with an entry more, where there is an answer
 abbrev pub with_entry : ℕ → Event → Option Told → History → History
 with_entry at event None B = B
 with_entry at event (Some t) B = record { at = at; event = event; answer = t } ∷ B
@@ -100,15 +110,17 @@ booked B at event = if is_skipped B (decision B at event) then B else with_entry
 
 -- ---- legal books
 
--- each answer is the answer of the entries before it, and the moments don't fall and are at most the last of the year 9999
+-- each answer is the answer of the entries before it, and the moments don't fall and are at most the greatest
 abbrev pub AreAnswered : History → Type 0
 AreAnswered [] = Unit {0}
-AreAnswered (e ∷ B) = (Some e.answer ≡ answer B e.at e.event) × (last_moment B ≤ e.at) × (e.at ≤ 253402300799999) × AreAnswered B
+AreAnswered (e ∷ B) = (Some e.answer ≡ answer B e.at e.event) × (last_moment B ≤ e.at) × (e.at ≤ greatest_moment) × AreAnswered B
 
+-- there is no entry
 abbrev pub is_empty : History → Bool
 is_empty [] = true
 is_empty (e ∷ B) = false
 
+-- an opening stands behind no entry; at another event it is as before
 abbrev pub opens_here : Event → History → Bool → Bool
 opens_here (events.Opened rows) B before = is_empty B
 opens_here event B before = before
@@ -118,6 +130,7 @@ abbrev pub is_opened : History → Bool
 is_opened [] = false
 is_opened (e ∷ B) = opens_here e.event B (is_opened B)
 
+-- each is answered so, and the service was opened first
 pub record IsLegal (B : History) : Type 0 where
   pub answered : AreAnswered B
   pub opened : is_opened B ≡ true

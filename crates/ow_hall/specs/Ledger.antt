@@ -13,6 +13,7 @@ pub record Ledger : Type 0 where
   pub quiet : ℕ
   pub denied : ℕ
 
+-- nothing is booked or tallied
 abbrev pub no_entries : Ledger
 no_entries = record { entries = []; stored = 0; quiet = 0; denied = 0 }
 

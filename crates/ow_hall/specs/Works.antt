@@ -14,7 +14,7 @@ use Rattle.ow_traits.specs.declared.replies.RunReply.{RunReply}
 use Rattle.ow_http.specs.Reason.{status_of, told}
 use Rattle.ow_http.specs.declared.reason.Reason.{Reason}
 use Rattle.ow_hall.specs.Asks as asks
-use Rattle.ow_hall.specs.Reasons.{is_full}
+use Rattle.ow_hall.specs.Reasons.{tells_full}
 use Rattle.ow_hall.specs.Decisions.{Seen, Decision, Accepts, Declines, after}
 use Rattle.ow_hall.specs.declared.done.Done.{Done}
 use Rattle.ow_hall.specs.declared.done.Done.TheVariants.{Refused, Shown, Changed}
@@ -29,18 +29,20 @@ done_of (Refused reason) = asks.Refused reason
 done_of (Shown value) = asks.Shown (view value)
 done_of (Changed ready) = asks.Changed ready
 
+-- that the book is full
 abbrev pub is_full_done : Done → Bool
-is_full_done (Refused reason) = is_full reason
+is_full_done (Refused reason) = tells_full reason
 is_full_done done = false
 
--- clients are told the refusal
-pub record IsSent (reason : Reason) : Type 0 where
+-- clients can be answered so: the number has a status, and isn't 45, with which a result is told too
+pub record HasStatus (reason : Reason) : Type 0 where
   pub status : IsSome (status_of reason)
   pub alone : reason.number ≢ 45
 
-abbrev pub IsTold : Done → Type 0
-IsTold (Refused reason) = IsSent reason
-IsTold done = Unit {0}
+-- what comes of a request can be answered
+abbrev pub DoneHasStatus : Done → Type 0
+DoneHasStatus (Refused reason) = HasStatus reason
+DoneHasStatus done = Unit {0}
 
 -- there is room for the change
 abbrev pub IsReady : Done → ℕ → Type 0
@@ -72,13 +74,18 @@ abbrev pub planned_of : Planned → Decision
 planned_of (planned.Refused reason) = Declines reason
 planned_of (planned.Accepted plan) = Accepts plan
 
--- people can be told the refusal
-abbrev pub IsFit : Planned → Type 0
-IsFit (planned.Refused reason) = IsSome (told reason)
-IsFit (planned.Accepted plan) = Unit {0}
+-- people can be told the refusal: the number has a text
+abbrev pub HasText : Reason → Type 0
+HasText reason = IsSome (told reason)
 
+-- people can be told what comes of a call
+abbrev pub PlannedHasText : Planned → Type 0
+PlannedHasText (planned.Refused reason) = HasText reason
+PlannedHasText (planned.Accepted plan) = Unit {0}
+
+-- that the book is full
 abbrev pub is_full_plan : Planned → Bool
-is_full_plan (planned.Refused reason) = is_full reason
+is_full_plan (planned.Refused reason) = tells_full reason
 is_full_plan (planned.Accepted plan) = false
 
 -- what is told of it
@@ -87,9 +94,9 @@ called_by (planned.Refused reason) = called.Refused reason
 called_by (planned.Accepted plan) = called.Happened (happened_accepted plan.id)
 
 -- people can be told what became of a call
-abbrev pub IsTellable : Called → Type 0
-IsTellable (called.Refused reason) = IsSome (told reason)
-IsTellable (called.Happened happened) = Unit {0}
+abbrev pub CalledHasText : Called → Type 0
+CalledHasText (called.Refused reason) = HasText reason
+CalledHasText (called.Happened happened) = Unit {0}
 
 -- what is planned has the next id of its namespace
 abbrev pub IsNextOf : List Id → Planned → Type 0

@@ -1,14 +1,14 @@
 // What comes of a request: its first refusal, in the order of their places, or what it reads and changes.
 ghost use Rattle.std.specs.Prelude.{◌≡◌, ℕ, IfOk, IfSome};
-ghost use Rattle.ow_value.specs.View.{view};
 ghost use Rattle.ow_http.specs.Request.{parts_of};
 ghost use Rattle.ow_hall.specs.Asks.{acted, asked, full, namespace_of, unbuilt, ungranted};
 ghost use Rattle.ow_hall.specs.Spaces as spaces;
-ghost use Rattle.ow_hall.specs.Works.{IsReady, IsSent, IsTold, done_of};
+ghost use Rattle.ow_hall.specs.Works.{DoneHasStatus, HasStatus, IsReady, done_of};
 
 use crate::acts::{Act, act_of, is_built};
+use crate::book::is_full;
 use crate::done::Done;
-use crate::reasons::{call_reason, plain, table_reason};
+use crate::reasons::{FULL, NO_ROUTE, NOT_FOUND, NOT_GRANTED, call_reason, table_reason};
 use crate::spaces::{HOME, is_granted};
 use ow_entity::{Draft, EntityKind, write_entity};
 use ow_http::{CallRefusal, Reason, Request, Route, read_call};
@@ -28,7 +28,7 @@ pub(crate) fn asked(
     ensures done { IfOk result (λ d. done_of d ≡ asked tables.old.rows counted (parts_of request.now)) }
     ensures rows { tables.new.rows ≡ tables.old.rows }
     ensures ready { IfOk result (λ d. IsReady d tables.new.room) }
-    ensures told { IfOk result IsTold }
+    ensures status { IfOk result DoneHasStatus }
 {
     if let Some(reason) = unbuilt(alloc, request) {
         return Ok(Done::Refused(reason));
@@ -53,22 +53,22 @@ pub(crate) fn asked(
 #[tactic(auto, using(crate::proofs::ReasonLaws::sent_36))]
 fn unbuilt(alloc: Global, request: &Request) -> Option<Reason>
     ensures value { result ≡ unbuilt (parts_of request.now) }
-    ensures sent { IfSome result IsSent }
+    ensures status { IfSome result HasStatus }
 {
     if is_built(&request.route, request.method) {
         return None;
     }
-    Some(plain(alloc, 36))
+    Some(Reason::plain(alloc, NO_ROUTE))
 }
 
 /// The book has no room for an entry of so many bytes beside its 64.
-#[tactic(auto, unfolding(crate::specs::Asks::full), using(crate::proofs::ReasonLaws::sent_33))]
+#[tactic(auto, using(crate::proofs::ReasonLaws::sent_33))]
 pub(crate) fn full(alloc: Global, counted: u64, size: u64) -> Option<Reason>
     ensures value { result ≡ full counted size }
-    ensures sent { IfSome result IsSent }
+    ensures status { IfSome result HasStatus }
 {
-    if counted as u128 + 64 + size as u128 > 1_073_741_824 {
-        return Some(plain(alloc, 33));
+    if is_full(counted, size) {
+        return Some(Reason::plain(alloc, FULL));
     }
     None
 }
@@ -76,12 +76,12 @@ pub(crate) fn full(alloc: Global, counted: u64, size: u64) -> Option<Reason>
 #[tactic(auto, using(crate::proofs::ReasonLaws::sent_24))]
 fn ungranted(alloc: Global, request: &Request) -> Option<Reason>
     ensures value { result ≡ ungranted (parts_of request.now) }
-    ensures sent { IfSome result IsSent }
+    ensures status { IfSome result HasStatus }
 {
     if is_granted(namespace_of(&request.route)) {
         return None;
     }
-    Some(plain(alloc, 24))
+    Some(Reason::plain(alloc, NOT_GRANTED))
 }
 
 fn namespace_of(route: &Route) -> &[u8]
@@ -109,7 +109,7 @@ fn acted(alloc: Global, tables: &mut Tables, home: &EntityName, act: Act) -> Res
     ensures done { IfOk result (λ d. done_of d ≡ acted tables.old.rows act) }
     ensures rows { tables.new.rows ≡ tables.old.rows }
     ensures ready { IfOk result (λ d. IsReady d tables.new.room) }
-    ensures told { IfOk result IsTold }
+    ensures status { IfOk result DoneHasStatus }
 {
     match act {
         Act::Lists { kind, skip, limit } => {
@@ -117,9 +117,9 @@ fn acted(alloc: Global, tables: &mut Tables, home: &EntityName, act: Act) -> Res
             Ok(Done::Shown(Val::List(listed)))
         }
         Act::Gets { kind, name } => shown(alloc, tables, kind, &name),
-        Act::Puts { draft, overwrite } => { put(alloc, tables, draft, overwrite) }
+        Act::Puts { draft, overwrite } => put(alloc, tables, draft, overwrite),
         Act::Removes { kind, name } => removed(alloc, tables, kind, &name),
-        Act::Nothing => Ok(Done::Refused(plain(alloc, 36))),
+        Act::Nothing => Ok(Done::Refused(Reason::plain(alloc, NO_ROUTE))),
     }
 }
 
@@ -132,11 +132,11 @@ fn shown(
 ) -> Result<Done, NoMemory>
     ensures done { IfOk result (λ d. done_of d ≡ acted tables.now.rows (Act.Gets kind name.now)) }
     ensures ready { IfOk result (λ d. (room : ℕ) → IsReady d room) }
-    ensures told { IfOk result IsTold }
+    ensures status { IfOk result DoneHasStatus }
 {
     match tables.get(kind, name) {
         Ok(row) => Ok(Done::Shown(write_entity(alloc, row)?)),
-        Err(_) => Ok(Done::Refused(plain(alloc, 14))),
+        Err(_) => Ok(Done::Refused(Reason::plain(alloc, NOT_FOUND))),
     }
 }
 
@@ -144,7 +144,7 @@ fn put(alloc: Global, tables: &mut Tables, draft: Draft, overwrite: bool) -> Res
     ensures done { IfOk result (λ d. done_of d ≡ acted tables.old.rows (Act.Puts draft overwrite)) }
     ensures rows { tables.new.rows ≡ tables.old.rows }
     ensures ready { IfOk result (λ d. IsReady d tables.new.room) }
-    ensures told { IfOk result IsTold }
+    ensures status { IfOk result DoneHasStatus }
 {
     match tables.prepare_put(alloc, draft, overwrite) {
         Ok(ready) => Ok(Done::Changed(ready)),
@@ -162,7 +162,7 @@ fn removed(
     ensures done { IfOk result (λ d. done_of d ≡ acted tables.old.rows (Act.Removes kind name.now)) }
     ensures rows { tables.new.rows ≡ tables.old.rows }
     ensures ready { IfOk result (λ d. IsReady d tables.new.room) }
-    ensures told { IfOk result IsTold }
+    ensures status { IfOk result DoneHasStatus }
 {
     match tables.prepare_remove(alloc, kind, name) {
         Ok(ready) => Ok(Done::Changed(ready)),

@@ -1,5 +1,6 @@
 // The book and what it counts.
-ghost use Rattle.std.specs.Prelude.{◌≡◌, ◌↔◌, ◌+◌, ◌^◌, ◌<◌, ◌≤◌, ◌∷◌, [], length, map, sum, reverse, Some, IsTrue, IfSome, IfOk, OnOk};
+ghost use Rattle.std.specs.Prelude.{◌≡◌, ◌↔◌, ◌+◌, ◌^◌, ◌<◌, ◌≤◌, ◌∷◌, length, map, sum, reverse, Some, IsTrue, IfSome, IfOk, OnOk};
+ghost use Rattle.ow_hall.specs.Asks.{is_full};
 ghost use Rattle.ow_hall.specs.History.{counted, event_bytes, is_idle, moment, reply_body, reply_bytes, told_bytes};
 ghost use Rattle.ow_hall.specs.Ledger.{no_entries, one_more};
 
@@ -12,6 +13,12 @@ use ow_traits::RunReply;
 use ow_value::{NoMemory, Str};
 use std::alloc::Global;
 use std::marker::Model;
+
+/// The greatest moment, in milliseconds: the last of the year 9999.
+pub const GREATEST_MOMENT: u64 = 253_402_300_799_999;
+
+// How many bytes a book counts at most.
+const MOST_COUNTED: u128 = 1_073_741_824;
 
 /// All that was asked and answered since the service was opened.
 #[derive(Drop)]
@@ -46,9 +53,6 @@ impl Model for Book {
 
     ghost invariant = { λ b. b.total ≡ counted (reverse b.entries.items) };
 }
-
-// The last moment of year 9999.
-const LAST_MOMENT: u64 = 253_402_300_799_999;
 
 impl Book {
     /// No entry. This takes no memory.
@@ -100,15 +104,23 @@ impl Book {
         self.denied
     }
 
-    /// The moment that is booked for a given one.
+    /// Whether it has no room for an entry of so many bytes beside its 64.
+    pub fn is_full(&self, size: u64) -> bool
+        ensures { result ≡ is_full (counted self.now.ledger.entries) size }
+    {
+        is_full(self.total, size)
+    }
+
+    /// The moment that is booked for a given one. The entries lie in memory, so their number has a bound.
     pub(crate) fn moment(&self, at: u64) -> u64
-        ensures { result ≡ moment self.now.ledger.entries at }
+        ensures value { result ≡ moment self.now.ledger.entries at }
+        ensures small { length self.now.ledger.entries < 2 ^ 63 }
     {
         let last = match self.entries.as_slice().last() {
             Some(entry) => entry.at,
             None => 0,
         };
-        last.max(at.min(LAST_MOMENT))
+        last.max(at.min(GREATEST_MOMENT))
     }
 
     /// Whether the last entry is a `next` that ordered nothing.
@@ -119,14 +131,6 @@ impl Book {
             Some(entry) => matches!(entry.answer, Told::Next(Order::Nothing(_))),
             None => false,
         }
-    }
-
-    /// How many entries there are, which fits in memory.
-    pub(crate) fn len(&self) -> usize
-        ensures value { result ≡ length self.now.ledger.entries }
-        ensures small { result < 2 ^ 63 }
-    {
-        self.entries.len()
     }
 
     /// Makes room for an entry that has so many bytes beside its 64, if they can be told. A count that would pass its type is
@@ -173,6 +177,14 @@ impl Book {
     {
         self.denied = self.denied.saturating_add(1);
     }
+}
+
+/// Whether a book that counts so many bytes has no room for an entry of so many beside its 64.
+#[tactic(auto, unfolding(crate::specs::Asks::is_full))]
+pub(crate) fn is_full(counted: u64, size: u64) -> bool
+    ensures { result ≡ is_full counted size }
+{
+    counted as u128 + 64 + size as u128 > MOST_COUNTED
 }
 
 // Whether an entry with so many bytes beside its 64 can be counted.

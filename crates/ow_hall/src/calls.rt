@@ -1,14 +1,14 @@
 // The office's own invocation of an action.
-ghost use Rattle.std.specs.Prelude.{◌≡◌, ◌+◌, ◌<◌, ◌^◌, ℕ, IfOk, IfSome, option_map};
+ghost use Rattle.std.specs.Prelude.{◌≡◌, ◌+◌, ◌<◌, ◌^◌, ℕ, IfOk, option_map};
 ghost use Rattle.ow_floor.specs.View.{last_of};
 ghost use Rattle.ow_floor.specs.Laws.{Stands};
 ghost use Rattle.ow_floor.specs.Trace.{Trace};
-ghost use Rattle.ow_hall.specs.Calls.{callee, fitting, pairs_of};
+ghost use Rattle.ow_hall.specs.Calls.{callee, fitting, pairs_of, plan_for};
 ghost use Rattle.ow_hall.specs.Decisions.{called_of};
-ghost use Rattle.ow_hall.specs.Works.{IsFit, IsNextOf, IsTellable, called_by, is_full_plan, planned_of};
+ghost use Rattle.ow_hall.specs.Works.{CalledHasText, IsNextOf, PlannedHasText, called_by, is_full_plan, planned_of};
 
 use crate::asks::full;
-use crate::reasons::plain;
+use crate::reasons::{DRAINING, FULL, NOT_FOUND, TOO_LARGE};
 use crate::replies::Called;
 use crate::spaces::{OFFICE, number_of};
 use ow_entity::{Action, EntityKind, Row};
@@ -17,7 +17,7 @@ use ow_http::Reason;
 use ow_names::FullName;
 use ow_records::Id;
 use ow_tables::Tables;
-use ow_value::{NoMemory, Params, Str, Val, merge, size};
+use ow_value::{MEGABYTE, NoMemory, Params, Str, Val, merge, size};
 use std::alloc::Global;
 
 /// A refusal, or what is to be accepted.
@@ -33,16 +33,16 @@ impl Planned {
         ensures { result ≡ is_full_plan self.now }
     {
         match self {
-            Planned::Refused(reason) => reason.number == 33,
+            Planned::Refused(reason) => reason.number == FULL,
             Planned::Accepted(_) => false,
         }
     }
 
     /// What is told of it.
     pub(crate) fn told(&self, alloc: Global) -> Result<Called, NoMemory>
-        requires { IsFit self.now }
+        requires { PlannedHasText self.now }
         ensures told { IfOk result (λ c. c ≡ called_by self.now) }
-        ensures sent { IfOk result IsTellable }
+        ensures text { IfOk result CalledHasText }
     {
         match self {
             Planned::Refused(reason) => Ok(Called::Refused(reason.copy(alloc)?)),
@@ -67,33 +67,47 @@ pub(crate) fn plan_call(
     requires { (n : ℕ) → last_of floor.now.lists.drawn n + 1 < 2 ^ 64 }
     ensures decision { IfOk result (λ p. (T : Trace) → Stands floor.now.lists T
         → planned_of p ≡ called_of tables.now.rows T counted name.now params.now) }
-    ensures sent { IfOk result IsFit }
+    ensures text { IfOk result PlannedHasText }
     ensures next { IfOk result (IsNextOf floor.now.lists.drawn) }
 {
     if let Some(reason) = full(alloc, counted, 0) {
         return Ok(Planned::Refused(reason));
     }
     let Some((number, action)) = callee(tables, name) else {
-        return Ok(Planned::Refused(plain(alloc, 14)));
+        return Ok(Planned::Refused(Reason::plain(alloc, NOT_FOUND)));
     };
     let Some(params) = merged(alloc, action, params)? else {
-        return Ok(Planned::Refused(plain(alloc, 13)));
+        return Ok(Planned::Refused(Reason::plain(alloc, TOO_LARGE)));
     };
     if floor.is_draining() {
-        return Ok(Planned::Refused(plain(alloc, 32)));
+        return Ok(Planned::Refused(Reason::plain(alloc, DRAINING)));
     }
-    Ok(Planned::Accepted(Plan {
-        id: Id {
-            namespace: number,
-            count: floor.last(number) + 1,
-        },
+    let id = Id {
+        namespace: number,
+        count: floor.last(number) + 1,
+    };
+    Ok(Planned::Accepted(plan_for(alloc, id, name, action, params)?))
+}
+
+// The plan of a call under this id, with these merged parameters.
+fn plan_for(
+    alloc: Global,
+    id: Id,
+    name: &FullName,
+    action: &Action,
+    params: Params,
+) -> Result<Plan, NoMemory>
+    ensures { IfOk result (λ p. p ≡ plan_for id name.now action.now params) }
+{
+    Ok(Plan {
+        id,
         namespace: name.namespace.copy(alloc)?,
         action: action.copy(alloc)?,
         params,
         subject: Str::of(alloc, OFFICE)?,
         cause: None,
         until: None,
-    }))
+    })
 }
 
 // The action of the name, and the number of the namespace that is charged.
@@ -113,7 +127,7 @@ fn merged(alloc: Global, action: &Action, params: &Params) -> Result<Option<Para
     ensures { IfOk result (λ p. p ≡ fitting action.now params.now) }
 {
     let merged = Val::Object(merge(alloc, &action.params, params)?);
-    if size(&merged) > 1_048_576 {
+    if size(&merged) > MEGABYTE {
         return Ok(None);
     }
     Ok(pairs_of(merged))

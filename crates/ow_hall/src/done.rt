@@ -1,10 +1,11 @@
 // What comes of a request, before it is done.
-ghost use Rattle.std.specs.Prelude.{◌≡◌, IfOk, OnOk};
+ghost use Rattle.std.specs.Prelude.{◌≡◌, IfOk};
 ghost use Rattle.ow_value.specs.View.{view};
 ghost use Rattle.ow_hall.specs.Asks.{good, rows_done};
 ghost use Rattle.ow_hall.specs.Decisions.{answer_of};
-ghost use Rattle.ow_hall.specs.Works.{IsReady, IsTold, done_of, is_full_done};
+ghost use Rattle.ow_hall.specs.Works.{DoneHasStatus, IsReady, done_of, is_full_done};
 
+use crate::reasons::FULL;
 use ow_entity::write_entity;
 use ow_http::{Answer, Reason, refusal};
 use ow_tables::{Ready, Tables};
@@ -25,14 +26,14 @@ impl Done {
         ensures { result ≡ is_full_done self.now }
     {
         match self {
-            Done::Refused(reason) => reason.number == 33,
+            Done::Refused(reason) => reason.number == FULL,
             _ => false,
         }
     }
 
     /// What is answered.
     pub(crate) fn answer(&self, alloc: Global) -> Result<Answer, NoMemory>
-        requires { IsTold self.now }
+        requires { DoneHasStatus self.now }
         ensures { IfOk result (λ a. a ≡ answer_of (done_of self.now)) }
     {
         match self {

@@ -1,3 +1,4 @@
+// The entries of a book, as a list.
 ghost use Rattle.std.specs.Prelude.{◌≡◌, ◌+◌, ◌<◌, ◌≤◌, ◌++◌, ◌^◌, ◌↔◌, [], ◌∷◌, length, IsTrue, IfOk, OnOk};
 
 use crate::entry::Entry;
@@ -34,12 +35,15 @@ impl Entries {
         }
     }
 
+    /// The entries, the oldest first. They lie in memory, so their number has a bound.
     pub fn as_slice(&self) -> &[Entry]
-        ensures { result.now ≡ self.now.items }
+        ensures value { result.now ≡ self.now.items }
+        ensures small { length self.now.items < 2 ^ 63 }
     {
         self.items.as_slice()
     }
 
+    /// How many there are.
     pub fn len(&self) -> usize
         ensures value { result ≡ length self.now.items }
         ensures small { result < 2 ^ 63 }
@@ -47,6 +51,7 @@ impl Entries {
         self.items.len()
     }
 
+    /// Whether there is none.
     pub fn is_empty(&self) -> bool
         ensures { IsTrue result ↔ (self.now.items ≡ []) }
     {
@@ -82,6 +87,7 @@ impl Entries {
         Ok(Entries { items })
     }
 
+    /// Whether both are equal.
     pub fn same(&self, other: &Entries) -> bool
         ensures { IsTrue result ↔ (self.now.items ≡ other.now.items) }
     {

@@ -14,6 +14,7 @@ use std::alloc::Global;
 pub enum Event {
     /// The service is opened over the kept rows.
     Opened(Rows),
+    /// A request comes.
     Asked(Request),
     /// The office itself calls an action.
     Called { name: FullName, params: Params },
@@ -28,11 +29,17 @@ pub enum Event {
 /// What is answered to an event.
 #[derive(Drop)]
 pub enum Told {
+    /// To an opening: what was recorded.
     Opened(Happened),
+    /// To a request.
     Asked(Reply),
+    /// To a call of the office.
     Called(Called),
+    /// To a runner that asks.
     Next(Order),
+    /// To the reply of a runner.
     Answered(Answered),
+    /// To the office that drains.
     Drain(Drain),
 }
 
@@ -45,6 +52,7 @@ pub struct Entry {
 }
 
 impl Event {
+    /// Whether both are equal.
     pub fn same(&self, other: &Event) -> bool
         ensures { IsTrue result ↔ (self.now ≡ other.now) }
     {
@@ -70,6 +78,7 @@ impl Event {
         }
     }
 
+    /// An equal one.
     pub fn copy(&self, alloc: Global) -> Result<Event, NoMemory>
         ensures { IfOk result (λ e. e ≡ self.now) }
     {
@@ -92,6 +101,7 @@ impl Event {
 }
 
 impl Told {
+    /// Whether both are equal.
     pub fn same(&self, other: &Told) -> bool
         ensures { IsTrue result ↔ (self.now ≡ other.now) }
     {
@@ -106,6 +116,7 @@ impl Told {
         }
     }
 
+    /// An equal one.
     pub fn copy(&self, alloc: Global) -> Result<Told, NoMemory>
         ensures { IfOk result (λ t. t ≡ self.now) }
     {
@@ -121,12 +132,14 @@ impl Told {
 }
 
 impl Entry {
+    /// Whether both are equal.
     pub fn same(&self, other: &Entry) -> bool
         ensures { IsTrue result ↔ (self.now ≡ other.now) }
     {
         self.at == other.at && self.event.same(&other.event) && self.answer.same(&other.answer)
     }
 
+    /// An equal one.
     pub fn copy(&self, alloc: Global) -> Result<Entry, NoMemory>
         ensures { IfOk result (λ e. e ≡ self.now) }
     {

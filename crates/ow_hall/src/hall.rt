@@ -3,7 +3,7 @@ ghost use Rattle.std.specs.Prelude.{◌≡◌, Some, IfOk, OnOk, OnErr};
 ghost use Rattle.ow_hall.specs.Book.{RepliesSo, opened};
 ghost use Rattle.ow_hall.specs.History.{IsLegal, answer, moment};
 ghost use Rattle.ow_hall.specs.Ledger.{posted};
-ghost use Rattle.ow_hall.specs.Works.{IsTellable};
+ghost use Rattle.ow_hall.specs.Works.{CalledHasText};
 
 use crate::book::{Book, body_bytes, reply_bytes};
 use crate::entry::{Event, Told};
@@ -115,23 +115,25 @@ impl<P: Keeper + Drop> Hall<P> {
         ensures ledger { OnOk result (self.new.ledger ≡ posted self.old.ledger (moment self.old.ledger.entries at) (Event.Called name.now params)) }
         ensures err { OnErr result (self.new.ledger ≡ self.old.ledger) }
         ensures store { self.new.store ≡ self.old.store }
-        ensures sent { IfOk result IsTellable }
+        ensures text { IfOk result CalledHasText }
     {
         let at = self.book.moment(at);
-        let _entries = self.book.len();
         let bytes = self.book.reserve(Some(0))?;
+        let copied = name.copy(alloc)?;
         let planned = self
             .works
             .plan_call(alloc, self.book.counted(), name, &params)?;
-        if planned.is_full() {
-            return planned.told(alloc);
-        }
-        let name = name.copy(alloc)?;
         let booked = planned.told(alloc)?;
+        if planned.is_full() {
+            return Ok(booked);
+        }
         let called = self.works.take(alloc, at, planned)?;
         self.book.add(
             at,
-            Event::Called { name, params },
+            Event::Called {
+                name: copied,
+                params,
+            },
             Told::Called(booked),
             bytes,
         );
@@ -148,7 +150,6 @@ impl<P: Keeper + Drop> Hall<P> {
         ensures store { self.new.store ≡ self.old.store }
     {
         let at = self.book.moment(at);
-        let _entries = self.book.len();
         let booked = self.works.coming(alloc)?;
         if booked.is_nothing() && self.book.is_idle() {
             self.book.note_quiet();

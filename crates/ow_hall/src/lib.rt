@@ -16,7 +16,7 @@ mod spaces;
 mod tests;
 mod works;
 
-pub use book::Book;
+pub use book::{Book, GREATEST_MOMENT};
 pub use entries::Entries;
 pub use entry::{Entry, Event, Told};
 pub use hall::Hall;

@@ -1,84 +1,70 @@
-// Refusals of the crates below, by their numbers and with what they name.
+// Refusals by their numbers and with what they name: those of the hall itself, and those of the crates below.
 ghost use Rattle.std.specs.Prelude.{◌≡◌, IfOk};
-ghost use Rattle.ow_hall.specs.Works.{IsSent};
-ghost use Rattle.ow_hall.specs.Reasons.{plain, naming, name_reason, entity_reason, call_reason, table_reason};
+ghost use Rattle.ow_hall.specs.Reasons.{entity_reason, call_reason, table_reason};
+ghost use Rattle.ow_hall.specs.Works.{HasStatus};
 
 use ow_entity::EntityRefusal;
 use ow_http::{CallRefusal, Reason};
-use ow_names::NameRefusal;
 use ow_tables::TableRefusal;
-use ow_value::{NoMemory, Str};
+use ow_value::NoMemory;
 use std::alloc::Global;
 
-/// A refusal that names nothing. This takes no memory.
-pub(crate) fn plain(alloc: Global, number: u32) -> Reason
-    ensures { result ≡ plain number }
-{
-    Reason {
-        number,
-        name: Str::from_string(String::new(alloc)),
-        first: 0,
-        second: 0,
-    }
-}
+/// The parameters of a call have too many bytes.
+pub(crate) const TOO_LARGE: u32 = 13;
 
-fn naming(alloc: Global, number: u32, name: &str) -> Result<Reason, NoMemory>
-    ensures { IfOk result (λ r. r ≡ naming number name.now) }
-{
-    Ok(Reason {
-        number,
-        name: Str::of(alloc, name)?,
-        first: 0,
-        second: 0,
-    })
-}
+/// There is no such entity.
+pub(crate) const NOT_FOUND: u32 = 14;
 
-pub(crate) fn name_reason(alloc: Global, refusal: NameRefusal) -> Reason
-    ensures { result ≡ name_reason refusal }
-{
-    let mut reason = plain(alloc, refusal.number());
-    if let NameRefusal::BadChar { place } = refusal {
-        reason.first = place as u64;
-    }
-    reason
-}
+/// The namespace isn't granted.
+pub(crate) const NOT_GRANTED: u32 = 24;
 
+/// The floor drains.
+pub(crate) const DRAINING: u32 = 32;
+
+/// The book is full.
+pub(crate) const FULL: u32 = 33;
+
+/// There is no such route.
+pub(crate) const NO_ROUTE: u32 = 36;
+
+/// A refusal of an entity.
 pub(crate) fn entity_reason(alloc: Global, refusal: EntityRefusal) -> Result<Reason, NoMemory>
     ensures { IfOk result (λ r. r ≡ entity_reason refusal) }
 {
+    let number = refusal.number();
     match refusal {
-        EntityRefusal::MissingField { name } => naming(alloc, 9, name.as_str()),
-        EntityRefusal::WrongType { name } => naming(alloc, 10, name.as_str()),
-        EntityRefusal::OutOfRange { name } => naming(alloc, 11, name.as_str()),
-        other => Ok(plain(alloc, other.number())),
+        EntityRefusal::MissingField { name } => Reason::naming(alloc, number, name.as_str()),
+        EntityRefusal::WrongType { name } => Reason::naming(alloc, number, name.as_str()),
+        EntityRefusal::OutOfRange { name } => Reason::naming(alloc, number, name.as_str()),
+        _ => Ok(Reason::plain(alloc, number)),
     }
 }
 
-/// Clients are told each refusal of a call.
+/// A refusal of a call. Clients are told each.
 pub(crate) fn call_reason(alloc: Global, refusal: &CallRefusal) -> Result<Reason, NoMemory>
     ensures reason { IfOk result (λ r. r ≡ call_reason refusal.now) }
-    ensures sent { IfOk result IsSent }
+    ensures status { IfOk result HasStatus }
 {
     reason_of_call(alloc, refusal)
+}
+
+/// A refusal of the tables. Clients are told each.
+pub(crate) fn table_reason(alloc: Global, refusal: TableRefusal) -> Result<Reason, NoMemory>
+    ensures reason { IfOk result (λ r. r ≡ table_reason refusal) }
+    ensures status { IfOk result HasStatus }
+{
+    reason_of_tables(alloc, refusal)
 }
 
 fn reason_of_call(alloc: Global, refusal: &CallRefusal) -> Result<Reason, NoMemory>
     ensures { IfOk result (λ r. r ≡ call_reason refusal.now) }
 {
     match refusal {
-        CallRefusal::BadQuery { name } => naming(alloc, 39, name.as_str()),
-        CallRefusal::BadName(refusal) => Ok(name_reason(alloc, *refusal)),
+        CallRefusal::BadQuery { name } => Reason::naming(alloc, refusal.number(), name.as_str()),
+        CallRefusal::BadName(refusal) => Ok(Reason::of_name(alloc, *refusal)),
         CallRefusal::BadEntity(refusal) => entity_reason(alloc, *refusal),
-        other => Ok(plain(alloc, other.number())),
+        other => Ok(Reason::plain(alloc, other.number())),
     }
-}
-
-/// Clients are told each refusal of the tables.
-pub(crate) fn table_reason(alloc: Global, refusal: TableRefusal) -> Result<Reason, NoMemory>
-    ensures reason { IfOk result (λ r. r ≡ table_reason refusal) }
-    ensures sent { IfOk result IsSent }
-{
-    reason_of_tables(alloc, refusal)
 }
 
 fn reason_of_tables(alloc: Global, refusal: TableRefusal) -> Result<Reason, NoMemory>
@@ -86,6 +72,6 @@ fn reason_of_tables(alloc: Global, refusal: TableRefusal) -> Result<Reason, NoMe
 {
     match refusal {
         TableRefusal::Entity(refusal) => entity_reason(alloc, refusal),
-        other => Ok(plain(alloc, other.number())),
+        other => Ok(Reason::plain(alloc, other.number())),
     }
 }

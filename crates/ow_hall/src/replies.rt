@@ -10,6 +10,7 @@ use std::alloc::Global;
 /// What a request is answered.
 #[derive(Drop)]
 pub enum Reply {
+    /// This, at once.
     Now(Answer),
     /// The answer comes once the activation has ended, or the moment `until`, in milliseconds, is there.
     Waiting { id: Id, until: u64 },
@@ -18,11 +19,14 @@ pub enum Reply {
 /// What the office's own invocation is answered.
 #[derive(Drop)]
 pub enum Called {
+    /// It was accepted: this happened.
     Happened(Happened),
+    /// Why it was not.
     Refused(Reason),
 }
 
 impl Reply {
+    /// Whether both are equal.
     pub fn same(&self, other: &Reply) -> bool
         ensures { IsTrue result ↔ (self.now ≡ other.now) }
     {
@@ -39,6 +43,7 @@ impl Reply {
         }
     }
 
+    /// An equal one.
     pub fn copy(&self, alloc: Global) -> Result<Reply, NoMemory>
         ensures { IfOk result (λ r. r ≡ self.now) }
     {
@@ -53,6 +58,7 @@ impl Reply {
 }
 
 impl Called {
+    /// Whether both are equal.
     pub fn same(&self, other: &Called) -> bool
         ensures { IsTrue result ↔ (self.now ≡ other.now) }
     {
@@ -63,6 +69,7 @@ impl Called {
         }
     }
 
+    /// An equal one.
     pub fn copy(&self, alloc: Global) -> Result<Called, NoMemory>
         ensures { IfOk result (λ r. r ≡ self.now) }
     {

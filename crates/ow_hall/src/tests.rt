@@ -61,13 +61,66 @@ fn holds(alloc: Global, hall: &mut Office, row: &str) -> Result<bool, Fail> {
     ) else {
         return Ok(false);
     };
-    let request = request_of(alloc, head, body)?;
-    is_answered(alloc, hall, &request, status, shown)
+    let request = request_of(alloc, head, text_of(body))?;
+    is_answered(alloc, hall, &request, status, text_of(shown))
+}
+
+// The body of a put, and what is shown of the action in its first and second versions.
+const HELLO: &str =
+    r#"{"exec":{"kind":"plain:1","code":"{\"cases\":[{\"when\":{},\"give\":{\"greeting\":\"Hello\"}}]}"}}"#;
+
+const FIRST: &str =
+    r#"{"annotations":[],"exec":{"code":"{\"cases\":[{\"when\":{},\"give\":{\"greeting\":\"Hello\"}}]}","kind":"plain:1"},"limits":{"logs":10,"memory":256,"timeout":60000},"name":"hello","namespace":"guest","parameters":[],"publish":false,"version":"0.0.1"}"#;
+
+const SECOND: &str =
+    r#"{"annotations":[],"exec":{"code":"{\"cases\":[{\"when\":{},\"give\":{\"greeting\":\"Hello\"}}]}","kind":"plain:1"},"limits":{"logs":10,"memory":256,"timeout":60000},"name":"hello","namespace":"guest","parameters":[],"publish":false,"version":"0.0.2"}"#;
+
+// A text of the table: one of those by its name, or itself.
+fn text_of(word: &str) -> &str {
+    if word == "HELLO" {
+        HELLO
+    } else if word == "FIRST" {
+        FIRST
+    } else if word == "SECOND" {
+        SECOND
+    } else {
+        word
+    }
 }
 
 // Method and target, body, status and the body that answers.
 const ROWS: &str =
-    "GET /api/v1/namespaces/_/actions/hello||404 Not Found|{\"code\":14,\"error\":\"The resource does not exist.\"}\nPUT /api/v1/namespaces/_/actions/hello|{\"exec\":{\"kind\":\"plain:1\",\"code\":\"{\\\"cases\\\":[{\\\"when\\\":{},\\\"give\\\":{\\\"greeting\\\":\\\"Hello\\\"}}]}\"}}|200 OK|{\"annotations\":[],\"exec\":{\"code\":\"{\\\"cases\\\":[{\\\"when\\\":{},\\\"give\\\":{\\\"greeting\\\":\\\"Hello\\\"}}]}\",\"kind\":\"plain:1\"},\"limits\":{\"logs\":10,\"memory\":256,\"timeout\":60000},\"name\":\"hello\",\"namespace\":\"guest\",\"parameters\":[],\"publish\":false,\"version\":\"0.0.1\"}\nPUT /api/v1/namespaces/_/actions/hello|{\"exec\":{\"kind\":\"plain:1\",\"code\":\"{\\\"cases\\\":[{\\\"when\\\":{},\\\"give\\\":{\\\"greeting\\\":\\\"Hello\\\"}}]}\"}}|409 Conflict|{\"code\":17,\"error\":\"The resource exists.\"}\nGET /api/v1/namespaces/_/actions/hello||200 OK|{\"annotations\":[],\"exec\":{\"code\":\"{\\\"cases\\\":[{\\\"when\\\":{},\\\"give\\\":{\\\"greeting\\\":\\\"Hello\\\"}}]}\",\"kind\":\"plain:1\"},\"limits\":{\"logs\":10,\"memory\":256,\"timeout\":60000},\"name\":\"hello\",\"namespace\":\"guest\",\"parameters\":[],\"publish\":false,\"version\":\"0.0.1\"}\nGET /api/v1/namespaces/_/actions||200 OK|[{\"annotations\":[],\"name\":\"hello\",\"namespace\":\"guest\",\"publish\":false,\"version\":\"0.0.1\"}]\nGET /api/v1/namespaces/_/actions?limit=201||400 Bad Request|{\"code\":39,\"error\":\"The query value limit is wrong.\"}\nGET /api/v1/namespaces/whisk.system/actions/hello||403 Forbidden|{\"code\":24,\"error\":\"The namespace is not granted.\"}\nGET /api/v1/namespaces/whisk.system/actions?limit=201||403 Forbidden|{\"code\":24,\"error\":\"The namespace is not granted.\"}\nPOST /api/v1/namespaces/_/actions/hello||404 Not Found|{\"code\":36,\"error\":\"There is no such route.\"}\nPUT /api/v1/namespaces/_/actions/other||400 Bad Request|{\"code\":9,\"error\":\"The field exec is missing.\"}\nPUT /api/v1/namespaces/_/actions/hello|{\"exec\":1}|400 Bad Request|{\"code\":10,\"error\":\"The field exec has a wrong type.\"}\nPUT /api/v1/namespaces/_/actions/hello?overwrite=true|{\"exec\":{\"kind\":\"plain:1\",\"code\":\"{\\\"cases\\\":[{\\\"when\\\":{},\\\"give\\\":{\\\"greeting\\\":\\\"Hello\\\"}}]}\"}}|200 OK|{\"annotations\":[],\"exec\":{\"code\":\"{\\\"cases\\\":[{\\\"when\\\":{},\\\"give\\\":{\\\"greeting\\\":\\\"Hello\\\"}}]}\",\"kind\":\"plain:1\"},\"limits\":{\"logs\":10,\"memory\":256,\"timeout\":60000},\"name\":\"hello\",\"namespace\":\"guest\",\"parameters\":[],\"publish\":false,\"version\":\"0.0.2\"}\nDELETE /api/v1/namespaces/guest/actions/hello||200 OK|{\"annotations\":[],\"exec\":{\"code\":\"{\\\"cases\\\":[{\\\"when\\\":{},\\\"give\\\":{\\\"greeting\\\":\\\"Hello\\\"}}]}\",\"kind\":\"plain:1\"},\"limits\":{\"logs\":10,\"memory\":256,\"timeout\":60000},\"name\":\"hello\",\"namespace\":\"guest\",\"parameters\":[],\"publish\":false,\"version\":\"0.0.2\"}\nDELETE /api/v1/namespaces/guest/actions/hello||404 Not Found|{\"code\":14,\"error\":\"The resource does not exist.\"}\n";
+    r#"GET /api/v1/namespaces/_/actions/hello||404 Not Found|{"code":14,"error":"The resource does not exist."}
+PUT /api/v1/namespaces/_/actions/hello|HELLO|200 OK|FIRST
+PUT /api/v1/namespaces/_/actions/hello|HELLO|409 Conflict|{"code":17,"error":"The resource exists."}
+GET /api/v1/namespaces/_/actions/hello||200 OK|FIRST
+GET /api/v1/namespaces/_/actions||200 OK|[{"annotations":[],"name":"hello","namespace":"guest","publish":false,"version":"0.0.1"}]
+GET /api/v1/namespaces/_/actions?limit=201||400 Bad Request|{"code":39,"error":"The query value limit is wrong."}
+GET /api/v1/namespaces/whisk.system/actions/hello||403 Forbidden|{"code":24,"error":"The namespace is not granted."}
+GET /api/v1/namespaces/whisk.system/actions?limit=201||403 Forbidden|{"code":24,"error":"The namespace is not granted."}
+POST /api/v1/namespaces/_/actions/hello||404 Not Found|{"code":36,"error":"There is no such route."}
+PUT /api/v1/namespaces/_/actions/other||400 Bad Request|{"code":9,"error":"The field exec is missing."}
+PUT /api/v1/namespaces/_/actions/hello|{"exec":1}|400 Bad Request|{"code":10,"error":"The field exec has a wrong type."}
+PUT /api/v1/namespaces/_/actions/hello?overwrite=true|HELLO|200 OK|SECOND
+DELETE /api/v1/namespaces/guest/actions/hello||200 OK|SECOND
+DELETE /api/v1/namespaces/guest/actions/hello||404 Not Found|{"code":14,"error":"The resource does not exist."}
+"#;
+
+// What a full book still takes, and what it doesn't.
+const WHEN_FULL: &str =
+    r#"POST /api/v1/namespaces/_/actions/hello||404 Not Found|{"code":36,"error":"There is no such route."}
+GET /api/v1/namespaces/_/actions/hello||503 Service Unavailable|{"code":33,"error":"The book is full."}
+"#;
+
+// Whether each row of a table is answered so.
+fn all_hold(alloc: Global, hall: &mut Office, rows: &str) -> Result<bool, Fail> {
+    for row in rows.lines() {
+        if !holds(alloc, hall, row)? {
+            return Ok(false);
+        }
+    }
+    Ok(true)
+}
 
 // Whether an equal list is made of them.
 fn copies(alloc: Global, entries: &Entries) -> Result<bool, Fail> {
@@ -81,15 +134,12 @@ const GET: &str = "GET /api/v1/namespaces/_/actions/hello HTTP/1.1\r\n\r\n";
 fn actions_are_put_read_and_deleted(rt: HostRuntime) -> Result<(), Fail> {
     let alloc = rt.alloc();
     let mut hall = office(alloc)?;
-    for row in ROWS.lines() {
-        assert!(rt; holds(alloc, &mut hall, row)?);
-    }
+    assert!(rt; all_hold(alloc, &mut hall, ROWS)?);
     assert_eq!(rt; hall.book().entries().len(), 15);
     assert!(rt; copies(alloc, hall.book().entries())?);
     Ok(())
 }
 
-// A request of the greatest size that a new book has room for, and the one after it.
 // The status that a request is answered with at once, or 0.
 fn status_of(alloc: Global, hall: &mut Office, request: &Request) -> Result<u16, Fail> {
     match hall.ask(alloc, 0, request)? {
@@ -105,7 +155,8 @@ fn get_of(alloc: Global, hall: &mut Office, size: u64) -> Result<u16, Fail> {
     status_of(alloc, hall, &read.request)
 }
 
-// Whether the book takes what it has room for, and no more.
+// Whether the book takes what it has room for, and no more: a request of the greatest size that a new book has room for, the
+// one after it, and one behind them.
 fn fills(alloc: Global, hall: &mut Office) -> Result<bool, Fail> {
     let over = get_of(alloc, hall, 1_073_741_697)?;
     let last = get_of(alloc, hall, 1_073_741_696)?;
@@ -119,8 +170,9 @@ fn the_book_is_full_at_its_number(rt: HostRuntime) -> Result<(), Fail> {
     let alloc = rt.alloc();
     let mut hall = office(alloc)?;
     assert!(rt; fills(alloc, &mut hall)?);
+    assert!(rt; all_hold(alloc, &mut hall, WHEN_FULL)?);
     assert!(rt; hall.next(alloc, 0)?.is_nothing());
-    assert_eq!(rt; hall.book().entries().len(), 3);
+    assert_eq!(rt; hall.book().entries().len(), 4);
     Ok(())
 }
 

@@ -5,7 +5,7 @@ ghost use Rattle.ow_floor.specs.Calls.{HandsBack, answer_to, drain_answer, given
 ghost use Rattle.ow_http.specs.Request.{parts_of};
 ghost use Rattle.ow_hall.specs.Asks.{asked};
 ghost use Rattle.ow_hall.specs.Decisions.{Accepts, Asks, Drains, Ends, Opens, Orders, Seen, after, called_of, nothing_seen};
-ghost use Rattle.ow_hall.specs.Works.{AnswersSo, IsAt, IsFit, IsNextOf, IsReady, IsTellable, IsTold, Moves, called_by, done_of, planned_of};
+ghost use Rattle.ow_hall.specs.Works.{AnswersSo, CalledHasText, DoneHasStatus, IsAt, IsNextOf, IsReady, Moves, PlannedHasText, called_by, done_of, planned_of};
 
 use crate::asks::asked;
 use crate::calls::{Planned, plan_call};
@@ -61,7 +61,7 @@ impl Works {
         ensures floor { self.new.floor ≡ self.old.floor }
         ensures rows { self.new.rows ≡ self.old.rows }
         ensures ready { IfOk result (λ d. IsReady d self.new.room) }
-        ensures told { IfOk result IsTold }
+        ensures status { IfOk result DoneHasStatus }
     {
         asked(alloc, &mut self.tables, counted, request)
     }
@@ -85,7 +85,7 @@ impl Works {
         requires { (n : ℕ) → last_of self.now.floor.drawn n + 1 < 2 ^ 64 }
         ensures decision { IfOk result (λ p. (S : Seen) → IsAt self.now S
             → planned_of p ≡ called_of S.rows S.trace counted name.now params.now) }
-        ensures sent { IfOk result IsFit }
+        ensures text { IfOk result PlannedHasText }
         ensures next { IfOk result (IsNextOf self.now.floor.drawn) }
     {
         plan_call(alloc, &self.floor, &self.tables, counted, name, params)
@@ -113,10 +113,10 @@ impl Works {
         at: u64,
         planned: Planned,
     ) -> Result<Called, NoMemory>
-        requires fit { IsFit planned }
+        requires text { PlannedHasText planned }
         requires next { IsNextOf self.old.floor.drawn planned }
         ensures told { IfOk result (λ c. c ≡ called_by planned) }
-        ensures sent { IfOk result IsTellable }
+        ensures text { IfOk result CalledHasText }
         ensures ok { OnOk result (Moves self.old self.new at (λ S. planned_of planned)) }
         ensures err { OnErr result ((self.new.floor ≡ self.old.floor) × (self.new.rows ≡ self.old.rows)) }
     {

@@ -7,7 +7,7 @@ use Rattle.std.specs.List.{onto_first}
 use Rattle.std.specs.Cmp.Lexicographic.{pointwise}
 use Rattle.matchit.specs.Rows.{RowsOf, param_token, catch_all_token}
 use Rattle.matchit.specs.Seek.{step, seek, first, param_step, segment, has_slash, cuts, longest_from, with_suffix}
-use Rattle.ow_http.specs.Segment.{segments}
+use Rattle.ow_names.specs.Path.{parts as segments}
 use Rattle.ow_http.proofs.Walk.{under, under-nil, own-under, step-hit, step-miss, or_else-none, seek-empty, seek-drop}
 use Rattle.ow_http.proofs.BySegments.{AreBytes, AreEnds, Ends, decide, yes, no, head_of, tail_of, seek-ends, segments-byte}
 

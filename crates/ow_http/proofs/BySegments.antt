@@ -6,7 +6,7 @@ use Rattle.std.specs.List.{onto_first}
 use Rattle.std.specs.Str.{bytes_eq}
 use Rattle.matchit.specs.Rows.{RowsOf, param_token, catch_all_token}
 use Rattle.matchit.specs.Seek.{own, step, or_else, seek, first}
-use Rattle.ow_http.specs.Segment.{segments}
+use Rattle.ow_names.specs.Path.{parts as segments}
 use Rattle.ow_http.proofs.Walk.{under, under-nil, own-append, own-under, step-append, step-hit, step-miss, seek-empty, seek-byte}
 
 abbrev pub AreBytes : List ℕ → Type 0

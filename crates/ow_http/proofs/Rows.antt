@@ -5,7 +5,7 @@ use Rattle.std.proofs.lemmas.List.{append-nil}
 use Rattle.std.specs.List.{onto_first}
 use Rattle.matchit.specs.Rows.{RowsOf}
 use Rattle.matchit.specs.Seek.{step, or_else, seek, first, param_step}
-use Rattle.ow_http.specs.Segment.{segments}
+use Rattle.ow_names.specs.Path.{parts as segments}
 use Rattle.ow_http.proofs.Walk.{under, under-nil, own-append, own-under, step-append, step-hit, param_step-empty, seek-empty}
 use Rattle.ow_http.proofs.BySegments.{Reads, Ends, AreEnds, Parts, IsWord, on_word, first-word, seek-ends}
 use Rattle.ow_http.proofs.ByPart.{on_part, first-part}

@@ -20,8 +20,9 @@ use Rattle.ow_http.specs.declared.values.Wants.{Wants}
 use Rattle.ow_http.specs.declared.values.Wants.TheVariants.{Pages, Overwrite, Invocation, Nothing}
 use Rattle.ow_http.specs.declared.verb.Verb.{Verb}
 use Rattle.ow_http.specs.declared.verb.Verb.TheVariants.{Put}
+use Rattle.ow_http.specs.Pair.{Pair}
 use Rattle.ow_http.specs.Parts.{Parts}
-use Rattle.ow_http.specs.Values.{Pair, wants_of, first_wrong, first_named, flag_of, number_or, limit_of}
+use Rattle.ow_http.specs.Values.{wants_of, first_wrong, first_named, flag_of, number_or, limit_of}
 
 abbrev pub or_bad_name : Result FullName NameRefusal → Result (Option FullName) CallRefusal
 or_bad_name (Ok name) = Ok (Some name)

@@ -2,20 +2,13 @@
 use Rattle.std.specs.Prelude.{ℕ}
 use Rattle.ow_entity.specs.Refusal as entities
 use Rattle.ow_names.specs.Refusal as names
-use Rattle.ow_value.specs.declared.reader.ValueRefusal.{ValueRefusal}
-use Rattle.ow_value.specs.declared.reader.ValueRefusal.TheVariants as values
+use Rattle.ow_value.specs.Refusal as values
 use Rattle.ow_http.specs.declared.call_refusal.CallRefusal.{CallRefusal}
 use Rattle.ow_http.specs.declared.call_refusal.CallRefusal.TheVariants.{BadQuery, BadName, BadValue, BadEntity, NoMemory}
-
-abbrev pub value_number : ValueRefusal → ℕ
-value_number values.NotJson = 1
-value_number values.NotWhole = 2
-value_number values.TooDeep = 3
-value_number values.NoMemory = 0
 
 abbrev pub call_number : CallRefusal → ℕ
 call_number (BadQuery name) = 39
 call_number (BadName e) = names.refusal_number e
-call_number (BadValue e) = value_number e
+call_number (BadValue e) = values.refusal_number e
 call_number (BadEntity e) = entities.refusal_number e
 call_number NoMemory = 0

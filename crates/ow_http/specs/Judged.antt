@@ -7,9 +7,11 @@ use Rattle.httparse.specs.Spans.{name_and_value}
 use Rattle.ow_http.specs.declared.place.Place.{Place}
 use Rattle.ow_http.specs.declared.http_refusal.HttpRefusal.{HttpRefusal}
 use Rattle.ow_http.specs.declared.http_refusal.HttpRefusal.TheVariants.{BadHead, NoRoute, BadMethod, BodyTooLarge, CutShort}
+use Rattle.ow_http.specs.declared.read.Asked as code
 use Rattle.ow_http.specs.declared.route.Route.{Route}
 use Rattle.ow_http.specs.declared.verb.Verb.{Verb}
-use Rattle.ow_http.specs.Fields.{Header, is_text, body_length, closes, last_named}
+use Rattle.ow_http.specs.Fields.{is_text, body_length, closes, last_named}
+use Rattle.ow_http.specs.Pair.{Pair}
 use Rattle.ow_http.specs.Parts.{Parts}
 use Rattle.ow_http.specs.PlaceOf.{place_of}
 use Rattle.ow_http.specs.Query.{path_of, query_of, pairs_of}
@@ -22,7 +24,7 @@ pub record Asked : Type 0 where
   pub method : List ℕ
   pub target : List ℕ
   pub minor : ℕ
-  pub fields : List Header
+  pub fields : List Pair
   pub head : ℕ
   pub rest : List ℕ
 
@@ -36,34 +38,45 @@ asked_of h rest = record {
   rest = rest;
 }
 
+-- the same, of the code
+abbrev pub as_asked : code.Asked → Asked
+as_asked a = record {
+  method = a.method.now;
+  target = a.target.now;
+  minor = a.minor;
+  fields = a.fields;
+  head = a.head;
+  rest = a.rest.now;
+}
+
 -- the body has at most 4,194,304 bytes, and is whole
-unfoldable pub judged_body : Verb → Route → ℕ → List ℕ → ℕ → List Header → ℕ → List ℕ → Result Parts HttpRefusal
-judged_body method route n target minor fields head rest =
+unfoldable pub judged_body : Verb → Route → ℕ → Asked → Result Parts HttpRefusal
+judged_body method route n a =
     if nat_lt 4194304 n then Err BodyTooLarge
-    else if nat_lt (length rest) n then Err CutShort
+    else if nat_lt (length a.rest) n then Err CutShort
     else Ok (record {
       route = route;
       method = method;
-      key = last_named (codes "x-whisk-key") fields;
-      query = pairs_of (query_of target);
-      raw_query = query_of target;
-      headers = fields;
-      body = take n rest;
-      size = head + n;
-      close = closes minor fields;
+      key = last_named (codes "x-whisk-key") a.fields;
+      query = pairs_of (query_of a.target);
+      raw_query = query_of a.target;
+      headers = a.fields;
+      body = take n a.rest;
+      size = a.head + n;
+      close = closes a.minor a.fields;
     })
 
 -- the route takes the method
-abbrev pub judged_method : Option Verb → Route → ℕ → List ℕ → ℕ → List Header → ℕ → List ℕ → Result Parts HttpRefusal
-judged_method None route n target minor fields head rest = Err BadMethod
-judged_method (Some method) route n target minor fields head rest =
-    if takes route method then judged_body method route n target minor fields head rest else Err BadMethod
+abbrev pub judged_method : Option Verb → Route → ℕ → Asked → Result Parts HttpRefusal
+judged_method None route n a = Err BadMethod
+judged_method (Some method) route n a =
+    if takes route method then judged_body method route n a else Err BadMethod
 
 -- the path has a route
 abbrev pub judged_place : Option Place → ℕ → Asked → Result Parts HttpRefusal
 judged_place None n a = Err NoRoute
 judged_place (Some place) n a =
-    judged_method (verb_of a.method) (route_at place (path_of a.target)) n a.target a.minor a.fields a.head a.rest
+    judged_method (verb_of a.method) (route_at place (path_of a.target)) n a
 
 -- the headers tell a length and nothing that isn't served
 abbrev pub judged_length : Option ℕ → Asked → Result Parts HttpRefusal

@@ -5,6 +5,7 @@ pub mod Gives
 pub mod Head
 pub mod Judged
 pub mod Method
+pub mod Pair
 pub mod Parts
 pub mod PlaceOf
 pub mod Query

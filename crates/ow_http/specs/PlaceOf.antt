@@ -6,7 +6,7 @@ use Rattle.ow_entity.specs.declared.kinds.EntityKind.TheVariants.{Action, Packag
 use Rattle.ow_http.specs.declared.route.Part.TheVariants.{Whole, Response, Logs}
 use Rattle.ow_http.specs.declared.place.Place.{Place}
 use Rattle.ow_http.specs.declared.place.Place.TheVariants as place
-use Rattle.ow_http.specs.Segment.{segments}
+use Rattle.ow_names.specs.Path.{parts as segments}
 
 -- a part of a path is any segment that isn't empty
 abbrev pub is_part : List ℕ → Bool
@@ -71,6 +71,6 @@ in_root (start ∷ api ∷ version ∷ rest) =
     if bytes_eq start [] && (bytes_eq api (codes "api") && bytes_eq version (codes "v1")) then in_version rest else None
 in_root other = None
 
--- what a path names
+-- what a path names. A slash at its start has an empty segment in front
 unfoldable pub place_of : List ℕ → Option Place
 place_of path = in_root (segments path)

@@ -1,7 +1,23 @@
 -- What each number of a refusal tells.
 use Rattle.std.specs.Prelude.{ℕ, List, [], ◌++◌, ◌==◌, if◌then◌else◌, codes, decimal, Option, Some, None}
+use Rattle.ow_names.specs.Refusal as names
+use Rattle.ow_names.specs.declared.refusal.NameRefusal.{NameRefusal}
+use Rattle.ow_names.specs.declared.refusal.NameRefusal.TheVariants.{BadChar}
 use Rattle.ow_http.specs.declared.reason.Reason.{Reason}
 use Rattle.ow_http.specs.declared.texts.Told.{Told}
+
+-- a reason that names nothing
+abbrev pub plain : ℕ → Reason
+plain number = record { number = number; name = []; first = 0; second = 0 }
+
+-- a reason that names a field, a parameter or a query value
+abbrev pub naming : ℕ → List ℕ → Reason
+naming number name = record { number = number; name = name; first = 0; second = 0 }
+
+-- why a text is no name
+abbrev pub name_reason : NameRefusal → Reason
+name_reason (BadChar place) = record { number = 6; name = []; first = place; second = 0 }
+name_reason e = plain (names.refusal_number e)
 
 abbrev pub row : Option ℕ → List ℕ → Option Told
 row status words = Some (record { status = status; text = words })

@@ -4,6 +4,7 @@ use Rattle.std.specs.List.{flat_map}
 use Rattle.std.specs.Str.{str_eq_ignore_ascii_case}
 use Rattle.http.specs.StatusCode.{reason_phrase}
 use Rattle.ow_http.specs.declared.answer.Answer.{Answer}
+use Rattle.ow_http.specs.Pair.{Pair}
 
 -- CR LF
 abbrev pub line_end : List ℕ
@@ -17,26 +18,26 @@ phrase_of status = if nat_le 100 status && nat_lt status 1000 then unwrap_or (re
 unfoldable pub status_line : ℕ → List ℕ
 status_line status = codes "HTTP/1.1 " ++ decimal status ++ codes " " ++ phrase_of status ++ line_end
 
-unfoldable pub header_line : List ℕ × List ℕ → List ℕ
+unfoldable pub header_line : Pair → List ℕ
 header_line h = h.0 ++ codes ": " ++ h.1 ++ line_end
 
 -- the header tells the body's type
-abbrev pub is_type : List ℕ × List ℕ → Bool
+abbrev pub is_type : Pair → Bool
 is_type h = str_eq_ignore_ascii_case h.0 (codes "content-type")
 
 -- the type is written apart, in front of the length
-unfoldable pub own_line : List ℕ × List ℕ → List ℕ
+unfoldable pub own_line : Pair → List ℕ
 own_line h = if is_type h then [] else header_line h
 
-abbrev pub own_lines : List (List ℕ × List ℕ) → List ℕ
+abbrev pub own_lines : List Pair → List ℕ
 own_lines headers = flat_map own_line headers
 
 -- the type that the last such header tells, or this one
-abbrev pub type_or : List ℕ → List (List ℕ × List ℕ) → List ℕ
+abbrev pub type_or : List ℕ → List Pair → List ℕ
 type_or told [] = told
 type_or told (h ∷ hs) = type_or (if is_type h then h.1 else told) hs
 
-abbrev pub type_of : List (List ℕ × List ℕ) → List ℕ
+abbrev pub type_of : List Pair → List ℕ
 type_of headers = type_or (codes "application/json") headers
 
 -- the length, and the empty line

@@ -1,14 +1,8 @@
 -- The parts of a path between its slashes.
-use Rattle.std.specs.Prelude.{Bool, ◌==◌, zero, suc, ℕ, List}
-use Rattle.std.specs.List.{before_first, after_first, slice_split}
+use Rattle.std.specs.Prelude.{zero, suc, ℕ, List}
+use Rattle.std.specs.List.{before_first, after_first}
 use Rattle.percent_encoding.specs.Percent.{percent_decode}
-
-abbrev pub is_slash : ℕ → Bool
-is_slash b = b == 47
-
--- the segments, with an empty one in front of a slash at the start
-abbrev pub segments : List ℕ → List (List ℕ)
-segments path = slice_split is_slash path
+use Rattle.ow_names.specs.Slash.{is_slash}
 
 -- what stands after the first n slashes
 abbrev pub after_slashes : ℕ → List ℕ → List ℕ

@@ -1,6 +1,7 @@
 -- The values of a query that its route has.
-use Rattle.std.specs.Prelude.{ℕ, Bool, true, false, ◌&&◌, ◌||◌, not, ◌==◌, nat_le, nat_lt, if◌then◌else◌, List, length, codes, find, slice_index, Option, Some, None}
+use Rattle.std.specs.Prelude.{ℕ, Bool, true, false, ◌&&◌, ◌||◌, not, ◌==◌, nat_le, if◌then◌else◌, List, codes, find, Option, Some, None}
 use Rattle.std.specs.Str.{bytes_eq}
+use Rattle.ow_value.specs.Decimal.{decimal_of}
 use Rattle.ow_entity.specs.declared.kinds.EntityKind.TheVariants.{Action}
 use Rattle.ow_http.specs.declared.route.Route.{Route}
 use Rattle.ow_http.specs.declared.route.Route.TheVariants as route
@@ -8,7 +9,7 @@ use Rattle.ow_http.specs.declared.verb.Verb.{Verb}
 use Rattle.ow_http.specs.declared.verb.Verb.TheVariants.{Put, Post}
 use Rattle.ow_http.specs.declared.values.Wants.{Wants}
 use Rattle.ow_http.specs.declared.values.Wants.TheVariants.{Pages, Overwrite, Invocation, Nothing}
-use Rattle.ow_http.specs.Fields.{number_of}
+use Rattle.ow_http.specs.Pair.{Pair}
 
 -- the values that a request of this route and method has
 abbrev pub wants_of : Route → Verb → Wants
@@ -17,9 +18,6 @@ wants_of (route.Activations namespace) method = Pages
 wants_of (route.Entity namespace kind inside name) Put = Overwrite
 wants_of (route.Entity namespace Action inside name) Post = Invocation
 wants_of other method = Nothing
-
-abbrev pub Pair : Type 0
-Pair = List ℕ × List ℕ
 
 abbrev pub second_of : Option Pair → Option (List ℕ)
 second_of None = None
@@ -36,13 +34,9 @@ abbrev pub is_most : ℕ → Option ℕ → Bool
 is_most most None = false
 is_most most (Some n) = nat_le n most
 
--- a zero stands in front of another digit
-abbrev pub has_leading_zero : List ℕ → Bool
-has_leading_zero value = nat_lt 1 (length value) && slice_index value 0 == 48
-
 -- a number from 0 to the greatest one, without a leading zero
 abbrev pub is_number_to : ℕ → List ℕ → Bool
-is_number_to most value = not (has_leading_zero value) && is_most most (number_of value)
+is_number_to most value = is_most most (decimal_of value)
 
 unfoldable pub is_page : List ℕ → List ℕ → Bool
 is_page name value =
@@ -86,7 +80,7 @@ or_number default (Some n) = n
 
 abbrev pub number_or : ℕ → Option (List ℕ) → ℕ
 number_or default None = default
-number_or default (Some value) = or_number default (number_of value)
+number_or default (Some value) = or_number default (decimal_of value)
 
 -- 30 unless told, and 200 for 0
 unfoldable pub limit_of : List Pair → ℕ

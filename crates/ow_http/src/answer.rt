@@ -1,3 +1,4 @@
+// Answers.
 ghost use Rattle.std.specs.Prelude.{◌≡◌, ◌↔◌, IsTrue, IfOk};
 
 use ow_value::{Bytes, NoMemory, Pairs};
@@ -10,10 +11,12 @@ pub struct Answer {
     pub status: u16,
     /// Those that the reply's writer doesn't make itself, and `Content-Type` where it isn't `application/json`.
     pub headers: Pairs,
+    /// It isn't written where the status has none (204 and 304).
     pub body: Bytes,
 }
 
 impl Answer {
+    /// Whether both have the same parts.
     pub fn same(&self, other: &Answer) -> bool
         ensures { IsTrue result ↔ (self.now ≡ other.now) }
     {
@@ -22,6 +25,7 @@ impl Answer {
             && self.body.same(&other.body)
     }
 
+    /// An equal answer.
     pub fn copy(&self, alloc: Global) -> Result<Answer, NoMemory>
         ensures { IfOk result (λ a. a ≡ self.now) }
     {

@@ -1,3 +1,4 @@
+// Requests as what they want done.
 ghost use Rattle.std.specs.Prelude.{◌≡◌, ◌↔◌, IsTrue, IfOk};
 
 use ow_entity::Draft;
@@ -8,24 +9,32 @@ use std::alloc::Global;
 /// What a request wants done. What its route doesn't have is none, false, 0 or empty.
 #[derive(Drop)]
 pub struct Call {
+    /// The entity that the path names, in the namespace that `_` stands for.
     pub name: Option<FullName>,
+    /// Whether a put may replace what stands.
     pub overwrite: bool,
+    /// Whether the answer to an invocation waits for its end.
     pub blocking: bool,
+    /// Whether the answer to an invocation is its result alone.
     pub result_only: bool,
     /// How many rows of a list are passed over.
     pub skip: u64,
     /// How many rows a list has at most.
     pub limit: u64,
+    /// The entity that the body of a put gives.
     pub draft: Option<Draft>,
+    /// The parameters of an invocation. No route has them yet.
     pub params: Params,
+    /// Whether a rule is to be active. No route has it yet.
     pub active: Option<bool>,
 }
 
 impl Call {
+    /// Whether both have the same parts.
     pub fn same(&self, other: &Call) -> bool
         ensures { IsTrue result ↔ (self.now ≡ other.now) }
     {
-        same_name(&self.name, &other.name)
+        FullName::same_option(&self.name, &other.name)
             && self.overwrite == other.overwrite
             && self.blocking == other.blocking
             && self.result_only == other.result_only
@@ -36,10 +45,11 @@ impl Call {
             && self.active == other.active
     }
 
+    /// An equal call.
     pub fn copy(&self, alloc: Global) -> Result<Call, NoMemory>
         ensures { IfOk result (λ c. c ≡ self.now) }
     {
-        let name = copy_name(alloc, &self.name)?;
+        let name = FullName::copy_option(alloc, &self.name)?;
         let draft = copy_draft(alloc, &self.draft)?;
         let params = self.params.copy(alloc)?;
         Ok(Call {
@@ -56,16 +66,6 @@ impl Call {
     }
 }
 
-fn same_name(a: &Option<FullName>, b: &Option<FullName>) -> bool
-    ensures { IsTrue result ↔ (a.now ≡ b.now) }
-{
-    match (a, b) {
-        (Some(x), Some(y)) => x.same(y),
-        (None, None) => true,
-        _ => false,
-    }
-}
-
 fn same_draft(a: &Option<Draft>, b: &Option<Draft>) -> bool
     ensures { IsTrue result ↔ (a.now ≡ b.now) }
 {
@@ -73,15 +73,6 @@ fn same_draft(a: &Option<Draft>, b: &Option<Draft>) -> bool
         (Some(x), Some(y)) => x.same(y),
         (None, None) => true,
         _ => false,
-    }
-}
-
-fn copy_name(alloc: Global, name: &Option<FullName>) -> Result<Option<FullName>, NoMemory>
-    ensures { IfOk result (λ n. n ≡ name.now) }
-{
-    match name {
-        Some(name) => Ok(Some(name.copy(alloc)?)),
-        None => Ok(None),
     }
 }
 

@@ -1,6 +1,8 @@
+// Why requests are no calls.
 use ow_entity::EntityRefusal;
 use ow_names::NameRefusal;
 use ow_value::{NoMemory, Str, ValueRefusal};
+use std::alloc::Global;
 
 /// Why a request is no call. Of several faults the one that stands first here is told.
 #[derive(Drop)]
@@ -17,7 +19,7 @@ pub enum CallRefusal {
 }
 
 impl CallRefusal {
-    ghost use Rattle.std.specs.Prelude.{◌≡◌};
+    ghost use Rattle.std.specs.Prelude.{◌≡◌, ◌↔◌, IsTrue, IfOk};
     ghost use Rattle.ow_http.specs.CallRefusal.{call_number};
 
     /// By which a client tells the refusals apart. Want of memory has 0.
@@ -27,12 +29,41 @@ impl CallRefusal {
         match self {
             CallRefusal::BadQuery { .. } => 39,
             CallRefusal::BadName(refusal) => refusal.number(),
-            CallRefusal::BadValue(ValueRefusal::NotJson) => 1,
-            CallRefusal::BadValue(ValueRefusal::NotWhole) => 2,
-            CallRefusal::BadValue(ValueRefusal::TooDeep) => 3,
+            CallRefusal::BadValue(refusal) => refusal.number(),
             CallRefusal::BadEntity(refusal) => refusal.number(),
-            CallRefusal::BadValue(ValueRefusal::NoMemory) | CallRefusal::NoMemory => 0,
+            CallRefusal::NoMemory => 0,
         }
+    }
+
+    /// Whether both are the same refusal, of the same.
+    pub fn same(&self, other: &CallRefusal) -> bool
+        ensures { IsTrue result ↔ (self.now ≡ other.now) }
+    {
+        match (self, other) {
+            (CallRefusal::BadQuery { name }, CallRefusal::BadQuery { name: theirs }) => {
+                name.same(theirs)
+            }
+            (CallRefusal::BadName(refusal), CallRefusal::BadName(theirs)) => refusal == theirs,
+            (CallRefusal::BadValue(refusal), CallRefusal::BadValue(theirs)) => refusal == theirs,
+            (CallRefusal::BadEntity(refusal), CallRefusal::BadEntity(theirs)) => refusal == theirs,
+            (CallRefusal::NoMemory, CallRefusal::NoMemory) => true,
+            _ => false,
+        }
+    }
+
+    /// An equal refusal.
+    pub fn copy(&self, alloc: Global) -> Result<CallRefusal, NoMemory>
+        ensures { IfOk result (λ e. e ≡ self.now) }
+    {
+        Ok(match self {
+            CallRefusal::BadQuery { name } => CallRefusal::BadQuery {
+                name: name.copy(alloc)?,
+            },
+            CallRefusal::BadName(refusal) => CallRefusal::BadName(*refusal),
+            CallRefusal::BadValue(refusal) => CallRefusal::BadValue(*refusal),
+            CallRefusal::BadEntity(refusal) => CallRefusal::BadEntity(*refusal),
+            CallRefusal::NoMemory => CallRefusal::NoMemory,
+        })
     }
 }
 

@@ -23,7 +23,7 @@ fn called(alloc: Global, request: &Request) -> Result<String, Fail> {
     let guest = read_name(alloc, b"guest")?;
     match read_call(alloc, request, &guest) {
         Ok(call) => copied(alloc, &call),
-        Err(e) => told(alloc, &e),
+        Err(e) => refused(alloc, &e),
     }
 }
 
@@ -33,6 +33,14 @@ fn copied(alloc: Global, call: &Call) -> Result<String, Fail> {
         return Err(Fail::new("another call"));
     }
     shown(alloc, &copied)
+}
+
+fn refused(alloc: Global, refusal: &CallRefusal) -> Result<String, Fail> {
+    let copied = refusal.copy(alloc)?;
+    if !copied.same(refusal) {
+        return Err(Fail::new("another refusal"));
+    }
+    told(alloc, &copied)
 }
 
 fn is_called(alloc: Global, routes: &Routes, row: &str) -> Result<bool, Fail> {

@@ -1,7 +1,5 @@
 // Requests as calls.
-ghost use Rattle.std.specs.Prelude.{◌≡◌, ◌≢◌, Ok, Err, Some, None, MatchResult};
-ghost use Rattle.ow_names.specs.Name.{first_fault};
-ghost use Rattle.ow_names.specs.Path.{home, named, named_in};
+ghost use Rattle.std.specs.Prelude.{◌≡◌, ◌≢◌, Ok, Err, MatchResult, option_copied};
 ghost use Rattle.ow_value.specs.View.{view};
 ghost use Rattle.ow_http.specs.CallOf.{call_of, name_of, body_value, entity_in, drafted, put_kind, filled};
 ghost use Rattle.ow_http.specs.Request.{parts_of};
@@ -13,7 +11,7 @@ use crate::route::Route;
 use crate::values::{Wants, first_wrong, flag_of, limit_of, skip_of, wants_of};
 use crate::verb::Verb;
 use ow_entity::{Draft, EntityKind, EntityRefusal, read_entity};
-use ow_names::{EntityName, FullName, NameRefusal, check_name, read_name};
+use ow_names::{EntityName, FullName, NameRefusal, check_name, named_in};
 use ow_value::{Bytes, Params, Str, Val, ValueRefusal, read_val};
 use std::alloc::Global;
 
@@ -87,7 +85,13 @@ fn name_of(alloc: Global, route: &Route, home: &EntityName) -> Result<Option<Ful
             package,
             name,
             ..
-        } => match full_name(alloc, home, namespace, package, name) {
+        } => match named_in(
+            alloc,
+            home,
+            namespace.as_slice(),
+            slice_in(package),
+            name.as_slice(),
+        ) {
             Ok(name) => Ok(Some(name)),
             Err(NameRefusal::NoMemory) => Err(CallRefusal::NoMemory),
             Err(e) => Err(CallRefusal::BadName(e)),
@@ -102,62 +106,13 @@ fn name_of(alloc: Global, route: &Route, home: &EntityName) -> Result<Option<Ful
     }
 }
 
-fn full_name(
-    alloc: Global,
-    home: &EntityName,
-    namespace: &Bytes,
-    package: &Option<Bytes>,
-    name: &Bytes,
-) -> Result<FullName, NameRefusal>
-    ensures { MatchResult result (λ n. named_in home.now namespace.now «package».now name.now ≡ Ok n)
-        (λ e. e ≢ NameRefusal.NoMemory → named_in home.now namespace.now «package».now name.now ≡ Err e) }
+fn slice_in(bytes: &Option<Bytes>) -> Option<&[u8]>
+    ensures { option_copied result ≡ bytes.now }
 {
-    let namespace = read_home(alloc, namespace.as_slice(), home)?;
-    match package {
-        Some(package) => in_package(alloc, namespace, package.as_slice(), name.as_slice()),
-        None => in_namespace(alloc, namespace, name.as_slice()),
+    match bytes {
+        Some(bytes) => Some(bytes.as_slice()),
+        None => None,
     }
-}
-
-fn read_home(alloc: Global, text: &[u8], here: &EntityName) -> Result<EntityName, NameRefusal>
-    ensures { MatchResult result (λ n. (n ≡ home here.now text.now) × (first_fault text.now ≡ None))
-        (λ e. e ≢ NameRefusal.NoMemory → first_fault text.now ≡ Some e) }
-{
-    let namespace = read_name(alloc, text)?;
-    if text == b"_".as_slice() {
-        return Ok(here.copy(alloc)?);
-    }
-    Ok(namespace)
-}
-
-fn in_namespace(alloc: Global, namespace: EntityName, name: &[u8]) -> Result<FullName, NameRefusal>
-    ensures { MatchResult result (λ n. named namespace None name.now ≡ Ok n)
-        (λ e. e ≢ NameRefusal.NoMemory → named namespace None name.now ≡ Err e) }
-{
-    let name = read_name(alloc, name)?;
-    Ok(FullName {
-        namespace,
-        package: None,
-        name,
-    })
-}
-
-fn in_package(
-    alloc: Global,
-    namespace: EntityName,
-    package: &[u8],
-    name: &[u8],
-) -> Result<FullName, NameRefusal>
-    ensures { MatchResult result (λ n. named namespace (Some «package».now) name.now ≡ Ok n)
-        (λ e. e ≢ NameRefusal.NoMemory → named namespace (Some «package».now) name.now ≡ Err e) }
-{
-    let package = read_name(alloc, package)?;
-    let name = read_name(alloc, name)?;
-    Ok(FullName {
-        namespace,
-        package: Some(package),
-        name,
-    })
 }
 
 // The kind of the entity that is put.

@@ -1,10 +1,9 @@
 // What the headers of a request tell.
 ghost use Rattle.std.specs.Prelude.{◌≡◌, count_by, find, option_copied};
-ghost use Rattle.std.specs.List.{list_any, list_all};
-ghost use Rattle.std.specs.Char.{is_ascii_digit};
-ghost use Rattle.ow_http.specs.Fields.{is_named, is_refused, number_of, is_length, body_length, is_close, closes, last_named};
+ghost use Rattle.std.specs.List.{list_any};
+ghost use Rattle.ow_http.specs.Fields.{is_named, is_refused, is_length, body_length, is_close, closes, last_named};
 
-use ow_value::Str;
+use ow_value::{Str, digits_of};
 
 /// How long the body is. None where a header isn't served, or tells no length.
 #[tactic(auto, unfolding(crate::specs::Fields::body_length))]
@@ -19,7 +18,7 @@ pub(crate) fn body_length(fields: &[(Str, Str)]) -> Option<u64>
     }
     match length_header(fields) {
         None => Some(0),
-        Some(field) => number_of(field.1.as_str()),
+        Some(field) => digits_of(field.1.as_str().as_bytes()),
     }
 }
 
@@ -76,26 +75,6 @@ fn length_header(fields: &[(Str, Str)]) -> Option<&(Str, Str)>
     ensures { option_copied result ≡ find is_length fields.now }
 {
     fields.iter().find(|f| is_named(f, "content-length"))
-}
-
-fn all_digits(text: &str) -> bool
-    ensures { result ≡ list_all is_ascii_digit text.now }
-{
-    text.as_bytes().iter().all(|b| b.is_ascii_digit())
-}
-
-// A decimal number of 64 bits without a sign.
-#[tactic(auto, unfolding(crate::specs::Fields::number_of))]
-pub(crate) fn number_of(text: &str) -> Option<u64>
-    ensures { result ≡ number_of text.now }
-{
-    if !all_digits(text) {
-        return None;
-    }
-    match text.parse::<u64>() {
-        Ok(n) => Some(n),
-        Err(_) => None,
-    }
 }
 
 #[tactic(auto, unfolding(crate::specs::Fields::is_close))]

@@ -1,3 +1,4 @@
+// Why bytes are no request.
 ghost use Rattle.std.specs.Prelude.{◌≡◌};
 
 use ow_value::NoMemory;
@@ -8,7 +9,9 @@ use std::alloc::AllocError;
 pub enum HttpRefusal {
     /// The head is malformed or over its limits, or has a header that isn't served.
     BadHead,
+    /// The path names nothing.
     NoRoute,
+    /// No route takes the method, or that of the path doesn't.
     BadMethod,
     /// Over 4,194,304 bytes.
     BodyTooLarge,

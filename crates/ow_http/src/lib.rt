@@ -10,7 +10,6 @@ mod calls;
 mod fields;
 mod head;
 mod http_refusal;
-mod keys;
 mod parts;
 mod place;
 mod query;

@@ -5,7 +5,8 @@ ghost use Rattle.std.specs.Str.Lossy.{utf8_lossy};
 ghost use Rattle.percent_encoding.specs.Percent.{percent_decode};
 ghost use Rattle.ow_http.specs.Route.{is_whole};
 ghost use Rattle.ow_http.specs.RouteAt.{route_at, web_route};
-ghost use Rattle.ow_http.specs.Segment.{is_slash, after_slashes, part_at};
+ghost use Rattle.ow_names.specs.Slash.{is_slash};
+ghost use Rattle.ow_http.specs.Segment.{after_slashes, part_at};
 
 use crate::place::Place;
 use crate::route::Route;
@@ -13,7 +14,7 @@ use ow_entity::EntityKind;
 use ow_value::{Bytes, NoMemory, Str};
 use std::alloc::Global;
 
-// The route of a path that names this place.
+/// The route of a path that names this place.
 pub(crate) fn route_at(alloc: Global, place: Place, path: &str) -> Result<Route, NoMemory>
     ensures route { IfOk result (λ r. r ≡ route_at place path.now) }
     ensures whole { IfOk result (λ r. is_whole r ≡ true) }

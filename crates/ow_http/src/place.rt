@@ -1,3 +1,4 @@
+// Paths by what they name.
 use crate::route::Part;
 use ow_entity::EntityKind;
 

@@ -19,6 +19,7 @@ pub fn read_pairs(alloc: Global, input: &[u8]) -> Result<Pairs, NoMemory>
     Ok(pairs)
 }
 
+/// What stands before the first `?`.
 pub(crate) fn path_of(target: &str) -> &str
     ensures { result.now ≡ path_of target.now }
 {
@@ -28,6 +29,7 @@ pub(crate) fn path_of(target: &str) -> &str
     }
 }
 
+/// What stands behind the first `?`, or nothing.
 pub(crate) fn query_of(target: &str) -> &str
     ensures { result.now ≡ query_of target.now }
 {

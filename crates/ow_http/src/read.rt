@@ -1,14 +1,15 @@
 // Bytes as requests.
-ghost use Rattle.std.specs.Prelude.{◌≡◌, ◌⊎◌, ℕ, List, length, IfOk, OnOk, IfErr, drop, map, true, false, MatchOption, All, ◌++◌, ◌∷◌, [], ◌+◌, ◌<◌, ◌^◌, Ok, option_copied};
+ghost use Rattle.std.specs.Prelude.{◌≡◌, ◌⊎◌, ℕ, List, length, IfOk, OnOk, IfErr, drop, map, true, false, MatchOption, All, ◌++◌, ◌∷◌, [], ◌+◌, ◌<◌, ◌^◌, Ok, codes};
 ghost use Rattle.std.specs.List.{list_all};
 ghost use Rattle.std.specs.Str.{is_utf8};
 ghost use Rattle.httparse.specs.Grammar.{RequestHead};
 ghost use Rattle.httparse.specs.Spans.{IsRequestAt, IsRequestWithin, IsHeaderWithin, header_bytes};
-ghost use Rattle.ow_http.specs.Fields.{is_text};
+ghost use Rattle.ow_http.specs.Fields.{is_text, last_named};
 ghost use Rattle.ow_http.specs.Head.{HasHead, IsBadHead, IsCutHead};
-ghost use Rattle.ow_http.specs.Judged.{judged, judged_method, judged_body, asked_of};
+ghost use Rattle.ow_http.specs.Judged.{judged, judged_method, judged_body, asked_of, as_asked};
 ghost use Rattle.ow_http.specs.Gives.{Gives, GivesRead};
 ghost use Rattle.ow_http.specs.Route.{takes, is_whole};
+ghost use Rattle.ow_http.specs.Verb.{verb_of};
 ghost use Rattle.ow_http.specs.declared.http_refusal.HttpRefusal.TheVariants.{BadHead, CutShort, NoMemory as OutOfMemory};
 
 use crate::fields::{body_length, closes, last_named};
@@ -26,25 +27,15 @@ use std::alloc::Global;
 
 const MAX_BODY: u64 = 4194304;
 
-// The target of a request and what stands around it.
+// The parts of a head whose target is text, and the bytes behind it.
 #[derive(Drop)]
 struct Asked<'a> {
+    method: &'a [u8],
     target: &'a str,
     minor: u8,
     fields: Pairs,
     head: usize,
     rest: &'a [u8],
-}
-
-/// The request at the front of the bytes. It makes the routes anew: one that reads many requests calls `Routes::read`.
-pub fn read_request(alloc: Global, bytes: &[u8]) -> Result<Read, HttpRefusal>
-    ensures judged { (h : RequestHead) (rest : List ℕ) → HasHead bytes.now h rest → GivesRead (judged (asked_of h rest)) result }
-    ensures whole { OnOk result ((h : RequestHead) × (rest : List ℕ) × HasHead bytes.now h rest) }
-    ensures headless { ((h : RequestHead) (rest : List ℕ) → ¬ (HasHead bytes.now h rest))
-        → IfErr result (λ e. ((e ≡ BadHead) × IsBadHead bytes.now) ⊎ ((e ≡ CutShort) × IsCutHead bytes.now) ⊎ (e ≡ OutOfMemory)) }
-{
-    let routes = Routes::new(alloc)?;
-    routes.read(alloc, bytes)
 }
 
 impl Routes {
@@ -61,6 +52,17 @@ impl Routes {
             Err(e) => Err(e),
         }
     }
+}
+
+/// The request at the front of the bytes. It makes the routes anew: one that reads many requests calls `Routes::read`.
+pub fn read_request(alloc: Global, bytes: &[u8]) -> Result<Read, HttpRefusal>
+    ensures judged { (h : RequestHead) (rest : List ℕ) → HasHead bytes.now h rest → GivesRead (judged (asked_of h rest)) result }
+    ensures whole { OnOk result ((h : RequestHead) × (rest : List ℕ) × HasHead bytes.now h rest) }
+    ensures headless { ((h : RequestHead) (rest : List ℕ) → ¬ (HasHead bytes.now h rest))
+        → IfErr result (λ e. ((e ≡ BadHead) × IsBadHead bytes.now) ⊎ ((e ≡ CutShort) × IsCutHead bytes.now) ⊎ (e ≡ OutOfMemory)) }
+{
+    let routes = Routes::new(alloc)?;
+    routes.read(alloc, bytes)
 }
 
 fn read_whole(
@@ -94,71 +96,55 @@ fn read_asked(
     ensures { (h : RequestHead) → IsRequestAt bytes.now headers.now head h
         → Gives (judged (asked_of h (drop head.len bytes.now))) result }
 {
+    let target = match text_of(head.path.of(bytes)) {
+        Some(target) => target,
+        None => return Err(HttpRefusal::BadHead),
+    };
     let fields = match read_fields(alloc, bytes, &headers[..head.headers])? {
         Some(fields) => fields,
         None => return Err(HttpRefusal::BadHead),
     };
-    judge(
-        alloc,
-        routes,
-        head.method.of(bytes),
-        head.path.of(bytes),
-        head.version,
+    let asked = Asked {
+        method: head.method.of(bytes),
+        target,
+        minor: head.version,
         fields,
-        head.len,
-        &bytes[head.len..],
-    )
+        head: head.len,
+        rest: &bytes[head.len..],
+    };
+    judge(alloc, routes, asked)
 }
 
-// The request that these parts ask for, or the first refusal.
+// The request that is asked for, or the first refusal.
 #[tactic(auto, unfolding(crate::specs::Judged::judged))]
-fn judge(
-    alloc: Global,
-    routes: &Routes,
-    method: &[u8],
-    target: &[u8],
-    minor: u8,
-    fields: Pairs,
-    head: usize,
-    rest: &[u8],
-) -> Result<Request, HttpRefusal>
-    requires text { list_all is_text fields ≡ true }
-    requires fits { head + length rest.now < 2 ^ 64 }
-    ensures { Gives (judged (record { method = method.now; target = target.now; minor = minor; fields = fields; head = head; rest = rest.now })) result }
+fn judge(alloc: Global, routes: &Routes, asked: Asked<'_>) -> Result<Request, HttpRefusal>
+    requires target { is_utf8 asked.target.now ≡ true }
+    requires fields { list_all is_text asked.fields ≡ true }
+    requires fits { asked.head + length asked.rest.now < 2 ^ 64 }
+    ensures { Gives (judged (as_asked asked.entry)) result }
 {
-    let Some(target) = text_of(target) else {
+    let Some(size) = body_length(asked.fields.as_slice()) else {
         return Err(HttpRefusal::BadHead);
     };
-    let Some(size) = body_length(fields.as_slice()) else {
-        return Err(HttpRefusal::BadHead);
-    };
-    let path = path_of(target);
+    let path = path_of(asked.target);
     let Some(place) = routes.find(path) else {
         return Err(HttpRefusal::NoRoute);
     };
     let route = route_at(alloc, place, path)?;
-    let asked = Asked {
-        target,
-        minor,
-        fields,
-        head,
-        rest,
-    };
-    judge_method(alloc, Verb::of(method), route, size, asked)
+    judge_method(alloc, route, size, asked)
 }
 
 fn judge_method(
     alloc: Global,
-    method: Option<Verb>,
     route: Route,
     size: u64,
     asked: Asked<'_>,
 ) -> Result<Request, HttpRefusal>
     requires whole { is_whole route ≡ true }
     requires fits { asked.head + length asked.rest.now < 2 ^ 64 }
-    ensures { Gives (judged_method method route size asked.entry.target.now asked.entry.minor asked.entry.fields asked.entry.head asked.entry.rest.now) result }
+    ensures { Gives (judged_method (verb_of asked.entry.method.now) route size (as_asked asked.entry)) result }
 {
-    let method = match method {
+    let method = match Verb::of(asked.method) {
         Some(method) => method,
         None => return Err(HttpRefusal::BadMethod),
     };
@@ -180,7 +166,7 @@ fn finish(
     requires whole { is_whole route ≡ true }
     requires allowed { takes route method ≡ true }
     requires fits { asked.head + length asked.rest.now < 2 ^ 64 }
-    ensures { Gives (judged_body method route size asked.entry.target.now asked.entry.minor asked.entry.fields asked.entry.head asked.entry.rest.now) result }
+    ensures { Gives (judged_body method route size (as_asked asked.entry)) result }
 {
     if size > MAX_BODY {
         return Err(HttpRefusal::BodyTooLarge);
@@ -189,7 +175,7 @@ fn finish(
         return Err(HttpRefusal::CutShort);
     }
     let query = query_of(asked.target);
-    let key = copied(alloc, last_named(asked.fields.as_slice(), "x-whisk-key"))?;
+    let key = key_of(alloc, asked.fields.as_slice())?;
     let close = closes(asked.minor, asked.fields.as_slice());
     Ok(Request {
         route,
@@ -204,10 +190,10 @@ fn finish(
     })
 }
 
-fn copied(alloc: Global, text: Option<&Str>) -> Result<Option<Str>, NoMemory>
-    ensures { IfOk result (λ r. r ≡ option_copied text.entry) }
+fn key_of(alloc: Global, fields: &[(Str, Str)]) -> Result<Option<Str>, NoMemory>
+    ensures { IfOk result (λ k. k ≡ last_named (codes "x-whisk-key") fields.now) }
 {
-    match text {
+    match last_named(fields, "x-whisk-key") {
         Some(text) => Ok(Some(text.copy(alloc)?)),
         None => Ok(None),
     }

@@ -1,7 +1,7 @@
+// Requests as they were read.
 ghost use Rattle.std.specs.Prelude.{◌≡◌, true};
 ghost use Rattle.ow_http.specs.Route.{takes, is_whole};
 
-use crate::keys::{copy_key, same_key};
 use crate::route::Route;
 use crate::verb::Verb;
 use ow_value::{Bytes, NoMemory, Pairs, Str};
@@ -34,12 +34,13 @@ impl Request {
     ghost use Rattle.std.specs.Prelude.{◌↔◌, IsTrue, IfOk};
     ghost use Rattle.ow_http.specs.Request.{parts_of};
 
+    /// Whether both have the same parts.
     pub fn same(&self, other: &Request) -> bool
         ensures { IsTrue result ↔ (parts_of self.now ≡ parts_of other.now) }
     {
         self.route.same(&other.route)
             && self.method == other.method
-            && same_key(&self.key, &other.key)
+            && Str::same_option(&self.key, &other.key)
             && self.query.same(&other.query)
             && self.raw_query.same(&other.raw_query)
             && self.headers.same(&other.headers)
@@ -48,13 +49,14 @@ impl Request {
             && self.close == other.close
     }
 
+    /// An equal request.
     pub fn copy(&self, alloc: Global) -> Result<Request, NoMemory>
         ensures { IfOk result (λ r. parts_of r ≡ parts_of self.now) }
     {
         Ok(Request {
             route: self.route.copy(alloc)?,
             method: self.method,
-            key: copy_key(alloc, &self.key)?,
+            key: Str::copy_option(alloc, &self.key)?,
             query: self.query.copy(alloc)?,
             raw_query: self.raw_query.copy(alloc)?,
             headers: self.headers.copy(alloc)?,
@@ -71,4 +73,26 @@ pub struct Read {
     pub request: Request,
     /// The bytes of head and body, as many as the request's size.
     pub used: usize,
+}
+
+impl Read {
+    ghost use Rattle.std.specs.Prelude.{◌↔◌, IsTrue, IfOk};
+    ghost use Rattle.ow_http.specs.Request.{read_parts};
+
+    /// Whether both have the same parts.
+    pub fn same(&self, other: &Read) -> bool
+        ensures { IsTrue result ↔ (read_parts self.now ≡ read_parts other.now) }
+    {
+        self.request.same(&other.request) && self.used == other.used
+    }
+
+    /// An equal request.
+    pub fn copy(&self, alloc: Global) -> Result<Read, NoMemory>
+        ensures { IfOk result (λ r. read_parts r ≡ read_parts self.now) }
+    {
+        Ok(Read {
+            request: self.request.copy(alloc)?,
+            used: self.used,
+        })
+    }
 }

@@ -1,5 +1,7 @@
+// Paths with their parts.
 ghost use Rattle.std.specs.Prelude.{◌≡◌, ◌↔◌, IsTrue, IfOk};
 ghost use Rattle.ow_http.specs.Method.{is_change};
+ghost use Rattle.ow_http.specs.declared.route.Route.TheVariants.{Namespaces, List, Entity, Activations, Activation, Web};
 
 use crate::verb::Verb;
 use ow_entity::EntityKind;
@@ -9,34 +11,42 @@ use std::alloc::Global;
 /// Which part of an activation is asked for.
 #[derive(Clone, Copy, PartialEq, Eq, Debug, Drop)]
 pub enum Part {
+    /// The record.
     Whole,
+    /// The response of the record.
     Response,
+    /// The lines of the log.
     Logs,
 }
 
 /// What a path names, with its parts percent-decoded (RFC 3986, section 2.1). They needn't be names.
 #[derive(Drop)]
 pub enum Route {
+    /// The list of namespaces.
     Namespaces,
+    /// The entities of one kind in a namespace.
     List {
         namespace: Bytes,
         kind: EntityKind,
     },
+    /// One entity. Only an action stands in a package.
     Entity {
         namespace: Bytes,
         kind: EntityKind,
         package: Option<Bytes>,
         name: Bytes,
     },
+    /// The activations of a namespace.
     Activations {
         namespace: Bytes,
     },
+    /// One activation, or a part of it.
     Activation {
         namespace: Bytes,
         id: Bytes,
         part: Part,
     },
-    /// The rest of the path has no slash at its front, and U+FFFD for what isn't UTF-8. It is empty where the path ends with the name.
+    /// A web action. The rest of the path has no slash at its front, and U+FFFD for what isn't UTF-8. It is empty where the path ends with the name.
     Web {
         namespace: Bytes,
         package: Bytes,
@@ -66,78 +76,35 @@ impl Route {
         }
     }
 
+    /// Whether both have the same parts.
     pub fn same(&self, other: &Route) -> bool
         ensures { IsTrue result ↔ (self.now ≡ other.now) }
     {
-        match (self, other) {
-            (Route::Namespaces, Route::Namespaces) => true,
-            (
-                Route::List { namespace, kind },
-                Route::List {
-                    namespace: other_namespace,
-                    kind: other_kind,
-                },
-            ) => namespace.same(other_namespace) && kind == other_kind,
-            (
-                Route::Entity {
-                    namespace,
-                    kind,
-                    package,
-                    name,
-                },
-                Route::Entity {
-                    namespace: other_namespace,
-                    kind: other_kind,
-                    package: other_package,
-                    name: other_name,
-                },
-            ) => {
-                namespace.same(other_namespace)
-                    && kind == other_kind
-                    && same_bytes(package, other_package)
-                    && name.same(other_name)
-            }
-            (
-                Route::Activations { namespace },
-                Route::Activations {
-                    namespace: other_namespace,
-                },
-            ) => namespace.same(other_namespace),
-            (
-                Route::Activation {
-                    namespace,
-                    id,
-                    part,
-                },
-                Route::Activation {
-                    namespace: other_namespace,
-                    id: other_id,
-                    part: other_part,
-                },
-            ) => namespace.same(other_namespace) && id.same(other_id) && part == other_part,
-            (
-                Route::Web {
-                    namespace,
-                    package,
-                    name,
-                    rest,
-                },
-                Route::Web {
-                    namespace: other_namespace,
-                    package: other_package,
-                    name: other_name,
-                    rest: other_rest,
-                },
-            ) => {
-                namespace.same(other_namespace)
-                    && package.same(other_package)
-                    && name.same(other_name)
-                    && rest.same(other_rest)
-            }
-            _ => false,
+        match self {
+            Route::Namespaces => is_namespaces(other),
+            Route::List { namespace, kind } => is_list(other, namespace, *kind),
+            Route::Entity {
+                namespace,
+                kind,
+                package,
+                name,
+            } => is_entity(other, namespace, *kind, package, name),
+            Route::Activations { namespace } => is_activations(other, namespace),
+            Route::Activation {
+                namespace,
+                id,
+                part,
+            } => is_activation(other, namespace, id, *part),
+            Route::Web {
+                namespace,
+                package,
+                name,
+                rest,
+            } => is_web(other, namespace, package, name, rest),
         }
     }
 
+    /// An equal route.
     pub fn copy(&self, alloc: Global) -> Result<Route, NoMemory>
         ensures { IfOk result (λ r. r ≡ self.now) }
     {
@@ -152,12 +119,7 @@ impl Route {
                 kind,
                 package,
                 name,
-            } => Ok(Route::Entity {
-                namespace: namespace.copy(alloc)?,
-                kind: *kind,
-                package: copy_bytes(alloc, package)?,
-                name: name.copy(alloc)?,
-            }),
+            } => entity(alloc, namespace, *kind, package, name),
             Route::Activations { namespace } => Ok(Route::Activations {
                 namespace: namespace.copy(alloc)?,
             }),
@@ -165,24 +127,135 @@ impl Route {
                 namespace,
                 id,
                 part,
-            } => Ok(Route::Activation {
-                namespace: namespace.copy(alloc)?,
-                id: id.copy(alloc)?,
-                part: *part,
-            }),
+            } => activation(alloc, namespace, id, *part),
             Route::Web {
                 namespace,
                 package,
                 name,
                 rest,
-            } => Ok(Route::Web {
-                namespace: namespace.copy(alloc)?,
-                package: package.copy(alloc)?,
-                name: name.copy(alloc)?,
-                rest: rest.copy(alloc)?,
-            }),
+            } => web(alloc, namespace, package, name, rest),
         }
     }
+}
+
+fn is_namespaces(route: &Route) -> bool
+    ensures { IsTrue result ↔ (route.now ≡ Namespaces) }
+{
+    match route {
+        Route::Namespaces => true,
+        _ => false,
+    }
+}
+
+fn is_list(route: &Route, home: &Bytes, listed: EntityKind) -> bool
+    ensures { IsTrue result ↔ (route.now ≡ List home.now listed) }
+{
+    match route {
+        Route::List { namespace, kind } => namespace.same(home) && *kind == listed,
+        _ => false,
+    }
+}
+
+fn is_entity(
+    route: &Route,
+    home: &Bytes,
+    named: EntityKind,
+    parent: &Option<Bytes>,
+    own: &Bytes,
+) -> bool
+    ensures { IsTrue result ↔ (route.now ≡ Entity home.now named parent.now own.now) }
+{
+    match route {
+        Route::Entity {
+            namespace,
+            kind,
+            package,
+            name,
+        } => {
+            namespace.same(home) && *kind == named && same_bytes(package, parent) && name.same(own)
+        }
+        _ => false,
+    }
+}
+
+fn is_activations(route: &Route, home: &Bytes) -> bool
+    ensures { IsTrue result ↔ (route.now ≡ Activations home.now) }
+{
+    match route {
+        Route::Activations { namespace } => namespace.same(home),
+        _ => false,
+    }
+}
+
+fn is_activation(route: &Route, home: &Bytes, own: &Bytes, asked: Part) -> bool
+    ensures { IsTrue result ↔ (route.now ≡ Activation home.now own.now asked) }
+{
+    match route {
+        Route::Activation {
+            namespace,
+            id,
+            part,
+        } => namespace.same(home) && id.same(own) && *part == asked,
+        _ => false,
+    }
+}
+
+fn is_web(route: &Route, home: &Bytes, parent: &Bytes, own: &Bytes, more: &Str) -> bool
+    ensures { IsTrue result ↔ (route.now ≡ Web home.now parent.now own.now more.now) }
+{
+    match route {
+        Route::Web {
+            namespace,
+            package,
+            name,
+            rest,
+        } => { namespace.same(home) && package.same(parent) && name.same(own) && rest.same(more) }
+        _ => false,
+    }
+}
+
+fn entity(
+    alloc: Global,
+    namespace: &Bytes,
+    kind: EntityKind,
+    package: &Option<Bytes>,
+    name: &Bytes,
+) -> Result<Route, NoMemory>
+    ensures { IfOk result (λ r. r ≡ Entity namespace.now kind «package».now name.now) }
+{
+    Ok(Route::Entity {
+        namespace: namespace.copy(alloc)?,
+        kind,
+        package: copy_bytes(alloc, package)?,
+        name: name.copy(alloc)?,
+    })
+}
+
+fn activation(alloc: Global, namespace: &Bytes, id: &Bytes, part: Part) -> Result<Route, NoMemory>
+    ensures { IfOk result (λ r. r ≡ Activation namespace.now id.now part) }
+{
+    Ok(Route::Activation {
+        namespace: namespace.copy(alloc)?,
+        id: id.copy(alloc)?,
+        part,
+    })
+}
+
+fn web(
+    alloc: Global,
+    namespace: &Bytes,
+    package: &Bytes,
+    name: &Bytes,
+    rest: &Str,
+) -> Result<Route, NoMemory>
+    ensures { IfOk result (λ r. r ≡ Web namespace.now «package».now name.now rest.now) }
+{
+    Ok(Route::Web {
+        namespace: namespace.copy(alloc)?,
+        package: package.copy(alloc)?,
+        name: name.copy(alloc)?,
+        rest: rest.copy(alloc)?,
+    })
 }
 
 // Whether an entity is read, put or deleted by the method.

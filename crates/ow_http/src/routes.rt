@@ -30,6 +30,7 @@ impl Model for Routes {
 impl Routes {
     ghost use Rattle.ow_http.specs.PlaceOf.{place_of};
 
+    /// All routes.
     pub fn new(alloc: Global) -> Result<Routes, NoMemory> {
         match office_router(alloc) {
             Ok(router) => Ok(Routes { router }),
@@ -37,7 +38,7 @@ impl Routes {
         }
     }
 
-    // What a path names.
+    /// What a path names.
     pub(crate) fn find(&self, path: &str) -> Option<Place>
         ensures { result ≡ place_of path.now }
     {

@@ -1,5 +1,9 @@
+ghost use Rattle.std.specs.Prelude.{◌≢◌, IsSome};
+ghost use Rattle.ow_http.specs.Reason.{told, status_of};
+
 use crate::{
-    Answer, Part, Reason, Request, Route, Routes, read_request, reason_text, refusal, write_reply,
+    Answer, Part, Read, Reason, Request, Route, Routes, read_request, reason_text, refusal,
+    write_reply,
 };
 use ow_entity::EntityKind;
 use ow_value::{Bytes, Pairs, Str};
@@ -103,6 +107,42 @@ fn told(alloc: Global, routes: &Routes, bytes: &[u8]) -> Result<Vec<u8>, Fail> {
     }
 }
 
+// Whether this is read, or this refusal told.
+fn reads_as(alloc: Global, routes: &Routes, bytes: &[u8], expected: &str) -> Result<bool, Fail> {
+    let read = told(alloc, routes, bytes)?;
+    Ok(read.as_slice() == expected.as_bytes())
+}
+
+// A row's front as a request between two texts, with the end of a line for each bar.
+fn request_of(alloc: Global, before: &str, row: &str, after: &str) -> Result<String, Fail> {
+    let text = format!(in alloc; "{before}{row}{after}")?;
+    Ok(text.replace(alloc, '|', "\r\n")?)
+}
+
+fn is_judged(
+    alloc: Global,
+    routes: &Routes,
+    before: &str,
+    row: &str,
+    after: &str,
+) -> Result<bool, Fail> {
+    let Some((request, expected)) = row.split_once(" -> ") else {
+        return Ok(false);
+    };
+    let request = request_of(alloc, before, request, after)?;
+    reads_as(alloc, routes, request.as_bytes(), expected)
+}
+
+fn all_are_judged(alloc: Global, before: &str, table: &str, after: &str) -> Result<bool, Fail> {
+    let routes = Routes::new(alloc)?;
+    for row in table.lines() {
+        if !is_judged(alloc, &routes, before, row, after)? {
+            return Ok(false);
+        }
+    }
+    Ok(true)
+}
+
 // A path, and its route or the number of the refusal.
 const ROUTES: &str = "/api/v1/namespaces -> namespaces
 /api/v1/namespaces?limit=1 -> namespaces
@@ -180,28 +220,9 @@ http://h/api/v1/namespaces -> 36
 /api/v1/web/a/p/n/ -> 36
 ";
 
-fn is_routed(alloc: Global, routes: &Routes, row: &str) -> Result<bool, Fail> {
-    let Some((path, expected)) = row.split_once(" -> ") else {
-        return Ok(false);
-    };
-    let bytes = format!(in alloc; "GET {path} HTTP/1.1\r\n\r\n")?;
-    let read = told(alloc, routes, bytes.as_bytes())?;
-    Ok(read.as_slice() == expected.as_bytes())
-}
-
-fn all_are_routed(alloc: Global, table: &str) -> Result<bool, Fail> {
-    let routes = Routes::new(alloc)?;
-    for row in table.lines() {
-        if !is_routed(alloc, &routes, row)? {
-            return Ok(false);
-        }
-    }
-    Ok(true)
-}
-
 #[test]
 fn each_path_has_its_route(rt: HostRuntime) -> Result<(), Fail> {
-    assert!(rt; all_are_routed(rt.alloc(), ROUTES)?);
+    assert!(rt; all_are_judged(rt.alloc(), "GET ", ROUTES, " HTTP/1.1||")?);
     Ok(())
 }
 
@@ -233,8 +254,8 @@ fn is_taken(
     taken: bool,
 ) -> Result<bool, Fail> {
     let bytes = format!(in alloc; "{method} {path} HTTP/1.1\r\n\r\n")?;
-    let read = told(alloc, routes, bytes.as_bytes())?;
-    Ok(taken == (read.as_slice() != b"37".as_slice()))
+    let refused = reads_as(alloc, routes, bytes.as_bytes(), "37")?;
+    Ok(taken != refused)
 }
 
 fn takes_its_methods(alloc: Global, routes: &Routes, row: &str) -> Result<bool, Fail> {
@@ -300,28 +321,9 @@ PATCH /api/v1/namespaces HTTP/1.1|Content-Length: 4194305|| -> 37
 PATCH /nowhere HTTP/1.1|Content-Encoding: gzip|| -> 35
 ";
 
-fn is_judged(alloc: Global, routes: &Routes, row: &str) -> Result<bool, Fail> {
-    let Some((request, expected)) = row.split_once(" -> ") else {
-        return Ok(false);
-    };
-    let bytes = request.replace(alloc, '|', "\r\n")?;
-    let read = told(alloc, routes, bytes.as_bytes())?;
-    Ok(read.as_slice() == expected.as_bytes())
-}
-
-fn all_are_judged(alloc: Global, table: &str) -> Result<bool, Fail> {
-    let routes = Routes::new(alloc)?;
-    for row in table.lines() {
-        if !is_judged(alloc, &routes, row)? {
-            return Ok(false);
-        }
-    }
-    Ok(true)
-}
-
 #[test]
 fn heads_and_bodies_are_refused_in_their_order(rt: HostRuntime) -> Result<(), Fail> {
-    assert!(rt; all_are_judged(rt.alloc(), HEADS)?);
+    assert!(rt; all_are_judged(rt.alloc(), "", HEADS, "")?);
     Ok(())
 }
 
@@ -341,8 +343,7 @@ fn long_head(alloc: Global, headers: usize, filling: usize) -> Result<Vec<u8>, F
 
 fn is_told(alloc: Global, bytes: &[u8], expected: &str) -> Result<bool, Fail> {
     let routes = Routes::new(alloc)?;
-    let read = told(alloc, &routes, bytes)?;
-    Ok(read.as_slice() == expected.as_bytes())
+    reads_as(alloc, &routes, bytes, expected)
 }
 
 fn is_limited(alloc: Global, headers: usize, filling: usize, expected: &str) -> Result<bool, Fail> {
@@ -377,8 +378,7 @@ const WHOLE: &str = "PUT /api/v1/namespaces/_/actions/n HTTP/1.0\r\nContent-Leng
 fn fronts_are_cut_short(alloc: Global, whole: &[u8]) -> Result<bool, Fail> {
     let routes = Routes::new(alloc)?;
     for end in 0..whole.len() {
-        let read = told(alloc, &routes, &whole[..end])?;
-        if read.as_slice() != b"40".as_slice() {
+        if !reads_as(alloc, &routes, &whole[..end], "40")? {
             return Ok(false);
         }
     }
@@ -413,9 +413,9 @@ fn has_parts(request: &Request) -> bool {
         && request.headers.len() == 3
 }
 
-fn is_copied(alloc: Global, request: &Request) -> Result<bool, Fail> {
-    let copied = request.copy(alloc)?;
-    Ok(copied.same(request))
+fn is_copied(alloc: Global, read: &Read) -> Result<bool, Fail> {
+    let copied = read.copy(alloc)?;
+    Ok(copied.same(read))
 }
 
 #[test]
@@ -423,28 +423,31 @@ fn a_request_has_its_parts(rt: HostRuntime) -> Result<(), Fail> {
     let alloc = rt.alloc();
     let read = read_request(alloc, ASKED)?;
     assert!(rt; read.used == 129 && has_parts(&read.request));
-    assert!(rt; is_copied(alloc, &read.request)?);
+    assert!(rt; is_copied(alloc, &read)?);
     Ok(())
 }
 
-const LIMITED: &str = "Too many invocations in the last minute: 120 of 120.";
+const LIMITED: &str = "Too many invocations in the last minute: 119 of 120.";
 
 const LIMITED_REPLY: &str =
-    "HTTP/1.1 429 Too Many Requests\r\nContent-Type: application/json\r\nContent-Length: 74\r\n\r\n{\"code\":25,\"error\":\"Too many invocations in the last minute: 120 of 120.\"}";
+    "HTTP/1.1 429 Too Many Requests\r\nContent-Type: application/json\r\nContent-Length: 74\r\n\r\n{\"code\":25,\"error\":\"Too many invocations in the last minute: 119 of 120.\"}";
 
-#[test]
-#[tactic(auto, unfolding(crate::specs::Reason::told))]
-fn refusals_are_told(rt: HostRuntime) -> Result<(), Fail> {
-    let alloc = rt.alloc();
-    let reason = Reason {
-        number: 25,
-        name: Str::of(alloc, "")?,
-        first: 120,
-        second: 120,
-    };
-    let told = reason_text(alloc, &reason)?;
-    assert_eq!(rt; told.as_str(), LIMITED);
-    Ok(())
+fn is_reason_copied(alloc: Global, reason: &Reason) -> Result<bool, Fail> {
+    let copied = reason.copy(alloc)?;
+    Ok(copied.same(reason))
+}
+
+fn is_answer_copied(alloc: Global, answer: &Answer) -> Result<bool, Fail> {
+    let copied = answer.copy(alloc)?;
+    Ok(copied.same(answer))
+}
+
+// Whether it has this text.
+fn has_text(alloc: Global, reason: &Reason, expected: &str) -> Result<bool, Fail>
+    requires { IsSome (told reason.now) }
+{
+    let text = reason_text(alloc, reason)?;
+    Ok(text.as_str() == expected)
 }
 
 fn is_written(alloc: Global, answer: &Answer, expected: &str) -> Result<bool, Fail> {
@@ -452,18 +455,25 @@ fn is_written(alloc: Global, answer: &Answer, expected: &str) -> Result<bool, Fa
     Ok(written.as_slice() == expected.as_bytes())
 }
 
+// Whether this reply tells it.
+fn is_refused(alloc: Global, reason: &Reason, expected: &str) -> Result<bool, Fail>
+    requires status { IsSome (status_of reason.now) }
+    requires plain { reason.now.number ≢ 45 }
+{
+    let answer = refusal(alloc, reason)?;
+    is_written(alloc, &answer, expected)
+}
+
 #[test]
 #[tactic(auto, unfolding(crate::specs::Reason::told))]
-fn refusals_are_written(rt: HostRuntime) -> Result<(), Fail> {
+fn refusals_are_told_and_written(rt: HostRuntime) -> Result<(), Fail> {
     let alloc = rt.alloc();
-    let reason = Reason {
-        number: 25,
-        name: Str::of(alloc, "")?,
-        first: 120,
-        second: 120,
-    };
-    let answer = refusal(alloc, &reason)?;
-    assert!(rt; is_written(alloc, &answer, LIMITED_REPLY)?);
+    let mut reason = Reason::plain(alloc, 25);
+    reason.first = 119;
+    reason.second = 120;
+    assert!(rt; has_text(alloc, &reason, LIMITED)?);
+    assert!(rt; is_refused(alloc, &reason, LIMITED_REPLY)?);
+    assert!(rt; is_reason_copied(alloc, &reason)?);
     Ok(())
 }
 
@@ -478,5 +488,6 @@ fn an_answer_without_content_has_no_length(rt: HostRuntime) -> Result<(), Fail> 
         body: Bytes::new(alloc),
     };
     assert!(rt; is_written(alloc, &bare, "HTTP/1.1 204 No Content\r\nX-A: 1\r\n\r\n")?);
+    assert!(rt; is_answer_copied(alloc, &bare)?);
     Ok(())
 }

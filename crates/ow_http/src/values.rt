@@ -1,12 +1,11 @@
 // The values of a query that its route has.
 ghost use Rattle.std.specs.Prelude.{◌≡◌, codes, option_copied};
-ghost use Rattle.ow_http.specs.Values.{first_named, first_wrong, flag_of, has_leading_zero, is_flag, is_invocation, is_number_to, is_page, is_right, is_wrong, limit_of, number_or, wants_of};
+ghost use Rattle.ow_http.specs.Values.{first_named, first_wrong, flag_of, is_flag, is_invocation, is_number_to, is_page, is_right, is_wrong, limit_of, number_or, wants_of};
 
-use crate::fields::number_of;
 use crate::route::Route;
 use crate::verb::Verb;
 use ow_entity::EntityKind;
-use ow_value::Str;
+use ow_value::{Str, decimal_of};
 
 /// Which values are looked at.
 #[derive(Clone, Copy, PartialEq, Eq, Debug, Drop)]
@@ -75,7 +74,7 @@ fn number_or(default: u64, value: Option<&Str>) -> u64
     ensures { result ≡ number_or default (option_copied value.entry) }
 {
     match value {
-        Some(value) => match number_of(value.as_str()) {
+        Some(value) => match decimal_of(value.as_str().as_bytes()) {
             Some(n) => n,
             None => default,
         },
@@ -150,17 +149,8 @@ fn is_flag(value: &str) -> bool
 fn is_number_to(most: u64, value: &str) -> bool
     ensures { result ≡ is_number_to most value.now }
 {
-    if has_leading_zero(value.as_bytes()) {
-        return false;
-    }
-    match number_of(value) {
+    match decimal_of(value.as_bytes()) {
         Some(n) => n <= most,
         None => false,
     }
-}
-
-fn has_leading_zero(digits: &[u8]) -> bool
-    ensures { result ≡ has_leading_zero digits.now }
-{
-    digits.len() > 1 && digits[0] == b'0'
 }

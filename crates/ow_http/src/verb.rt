@@ -1,3 +1,4 @@
+// The methods of requests.
 ghost use Rattle.std.specs.Prelude.{◌≡◌};
 
 /// A method that some route takes (RFC 9110, section 9, and RFC 5789 for PATCH).

@@ -8,7 +8,7 @@ mod shown;
 use anyhow::{Context, anyhow};
 use ow_http::{Answer, Routes, read_call, write_reply};
 use ow_names::{EntityName, read_name};
-use ow_value::{Bytes, Pairs};
+use ow_value::Pairs;
 use std::alloc::Global;
 use std::env;
 use std::io::{Read, Write};

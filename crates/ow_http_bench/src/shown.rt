@@ -16,13 +16,7 @@ pub(crate) fn answer_of(
 }
 
 fn refused(alloc: Global, e: HttpRefusal) -> Result<Answer, NoMemory> {
-    let reason = Reason {
-        number: e.number(),
-        name: Str::of(alloc, "")?,
-        first: 0,
-        second: 0,
-    };
-    refusal(alloc, &reason)
+    refusal(alloc, &Reason::plain(alloc, e.number()))
 }
 
 fn told(alloc: Global, read: &Read, status: u16) -> Result<Answer, NoMemory> {

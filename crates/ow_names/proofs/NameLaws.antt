@@ -1,5 +1,5 @@
 -- What the first fault says of a text, and that a name has none.
-use Rattle.std.proofs.Common.{◌≡◌, ◌≢◌, ℕ, zero, suc, ◌<◌, ◌≤◌, ◌==◌, List, Bool, true, false, not, cond, length, get_or, nat_lt, Option, Some, None, refl, sym, ap, ◌∙◌, inl, inr, ◌⊎◌, arith, slice_index, zero-add}
+use Rattle.std.proofs.Common.{◌≡◌, ◌≢◌, ℕ, zero, suc, ◌<◌, ◌≤◌, ◌==◌, List, Bool, true, false, not, cond, length, get_or, nat_lt, Option, Some, None, MatchOption, refl, sym, ap, subst, ◌-◌, ◌∙◌, inl, inr, ◌⊎◌, arith, slice_index, zero-add}
 use Rattle.std.specs.List.{enumerate_from, position_or_len, All}
 use Rattle.std.specs.Str.{IsUtf8}
 use Rattle.std.proofs.lemmas.Bool.{cases_lt, not-true, not-false, not_from_true}
@@ -8,8 +8,9 @@ use Rattle.std.proofs.lemmas.List.FromFn.{length-enumerate_from, get_or-enumerat
 use Rattle.std.proofs.lemmas.List.Quantifiers.{position-Some}
 use Rattle.std.proofs.lemmas.List.Sums.{fails_before_first, position_or_len_is}
 use Rattle.std.proofs.lemmas.Str.{IsUtf8-from_ascii}
-use Rattle.ow_names.specs.Name.{is_later_byte, may_stand, IsName, AreGoodBelow, wrong_place, place_or_end, first_fault}
-use Rattle.ow_names.specs.declared.refusal.NameRefusal.TheVariants.{Empty, TooLong}
+use Rattle.ow_names.specs.Name.{is_later_byte, may_stand, IsName, AreGoodBelow, IsFirstFault, wrong_place, place_or_end, first_fault}
+use Rattle.ow_names.specs.declared.refusal.NameRefusal.{NameRefusal}
+use Rattle.ow_names.specs.declared.refusal.NameRefusal.TheVariants.{Empty, TooLong, EndsInSpace}
 
 abbrev is_wrong : ℕ × ℕ → Bool
 is_wrong p = not (may_stand p.0 p.1)
@@ -34,6 +35,37 @@ wrong_place-None s e k lt =
     let long : length (enumerate_from 0 s) ≡ length s = length-enumerate_from 0 s in
     let all : length (enumerate_from 0 s) ≤ position_or_len is_wrong (enumerate_from 0 s) = by_test _ _ _ refl e in
     not-false _ (sym (wrong_at s k lt) ∙ fails_before_first is_wrong (enumerate_from 0 s) k (0, 0) (omega arith))
+
+-- ---- what the first fault tells
+
+abbrev Tells : List ℕ → Option NameRefusal → Type 0
+Tells s o = MatchOption o (IsName s) (IsFirstFault s)
+
+by_end : (s : List ℕ) (b : Bool) → 1 ≤ length s → length s ≤ 256 → AreGoodBelow (length s) s → (slice_index s (length s - 1) == 32) ≡ b
+    → Tells s (cond b (Some EndsInSpace) None)
+by_end s true least most good e = (most, good, grind arith)
+by_end s false least most good e = record { least = least; most = most; bytes = good; end = λ q. grind arith }
+
+by_place : (s : List ℕ) (o : Option ℕ) → 1 ≤ length s → length s ≤ 256 → wrong_place s ≡ o → Tells s (place_or_end o (slice_index s (length s - 1)))
+by_place s (Some place) least most e = let h = wrong_place-Some s place e in (most, h.0, h.1, h.2)
+by_place s None least most e = by_end s _ least most (wrong_place-None s e) refl
+
+by_most : (s : List ℕ) (b : Bool) → 1 ≤ length s → nat_lt 256 (length s) ≡ b
+    → Tells s (cond b (Some TooLong) (place_or_end (wrong_place s) (slice_index s (length s - 1))))
+by_most s true least e = grind arith
+by_most s false least e = by_place s _ least (grind arith) refl
+
+by_least : (s : List ℕ) (b : Bool) → (length s == 0) ≡ b
+    → Tells s (cond b (Some Empty) (cond (nat_lt 256 (length s)) (Some TooLong) (place_or_end (wrong_place s) (slice_index s (length s - 1)))))
+by_least s true e = grind arith
+by_least s false e = by_most s _ (grind arith) refl
+
+-- it stands, and none before it does; where there is none, the text is a name
+pub first_fault-tells : (s : List ℕ) → MatchOption (first_fault s) (IsName s) (IsFirstFault s)
+first_fault-tells s = by_least s _ refl
+
+pub name_if_no_fault : (s : List ℕ) → first_fault s ≡ None → IsName s
+name_if_no_fault s e = subst (λ o. MatchOption o (IsName s) (IsFirstFault s)) e (first_fault-tells s)
 
 -- ---- a name has no fault
 

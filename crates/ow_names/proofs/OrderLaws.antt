@@ -10,7 +10,7 @@ use Rattle.ow_names.specs.Slash.{HasNoSlash}
 tail_whole : (b : ℕ) (s : List ℕ) → HasNoSlash (b ∷ s) → HasNoSlash s
 tail_whole b s h k d lt = h (suc k) d (omega arith)
 
-then_then : (o p q : Ordering) → ordering_then o (ordering_then p q) ≡ ordering_then (ordering_then o p) q
+pub then_then : (o p q : Ordering) → ordering_then o (ordering_then p q) ≡ ordering_then (ordering_then o p) q
 then_then Less p q = refl
 then_then Equal p q = refl
 then_then Greater p q = refl

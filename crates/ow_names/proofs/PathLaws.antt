@@ -1,29 +1,40 @@
 -- What a path gives: the parts of a text, and of a text that a full name was written as.
-use Rattle.std.proofs.Common.{◌≡◌, ℕ, ◌<◌, List, [], ◌∷◌, ◌++◌, Bool, true, false, length, cond, codes, Option, Some, None, IfSome, MatchOption, Bor, Result, Ok, Err, refl, sym, ap, ◌∙◌, arith, ◌↔◌, Ordering, Equal, is_eq}
-use Rattle.std.specs.List.{before_first, after_first, position_or_len}
+use Rattle.std.proofs.Common.{◌≡◌, ℕ, ◌<◌, ◌≤◌, ◌+◌, ◌-◌, List, [], ◌∷◌, ◌++◌, Bool, true, false, length, take, drop, cond, codes, Option, Some, None, IfSome, Result, Ok, Err, refl, sym, ap, ◌∙◌, arith, ◌↔◌, Ordering, Equal}
+use Rattle.std.specs.List.{position, position_or_len}
 use Rattle.std.specs.Str.{bytes_eq}
 use Rattle.std.proofs.lemmas.Cmp.{nat_list_cmp_total, tied_itself}
+use Rattle.std.proofs.lemmas.Grind.{common_steps}
+use Rattle.std.proofs.lemmas.List.{take_all, length-drop}
 use Rattle.std.proofs.lemmas.List.Splits.{length-slice_split, slice_split_none, slice_split_first, slice_split_at, slice_split-cons_yes}
 use Rattle.std.proofs.lemmas.List.Sums.{fails_before_first}
-use Rattle.std.proofs.lemmas.Map.Text.{is_eq-slice_cmp}
 use Rattle.std.proofs.lemmas.Slice.Eq.{bytes_eq-Decides}
 use Rattle.ow_value.specs.Value.{text_cmp}
+use Rattle.ow_value.proofs.KeySearch.{equal_texts}
 use Rattle.ow_names.specs.declared.full.FullName.{FullName}
 use Rattle.ow_names.specs.declared.refusal.NameRefusal.{NameRefusal}
 use Rattle.ow_names.specs.declared.refusal.NameRefusal.TheVariants.{BadPath}
 use Rattle.ow_names.specs.FullName.{local_text, full_text, IsFullName}
 use Rattle.ow_names.specs.Name.{IsName, first_fault}
 use Rattle.ow_names.specs.Slash.{is_slash}
-use Rattle.ow_names.specs.Cut.{CutsFirst}
 use Rattle.ow_names.specs.Path.{parts, home, or_fault, of_parts, resolved}
 use Rattle.ow_names.proofs.NameLaws.{first_fault-name, no_slash}
 
 -- ---- cutting
 
-pub cuts_first : (s : List ℕ) (r : Option (Bor (List ℕ) × Bor (List ℕ))) → MatchOption r (position_or_len is_slash s ≡ length s)
-    (λ x. (position_or_len is_slash s < length s) × (x.0.now ≡ before_first is_slash s) × (x.1.now ≡ after_first is_slash s)) → CutsFirst r s
-cuts_first s None e = slice_split_none is_slash s (λ k d lt. fails_before_first is_slash s k d (omega arith))
-cuts_first s (Some x) h = slice_split_first is_slash s 0 h.0 ∙ sym (ap (λ a. a ∷ parts x.1.now) h.1 ∙ ap (λ r. before_first is_slash s ∷ parts r) h.2)
+-- no slash: the text is its only part
+pub cuts_none : (s : List ℕ) → position is_slash s ≡ None → parts s ≡ s ∷ []
+cuts_none s e =
+    let all : length s ≤ position_or_len is_slash s = grind (arith, common_steps) in
+    slice_split_none is_slash s (λ k d lt. fails_before_first is_slash s k d (omega arith))
+
+-- the first part stands before the first slash
+pub cuts_first : (s : List ℕ) (place : ℕ) → position is_slash s ≡ Some place
+    → parts s ≡ take place s ∷ parts (take (length s - (place + 1)) (drop (place + 1) s))
+cuts_first s place e =
+    let at : position_or_len is_slash s ≡ place = grind (arith, common_steps) in
+    let inside : place < length s = grind (arith, common_steps) in
+    let rest : take (length s - (place + 1)) (drop (place + 1) s) ≡ drop (place + 1) s = take_all _ _ (omega (arith, length-drop (place + 1) s)) in
+    slice_split_first is_slash s 0 (omega arith) ∙ ap (λ n. take n s ∷ parts (drop (n + 1) s)) at ∙ ap (λ r. take place s ∷ parts r) (sym rest)
 
 pub four_cuts : (s r t u v a b c d : List ℕ) → parts s ≡ a ∷ parts r → parts r ≡ b ∷ parts t → parts t ≡ c ∷ parts u → parts u ≡ d ∷ parts v → 4 < length (parts s)
 four_cuts s r t u v a b c d e f g h = rw (e, f, g, h, length-slice_split) (omega arith)
@@ -89,11 +100,8 @@ full_text-inj a b ha hb e =
     let r : ok a ≡ ok b = sym p ∙ ap (resolved (codes "_")) e ∙ q in
     cc
 
-text_equal : (a b : List ℕ) → text_cmp a b ≡ Equal → a ≡ b
-text_equal a b e = (bytes_eq-Decides a b).0 (sym (is_eq-slice_cmp a b) ∙ ap is_eq e)
-
 pub equal_names : (a b : FullName) (o : Ordering) → IsFullName a → IsFullName b → o ≡ text_cmp (full_text a) (full_text b) → (o ≡ Equal) ↔ (a ≡ b)
 equal_names a b o ha hb e = (
-  λ q. full_text-inj a b ha hb (text_equal _ _ (sym e ∙ q)),
+  λ q. full_text-inj a b ha hb (equal_texts _ _ (sym e ∙ q)),
   λ q. e ∙ ap (λ n. text_cmp (full_text a) (full_text n)) (sym q) ∙ tied_itself nat_list_cmp_total (full_text a),
 )

@@ -38,7 +38,7 @@ IsFirstFault s EndsInSpace = (length s ≤ 256) × AreGoodBelow (length s) s × 
 IsFirstFault s BadPath = ⊥
 IsFirstFault s NoMemory = ⊥
 
--- ---- the same as a value
+-- ---- the same as a value, by which calls tell it
 
 -- the first place whose byte may not stand there
 abbrev pub wrong_place : List ℕ → Option ℕ

@@ -40,3 +40,23 @@ of_parts here ps = Err BadPath
 
 abbrev pub resolved : List ℕ → List ℕ → Result FullName NameRefusal
 resolved here text = of_parts here (parts text)
+
+-- ---- the texts that full names are written as
+
+-- the parts, whose namespace stands for itself
+abbrev pub within : List ℕ → Option (List ℕ) → List ℕ → Result FullName NameRefusal
+within namespace «package» name = or_fault (first_fault namespace) (named namespace «package» name)
+
+-- the forms `namespace/name` and `namespace/package/name`, and no other
+abbrev pub of_local : List (List ℕ) → Result FullName NameRefusal
+of_local (namespace ∷ name ∷ []) = within namespace None name
+of_local (namespace ∷ «package» ∷ name ∷ []) = within namespace (Some «package») name
+of_local ps = Err BadPath
+
+-- the same behind a slash
+abbrev pub of_rooted : List (List ℕ) → Result FullName NameRefusal
+of_rooted ([] ∷ ps) = of_local ps
+of_rooted ps = Err BadPath
+
+abbrev pub of_full_text : List ℕ → Result FullName NameRefusal
+of_full_text text = of_rooted (parts text)

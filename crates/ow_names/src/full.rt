@@ -1,11 +1,12 @@
-ghost use Rattle.std.specs.Prelude.{◌≡◌, ◌↔◌, [], ◌∷◌, ◌++◌, ℕ, List, Ok, IsTrue, IfOk, OnOk, string_bytes, slice_index_or};
+// Full names: their parts, their order and their texts.
+ghost use Rattle.std.specs.Prelude.{◌≡◌, ◌↔◌, ◌++◌, ℕ, List, Ok, IsTrue, IfOk, OnOk, string_bytes};
 ghost use Rattle.std.specs.declared.cmp.Ordering.TheVariants.{Equal};
 ghost use Rattle.ow_value.specs.Value.{text_cmp};
 ghost use Rattle.ow_names.specs.FullName.{full_text, local_text, IsFullName};
-ghost use Rattle.ow_names.specs.Slash.{HasNoSlash};
 ghost use Rattle.ow_names.specs.Path.{home, resolved};
 
 use crate::name::EntityName;
+use crate::order::{order_of_parts, order_to_end};
 use ow_value::NoMemory;
 use std::alloc::Global;
 use std::cmp::Ordering;
@@ -19,28 +20,48 @@ pub struct FullName {
 }
 
 impl FullName {
+    /// Whether all parts are the same.
     pub fn same(&self, other: &FullName) -> bool
         ensures { IsTrue result ↔ (self.now ≡ other.now) }
     {
         self.namespace.same(&other.namespace)
-            && same_package(&self.package, &other.package)
+            && EntityName::same_option(&self.package, &other.package)
             && self.name.same(&other.name)
     }
 
+    /// An equal name with memory of its own.
     pub fn copy(&self, alloc: Global) -> Result<FullName, NoMemory>
         ensures { IfOk result (λ n. n ≡ self.now) }
     {
         let namespace = self.namespace.copy(alloc)?;
-        let package = match &self.package {
-            Some(package) => Some(package.copy(alloc)?),
-            None => None,
-        };
+        let package = EntityName::copy_option(alloc, &self.package)?;
         let name = self.name.copy(alloc)?;
         Ok(FullName {
             namespace,
             package,
             name,
         })
+    }
+
+    /// Whether both are none or the same name.
+    pub fn same_option(a: &Option<FullName>, b: &Option<FullName>) -> bool
+        ensures { IsTrue result ↔ (a.now ≡ b.now) }
+    {
+        match (a, b) {
+            (Some(x), Some(y)) => x.same(y),
+            (None, None) => true,
+            _ => false,
+        }
+    }
+
+    /// A copy of the name, where there is one.
+    pub fn copy_option(alloc: Global, name: &Option<FullName>) -> Result<Option<FullName>, NoMemory>
+        ensures { IfOk result (λ n. n ≡ name.now) }
+    {
+        match name {
+            Some(name) => Ok(Some(name.copy(alloc)?)),
+            None => Ok(None),
+        }
     }
 
     /// The order of the bytes of the full texts.
@@ -81,16 +102,6 @@ impl FullName {
     }
 }
 
-impl EntityName {
-    /// The order of the two as parts of full texts, each with the slash behind it.
-    pub fn compare_as_part(&self, other: &EntityName) -> Ordering
-        ensures order { result ≡ text_cmp (self.now ++ 47 ∷ []) (other.now ++ 47 ∷ []) }
-        ensures whole { HasNoSlash self.now }
-    {
-        order_of_parts(self.as_part(), other.as_part())
-    }
-}
-
 /// The text `/namespace/name` or `/namespace/package/name`.
 pub fn full_text(alloc: Global, name: &FullName) -> Result<String, NoMemory>
     ensures text { IfOk result (λ s. string_bytes s ≡ full_text name.now) }
@@ -122,50 +133,5 @@ fn push_local(text: &mut String, name: &FullName) -> Result<(), NoMemory>
             text.push_str(name.name.as_str())?;
             Ok(())
         }
-    }
-}
-
-fn same_package(a: &Option<EntityName>, b: &Option<EntityName>) -> bool
-    ensures { IsTrue result ↔ (a.now ≡ b.now) }
-{
-    match (a, b) {
-        (Some(x), Some(y)) => x.same(y),
-        (None, None) => true,
-        _ => false,
-    }
-}
-
-// The order of two parts, each with the slash behind it.
-fn order_of_parts(a: &[u8], b: &[u8]) -> Ordering
-    requires a_whole { HasNoSlash a.now }
-    requires b_whole { HasNoSlash b.now }
-    ensures { result ≡ text_cmp (a.now ++ 47 ∷ []) (b.now ++ 47 ∷ []) }
-{
-    let shared = a.len().min(b.len());
-    let start = a[..shared].cmp(&&b[..shared]);
-    start.then(byte_or_slash(a, shared).cmp(&byte_or_slash(b, shared)))
-}
-
-// The order of a part with the slash behind it to a last part.
-fn order_to_end(part: &[u8], last: &[u8]) -> Ordering
-    requires { HasNoSlash last.now }
-    ensures { result ≡ text_cmp (part.now ++ 47 ∷ []) last.now }
-{
-    let shared = part.len().min(last.len());
-    let start = part[..shared].cmp(&&last[..shared]);
-    if part.len() < last.len() {
-        start.then(b'/'.cmp(&last[part.len()]))
-    } else {
-        start.then(Ordering::Greater)
-    }
-}
-
-fn byte_or_slash(part: &[u8], place: usize) -> u8
-    ensures { result ≡ slice_index_or part.now place 47 }
-{
-    if place < part.len() {
-        part[place]
-    } else {
-        b'/'
     }
 }

@@ -4,6 +4,7 @@
 mod full;
 mod name;
 mod names;
+mod order;
 mod paths;
 mod refusal;
 #[cfg(test)]
@@ -12,5 +13,5 @@ mod tests;
 pub use full::{FullName, full_text};
 pub use name::{EntityName, check_name, read_name};
 pub use names::Names;
-pub use paths::resolve;
+pub use paths::{named_in, read_full_text, resolve};
 pub use refusal::NameRefusal;

@@ -1,11 +1,15 @@
-ghost use Rattle.std.specs.Prelude.{◌≡◌, ◌≢◌, ◌↔◌, ◌==◌, ◌-◌, length, slice_index, IsTrue, Some, None, IfOk, IfErr, MatchResult};
+// Names of one part, and what is wrong with bytes that are none.
+ghost use Rattle.std.specs.Prelude.{◌≡◌, ◌≢◌, ◌↔◌, ◌==◌, [], ◌∷◌, ◌++◌, ◌-◌, IsTrue, Some, None, IfOk, MatchResult};
 ghost use Rattle.std.specs.Result.{result_err};
+ghost use Rattle.ow_value.specs.Value.{text_cmp};
 ghost use Rattle.ow_names.specs.Slash.{HasNoSlash};
-ghost use Rattle.ow_names.specs.Name.{IsName, IsFirstFault, first_fault, wrong_place, is_first_byte, is_later_byte, may_stand};
+ghost use Rattle.ow_names.specs.Name.{IsName, first_fault, wrong_place, is_first_byte, is_later_byte, may_stand};
 
+use crate::order::order_of_parts;
 use crate::refusal::NameRefusal;
 use ow_value::{NoMemory, Str};
 use std::alloc::Global;
+use std::cmp::Ordering;
 use std::marker::Model;
 
 /// A name of one part: what a namespace, a package or an entity in them is called. It owns its text.
@@ -28,8 +32,7 @@ impl Model for EntityName {
 /// Whether the bytes are a name, as the OpenWhisk documentation has it: a letter, a digit or `_`, then these, spaces, `@`,
 /// `.` and `-`, and no space at the end. Letters are ASCII, and 256 bytes are the most.
 pub fn check_name(bytes: &[u8]) -> Result<(), NameRefusal>
-    ensures name { MatchResult result (λ _. IsName bytes.now) (IsFirstFault bytes.now) }
-    ensures fault { result_err result ≡ first_fault bytes.now }
+    ensures { result_err result ≡ first_fault bytes.now }
 {
     if bytes.is_empty() {
         return Err(NameRefusal::Empty);
@@ -47,10 +50,9 @@ pub fn check_name(bytes: &[u8]) -> Result<(), NameRefusal>
 }
 
 /// The name that the bytes are.
+#[tactic(auto, using(crate::proofs::NameLaws::name_if_no_fault))]
 pub fn read_name(alloc: Global, bytes: &[u8]) -> Result<EntityName, NameRefusal>
     ensures ok { IfOk result (λ n. n ≡ bytes.now) }
-    ensures name { IfOk result (λ n. IsName n) }
-    ensures first { IfErr result (λ e. e ≢ NameRefusal.NoMemory → IsFirstFault bytes.now e) }
     ensures fault { MatchResult result (λ _. first_fault bytes.now ≡ None)
         (λ e. e ≢ NameRefusal.NoMemory → first_fault bytes.now ≡ Some e) }
 {
@@ -64,11 +66,20 @@ pub fn read_name(alloc: Global, bytes: &[u8]) -> Result<EntityName, NameRefusal>
 }
 
 impl EntityName {
+    /// The text, which is a name.
     pub fn as_str(&self) -> &str
         ensures value { result.now ≡ self.now }
         ensures name { IsName result.now }
     {
         self.text.as_str()
+    }
+
+    /// The order of the two as parts of full texts, each with the slash behind it.
+    pub fn compare_as_part(&self, other: &EntityName) -> Ordering
+        ensures order { result ≡ text_cmp (self.now ++ 47 ∷ []) (other.now ++ 47 ∷ []) }
+        ensures whole { HasNoSlash self.now }
+    {
+        order_of_parts(self.as_part(), other.as_part())
     }
 
     // The bytes, as a part between slashes.
@@ -79,18 +90,44 @@ impl EntityName {
         self.as_str().as_bytes()
     }
 
+    /// Whether the texts are the same.
     pub fn same(&self, other: &EntityName) -> bool
         ensures { IsTrue result ↔ (self.now ≡ other.now) }
     {
         self.text.same(&other.text)
     }
 
+    /// An equal name with memory of its own.
     pub fn copy(&self, alloc: Global) -> Result<EntityName, NoMemory>
         ensures { IfOk result (λ n. n ≡ self.now) }
     {
         Ok(EntityName {
             text: self.text.copy(alloc)?,
         })
+    }
+
+    /// Whether both are none or the same name.
+    pub fn same_option(a: &Option<EntityName>, b: &Option<EntityName>) -> bool
+        ensures { IsTrue result ↔ (a.now ≡ b.now) }
+    {
+        match (a, b) {
+            (Some(x), Some(y)) => x.same(y),
+            (None, None) => true,
+            _ => false,
+        }
+    }
+
+    /// A copy of the name, where there is one.
+    pub fn copy_option(
+        alloc: Global,
+        name: &Option<EntityName>,
+    ) -> Result<Option<EntityName>, NoMemory>
+        ensures { IfOk result (λ n. n ≡ name.now) }
+    {
+        match name {
+            Some(name) => Ok(Some(name.copy(alloc)?)),
+            None => Ok(None),
+        }
     }
 }
 

@@ -1,3 +1,4 @@
+// Lists of full names.
 ghost use Rattle.std.specs.Prelude.{◌≡◌, ◌↔◌, [], ◌∷◌, ◌++◌, length, IsTrue, IfOk, OnOk, OnErr};
 
 use crate::full::FullName;
@@ -44,24 +45,28 @@ impl Names {
         self.items
     }
 
+    /// The names, in order.
     pub fn as_slice(&self) -> &[FullName]
         ensures { result.now ≡ self.now }
     {
         self.items.as_slice()
     }
 
+    /// How many names there are.
     pub fn len(&self) -> usize
         ensures { result ≡ length self.now }
     {
         self.items.len()
     }
 
+    /// Whether there is none.
     pub fn is_empty(&self) -> bool
         ensures { IsTrue result ↔ (self.now ≡ []) }
     {
         self.items.is_empty()
     }
 
+    /// Whether the names are the same, in the same order.
     pub fn same(&self, other: &Names) -> bool
         ensures { IsTrue result ↔ (self.now ≡ other.now) }
     {
@@ -76,6 +81,7 @@ impl Names {
         true
     }
 
+    /// An equal list with memory of its own.
     pub fn copy(&self, alloc: Global) -> Result<Names, NoMemory>
         ensures { IfOk result (λ r. r ≡ self.now) }
     {

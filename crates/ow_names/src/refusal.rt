@@ -1,3 +1,4 @@
+// Why a text is no name, or names nothing.
 ghost use Rattle.std.specs.Prelude.{◌≡◌};
 ghost use Rattle.ow_names.specs.Refusal.{refusal_number};
 

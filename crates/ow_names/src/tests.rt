@@ -1,4 +1,7 @@
-use crate::{EntityName, FullName, NameRefusal, Names, check_name, full_text, read_name, resolve};
+use crate::{
+    EntityName, FullName, NameRefusal, Names, check_name, full_text, named_in, read_full_text,
+    read_name, resolve,
+};
 use ow_value::NoMemory;
 use std::alloc::Global;
 use std::cmp::Ordering;
@@ -68,6 +71,70 @@ fn paths_have_four_forms(rt: HostRuntime) -> Result<(), Fail> {
         assert!(rt; resolved(alloc, path).is_err_and(|e| e == *refusal));
     }
     assert_eq!(rt; NameRefusal::BadPath.number(), 8);
+    Ok(())
+}
+
+// The full text of the name that a full text is read as.
+fn reread(alloc: Global, text: &str) -> Result<String, NameRefusal> {
+    let full = read_full_text(alloc, text.as_bytes())?;
+    Ok(full_text(alloc, &full)?)
+}
+
+#[test]
+fn full_texts_have_two_forms(rt: HostRuntime) -> Result<(), Fail> {
+    let alloc = rt.alloc();
+    for text in ["/_/b", "/_/_/b", "/a b/c", "/other/p/b c"].iter() {
+        assert_eq!(rt; reread(alloc, text)?.as_str(), *text);
+    }
+    let refused = [
+        ("", NameRefusal::BadPath),
+        ("b", NameRefusal::BadPath),
+        ("a/b", NameRefusal::BadPath),
+        ("/a", NameRefusal::BadPath),
+        ("a/b/c", NameRefusal::BadPath),
+        ("/a/b/c/d", NameRefusal::BadPath),
+        ("//b", NameRefusal::Empty),
+        ("/a/", NameRefusal::Empty),
+        ("/a//c", NameRefusal::Empty),
+        ("/-/b ", NameRefusal::BadChar { place: 0 }),
+        ("/a/b /-", NameRefusal::EndsInSpace),
+    ];
+    for (text, refusal) in refused.iter() {
+        assert!(rt; reread(alloc, text).is_err_and(|e| e == *refusal));
+    }
+    Ok(())
+}
+
+// The full text of the parts for one who stands in the namespace guest.
+fn within(alloc: Global, namespace: &str, package: Option<&[u8]>) -> Result<String, NameRefusal> {
+    let guest = name(alloc, "guest")?;
+    let full = named_in(alloc, &guest, namespace.as_bytes(), package, b"b")?;
+    Ok(full_text(alloc, &full)?)
+}
+
+#[test]
+fn parts_are_named_in_their_namespace(rt: HostRuntime) -> Result<(), Fail> {
+    let alloc = rt.alloc();
+    assert_eq!(rt; within(alloc, "_", None)?.as_str(), "/guest/b");
+    assert_eq!(rt;
+        within(alloc, "other", Some(b"_".as_slice()))?.as_str(),
+        "/other/_/b"
+    );
+    assert!(rt; within(alloc, "", Some(b" ".as_slice())).is_err_and(|e| e == NameRefusal::Empty));
+    Ok(())
+}
+
+#[test]
+fn names_that_may_be_none_are_copied(rt: HostRuntime) -> Result<(), Fail> {
+    let alloc = rt.alloc();
+    let whole = Some(full(alloc, "p/a")?);
+    let copied = FullName::copy_option(alloc, &whole)?;
+    assert!(rt; FullName::same_option(&copied, &whole));
+    assert!(rt; !FullName::same_option(&copied, &None));
+    let part = Some(name(alloc, "p")?);
+    let copied = EntityName::copy_option(alloc, &part)?;
+    assert!(rt; EntityName::same_option(&copied, &part));
+    assert!(rt; !EntityName::same_option(&None, &part));
     Ok(())
 }
 

@@ -7,6 +7,7 @@ use Rattle.ow_value.specs.Value.{V, text, object}
 use Rattle.ow_value.specs.Field.{pairs_in}
 use Rattle.ow_value.specs.Find.{find}
 use Rattle.ow_value.specs.Read.{reading}
+use Rattle.ow_value.specs.Size.{megabyte}
 use Rattle.ow_value.specs.declared.reader.ValueRefusal.{ValueRefusal}
 use Rattle.ow_records.specs.Response.{ResponseView}
 use Rattle.ow_records.specs.declared.outcomes.Ending.{Ending}
@@ -31,9 +32,9 @@ abbrev pub of_reading : Result V ValueRefusal → ResponseView
 of_reading (Ok value) = of_value value
 of_reading (Err refusal) = failure 2 (codes "The result is no JSON value of whole numbers.")
 
--- the text of an answer, of 1,048,576 bytes at most
+-- the text of an answer, of 1 MB at most
 abbrev pub of_text : List ℕ → ResponseView
-of_text answer = if nat_lt 1048576 (length answer) then failure 2 (codes "The result has too many bytes.") else of_reading (reading 100 answer)
+of_text answer = if nat_lt megabyte (length answer) then failure 2 (codes "The result has too many bytes.") else of_reading (reading 100 answer)
 
 -- the status of a program that ended without an answer
 abbrev pub of_exit : ℤ → ResponseView

@@ -3,7 +3,7 @@ ghost use Rattle.std.specs.Prelude.{◌≡◌};
 ghost use Rattle.ow_records.specs.Id.{hex_16};
 
 /// Sixteen lower-case digits.
-pub fn digits_of(number: u64) -> [u8; 16]
+pub(crate) fn hex_16(number: u64) -> [u8; 16]
     ensures { result ≡ hex_16 number }
 {
     let mut digits = [0; 16];

@@ -1,6 +1,6 @@
-// Activations' ids, endings and responses.
 #![tactic(auto)]
 
+// Activations' ids, endings and responses.
 mod digits;
 mod ids;
 mod outcomes;

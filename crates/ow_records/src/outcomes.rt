@@ -6,11 +6,8 @@ ghost use Rattle.ow_records.specs.Outcome.{failure, of_exit, of_object, of_reply
 use crate::Response;
 use ow_entity::Limits;
 use ow_traits::RunReply;
-use ow_value::{NoMemory, Params, Scratch, Str, Val, ValueRefusal, read_val_in};
+use ow_value::{MEGABYTE, NoMemory, Params, Scratch, Str, Val, ValueRefusal, read_val_in};
 use std::alloc::Global;
-
-// The most bytes of an answer's text, which is Apache OpenWhisk's limit for a result.
-const MOST_BYTES: usize = 1_048_576;
 
 /// What ended an activation.
 #[derive(Drop)]
@@ -20,6 +17,7 @@ pub enum Ending {
 }
 
 impl Ending {
+    /// Whether the activations ended alike.
     pub fn same(&self, other: &Ending) -> bool
         ensures { IsTrue result ↔ (self.now ≡ other.now) }
     {
@@ -27,6 +25,7 @@ impl Ending {
         reply.same(other_reply)
     }
 
+    /// An equal ending.
     pub fn copy(&self, alloc: Global) -> Result<Ending, NoMemory>
         ensures { IfOk result (λ e. e ≡ self.now) }
     {
@@ -67,10 +66,11 @@ fn replied(alloc: Global, scratch: &mut Scratch, reply: &RunReply) -> Result<Res
     }
 }
 
+// The text has at most 1 MB, which is Apache OpenWhisk's limit for a result.
 fn answered(alloc: Global, scratch: &mut Scratch, text: &str) -> Result<Response, NoMemory>
     ensures { IfOk result (λ r. r ≡ of_text text.now) }
 {
-    if text.len() > MOST_BYTES {
+    if text.len() as u64 > MEGABYTE {
         return failed(alloc, 2, "The result has too many bytes.");
     }
     match read_val_in(alloc, scratch, text.as_bytes()) {

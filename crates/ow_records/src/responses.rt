@@ -27,7 +27,7 @@ impl Model for Response {
 }
 
 impl Response {
-    /// The object is the result.
+    /// The code is 0 to 3, and the object the result.
     pub fn new(code: u8, object: Params) -> Response
         requires { code ≤ 3 }
         ensures { result ≡ record { code = code; result = object } }
@@ -38,6 +38,7 @@ impl Response {
         }
     }
 
+    /// 0 to 3.
     pub fn code(&self) -> u8
         ensures value { result ≡ self.now.code }
         ensures range { result ≤ 3 }
@@ -52,12 +53,14 @@ impl Response {
         &self.result
     }
 
+    /// Whether the codes and the objects are equal.
     pub fn same(&self, other: &Response) -> bool
         ensures { IsTrue result ↔ (self.now ≡ other.now) }
     {
         self.code == other.code && self.result.same(&other.result)
     }
 
+    /// An equal response.
     pub fn copy(&self, alloc: Global) -> Result<Response, NoMemory>
         ensures { IfOk result (λ r. r ≡ self.now) }
     {

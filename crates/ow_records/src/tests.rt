@@ -113,7 +113,9 @@ fn the_text_of_an_id(rt: HostRuntime) -> Result<(), Fail> {
         (0, 1, "00000000000000000000000000000001"),
         (10, u64::MAX, "000000000000000affffffffffffffff"),
     ] {
-        assert_eq!(rt; Id { namespace, count }.text(alloc)?.as_str(), want);
+        let mut text = Vec::new(alloc);
+        Id { namespace, count }.push_text(&mut text)?;
+        assert_eq!(rt; text.as_slice(), want.as_bytes());
     }
     Ok(())
 }

@@ -1,60 +1,27 @@
 -- Rows of one kind in one namespace stand together, from where a search finds the first to where it finds the last.
 use Rattle.std.proofs.Common.{◌≡◌, ◌≢◌, ℕ, zero, suc, ◌<◌, ◌≤◌, ◌&&◌, ◌==◌, Bool, true, false, cond, min, List, [], ◌∷◌, ◌++◌, length, map, filter, get_or, take, drop, Ordering, Less, Equal, Greater, is_eq, refl, sym, ap, ◌∙◌, subst, inl, inr, arith}
-use Rattle.std.specs.List.{AllByRecursion}
 use Rattle.std.specs.List.Sorted.{IsStrictlySortedBy, IsPartitionedBy, IsPartitionPoint}
-use Rattle.std.specs.Ordering.{nat_cmp, ordering_index, ordering_then, ordering_reverse, match_ordering, is_lt, is_le, MatchOrdering}
+use Rattle.std.specs.Ordering.{nat_cmp, ordering_index, ordering_then, ordering_reverse, is_lt, is_le}
 use Rattle.std.specs.Str.{bytes_eq}
 use Rattle.std.proofs.lemmas.Bool.{cases_lt}
-use Rattle.std.proofs.lemmas.Cmp.{nat_list_cmp_total, ranked}
+use Rattle.std.proofs.lemmas.Cmp.{nat_list_cmp_total}
 use Rattle.std.proofs.lemmas.List.{append_cancel_right, drop-map, take-map}
 use Rattle.std.proofs.lemmas.Slice.Eq.{bytes_eq-Decides}
 use Rattle.std.proofs.Math.Seq.{take-nil, drop-nil}
 use Rattle.ow_value.specs.Value.{text_cmp}
+use Rattle.ow_value.proofs.KeySearch.{test_of, turned, rises_at, key_through}
 use Rattle.ow_names.specs.Slash.{HasNoSlash}
 use Rattle.ow_names.specs.FullName.{local_text}
 use Rattle.ow_names.specs.declared.full.FullName.{FullName}
+use Rattle.ow_names.proofs.OrderLaws.{parts_then, then_then}
 use Rattle.ow_entity.specs.declared.kinds.EntityKind.{EntityKind}
 use Rattle.ow_entity.specs.declared.rows.Row.{Row}
 use Rattle.ow_entity.specs.Row.{kind_of, name_of}
 use Rattle.ow_tables.specs.Rows.{kind_place, key_of, AreRows, put_row, stands_in}
-use Rattle.ow_tables.specs.Region.{region, region_of, IsPart, AreKept}
-use Rattle.ow_tables.proofs.RowLaws.{test_of, turned, key_at, rises_at, AreRows-put_row, AreRows-filter}
+use Rattle.ow_tables.specs.Region.{region, region_of, namespace_of, IsPart, AreKept}
+use Rattle.ow_tables.proofs.RowLaws.{all_put, all_filter, AreRows-put_row, AreRows-filter}
 
--- ---- a part with the slash behind it decides before what follows
-
-tail_whole : (b : ℕ) (s : List ℕ) → HasNoSlash (b ∷ s) → HasNoSlash s
-tail_whole b s h k d lt = h (suc k) d (omega arith)
-
-then_then : (o p q : Ordering) → ordering_then o (ordering_then p q) ≡ ordering_then (ordering_then o p) q
-then_then Less p q = refl
-then_then Equal p q = refl
-then_then Greater p q = refl
-
-unequal : (o w : Ordering) → o ≢ Equal → ordering_then o w ≡ o
-unequal Less w n = refl
-unequal Equal w n = absurd (n refl)
-unequal Greater w n = refl
-
-apart : (y : ℕ) → (y == 47) ≡ false → 47 ≡ y → ⊥
-apart y h e = grind arith
-
-differ : (y : ℕ) (s : List ℕ) → HasNoSlash (y ∷ s) → nat_cmp 47 y ≢ Equal
-differ y s h e = apart y (h 0 0 (omega arith)) (subst (λ o. MatchOrdering o (47 < y) (47 ≡ y) (y < 47)) e (ranked 47 y _ refl))
-
-differ_back : (y : ℕ) (s : List ℕ) → HasNoSlash (y ∷ s) → nat_cmp y 47 ≢ Equal
-differ_back y s h e = apart y (h 0 0 (omega arith)) (sym (subst (λ o. MatchOrdering o (y < 47) (y ≡ 47) (47 < y)) e (ranked y 47 _ refl)))
-
-parts_then : (a b r s : List ℕ) → HasNoSlash a → HasNoSlash b
-    → text_cmp (a ++ 47 ∷ r) (b ++ 47 ∷ s) ≡ ordering_then (text_cmp (a ++ 47 ∷ []) (b ++ 47 ∷ [])) (text_cmp r s)
-parts_then [] [] r s ha hb = refl
-parts_then [] (y ∷ ys) r s ha hb =
-    let n = differ y ys hb in
-    unequal _ _ n ∙ sym (ap (λ o. ordering_then o (text_cmp r s)) (unequal _ _ n) ∙ unequal _ _ n)
-parts_then (x ∷ xs) [] r s ha hb =
-    let n = differ_back x xs ha in
-    unequal _ _ n ∙ sym (ap (λ o. ordering_then o (text_cmp r s)) (unequal _ _ n) ∙ unequal _ _ n)
-parts_then (x ∷ xs) (y ∷ ys) r s ha hb =
-    ap (ordering_then (nat_cmp x y)) (parts_then xs ys r s (tail_whole x xs ha) (tail_whole y ys hb)) ∙ then_then (nat_cmp x y) _ _
+-- ---- regions and keys
 
 below_or_same : (o p : Ordering) → ordering_then o p ≡ Less → o ≢ Greater
 below_or_same Less p e q = cc
@@ -76,13 +43,8 @@ pub sorted_at : {B : Type 0} (row : B → Row) (bs : List B) (i j : ℕ) (d : B)
 unfolding IsStrictlySortedBy
 sorted_at row [] i j d h lt le = absurd (omega arith)
 sorted_at row (b ∷ bs) i zero d h lt le = absurd (omega arith)
-sorted_at row (b ∷ bs) zero (suc j) d h lt le = key_at row (λ a. text_cmp (key_of (row b)) a ≡ Less) bs j d h.0 (omega arith)
+sorted_at row (b ∷ bs) zero (suc j) d h lt le = key_through key_of row (λ a. text_cmp (key_of (row b)) a ≡ Less) bs j d h.0 (omega arith)
 sorted_at row (b ∷ bs) (suc i) (suc j) d h lt le = sorted_at row bs i j d h.1 (omega arith) (omega arith)
-
-part_at : {B : Type 0} (row : B → Row) (bs : List B) (j : ℕ) (d : B) → AllByRecursion IsPart (map row bs) → j < length bs → IsPart (row (get_or bs j d))
-part_at row [] j d h lt = absurd (omega arith)
-part_at row (b ∷ bs) zero d h lt = h.0
-part_at row (b ∷ bs) (suc j) d h lt = part_at row bs j d h.1 (omega arith)
 
 -- texts in order stand in that order to a third
 ranks : (a b k : List ℕ) (o : Ordering) → text_cmp a b ≡ o → o ≢ Greater → ordering_index (text_cmp a k) ≤ ordering_index (text_cmp b k)
@@ -94,7 +56,7 @@ pub ranks_at : {B : Type 0} (row : B → Row) (k : List ℕ) (bs : List B) (i j 
     → ordering_index (text_cmp (region_of (row (get_or bs i d))) k) ≤ ordering_index (text_cmp (region_of (row (get_or bs j d))) k)
 ranks_at {B} row k bs i j d h le lt = elim (cases_lt i j) [
   | inl less ↦ ranks (region_of (row (get_or bs i d))) (region_of (row (get_or bs j d))) k _ refl
-      (regions_rise (row (get_or bs i d)) (row (get_or bs j d)) (part_at row bs i d h.parts (omega arith)) (part_at row bs j d h.parts lt) (sorted_at row bs i j d h.rise less lt))
+      (regions_rise (row (get_or bs i d)) (row (get_or bs j d)) (key_through namespace_of row HasNoSlash bs i d h.parts (omega arith)) (key_through namespace_of row HasNoSlash bs j d h.parts lt) (sorted_at row bs i j d h.rise less lt))
   | inr more ↦ omega (arith, ap (λ n. ordering_index (text_cmp (region_of (row (get_or bs n d))) k)) (same i j le more))
 ]
   where
@@ -214,28 +176,11 @@ cut f xs rest ys n m skip limit e r is_n is_m =
 
 -- ---- what is kept
 
-all_put : (P : Row → Type 0) (r : Row) (xs : List Row) → P r → AllByRecursion P xs → AllByRecursion P (put_row r xs)
-all_put P r [] p h = (p, tt)
-all_put P r (x ∷ xs) p h = by_order (text_cmp (key_of r) (key_of x)) (all_put P r xs p h.1)
-  where
-    by_order : (o : Ordering) → AllByRecursion P (put_row r xs) → AllByRecursion P (match_ordering o (r ∷ x ∷ xs) (r ∷ xs) (x ∷ put_row r xs))
-    by_order Less behind = (p, h)
-    by_order Equal behind = (p, h.1)
-    by_order Greater behind = (h.0, behind)
-
-all_filter : (P : Row → Type 0) (test : Row → Bool) (xs : List Row) → AllByRecursion P xs → AllByRecursion P (filter test xs)
-all_filter P test [] h = tt
-all_filter P test (x ∷ xs) h = by_test (test x) (all_filter P test xs h.1)
-  where
-    by_test : (b : Bool) → AllByRecursion P (filter test xs) → AllByRecursion P (cond b (x ∷ filter test xs) (filter test xs))
-    by_test true behind = (h.0, behind)
-    by_test false behind = behind
-
 pub AreKept-put_row : (r : Row) (xs : List Row) → IsPart r → AreKept xs → AreKept (put_row r xs)
-AreKept-put_row r xs p h = record { rise = AreRows-put_row r xs h.rise; parts = all_put IsPart r xs p h.parts }
+AreKept-put_row r xs p h = record { rise = AreRows-put_row r xs h.rise; parts = all_put namespace_of HasNoSlash r xs p h.parts }
 
 pub AreKept-filter : (test : Row → Bool) (xs : List Row) → AreKept xs → AreKept (filter test xs)
-AreKept-filter test xs h = record { rise = AreRows-filter test xs h.rise; parts = all_filter IsPart test xs h.parts }
+AreKept-filter test xs h = record { rise = AreRows-filter test xs h.rise; parts = all_filter namespace_of HasNoSlash test xs h.parts }
 
 pub AreKept-drop : {B : Type 0} (row : B → Row) (bs : List B) (n : ℕ) → AreKept (map row bs) → AreKept (map row (drop n bs))
 unfolding IsStrictlySortedBy

@@ -1,70 +1,18 @@
 -- What a search among rows finds, and what a change at that place makes of them. The rows lie in boxes or the like, out of which
 -- `row` takes them.
-use Rattle.std.proofs.Common.{◌≡◌, ℕ, zero, suc, ◌<◌, ◌≤◌, Bool, true, false, not, cond, List, [], ◌∷◌, ◌++◌, length, map, filter, find, get_or, set, take, drop, Result, Ok, Err, IfOk, IfErr, Some, None, Ordering, Less, Equal, Greater, is_eq, refl, sym, ap, ap₂, ◌∙◌, subst, inl, inr, arith}
-use Rattle.std.specs.List.{AllByRecursion, HoldsAt}
-use Rattle.std.specs.List.Sorted.{IsStrictlySortedBy, IsNonDecreasingBy, IsPartitionPoint, IsSearchInRange, IsBinarySearchResult}
-use Rattle.std.specs.Ordering.{ordering_index, ordering_reverse, match_ordering}
+use Rattle.std.proofs.Common.{◌≡◌, ℕ, zero, suc, ◌<◌, Bool, true, false, not, cond, List, [], ◌∷◌, ◌++◌, length, map, filter, find, get_or, set, take, drop, Some, None, Ordering, Less, Equal, Greater, refl, sym, ap, ap₂, ◌∙◌, subst, arith}
+use Rattle.std.specs.List.{AllByRecursion}
+use Rattle.std.specs.List.Sorted.{IsStrictlySortedBy}
+use Rattle.std.specs.Ordering.{match_ordering}
 use Rattle.std.specs.Str.{bytes_eq}
-use Rattle.std.proofs.lemmas.Bool.{cases_lt}
 use Rattle.std.proofs.lemmas.Cmp.{nat_list_cmp_total}
-use Rattle.std.proofs.lemmas.Map.Text.{is_eq-slice_cmp}
-use Rattle.std.proofs.lemmas.Slice.Eq.{bytes_eq-Decides}
 use Rattle.ow_value.specs.Value.{text_cmp}
+use Rattle.ow_value.proofs.KeySearch.{test_of, equal_texts, turned, below_equal, other, key_through, StandsAt, PartsAt, parted}
 use Rattle.ow_names.specs.declared.full.FullName.{FullName}
 use Rattle.ow_entity.specs.declared.kinds.EntityKind.{EntityKind}
 use Rattle.ow_entity.specs.declared.rows.Row.{Row}
 use Rattle.ow_entity.specs.Row.{kind_of, name_of}
 use Rattle.ow_tables.specs.Rows.{key, key_of, AreRows, put_row}
-
--- ---- keys
-
-pub test_of : (k a : List ℕ) (o : Ordering) → text_cmp k a ≡ o → bytes_eq k a ≡ is_eq o
-test_of k a o e = sym (is_eq-slice_cmp k a) ∙ ap is_eq e
-
-pub same_text : (a b : List ℕ) → text_cmp a b ≡ Equal → a ≡ b
-same_text a b e = (bytes_eq-Decides a b).0 (test_of a b Equal e)
-
-pub turned : (a b : List ℕ) (o : Ordering) → text_cmp a b ≡ o → text_cmp b a ≡ ordering_reverse o
-turned a b o e = nat_list_cmp_total.antisymm b a ∙ ap ordering_reverse e
-
--- a key below one that equals k is not k
-below_equal : (a b k : List ℕ) → text_cmp a b ≡ Less → text_cmp b k ≡ Equal → text_cmp k a ≡ Greater
-below_equal a b k lt eq = sym (nat_list_cmp_total.congr b k a eq) ∙ turned a b Less lt
-
--- what holds of each key holds of the one at a place
-pub key_at : {B : Type 0} (row : B → Row) (P : List ℕ → Type 0) (bs : List B) (j : ℕ) (d : B) → AllByRecursion P (map key_of (map row bs)) → j < length bs → P (key_of (row (get_or bs j d)))
-key_at row P [] j d h lt = absurd (omega arith)
-key_at row P (b ∷ bs) zero d h lt = h.0
-key_at row P (b ∷ bs) (suc j) d h lt = key_at row P bs j d h.1 (omega arith)
-
--- ---- a search by key
-
-pub rises_at : (a b k : List ℕ) (o : Ordering) → text_cmp a b ≡ Less → text_cmp b k ≡ o → ordering_index (text_cmp a k) ≤ ordering_index o
-rises_at a b k Less lt e = omega (arith, ap ordering_index (nat_list_cmp_total.trans a b k lt e))
-rises_at a b k Equal lt e = omega (arith, ap ordering_index (turned k a Greater (below_equal a b k lt e)))
-rises_at a b k Greater lt e = at_most (text_cmp a k)
-  where
-    at_most : (o : Ordering) → ordering_index o ≤ 2
-    at_most Less = omega arith
-    at_most Equal = omega arith
-    at_most Greater = omega arith
-
-pub rises : {B : Type 0} (row : B → Row) (k : List ℕ) (bs : List B) → AreRows (map row bs) → IsNonDecreasingBy (λ b. ordering_index (text_cmp (key_of (row b)) k)) bs
-unfolding IsStrictlySortedBy
-rises row k [] h i j d le lt = absurd (omega arith)
-rises row k (b ∷ bs) h zero zero d le lt = omega arith
-rises row k (b ∷ bs) h zero (suc j) d le lt =
-    rises_at (key_of (row b)) (key_of (row (get_or bs j d))) k _ (key_at row (λ a. text_cmp (key_of (row b)) a ≡ Less) bs j d h.0 (omega arith)) refl
-rises row k (b ∷ bs) h (suc i) zero d le lt = absurd (omega arith)
-rises row k (b ∷ bs) h (suc i) (suc j) d le lt = rises row k bs h.1 i j d (omega arith) (omega arith)
-
-pub searched : {B : Type 0} (row : B → Row) (k : List ℕ) (bs : List B) → AreRows (map row bs) → (r : Result ℕ ℕ) → IsSearchInRange r (length bs) → IsBinarySearchResult (λ b. text_cmp (key_of (row b)) k) bs r
-    → record {
-      ok : IfOk r (λ i. (i < length bs) × HoldsAt (λ b. text_cmp (key_of (row b)) k ≡ Equal) bs i);
-      err : IfErr r (λ i. (i ≤ length bs) × IsPartitionPoint (λ b. text_cmp (key_of (row b)) k ≡ Less) (λ b. text_cmp (key_of (row b)) k ≡ Greater) bs i);
-    }
-searched row k bs up (Ok i) range found = record { ok = (range, found); err = tt }
-searched row k bs up (Err i) range found = record { ok = tt; err = (range, found (rises row k bs up)) }
 
 -- ---- look-ups
 
@@ -74,7 +22,7 @@ unfolding IsStrictlySortedBy
 found_at row k [] i d h lt e = absurd (omega arith)
 found_at row k (b ∷ bs) zero d h lt e = rw (test_of k (key_of (row b)) Equal (turned (key_of (row b)) k Equal e)) refl
 found_at row k (b ∷ bs) (suc i) d h lt e =
-    let below : text_cmp (key_of (row b)) (key_of (row (get_or bs i d))) ≡ Less = key_at row (λ a. text_cmp (key_of (row b)) a ≡ Less) bs i d h.0 (omega arith) in
+    let below : text_cmp (key_of (row b)) (key_of (row (get_or bs i d))) ≡ Less = key_through key_of row (λ a. text_cmp (key_of (row b)) a ≡ Less) bs i d h.0 (omega arith) in
     rw (test_of k (key_of (row b)) Greater (below_equal (key_of (row b)) (key_of (row (get_or bs i d))) k below e)) (found_at row k bs i d h.1 (omega arith) e)
 
 -- no row has the key
@@ -86,21 +34,17 @@ not_found row k [] h = refl
 not_found row k (b ∷ bs) h = rw (h 0 b (omega arith)) (not_found row k bs (λ j d lt. h (suc j) d (omega arith)))
 
 -- where the keys part into those below and those above
-pub lacks : {B : Type 0} (row : B → Row) (k : List ℕ) (bs : List B) (i : ℕ)
-    → IsPartitionPoint (λ b. text_cmp (key_of (row b)) k ≡ Less) (λ b. text_cmp (key_of (row b)) k ≡ Greater) bs i → Lacks row k bs
-lacks row k bs i h j d lt = elim (cases_lt j i) [
-  | inl below ↦ test_of k _ Greater (turned (key_of (row (get_or bs j d))) k Less (h.0 j d (omega arith) below))
-  | inr above ↦ test_of k _ Less (turned (key_of (row (get_or bs j d))) k Greater (h.1 j d above lt))
-]
+pub lacks : {B : Type 0} (row : B → Row) (k : List ℕ) (bs : List B) (i : ℕ) → PartsAt (λ b. key_of (row b)) k bs i → Lacks row k bs
+lacks row k bs i h j d lt = test_of k (key_of (row (get_or bs j d))) _ refl ∙ other _ k (parted (λ b. key_of (row b)) k bs i h j d lt)
 
 pub absent : {B : Type 0} (row : B → Row) (k : List ℕ) (bs : List B) (i : ℕ)
-    → IsPartitionPoint (λ b. text_cmp (key_of (row b)) k ≡ Less) (λ b. text_cmp (key_of (row b)) k ≡ Greater) bs i → find (λ r. bytes_eq k (key_of r)) (map row bs) ≡ None
+    → PartsAt (λ b. key_of (row b)) k bs i → find (λ r. bytes_eq k (key_of r)) (map row bs) ≡ None
 absent row k bs i h = not_found row k bs (lacks row k bs i h)
 
 -- ---- a put at that place
 
 pub put_at_gap : {B : Type 0} (row : B → Row) (k : List ℕ) (p : B) (bs : List B) (i : ℕ) → k ≡ key_of (row p)
-    → IsPartitionPoint (λ b. text_cmp (key_of (row b)) k ≡ Less) (λ b. text_cmp (key_of (row b)) k ≡ Greater) bs i
+    → PartsAt (λ b. key_of (row b)) k bs i
     → put_row (row p) (map row bs) ≡ map row (take i bs ++ p ∷ drop i bs)
 put_at_gap row k p [] zero e h = refl
 put_at_gap row k p [] (suc i) e h = refl
@@ -117,7 +61,7 @@ put_at_equal row k p [] i d e s lt q = absurd (omega arith)
 put_at_equal row k p (b ∷ bs) zero d e s lt q =
     rw (ap (λ a. text_cmp a (key_of (row b))) (sym e) ∙ turned (key_of (row b)) k Equal q) refl
 put_at_equal row k p (b ∷ bs) (suc i) d e s lt q =
-    let below : text_cmp (key_of (row b)) (key_of (row (get_or bs i d))) ≡ Less = key_at row (λ a. text_cmp (key_of (row b)) a ≡ Less) bs i d s.0 (omega arith) in
+    let below : text_cmp (key_of (row b)) (key_of (row (get_or bs i d))) ≡ Less = key_through key_of row (λ a. text_cmp (key_of (row b)) a ≡ Less) bs i d s.0 (omega arith) in
     rw (ap (λ a. text_cmp a (key_of (row b))) (sym e) ∙ below_equal (key_of (row b)) (key_of (row (get_or bs i d))) k below q)
     (ap (λ rs. row b ∷ rs) (put_at_equal row k p bs i d e s.1 (omega arith) q))
 
@@ -137,22 +81,31 @@ unfolding IsStrictlySortedBy
 one_out row k [] i d s lt q = absurd (omega arith)
 one_out row k (b ∷ bs) zero d s lt q =
     rw (test_of k (key_of (row b)) Equal (turned (key_of (row b)) k Equal q))
-    (nothing_out row k bs (λ j e lt'. above_equal (key_of (row b)) (key_of (row (get_or bs j e))) k (key_at row (λ a. text_cmp (key_of (row b)) a ≡ Less) bs j e s.0 lt') q))
+    (nothing_out row k bs (λ j e lt'. above_equal (key_of (row b)) (key_of (row (get_or bs j e))) k (key_through key_of row (λ a. text_cmp (key_of (row b)) a ≡ Less) bs j e s.0 lt') q))
 one_out row k (b ∷ bs) (suc i) d s lt q =
-    let below : text_cmp (key_of (row b)) (key_of (row (get_or bs i d))) ≡ Less = key_at row (λ a. text_cmp (key_of (row b)) a ≡ Less) bs i d s.0 (omega arith) in
+    let below : text_cmp (key_of (row b)) (key_of (row (get_or bs i d))) ≡ Less = key_through key_of row (λ a. text_cmp (key_of (row b)) a ≡ Less) bs i d s.0 (omega arith) in
     rw (test_of k (key_of (row b)) Greater (below_equal (key_of (row b)) (key_of (row (get_or bs i d))) k below q))
     (ap (λ rs. row b ∷ rs) (one_out row k bs i d s.1 (omega arith) q))
 
 -- ---- the order is kept
 
-all_put : (P : List ℕ → Type 0) (r : Row) (xs : List Row) → P (key_of r) → AllByRecursion P (map key_of xs) → AllByRecursion P (map key_of (put_row r xs))
-all_put P r [] p h = (p, tt)
-all_put P r (x ∷ xs) p h = by_order (text_cmp (key_of r) (key_of x)) (all_put P r xs p h.1)
+-- what holds of all holds after a put of one of which it holds
+pub all_put : {X : Type 0} (f : Row → X) (P : X → Type 0) (r : Row) (xs : List Row) → P (f r) → AllByRecursion P (map f xs) → AllByRecursion P (map f (put_row r xs))
+all_put f P r [] p h = (p, tt)
+all_put f P r (x ∷ xs) p h = by_order (text_cmp (key_of r) (key_of x)) (all_put f P r xs p h.1)
   where
-    by_order : (o : Ordering) → AllByRecursion P (map key_of (put_row r xs)) → AllByRecursion P (map key_of (match_ordering o (r ∷ x ∷ xs) (r ∷ xs) (x ∷ put_row r xs)))
+    by_order : (o : Ordering) → AllByRecursion P (map f (put_row r xs)) → AllByRecursion P (map f (match_ordering o (r ∷ x ∷ xs) (r ∷ xs) (x ∷ put_row r xs)))
     by_order Less behind = (p, h)
     by_order Equal behind = (p, h.1)
     by_order Greater behind = (h.0, behind)
+
+pub all_filter : {X : Type 0} (f : Row → X) (P : X → Type 0) (test : Row → Bool) (xs : List Row) → AllByRecursion P (map f xs) → AllByRecursion P (map f (filter test xs))
+all_filter f P test [] h = tt
+all_filter f P test (x ∷ xs) h = by_test (test x) (all_filter f P test xs h.1)
+  where
+    by_test : (b : Bool) → AllByRecursion P (map f (filter test xs)) → AllByRecursion P (map f (cond b (x ∷ filter test xs) (filter test xs)))
+    by_test true behind = (h.0, behind)
+    by_test false behind = behind
 
 weaker : (P Q : List ℕ → Type 0) (ks : List (List ℕ)) → ((k : List ℕ) → P k → Q k) → AllByRecursion P ks → AllByRecursion Q ks
 weaker P Q [] f h = tt
@@ -165,16 +118,8 @@ AreRows-put_row r (x ∷ xs) h = by_order (text_cmp (key_of r) (key_of x)) refl 
   where
     by_order : (o : Ordering) → text_cmp (key_of r) (key_of x) ≡ o → AreRows (put_row r xs) → AreRows (match_ordering o (r ∷ x ∷ xs) (r ∷ xs) (x ∷ put_row r xs))
     by_order Less e behind = ((e, weaker _ _ (map key_of xs) (λ k lt. nat_list_cmp_total.trans (key_of r) (key_of x) k e lt) h.0), h)
-    by_order Equal e behind = (subst (λ k. AllByRecursion (λ y. text_cmp k y ≡ Less) (map key_of xs)) (sym (same_text (key_of r) (key_of x) e)) h.0, h.1)
-    by_order Greater e behind = (all_put (λ y. text_cmp (key_of x) y ≡ Less) r xs (turned (key_of r) (key_of x) Greater e) h.0, behind)
-
-all_filter : (P : List ℕ → Type 0) (test : Row → Bool) (xs : List Row) → AllByRecursion P (map key_of xs) → AllByRecursion P (map key_of (filter test xs))
-all_filter P test [] h = tt
-all_filter P test (x ∷ xs) h = by_test (test x) (all_filter P test xs h.1)
-  where
-    by_test : (b : Bool) → AllByRecursion P (map key_of (filter test xs)) → AllByRecursion P (map key_of (cond b (x ∷ filter test xs) (filter test xs)))
-    by_test true behind = (h.0, behind)
-    by_test false behind = behind
+    by_order Equal e behind = (subst (λ k. AllByRecursion (λ y. text_cmp k y ≡ Less) (map key_of xs)) (sym (equal_texts (key_of r) (key_of x) e)) h.0, h.1)
+    by_order Greater e behind = (all_put key_of (λ y. text_cmp (key_of x) y ≡ Less) r xs (turned (key_of r) (key_of x) Greater e) h.0, behind)
 
 pub AreRows-filter : (test : Row → Bool) (xs : List Row) → AreRows xs → AreRows (filter test xs)
 unfolding IsStrictlySortedBy
@@ -182,7 +127,7 @@ AreRows-filter test [] h = tt
 AreRows-filter test (x ∷ xs) h = by_test (test x) (AreRows-filter test xs h.1)
   where
     by_test : (b : Bool) → AreRows (filter test xs) → AreRows (cond b (x ∷ filter test xs) (filter test xs))
-    by_test true behind = (all_filter _ test xs h.0, behind)
+    by_test true behind = (all_filter key_of _ test xs h.0, behind)
     by_test false behind = behind
 
 -- ---- the same, as a search and a change of the boxes tell it
@@ -191,36 +136,36 @@ pub same_key : (r r1 r2 : Row) (kind : EntityKind) (name : FullName) → kind �
 same_key r r1 r2 kind name e f g h = ap₂ key (e ∙ ap kind_of g) (f ∙ ap name_of h)
 
 pub replaced : {B : Type 0} (row : B → Row) (k : List ℕ) (xs ys : List B) (p : B) (i : ℕ) (old : List Row) → ys ≡ xs → k ≡ key_of (row p) → AreRows (map row xs)
-    → (i < length ys) × HoldsAt (λ b. text_cmp (key_of (row b)) k ≡ Equal) ys i → map row xs ≡ old → map row (set xs i p) ≡ put_row (row p) old
+    → StandsAt (λ b. key_of (row b)) k ys i → map row xs ≡ old → map row (set xs i p) ≡ put_row (row p) old
 replaced row k xs ys p i old e f s h o =
-    let h2 = subst (λ zs. (i < length zs) × HoldsAt (λ b. text_cmp (key_of (row b)) k ≡ Equal) zs i) e h in
+    let h2 = subst (λ zs. StandsAt (λ b. key_of (row b)) k zs i) e h in
     sym (put_at_equal row k p xs i p f s h2.0 (h2.1 p)) ∙ ap (put_row (row p)) o
 
 pub put_between : {B : Type 0} (row : B → Row) (k : List ℕ) (xs ys new : List B) (p : B) (i : ℕ) (old : List Row) → ys ≡ xs → k ≡ key_of (row p) → new ≡ take i xs ++ p ∷ drop i xs
-    → IsPartitionPoint (λ b. text_cmp (key_of (row b)) k ≡ Less) (λ b. text_cmp (key_of (row b)) k ≡ Greater) ys i → map row xs ≡ old → map row new ≡ put_row (row p) old
+    → PartsAt (λ b. key_of (row b)) k ys i → map row xs ≡ old → map row new ≡ put_row (row p) old
 put_between row k xs ys new p i old e f n h o =
-    let h2 = subst (λ zs. IsPartitionPoint (λ b. text_cmp (key_of (row b)) k ≡ Less) (λ b. text_cmp (key_of (row b)) k ≡ Greater) zs i) e h in
+    let h2 = subst (λ zs. PartsAt (λ b. key_of (row b)) k zs i) e h in
     ap (map row) n ∙ sym (put_at_gap row k p xs i f h2) ∙ ap (put_row (row p)) o
 
 pub taken_out : {B : Type 0} (row : B → Row) (k : List ℕ) (xs ys new : List B) (r : Row) (i : ℕ) (d : B) (old : List Row) → ys ≡ xs → k ≡ key_of r → new ≡ take i xs ++ drop (suc i) xs → AreRows (map row xs)
-    → (i < length ys) × HoldsAt (λ b. text_cmp (key_of (row b)) k ≡ Equal) ys i → map row xs ≡ old → map row new ≡ filter (λ x. not (bytes_eq (key_of r) (key_of x))) old
+    → StandsAt (λ b. key_of (row b)) k ys i → map row xs ≡ old → map row new ≡ filter (λ x. not (bytes_eq (key_of r) (key_of x))) old
 taken_out row k xs ys new r i d old e f n s h o =
-    let h2 = subst (λ zs. (i < length zs) × HoldsAt (λ b. text_cmp (key_of (row b)) k ≡ Equal) zs i) e h in
+    let h2 = subst (λ zs. StandsAt (λ b. key_of (row b)) k zs i) e h in
     ap (map row) n ∙ sym (one_out row k xs i d s h2.0 (h2.1 d)) ∙ ap (λ a. filter (λ x. not (bytes_eq a (key_of x))) (map row xs)) f ∙ ap (filter (λ x. not (bytes_eq (key_of r) (key_of x)))) o
 
 pub not_there : {B : Type 0} (row : B → Row) (k : List ℕ) (xs ys : List B) (r : Row) (i : ℕ) (old : List Row) → ys ≡ xs → k ≡ key_of r
-    → IsPartitionPoint (λ b. text_cmp (key_of (row b)) k ≡ Less) (λ b. text_cmp (key_of (row b)) k ≡ Greater) ys i → map row xs ≡ old → old ≡ filter (λ x. not (bytes_eq (key_of r) (key_of x))) old
+    → PartsAt (λ b. key_of (row b)) k ys i → map row xs ≡ old → old ≡ filter (λ x. not (bytes_eq (key_of r) (key_of x))) old
 not_there row k xs ys r i old e f h o =
     let out = ap (λ a. filter (λ x. not (bytes_eq a (key_of x))) (map row ys)) (sym f) ∙ nothing_out row k ys (lacks row k ys i h) in
     let is : map row ys ≡ old = ap (map row) e ∙ o in
     sym is ∙ sym out ∙ ap (filter (λ x. not (bytes_eq (key_of r) (key_of x)))) is
 
 pub is_found : {B : Type 0} (row : B → Row) (k : List ℕ) (xs ys : List B) (i : ℕ) (b : B) (r : Row) (old : List Row) → ys ≡ xs → AreRows (map row xs)
-    → (i < length ys) × HoldsAt (λ c. text_cmp (key_of (row c)) k ≡ Equal) ys i → b ≡ get_or xs i b → r ≡ row b → map row xs ≡ old → Some r ≡ find (λ x. bytes_eq k (key_of x)) old
+    → StandsAt (λ c. key_of (row c)) k ys i → b ≡ get_or xs i b → r ≡ row b → map row xs ≡ old → Some r ≡ find (λ x. bytes_eq k (key_of x)) old
 is_found row k xs ys i b r old e s h at is o =
-    let h2 = subst (λ zs. (i < length zs) × HoldsAt (λ c. text_cmp (key_of (row c)) k ≡ Equal) zs i) e h in
+    let h2 = subst (λ zs. StandsAt (λ c. key_of (row c)) k zs i) e h in
     ap Some (is ∙ ap row at) ∙ sym (found_at row k xs i b s h2.0 (h2.1 b)) ∙ ap (find (λ x. bytes_eq k (key_of x))) o
 
 pub none_found : {B : Type 0} (row : B → Row) (k : List ℕ) (xs ys : List B) (i : ℕ) (old : List Row) → ys ≡ xs
-    → IsPartitionPoint (λ b. text_cmp (key_of (row b)) k ≡ Less) (λ b. text_cmp (key_of (row b)) k ≡ Greater) ys i → map row xs ≡ old → None ≡ find (λ x. bytes_eq k (key_of x)) old
+    → PartsAt (λ b. key_of (row b)) k ys i → map row xs ≡ old → None ≡ find (λ x. bytes_eq k (key_of x)) old
 none_found row k xs ys i old e h o = sym (absent row k ys i h) ∙ ap (λ zs. find (λ x. bytes_eq k (key_of x)) (map row zs)) e ∙ ap (find (λ x. bytes_eq k (key_of x))) o

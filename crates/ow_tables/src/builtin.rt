@@ -1,5 +1,5 @@
-ghost use Rattle.std.specs.Prelude.{◌≡◌, codes, None, IfOk};
-ghost use Rattle.ow_names.specs.Name.{first_fault};
+// The rows that are there from the start.
+ghost use Rattle.std.specs.Prelude.{◌≡◌, IfOk};
 ghost use Rattle.ow_tables.specs.Builtin.{echo, utils};
 
 use ow_entity::{Action, Exec, Limits, Package};

@@ -1,3 +1,4 @@
+// What lists show.
 ghost use Rattle.std.specs.Prelude.{◌≡◌, filter, map, IfOk};
 ghost use Rattle.ow_entity.specs.Written.{summary_value};
 ghost use Rattle.ow_tables.specs.Rows.{stands_in, listing};

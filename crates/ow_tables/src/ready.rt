@@ -1,3 +1,4 @@
+// Changes that were made ready.
 ghost use Rattle.std.specs.Prelude.{◌≡◌};
 
 use ow_entity::Row;

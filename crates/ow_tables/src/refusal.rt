@@ -1,3 +1,4 @@
+// Why tables don't change.
 ghost use Rattle.std.specs.Prelude.{◌≡◌};
 ghost use Rattle.ow_tables.specs.Refusals.{table_refusal_number};
 

@@ -1,9 +1,9 @@
-ghost use Rattle.std.specs.Prelude.{◌≡◌, ◌≢◌, ◌≤◌, [], ◌∷◌, Bool, true, false, Some, None, Ok, IfOk, OnOk, IfErr, OnErr, IfSome, MatchResult};
+// The rows of the entities that stand.
+ghost use Rattle.std.specs.Prelude.{◌≡◌, ◌≢◌, ◌≤◌, [], ◌∷◌, true, false, Some, None, Ok, IfOk, OnOk, IfErr, OnErr, MatchResult};
 ghost use Rattle.ow_entity.specs.Chain.{first_some};
 ghost use Rattle.ow_entity.specs.Finish.{finished};
-ghost use Rattle.ow_entity.specs.Fit.{IsFit, IsFitDraft};
 ghost use Rattle.ow_tables.specs.Builtin.{builtin};
-ghost use Rattle.ow_tables.specs.Rows.{AreRows, found, put_row, without, changed, listing};
+ghost use Rattle.ow_tables.specs.Rows.{AreRows, found, put_row, changed, listing};
 ghost use Rattle.ow_tables.specs.Refusals.{package_of, package_missing, in_the_way, unfinished, old_row, put_refusal, remove_refusal};
 
 use crate::builtin::{echo, utils};
@@ -62,15 +62,12 @@ impl Tables {
         ensures unrefused { OnOk result (put_refusal draft overwrite self.old.rows ≡ None) }
         ensures refused { IfErr result (λ e. e ≢ TableRefusal.NoMemory → put_refusal draft overwrite self.old.rows ≡ Some e) }
         ensures row { IfOk result (λ r. finished draft (old_row draft self.old.rows) ≡ Ok r.row) }
-        ensures fits { IsFitDraft draft → IfSome (old_row draft self.old.rows) IsFit → IfOk result (λ r. IsFit r.row) }
         ensures puts { IfOk result (λ r. r.removes ≡ false) }
         ensures rows { self.new.rows ≡ self.old.rows }
         ensures room { OnOk result (1 ≤ self.new.room) }
         ensures unchanged { OnErr result (self.new ≡ self.old) }
     {
-        self.check_package(alloc, draft.name())?;
-        let row = self.finished(alloc, draft, overwrite)?;
-        let row = Box::new(alloc, row)?;
+        let row = self.made(alloc, draft, overwrite)?;
         self.rows.reserve(1)?;
         Ok(Ready {
             row,
@@ -134,16 +131,6 @@ impl Tables {
         listing(alloc, &self.rows, kind, namespace, skip, limit)
     }
 
-    pub fn copy(&self, alloc: Global) -> Result<Tables, NoMemory>
-        ensures { IfOk result (λ t. t.rows ≡ self.now.rows) }
-    {
-        let mut rows = Vec::with_capacity(alloc, self.rows.len())?;
-        for row in &self.rows {
-            rows.push(Box::new(alloc, row.copy(alloc)?)?)?;
-        }
-        Ok(Tables { rows })
-    }
-
     // That the package in which the name lies stands.
     fn check_package(&self, alloc: Global, name: &FullName) -> Result<(), TableRefusal>
         ensures { MatchResult result (λ _. package_missing (package_of name.now) self.now.rows ≡ None)
@@ -161,11 +148,21 @@ impl Tables {
         Ok(())
     }
 
+    // The row of the draft, where the package in which it is to lie stands.
+    fn made(&self, alloc: Global, draft: Draft, overwrite: bool) -> Result<Box<Row>, TableRefusal>
+        ensures unrefused { OnOk result (put_refusal draft overwrite self.now.rows ≡ None) }
+        ensures refused { IfErr result (λ e. e ≢ TableRefusal.NoMemory → put_refusal draft overwrite self.now.rows ≡ Some e) }
+        ensures row { IfOk result (λ b. finished draft (old_row draft self.now.rows) ≡ Ok b.value) }
+    {
+        self.check_package(alloc, draft.name())?;
+        let row = self.finished(alloc, draft, overwrite)?;
+        Ok(Box::new(alloc, row)?)
+    }
+
     // The row of the draft, over the one that stands, if any.
     fn finished(&self, alloc: Global, draft: Draft, overwrite: bool) -> Result<Row, TableRefusal>
         ensures way { OnOk result (in_the_way overwrite (old_row draft self.now.rows) ≡ None) }
         ensures row { IfOk result (λ r. finished draft (old_row draft self.now.rows) ≡ Ok r) }
-        ensures fits { IsFitDraft draft → IfSome (old_row draft self.now.rows) IsFit → IfOk result IsFit }
         ensures refused { IfErr result (λ e. e ≢ TableRefusal.NoMemory
             → first_some (in_the_way overwrite (old_row draft self.now.rows) ∷ unfinished draft (old_row draft self.now.rows) ∷ []) ≡ Some e) }
     {

@@ -1,8 +1,7 @@
-use crate::builtin::echo;
 use crate::{TableRefusal, Tables};
 use ow_entity::{Draft, EntityKind, Lookup, Row, read_entity};
 use ow_names::{FullName, read_name, resolve};
-use ow_value::{Val, Vals, read_val};
+use ow_value::{Str, Val, Vals, read_val};
 use std::alloc::Global;
 use std::test::Fail;
 
@@ -49,15 +48,31 @@ fn told(answer: Result<(), TableRefusal>) -> u32 {
     }
 }
 
+fn age(row: &mut Row) {
+    if let Row::Action(action) = row {
+        action.version = u32::MAX;
+    }
+}
+
 // Puts an action that is at its last version.
 fn put_last(tables: &mut Tables, alloc: Global, path: &str) -> Result<(), Fail> {
-    let mut action = echo(alloc)?;
-    action.name = full(alloc, path)?;
-    action.version = u32::MAX;
-    let mut ready = tables.prepare_put(alloc, draft(alloc, path, CODE)?, false)?;
-    ready.row = Box::new(alloc, Row::Action(action))?;
+    let draft = draft(alloc, path, CODE)?;
+    let mut ready = tables.prepare_put(alloc, draft, false)?;
+    age(&mut ready.row);
     tables.apply(ready);
     Ok(())
+}
+
+// What a put of the body at the path is told.
+fn told_of_put(
+    tables: &mut Tables,
+    alloc: Global,
+    path: &str,
+    body: &str,
+    overwrite: bool,
+) -> Result<u32, Fail> {
+    let draft = draft(alloc, path, body)?;
+    Ok(told(put(tables, alloc, draft, overwrite)))
 }
 
 #[test]
@@ -79,8 +94,10 @@ fn puts_are_refused_in_order(rt: HostRuntime) -> Result<(), Fail> {
         ("last", CODE, true, 18),
     ];
     for (path, body, overwrite, number) in puts.iter() {
-        let draft = draft(alloc, path, body)?;
-        assert_eq!(rt; told(put(&mut tables, alloc, draft, *overwrite)), *number);
+        assert_eq!(rt;
+            told_of_put(&mut tables, alloc, path, body, *overwrite)?,
+            *number
+        );
     }
     Ok(())
 }
@@ -105,30 +122,37 @@ fn removals_are_refused_where_no_row_stands(rt: HostRuntime) -> Result<(), Fail>
     Ok(())
 }
 
+fn name_in(value: &Val) -> Option<&Str> {
+    let Val::Object(fields) = value else {
+        return None;
+    };
+    match fields.find("name") {
+        Some(Val::Text(name)) => Some(name),
+        _ => None,
+    }
+}
+
 // The names that a list shows, each with a space behind it.
 fn names(alloc: Global, shown: &Vals) -> Result<String, Fail> {
     let mut names = String::new(alloc);
-    for value in shown.items() {
-        if let Val::Object(fields) = value
-            && let Some(Val::Text(name)) = fields.find("name")
-        {
-            names.push_str(name.as_str())?;
-            names.push(' ')?;
-        }
+    for name in shown.items().iter().filter_map(name_in) {
+        names.push_str(name.as_str())?;
+        names.push(' ')?;
     }
     Ok(names)
 }
 
-fn listed(
+// Whether the part of the list shows these names.
+fn lists(
     alloc: Global,
     tables: &Tables,
-    kind: EntityKind,
-    namespace: &str,
+    of: (EntityKind, &str),
     part: (u64, u64),
-) -> Result<String, Fail> {
-    let namespace = read_name(alloc, namespace.as_bytes())?;
-    let shown = tables.list(alloc, kind, &namespace, part.0, part.1)?;
-    names(alloc, &shown)
+    expected: &str,
+) -> Result<bool, Fail> {
+    let namespace = read_name(alloc, of.1.as_bytes())?;
+    let shown = tables.list(alloc, of.0, &namespace, part.0, part.1)?;
+    Ok(names(alloc, &shown)?.as_str() == expected)
 }
 
 // Some actions, of which one is put twice.
@@ -143,8 +167,8 @@ fn filled(alloc: Global) -> Result<Tables, Fail> {
 #[test]
 fn lists_are_by_name(rt: HostRuntime) -> Result<(), Fail> {
     let alloc = rt.alloc();
-    let tables = filled(alloc)?.copy(alloc)?;
-    let lists = [
+    let tables = filled(alloc)?;
+    let parts = [
         (EntityKind::Action, "guest", (0, 10), "a b c "),
         (EntityKind::Action, "guest", (1, 1), "b "),
         (EntityKind::Action, "guest", (2, 5), "c "),
@@ -156,9 +180,8 @@ fn lists_are_by_name(rt: HostRuntime) -> Result<(), Fail> {
         (EntityKind::Action, "whisk.system", (0, 10), "echo "),
         (EntityKind::Package, "whisk.system", (0, 10), "utils "),
     ];
-    for (kind, namespace, part, names) in lists.iter() {
-        let shown = listed(alloc, &tables, *kind, namespace, *part)?;
-        assert_eq!(rt; shown.as_str(), *names);
+    for (kind, namespace, part, names) in parts.iter() {
+        assert!(rt; lists(alloc, &tables, (*kind, namespace), *part, names)?);
     }
     Ok(())
 }

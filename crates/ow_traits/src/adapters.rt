@@ -12,6 +12,7 @@ pub struct ReaderSource<R: Read + Drop> {
 }
 
 impl<R: Read + Drop> ReaderSource<R> {
+    /// A source that owns the reader, with no fault yet.
     pub fn new(reader: R) -> Self
         ensures { ⟦<ReaderSource<R> as Source>⟧.faults result ≡ 0 }
     {
@@ -47,6 +48,7 @@ pub struct WriterSink<W: Write + Drop> {
 }
 
 impl<W: Write + Drop> WriterSink<W> {
+    /// A sink that owns the writer, with no fault yet.
     pub fn new(writer: W) -> Self
         ensures { ⟦<WriterSink<W> as Sink>⟧.faults result ≡ 0 }
     {

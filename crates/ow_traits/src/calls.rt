@@ -1,5 +1,5 @@
 // The calls of a device in memory, of which some are to fail.
-ghost use Rattle.std.specs.Prelude.{◌≡◌, ◌≤◌, ◌↔◌, Contains, IsTrue};
+ghost use Rattle.std.specs.Prelude.{◌≡◌, ◌≤◌, ◌↔◌, ◌+◌, ◌-◌, ◌^◌, min, Contains, IsTrue};
 ghost use Rattle.ow_traits.specs.Streams.{Rose};
 
 /// A counter of calls, the numbers of those that are to fail, and a count of faults. The first call has the number 0.
@@ -11,6 +11,7 @@ pub(crate) struct Calls {
 }
 
 impl Calls {
+    /// No call yet, and no fault.
     pub(crate) fn new(failing: Vec<u64>) -> Self
         ensures made { result.made ≡ 0 }
         ensures failing { result.failing ≡ failing }
@@ -28,6 +29,8 @@ impl Calls {
         ensures listed { IsTrue result ↔ Contains self.old.failing.items self.old.made }
         ensures rose { IsTrue result → Rose self.old.faults self.new.faults }
         ensures later { self.old.faults ≤ self.new.faults }
+        ensures made { self.new.made ≡ min (self.old.made + 1) (2 ^ 64 - 1) }
+        ensures failing { self.new.failing ≡ self.old.failing }
     {
         let number = self.made;
         self.made = self.made.saturating_add(1);
@@ -38,9 +41,12 @@ impl Calls {
         fails
     }
 
+    /// Counts a fault. The count stands still at the greatest u64.
     pub(crate) fn count_fault(&mut self)
         ensures rose { Rose self.old.faults self.new.faults }
         ensures later { self.old.faults ≤ self.new.faults }
+        ensures made { self.new.made ≡ self.old.made }
+        ensures failing { self.new.failing ≡ self.old.failing }
     {
         self.faults = self.faults.saturating_add(1);
     }

@@ -30,6 +30,7 @@ impl Model for Changes {
 }
 
 impl Change {
+    /// Whether the changes are of one kind, at one key, with one text.
     pub fn same(&self, other: &Change) -> bool
         ensures { IsTrue result ↔ (self.now ≡ other.now) }
     {
@@ -42,6 +43,7 @@ impl Change {
         }
     }
 
+    /// An equal change.
     pub fn copy(&self, alloc: Global) -> Result<Change, NoMemory>
         ensures { IfOk result (λ r. r ≡ self.now) }
     {
@@ -76,24 +78,28 @@ impl Changes {
         self.changes
     }
 
+    /// The changes, lent.
     pub fn as_slice(&self) -> &[Change]
         ensures { result.now ≡ self.now }
     {
         self.changes.as_slice()
     }
 
+    /// How many changes.
     pub fn len(&self) -> usize
         ensures { result ≡ length self.now }
     {
         self.changes.len()
     }
 
+    /// Whether there are none.
     pub fn is_empty(&self) -> bool
         ensures { IsTrue result ↔ (self.now ≡ []) }
     {
         self.changes.is_empty()
     }
 
+    /// Whether the changes are equal, in their order.
     pub fn same(&self, other: &Changes) -> bool
         ensures { IsTrue result ↔ (self.now ≡ other.now) }
     {
@@ -108,6 +114,7 @@ impl Changes {
         true
     }
 
+    /// Equal changes, in the same order.
     pub fn copy(&self, alloc: Global) -> Result<Changes, NoMemory>
         ensures { IfOk result (λ r. r ≡ self.now) }
     {

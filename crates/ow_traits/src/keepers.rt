@@ -11,6 +11,7 @@ use std::alloc::Global;
 pub enum KeeperError {
     /// The store failed, and its count of faults rose.
     Failed,
+    /// No memory was left for the rows.
     NoMemory,
 }
 

@@ -1,6 +1,6 @@
-// What lies outside the service, as traits whose meaning contracts can name.
 #![tactic(auto)]
 
+// What lies outside the service, as traits whose meaning contracts can name.
 mod adapters;
 mod calls;
 mod change_list;

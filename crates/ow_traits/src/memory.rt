@@ -16,6 +16,7 @@ pub struct MemorySource {
 impl MemorySource {
     ghost use Rattle.std.specs.Prelude.{Some};
 
+    /// A source that owns the bytes, with no fault yet.
     pub fn new(bytes: Vec<u8>, failing: Vec<u64>) -> Self
         ensures left { ⟦<MemorySource as Source>⟧.left result ≡ Some bytes.items }
         ensures faults { ⟦<MemorySource as Source>⟧.faults result ≡ 0 }
@@ -67,6 +68,7 @@ pub struct MemorySink {
 impl MemorySink {
     ghost use Rattle.std.specs.Prelude.{Some, []};
 
+    /// A sink that took nothing yet, with no fault. This takes no memory.
     pub fn new(alloc: Global, failing: Vec<u64>) -> Self
         ensures taken { ⟦<MemorySink as Sink>⟧.taken result ≡ Some [] }
         ensures faults { ⟦<MemorySink as Sink>⟧.faults result ≡ 0 }

@@ -27,6 +27,7 @@ pub enum RunReply {
 }
 
 impl RunReply {
+    /// Whether the runs ended alike, with equal texts and logs.
     pub fn same(&self, other: &RunReply) -> bool
         ensures { IsTrue result ↔ (self.now ≡ other.now) }
     {
@@ -53,6 +54,7 @@ impl RunReply {
         }
     }
 
+    /// An equal reply.
     pub fn copy(&self, alloc: Global) -> Result<RunReply, NoMemory>
         ensures { IfOk result (λ r. r ≡ self.now) }
     {

@@ -1,5 +1,5 @@
 // Edits of a Vec of rows, which stays in the order of its keys.
-ghost use Rattle.std.specs.Prelude.{◌≡◌, ◌≤◌, ◌<◌, ◌+◌, ◌↔◌, length, vec_len, vec_capacity, IsTrue, IsOk, IfOk, IfErr, OnOk, OnErr};
+ghost use Rattle.std.specs.Prelude.{◌≡◌, ◌≤◌, ◌<◌, ◌+◌, length, vec_len, vec_capacity, IsOk, IfOk, IfErr, OnOk, OnErr};
 ghost use Rattle.std.specs.List.{HoldsAt};
 ghost use Rattle.std.specs.List.Sorted.{IsPartitionPoint};
 ghost use Rattle.std.specs.declared.cmp.Ordering.TheVariants.{Less, Equal, Greater};
@@ -9,7 +9,6 @@ ghost use Rattle.ow_traits.specs.Rows.{AreRows, with_row, without};
 
 use crate::Change;
 use ow_value::{NoMemory, Str};
-use std::alloc::Global;
 
 // Where the key stands, or would.
 pub(crate) fn place(rows: &[(Str, Str)], key: &str) -> Result<usize, usize>
@@ -65,7 +64,7 @@ pub(crate) fn change_row(rows: &mut Vec<(Str, Str)>, change: Change)
     }
 }
 
-/// Makes the changes in their order. There is room for a row of each.
+// Makes the changes in their order. There is room for a row of each.
 pub(crate) fn change_rows(rows: &mut Vec<(Str, Str)>, changes: Vec<Change>)
     requires sorted { AreRows rows.old.items }
     requires room { vec_len rows.old + length changes.items ≤ vec_capacity rows.old }
@@ -75,42 +74,4 @@ pub(crate) fn change_rows(rows: &mut Vec<(Str, Str)>, changes: Vec<Change>)
     for change in changes {
         change_row(rows, change);
     }
-}
-
-pub(crate) fn same_rows(a: &[(Str, Str)], b: &[(Str, Str)]) -> bool
-    ensures { IsTrue result ↔ (a.now ≡ b.now) }
-{
-    if a.len() != b.len() {
-        return false;
-    }
-    for i in 0..a.len() {
-        if !same_row(&a[i], &b[i]) {
-            return false;
-        }
-    }
-    true
-}
-
-fn same_row(a: &(Str, Str), b: &(Str, Str)) -> bool
-    ensures { IsTrue result ↔ (a.now ≡ b.now) }
-{
-    a.0.same(&b.0) && a.1.same(&b.1)
-}
-
-pub(crate) fn copied_rows(alloc: Global, rows: &[(Str, Str)]) -> Result<Vec<(Str, Str)>, NoMemory>
-    ensures { IfOk result (λ r. r.items ≡ rows.now) }
-{
-    let mut copied = Vec::with_capacity(alloc, rows.len())?;
-    for row in rows {
-        copied.push(copied_row(alloc, row)?)?;
-    }
-    Ok(copied)
-}
-
-fn copied_row(alloc: Global, row: &(Str, Str)) -> Result<(Str, Str), NoMemory>
-    ensures { IfOk result (λ r. r ≡ row.now) }
-{
-    let key = row.0.copy(alloc)?;
-    let text = row.1.copy(alloc)?;
-    Ok((key, text))
 }

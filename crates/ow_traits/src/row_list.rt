@@ -4,8 +4,8 @@ ghost use Rattle.ow_traits.specs.Changes.{changed};
 ghost use Rattle.ow_traits.specs.Rows.{AreRows, text_of, with_row};
 
 use crate::Changes;
-use crate::row_edits::{change_rows, copied_rows, place, put_row, same_rows};
-use ow_value::{NoMemory, Str};
+use crate::row_edits::{change_rows, place, put_row};
+use ow_value::{NoMemory, Pairs, Str};
 use std::alloc::Global;
 use std::marker::Model;
 
@@ -36,7 +36,7 @@ impl Rows {
         }
     }
 
-    /// The keys with their texts.
+    /// The keys with their texts, lent.
     pub fn as_slice(&self) -> &[(Str, Str)]
         ensures value { result.now ≡ self.now }
         ensures rows { AreRows self.now }
@@ -44,12 +44,14 @@ impl Rows {
         self.rows.as_slice()
     }
 
+    /// How many rows.
     pub fn len(&self) -> usize
         ensures { result ≡ length self.now }
     {
         self.rows.len()
     }
 
+    /// Whether there are none.
     pub fn is_empty(&self) -> bool
         ensures { IsTrue result ↔ (self.now ≡ []) }
     {
@@ -67,17 +69,19 @@ impl Rows {
         }
     }
 
+    /// Whether the keys are the same, with equal texts.
     pub fn same(&self, other: &Rows) -> bool
         ensures { IsTrue result ↔ (self.now ≡ other.now) }
     {
-        same_rows(&self.rows, &other.rows)
+        Pairs::same_slices(&self.rows, &other.rows)
     }
 
+    /// The same keys, with equal texts.
     pub fn copy(&self, alloc: Global) -> Result<Rows, NoMemory>
         ensures { IfOk result (λ r. r ≡ self.now) }
     {
         Ok(Rows {
-            rows: copied_rows(alloc, &self.rows)?,
+            rows: Pairs::copy_slice(alloc, &self.rows)?,
         })
     }
 

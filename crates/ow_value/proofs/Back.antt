@@ -25,7 +25,7 @@ use Rattle.ow_value.specs.Json.{IsValue, AreValues, AreMembers}
 use Rattle.ow_value.specs.Text.{data_of, items_data, members_data, compact, value_tokens}
 use Rattle.ow_value.specs.Read.{whole_of, whole_items, whole_members, reading}
 use Rattle.ow_value.specs.Whole.{IsWhole}
-use Rattle.ow_value.proofs.Merging.{turned}
+use Rattle.ow_value.proofs.KeySearch.{turned}
 use Rattle.ow_value.proofs.Refused.{reads_value}
 
 -- ---- members that are put in order

@@ -4,9 +4,9 @@ use Rattle.std.specs.Ordering.{match_ordering}
 use Rattle.std.proofs.lemmas.Cmp.{nat_list_cmp_total, tied_itself}
 use Rattle.std.proofs.lemmas.Map.Text.{is_eq-slice_cmp}
 use Rattle.std.proofs.lemmas.Slice.Eq.{bytes_eq-Decides}
-use Rattle.ow_value.specs.Value.{V, text_cmp}
+use Rattle.ow_value.specs.Value.{V, Pairs, text_cmp}
 use Rattle.ow_value.specs.Find.{find, with_pair, merge, or_else}
-use Rattle.ow_value.proofs.Merging.{Pairs, equal_texts}
+use Rattle.ow_value.proofs.KeySearch.{equal_texts}
 
 by_order_same : (k : List ℕ) (v : V) (p : List ℕ × V) (ps rest : Pairs) (o : Ordering) → text_cmp k p.0 ≡ o → find k rest ≡ Some v → find k (match_ordering o ((k, v) ∷ p ∷ ps) ((p.0, v) ∷ ps) (p ∷ rest)) ≡ Some v
 by_order_same k v p ps rest Less e h = rw (tied_itself nat_list_cmp_total k)

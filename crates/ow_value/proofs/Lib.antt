@@ -2,6 +2,8 @@ pub mod Views
 pub mod Taking
 pub mod Refused
 pub mod Sizes
+pub mod KeySearch
+pub mod Entries
 pub mod Finding
 pub mod Merging
 pub mod Back

@@ -1,66 +1,25 @@
 -- One turn of a merge of two lists of pairs whose names rise.
-use Rattle.std.proofs.Common.{◌≡◌, ◌≢◌, ℕ, zero, suc, ◌+◌, ◌<◌, ◌≤◌, ◌⊎◌, inl, inr, List, [], ◌∷◌, ◌++◌, length, get_or, drop, Ordering, Less, Equal, Greater, is_eq, refl, sym, ap, ap₂, ◌∙◌, subst, append-nil, arith}
-use Rattle.std.specs.List.{AllByRecursion}
+use Rattle.std.proofs.Common.{◌≡◌, ◌≢◌, ℕ, zero, suc, ◌+◌, ◌<◌, ◌≤◌, ◌⊎◌, inl, inr, List, [], ◌∷◌, ◌++◌, length, get_or, drop, Less, Equal, Greater, refl, sym, ap, ap₂, ◌∙◌, subst, append-nil, arith}
 use Rattle.std.specs.List.Sorted.{IsStrictlySortedBy}
-use Rattle.std.specs.Map.{keys_of}
-use Rattle.std.specs.Ordering.{match_ordering, ordering_reverse}
 use Rattle.std.proofs.lemmas.Bool.{cases_lt}
-use Rattle.std.proofs.lemmas.Cmp.{nat_list_cmp_total}
 use Rattle.std.proofs.lemmas.List.{drop_more, drop_all}
-use Rattle.std.proofs.lemmas.Map.Text.{is_eq-slice_cmp}
-use Rattle.std.proofs.lemmas.Slice.Eq.{bytes_eq-Decides}
-use Rattle.ow_value.specs.Value.{V, text_cmp, AreParams}
+use Rattle.ow_value.specs.Value.{V, Pairs, text_cmp, AreParams}
 use Rattle.ow_value.specs.Find.{with_pair, merge}
 use Rattle.ow_value.specs.Merge.{head_order}
 use Rattle.ow_value.specs.View.{view, pair_views}
 use Rattle.ow_value.specs.declared.val.Pair.{Pair}
 use Rattle.ow_value.specs.declared.val.Val.TheVariants.{Null}
+use Rattle.ow_value.proofs.Entries.{Above, above_more, above_with, rises_with}
+use Rattle.ow_value.proofs.KeySearch.{equal_texts, turned}
 use Rattle.ow_value.proofs.Taking.{pair_views-snoc}
-
-abbrev pub Pairs : Type 0
-Pairs = List (List ℕ × V)
-
--- each name is above k
-abbrev pub Above : List ℕ → Pairs → Type 0
-Above k ps = AllByRecursion (λ y. text_cmp k y ≡ Less) (keys_of ps)
-
-pub equal_texts : (a b : List ℕ) → text_cmp a b ≡ Equal → a ≡ b
-equal_texts a b e = (bytes_eq-Decides a b).0 (sym (is_eq-slice_cmp a b) ∙ ap is_eq e)
-
-pub turned : (a b : List ℕ) (o : Ordering) → text_cmp a b ≡ o → text_cmp b a ≡ ordering_reverse o
-turned a b o e = nat_list_cmp_total.antisymm b a ∙ ap ordering_reverse e
-
-above_more : (j k : List ℕ) (ps : Pairs) → text_cmp j k ≡ Less → Above k ps → Above j ps
-above_more j k [] lt h = tt
-above_more j k (p ∷ ps) lt h = (nat_list_cmp_total.trans j k p.0 lt h.0, above_more j k ps lt h.1)
-
-above_by : (j k : List ℕ) (v : V) (p : List ℕ × V) (ps rest : Pairs) (o : Ordering) → text_cmp j k ≡ Less → Above j (p ∷ ps) → Above j rest → Above j (match_ordering o ((k, v) ∷ p ∷ ps) ((p.0, v) ∷ ps) (p ∷ rest))
-above_by j k v p ps rest Less lt h r = (lt, h)
-above_by j k v p ps rest Equal lt h r = h
-above_by j k v p ps rest Greater lt h r = (h.0, r)
-
-above_with : (j k : List ℕ) (v : V) (ps : Pairs) → text_cmp j k ≡ Less → Above j ps → Above j (with_pair ps k v)
-above_with j k v [] lt h = (lt, tt)
-above_with j k v (p ∷ ps) lt h = above_by j k v p ps (with_pair ps k v) (text_cmp k p.0) lt h (above_with j k v ps lt h.1)
 
 pub above_merge : (k : List ℕ) (a b : Pairs) → Above k a → Above k b → Above k (merge a b)
 above_merge k a [] g h = g
 above_merge k a (q ∷ b) g h = above_with k q.0 q.1 (merge a b) h.0 (above_merge k a b g h.1)
 
-sorted_by : (k : List ℕ) (v : V) (p : List ℕ × V) (ps : Pairs) (o : Ordering) → text_cmp k p.0 ≡ o → AreParams (p ∷ ps) → AreParams (with_pair ps k v) → AreParams (match_ordering o ((k, v) ∷ p ∷ ps) ((p.0, v) ∷ ps) (p ∷ with_pair ps k v))
-unfolding IsStrictlySortedBy
-sorted_by k v p ps Less e h r = ((e, above_more k p.0 ps e h.0), h)
-sorted_by k v p ps Equal e h r = h
-sorted_by k v p ps Greater e h r = (above_with p.0 k v ps (turned k p.0 Greater e) h.0, r)
-
-pub AreParams-with_pair : (ps : Pairs) (k : List ℕ) (v : V) → AreParams ps → AreParams (with_pair ps k v)
-unfolding IsStrictlySortedBy
-AreParams-with_pair [] k v h = (tt, tt)
-AreParams-with_pair (p ∷ ps) k v h = sorted_by k v p ps (text_cmp k p.0) refl h (AreParams-with_pair ps k v h.1)
-
 pub AreParams-merge : (a b : Pairs) → AreParams a → AreParams (merge a b)
 AreParams-merge a [] h = h
-AreParams-merge a (q ∷ b) h = AreParams-with_pair (merge a b) q.0 q.1 (AreParams-merge a b h)
+AreParams-merge a (q ∷ b) h = rises_with (merge a b) q.0 q.1 (AreParams-merge a b h)
 
 -- ---- the first of a merge
 

@@ -6,7 +6,7 @@ use Rattle.std.specs.Map.{keys_of}
 use Rattle.std.specs.String.{string_cmp}
 use Rattle.serde_json.specs.View.{view as data_view, items_view, members_view}
 use Rattle.serde_json.specs.declared.value.Value.{Value}
-use Rattle.ow_value.specs.Value.{V, Items, no_items, item, Members, no_members, member, items_of, members_of, text_cmp, AreParams}
+use Rattle.ow_value.specs.Value.{V, Pairs, Items, no_items, item, Members, no_members, member, items_of, members_of, text_cmp, AreParams}
 use Rattle.ow_value.specs.Onto.{onto, members_onto}
 use Rattle.ow_value.specs.Read.{whole_of, whole_items, whole_members}
 use Rattle.ow_value.specs.View.{view, views, pair_views}
@@ -25,7 +25,7 @@ pub pair_views-snoc : (ps : List Pair) (p : Pair) → pair_views (ps ++ p ∷ []
 pair_views-snoc [] p = refl
 pair_views-snoc (q ∷ ps) p = ap (λ rs. (q.name, view q.value) ∷ rs) (pair_views-snoc ps p)
 
-pub keys_of-snoc : (ps : List (List ℕ × V)) (k : List ℕ) (v : V) → keys_of (ps ++ (k, v) ∷ []) ≡ keys_of ps ++ k ∷ []
+pub keys_of-snoc : (ps : Pairs) (k : List ℕ) (v : V) → keys_of (ps ++ (k, v) ∷ []) ≡ keys_of ps ++ k ∷ []
 keys_of-snoc [] k v = refl
 keys_of-snoc (p ∷ ps) k v = ap (λ ks. p.0 ∷ ks) (keys_of-snoc ps k v)
 
@@ -33,7 +33,7 @@ onto-snoc : (vs : List V) (v : V) (r : Items) → onto (vs ++ v ∷ []) r ≡ on
 onto-snoc [] v r = refl
 onto-snoc (w ∷ vs) v r = ap (item w) (onto-snoc vs v r)
 
-members_onto-snoc : (ps : List (List ℕ × V)) (k : List ℕ) (v : V) (r : Members) → members_onto (ps ++ (k, v) ∷ []) r ≡ members_onto ps (member k v r)
+members_onto-snoc : (ps : Pairs) (k : List ℕ) (v : V) (r : Members) → members_onto (ps ++ (k, v) ∷ []) r ≡ members_onto ps (member k v r)
 members_onto-snoc [] k v r = refl
 members_onto-snoc (p ∷ ps) k v r = ap (member p.0 p.1) (members_onto-snoc ps k v r)
 
@@ -41,7 +41,7 @@ onto-nil : (vs : List V) → onto vs no_items ≡ items_of vs
 onto-nil [] = refl
 onto-nil (v ∷ vs) = ap (item v) (onto-nil vs)
 
-members_onto-nil : (ps : List (List ℕ × V)) → members_onto ps no_members ≡ members_of ps
+members_onto-nil : (ps : Pairs) → members_onto ps no_members ≡ members_of ps
 members_onto-nil [] = refl
 members_onto-nil (p ∷ ps) = ap (member p.0 p.1) (members_onto-nil ps)
 
@@ -49,7 +49,7 @@ onto_more : (vs : List V) (v : V) (o : Option Items) → option_map (onto (vs ++
 onto_more vs v None = refl
 onto_more vs v (Some r) = ap Some (onto-snoc vs v r)
 
-members_onto_more : (ps : List (List ℕ × V)) (k : List ℕ) (v : V) (o : Option Members) → option_map (members_onto (ps ++ (k, v) ∷ [])) o ≡ option_map (members_onto ps) (option_map (member k v) o)
+members_onto_more : (ps : Pairs) (k : List ℕ) (v : V) (o : Option Members) → option_map (members_onto (ps ++ (k, v) ∷ [])) o ≡ option_map (members_onto ps) (option_map (member k v) o)
 members_onto_more ps k v None = refl
 members_onto_more ps k v (Some r) = ap Some (members_onto-snoc ps k v r)
 

@@ -7,7 +7,7 @@ use Rattle.json.specs.Json.{Parse, parse_map, after_end_array, read_key, items, 
 use Rattle.json.proofs.Grammar.{items_end, items_more, members_end, members_more}
 use Rattle.serde_json.specs.Data.{Data, array, object, Items, no_items, item, Members, no_members, put}
 use Rattle.serde_json.specs.Read.{of_json, of_items, of_members, converted}
-use Rattle.ow_value.specs.Value.{V, items_of, members_of, text_cmp}
+use Rattle.ow_value.specs.Value.{V, Pairs, items_of, members_of, text_cmp}
 use Rattle.ow_value.specs.Find.{with_pair}
 use Rattle.ow_value.specs.Text.{data_of, items_data, members_data}
 
@@ -80,18 +80,14 @@ pub one_more_item : (vs : List V) (v : V) (r : Option (Items × List Token)) →
 one_more_item vs v None = refl
 one_more_item vs v (Some p) = ap (λ ds. Some (ds, p.1)) (items_push vs v p.0)
 
-pub none_before : (r : Option (Items × List Token)) → r ≡ parse_map (λ a. a) r
-none_before None = refl
-none_before (Some p) = refl
-
 -- ---- an object that grows at a name
 
-data-match_ordering : (o : Ordering) (a b c : List (List ℕ × V)) → members_data (members_of (match_ordering o a b c)) ≡ match_ordering o (members_data (members_of a)) (members_data (members_of b)) (members_data (members_of c))
+data-match_ordering : (o : Ordering) (a b c : Pairs) → members_data (members_of (match_ordering o a b c)) ≡ match_ordering o (members_data (members_of a)) (members_data (members_of b)) (members_data (members_of c))
 data-match_ordering Less a b c = refl
 data-match_ordering Equal a b c = refl
 data-match_ordering Greater a b c = refl
 
-pub members_data-with_pair : (ps : List (List ℕ × V)) (k : List ℕ) (v : V) → members_data (members_of (with_pair ps k v)) ≡ put k (data_of v) (members_data (members_of ps))
+pub members_data-with_pair : (ps : Pairs) (k : List ℕ) (v : V) → members_data (members_of (with_pair ps k v)) ≡ put k (data_of v) (members_data (members_of ps))
 members_data-with_pair [] k v = refl
 members_data-with_pair (p ∷ ps) k v = data-match_ordering (text_cmp k p.0) _ _ _ ∙ rw (members_data-with_pair ps k v)
 

@@ -1,6 +1,7 @@
 -- A `Val` is known by what it stands for.
 use Rattle.std.proofs.Common.{◌≡◌, ℕ, List, [], ◌∷◌, refl, sym, ap, ap₂, ◌∙◌, zero, suc, ◌<◌, length, get_or, arith}
-use Rattle.ow_value.specs.Value.{V, Items, no_items, item, Members, no_members, member, items_of, members_of}
+use Rattle.ow_value.specs.Value.{V, Items, no_items, item, Pairs, items_of, members_of}
+use Rattle.ow_value.specs.Field.{pairs_in, pairs_in-members_of}
 use Rattle.ow_value.specs.View.{view, views, pair_views}
 use Rattle.ow_value.specs.declared.val.Pair.{Pair}
 use Rattle.ow_value.specs.declared.val.Val.{Val}
@@ -10,23 +11,15 @@ abbrev pub list_of : Items → List V
 list_of no_items = []
 list_of (item v vs) = v ∷ list_of vs
 
-abbrev pub pairs_of : Members → List (List ℕ × V)
-pairs_of no_members = []
-pairs_of (member k v ps) = (k, v) ∷ pairs_of ps
-
 pub list_of-items_of : (vs : List V) → list_of (items_of vs) ≡ vs
 list_of-items_of [] = refl
 list_of-items_of (v ∷ vs) = ap (λ ws. v ∷ ws) (list_of-items_of vs)
 
-pub pairs_of-members_of : (ps : List (List ℕ × V)) → pairs_of (members_of ps) ≡ ps
-pairs_of-members_of [] = refl
-pairs_of-members_of (p ∷ ps) = ap (λ qs. p ∷ qs) (pairs_of-members_of ps)
-
 pub items_of-inj : (vs ws : List V) → items_of vs ≡ items_of ws → vs ≡ ws
 items_of-inj vs ws e = sym (list_of-items_of vs) ∙ ap list_of e ∙ list_of-items_of ws
 
-pub members_of-inj : (ps qs : List (List ℕ × V)) → members_of ps ≡ members_of qs → ps ≡ qs
-members_of-inj ps qs e = sym (pairs_of-members_of ps) ∙ ap pairs_of e ∙ pairs_of-members_of qs
+pub members_of-inj : (ps qs : Pairs) → members_of ps ≡ members_of qs → ps ≡ qs
+members_of-inj ps qs e = sym (pairs_in-members_of ps) ∙ ap pairs_in e ∙ pairs_in-members_of qs
 
 pub view-inj : (a b : Val) → view a ≡ view b → a ≡ b
 view-inj Null Null e = refl

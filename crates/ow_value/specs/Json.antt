@@ -1,7 +1,6 @@
 -- The values that have a text: each `Val` is one.
-use Rattle.std.specs.Prelude.{ℕ, List}
 use Rattle.std.specs.Str.{IsUtf8}
-use Rattle.ow_value.specs.Value.{V, null, boolean, whole, text, list, object, Items, no_items, item, Members, no_members, member, members_of, AreParams}
+use Rattle.ow_value.specs.Value.{V, Pairs, null, boolean, whole, text, list, object, Items, no_items, item, Members, no_members, member, members_of, AreParams}
 use Rattle.ow_value.specs.Field.{pairs_in}
 use Rattle.ow_value.specs.Whole.{IsWhole}
 
@@ -24,6 +23,6 @@ abbrev mutual
   AreMembers (member k v ps) = IsUtf8 k × IsValue v × AreMembers ps
 
 -- the names rise, and each is UTF-8 and has a value
-pub record IsObject (ps : List (List ℕ × V)) : Type 0 where
+pub record IsObject (ps : Pairs) : Type 0 where
   pub rises : AreParams ps
   pub values : AreMembers (members_of ps)

@@ -1,6 +1,6 @@
 -- What a `Val` stands for. Its lists and objects are seen as lists already.
-use Rattle.std.specs.Prelude.{ℕ, List, map}
-use Rattle.ow_value.specs.Value.{V, null, boolean, whole, text, list, object, items_of, members_of}
+use Rattle.std.specs.Prelude.{List, map}
+use Rattle.ow_value.specs.Value.{V, Pairs, null, boolean, whole, text, list, object, items_of, members_of}
 use Rattle.ow_value.specs.declared.val.Val.{Val}
 use Rattle.ow_value.specs.declared.val.Pair.{Pair}
 use Rattle.ow_value.specs.declared.val.Val.TheVariants.{Null, Bool, Int, Text, List as ListOf, Object}
@@ -16,5 +16,5 @@ view (Object ps) = object (members_of ps)
 abbrev pub views : List Val → List V
 views = map view
 
-abbrev pub pair_views : List Pair → List (List ℕ × V)
+abbrev pub pair_views : List Pair → Pairs
 pair_views = map (λ p. (p.name, view p.value))

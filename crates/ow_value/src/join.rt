@@ -1,8 +1,8 @@
+// One object over another.
 ghost use Rattle.std.specs.Prelude.{◌≡◌, ℕ, List, ◌≤◌, ◌+◌, IfOk, length, drop};
 ghost use Rattle.std.specs.declared.cmp.Ordering.TheVariants.{Less, Equal, Greater};
 ghost use Rattle.ow_value.specs.Find.{find, merge, or_else};
 ghost use Rattle.ow_value.specs.Merge.{head_order};
-ghost use Rattle.ow_value.specs.View.{pair_views};
 
 use crate::memory::NoMemory;
 use crate::val::{Pair, Params};

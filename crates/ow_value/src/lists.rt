@@ -1,3 +1,4 @@
+// Lists of texts, of pairs of texts and of bytes.
 ghost use Rattle.std.specs.Prelude.{◌≡◌, ◌↔◌, [], ◌∷◌, ◌++◌, length, IsTrue, IfOk, OnOk, OnErr};
 
 use crate::memory::NoMemory;
@@ -71,24 +72,28 @@ impl Lines {
         self.texts
     }
 
+    /// The texts, lent.
     pub fn as_slice(&self) -> &[Str]
         ensures { result.now ≡ self.now }
     {
         self.texts.as_slice()
     }
 
+    /// How many texts.
     pub fn len(&self) -> usize
         ensures { result ≡ length self.now }
     {
         self.texts.len()
     }
 
+    /// Whether there are none.
     pub fn is_empty(&self) -> bool
         ensures { IsTrue result ↔ (self.now ≡ []) }
     {
         self.texts.is_empty()
     }
 
+    /// Whether the texts are equal, in their order.
     pub fn same(&self, other: &Lines) -> bool
         ensures { IsTrue result ↔ (self.now ≡ other.now) }
     {
@@ -103,6 +108,7 @@ impl Lines {
         true
     }
 
+    /// Equal texts, in the same order.
     pub fn copy(&self, alloc: Global) -> Result<Lines, NoMemory>
         ensures { IfOk result (λ r. r ≡ self.now) }
     {
@@ -148,47 +154,67 @@ impl Pairs {
         self.pairs
     }
 
+    /// The pairs, lent.
     pub fn as_slice(&self) -> &[(Str, Str)]
         ensures { result.now ≡ self.now }
     {
         self.pairs.as_slice()
     }
 
+    /// How many pairs.
     pub fn len(&self) -> usize
         ensures { result ≡ length self.now }
     {
         self.pairs.len()
     }
 
+    /// Whether there are none.
     pub fn is_empty(&self) -> bool
         ensures { IsTrue result ↔ (self.now ≡ []) }
     {
         self.pairs.is_empty()
     }
 
+    /// Whether the pairs are equal, in their order.
     pub fn same(&self, other: &Pairs) -> bool
         ensures { IsTrue result ↔ (self.now ≡ other.now) }
     {
-        if self.pairs.len() != other.pairs.len() {
+        Pairs::same_slices(&self.pairs, &other.pairs)
+    }
+
+    /// As `same`, of pairs that lie in slices.
+    pub fn same_slices(a: &[(Str, Str)], b: &[(Str, Str)]) -> bool
+        ensures { IsTrue result ↔ (a.now ≡ b.now) }
+    {
+        if a.len() != b.len() {
             return false;
         }
-        for i in 0..self.pairs.len() {
-            if !same_texts(&self.pairs[i], &other.pairs[i]) {
+        for i in 0..a.len() {
+            if !same_texts(&a[i], &b[i]) {
                 return false;
             }
         }
         true
     }
 
+    /// Equal pairs, in the same order.
     pub fn copy(&self, alloc: Global) -> Result<Pairs, NoMemory>
         ensures { IfOk result (λ r. r ≡ self.now) }
     {
-        let mut pairs = Vec::with_capacity(alloc, self.pairs.len())?;
-        for pair in &self.pairs {
-            let copied = copy_texts(alloc, pair)?;
-            pairs.push(copied)?;
+        Ok(Pairs {
+            pairs: Pairs::copy_slice(alloc, &self.pairs)?,
+        })
+    }
+
+    /// As `copy`, of pairs that lie in a slice.
+    pub fn copy_slice(alloc: Global, pairs: &[(Str, Str)]) -> Result<Vec<(Str, Str)>, NoMemory>
+        ensures { IfOk result (λ r. r.items ≡ pairs.now) }
+    {
+        let mut copied = Vec::with_capacity(alloc, pairs.len())?;
+        for pair in pairs {
+            copied.push(copy_texts(alloc, pair)?)?;
         }
-        Ok(Pairs { pairs })
+        Ok(copied)
     }
 
     /// Puts the pair behind those that are there.
@@ -234,30 +260,35 @@ impl Bytes {
         self.bytes
     }
 
+    /// The bytes, lent.
     pub fn as_slice(&self) -> &[u8]
         ensures { result.now ≡ self.now }
     {
         self.bytes.as_slice()
     }
 
+    /// How many bytes.
     pub fn len(&self) -> usize
         ensures { result ≡ length self.now }
     {
         self.bytes.len()
     }
 
+    /// Whether there are none.
     pub fn is_empty(&self) -> bool
         ensures { IsTrue result ↔ (self.now ≡ []) }
     {
         self.bytes.is_empty()
     }
 
+    /// Whether the bytes are equal, in their order.
     pub fn same(&self, other: &Bytes) -> bool
         ensures { IsTrue result ↔ (self.now ≡ other.now) }
     {
         self.bytes.as_slice() == other.bytes.as_slice()
     }
 
+    /// Equal bytes, in the same order.
     pub fn copy(&self, alloc: Global) -> Result<Bytes, NoMemory>
         ensures { IfOk result (λ r. r ≡ self.now) }
     {

@@ -1,4 +1,5 @@
-ghost use Rattle.std.specs.Prelude.{◌≡◌, ◌-◌, ◌+◌, ◌^◌, ◌<◌, ◌≤◌, ℕ, length, min, false};
+// How many bytes a value's text has.
+ghost use Rattle.std.specs.Prelude.{◌≡◌, ◌-◌, ◌^◌, ◌<◌, ◌≤◌, length, min, false};
 ghost use Rattle.json.specs.Print.{quoted, escape_byte};
 ghost use Rattle.serde_json.specs.Find.{of_integer};
 ghost use Rattle.serde_json.specs.Written.{items_text, members_text, number_text};
@@ -8,6 +9,9 @@ ghost use Rattle.ow_value.specs.View.{view};
 
 use crate::val::{Params, Val, Vals};
 use crate::whole::Whole;
+
+/// The bytes of 1 MB, in which limits are told.
+pub const MEGABYTE: u64 = 1_048_576;
 
 /// How many bytes the compact text has. More than the greatest u64 counts as that.
 #[cycle(sizes)]

@@ -1,3 +1,4 @@
+// Want of memory.
 use std::alloc::{AllocError, AllocFailed};
 
 /// No memory was left for what the call had to make.

@@ -1,4 +1,5 @@
-ghost use Rattle.std.specs.Prelude.{◌≡◌, ◌≢◌, ◌≤◌, ℕ, Some, None, option_map, IfOk, IfErr, MatchResult, Ok, Err};
+// Reads values from JSON texts.
+ghost use Rattle.std.specs.Prelude.{◌≡◌, ◌≢◌, ◌≤◌, ℕ, Some, None, IfOk, MatchResult, Ok, Err};
 ghost use Rattle.serde_json.specs.View.{number_view, view as data_view, items_view, members_view};
 ghost use Rattle.serde_json.specs.Find.{as_integer};
 ghost use Rattle.ow_value.specs.Value.{depth, items_of, members_of};
@@ -26,7 +27,24 @@ pub enum ValueRefusal {
     NotWhole,
     /// Lists and objects nest deeper than the call allows.
     TooDeep,
+    /// No memory was left for the value.
     NoMemory,
+}
+
+impl ValueRefusal {
+    ghost use Rattle.ow_value.specs.Refusal.{refusal_number};
+
+    /// By which a client tells the refusals apart. Want of memory has 0.
+    pub fn number(&self) -> u32
+        ensures { result ≡ refusal_number self.now }
+    {
+        match self {
+            ValueRefusal::NoMemory => 0,
+            ValueRefusal::NotJson => 1,
+            ValueRefusal::NotWhole => 2,
+            ValueRefusal::TooDeep => 3,
+        }
+    }
 }
 
 impl From<AllocError> for ValueRefusal {

@@ -205,6 +205,35 @@ fn texts_and_lists_of_them(rt: HostRuntime) -> Result<(), Fail> {
 }
 
 #[test]
+fn numbers_written_as_digits(rt: HostRuntime) -> Result<(), Fail> {
+    for (text, digits, decimal) in [
+        ("", None, None),
+        ("0", Some(0), Some(0)),
+        ("00", Some(0), None),
+        ("007", Some(7), None),
+        ("70", Some(70), Some(70)),
+        ("+7", None, None),
+        ("7 ", None, None),
+        ("18446744073709551615", Some(u64::MAX), Some(u64::MAX)),
+        ("18446744073709551616", None, None),
+    ] {
+        assert_eq!(rt; digits_of(text.as_bytes()), digits, "at {text}");
+        assert_eq!(rt; decimal_of(text.as_bytes()), decimal, "at {text}");
+    }
+    Ok(())
+}
+
+#[test]
+fn texts_that_may_be_missing(rt: HostRuntime) -> Result<(), Fail> {
+    let alloc = rt.alloc();
+    let some = Some(Str::of(alloc, "a")?);
+    let copied = Str::copy_option(alloc, &some)?;
+    assert!(rt; Str::same_option(&some, &copied));
+    assert!(rt; !Str::same_option(&some, &None));
+    Ok(())
+}
+
+#[test]
 fn an_object_of_many_members(rt: HostRuntime) -> Result<(), Fail> {
     let alloc = rt.alloc();
     let mut text = String::from_str(alloc, "{\"m0\":0")?;

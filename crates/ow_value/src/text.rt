@@ -1,3 +1,4 @@
+// Texts, which are UTF-8.
 ghost use Rattle.std.specs.Prelude.{◌≡◌, ◌↔◌, ◌==◌, [], length, IsTrue, IfOk, IsUtf8, string_bytes};
 
 use crate::memory::NoMemory;
@@ -47,6 +48,7 @@ impl Str {
         self.text
     }
 
+    /// The text, lent.
     pub fn as_str(&self) -> &str
         ensures value { result.now ≡ self.now }
         ensures utf8 { IsUtf8 result.now }
@@ -63,12 +65,14 @@ impl Str {
         self.text.as_str().len()
     }
 
+    /// Whether there is no byte.
     pub fn is_empty(&self) -> bool
         ensures { IsTrue result ↔ (self.now ≡ []) }
     {
         self.text.as_str().is_empty()
     }
 
+    /// Whether the bytes are equal.
     pub fn same(&self, other: &Str) -> bool
         ensures { IsTrue result ↔ (self.now ≡ other.now) }
     {
@@ -82,9 +86,31 @@ impl Str {
         self.text.as_str().cmp(&other)
     }
 
+    /// An equal text.
     pub fn copy(&self, alloc: Global) -> Result<Str, NoMemory>
         ensures { IfOk result (λ s. s ≡ self.now) }
     {
         Str::of(alloc, self.text.as_str())
+    }
+
+    /// Whether both are there and equal, or neither is there.
+    pub fn same_option(a: &Option<Str>, b: &Option<Str>) -> bool
+        ensures { IsTrue result ↔ (a.now ≡ b.now) }
+    {
+        match (a, b) {
+            (None, None) => true,
+            (Some(x), Some(y)) => x.same(y),
+            _ => false,
+        }
+    }
+
+    /// An equal text, where one is there.
+    pub fn copy_option(alloc: Global, text: &Option<Str>) -> Result<Option<Str>, NoMemory>
+        ensures { IfOk result (λ r. r ≡ text.now) }
+    {
+        match text {
+            Some(s) => Ok(Some(s.copy(alloc)?)),
+            None => Ok(None),
+        }
     }
 }

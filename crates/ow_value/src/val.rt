@@ -1,6 +1,7 @@
+// Values, and the lists and objects in them.
 ghost use Rattle.std.specs.Prelude.{◌≡◌, ◌↔◌, [], ◌∷◌, ◌++◌, length, IsTrue, OnOk, OnErr};
 ghost use Rattle.ow_value.specs.Value.{items_of, members_of};
-ghost use Rattle.ow_value.specs.Json.{AreValues, AreMembers};
+ghost use Rattle.ow_value.specs.Json.{AreValues};
 
 use crate::memory::NoMemory;
 use crate::text::Str;
@@ -105,6 +106,25 @@ impl Vals {
         }
     }
 
+    /// The items themselves, with no copy.
+    pub fn from_vec(items: Vec<Val>) -> Vals
+        ensures { result ≡ views items.items }
+    {
+        for item in &items {
+            known(item);
+        }
+        Vals { items }
+    }
+
+    /// The items themselves, with no copy.
+    pub fn into_vec(self) -> Vec<Val>
+        ensures value { views result.items ≡ self }
+        ensures values { AreValues (items_of self) }
+    {
+        self.items
+    }
+
+    /// The items, lent.
     pub fn items(&self) -> &[Val]
         ensures value { views result.now ≡ self.now }
         ensures values { AreValues (items_of self.now) }
@@ -112,12 +132,14 @@ impl Vals {
         self.items.as_slice()
     }
 
+    /// How many items.
     pub fn len(&self) -> usize
         ensures { result ≡ length self.now }
     {
         self.items.len()
     }
 
+    /// Whether there are none.
     pub fn is_empty(&self) -> bool
         ensures { IsTrue result ↔ (self.now ≡ []) }
     {
@@ -148,7 +170,7 @@ impl Params {
         }
     }
 
-    /// In the order of the names.
+    /// The members, lent, in the order of their names.
     pub fn pairs(&self) -> &[Pair]
         ensures value { pair_views result.now ≡ self.now }
         ensures object { IsObject self.now }
@@ -156,12 +178,14 @@ impl Params {
         self.pairs.as_slice()
     }
 
+    /// How many members.
     pub fn len(&self) -> usize
         ensures { result ≡ length self.now }
     {
         self.pairs.len()
     }
 
+    /// Whether there are none.
     pub fn is_empty(&self) -> bool
         ensures { IsTrue result ↔ (self.now ≡ []) }
     {

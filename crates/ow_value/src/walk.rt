@@ -1,4 +1,5 @@
-ghost use Rattle.std.specs.Prelude.{◌≡◌, ◌↔◌, ◌≤◌, IsTrue, IfOk};
+// What goes through a whole value: how deep it nests, whether two are equal, a copy.
+ghost use Rattle.std.specs.Prelude.{◌≡◌, ◌↔◌, ◌-◌, ◌^◌, min, IsTrue, IfOk};
 ghost use Rattle.ow_value.specs.Value.{depth, items_depth, members_depth, items_of, members_of};
 ghost use Rattle.ow_value.specs.Json.{IsValue};
 ghost use Rattle.ow_value.specs.View.{view};
@@ -30,23 +31,21 @@ pub fn known(v: &Val)
     }
 }
 
-/// How deep lists and objects nest. Of a value that is neither this is 0.
+/// How deep lists and objects nest. Of a value that is neither this is 0. More than the greatest u32 counts as that.
 #[cycle(deep)]
 pub fn depth(v: &Val) -> u32
-    requires { depth (view v.now) ≤ 127 }
-    ensures { result ≡ depth (view v.now) }
+    ensures { result ≡ min (depth (view v.now)) (2 ^ 32 - 1) }
 {
     match v {
-        Val::List(vs) => 1 + deepest_item(vs),
-        Val::Object(ps) => 1 + deepest_member(ps),
+        Val::List(vs) => deepest_item(vs).saturating_add(1),
+        Val::Object(ps) => deepest_member(ps).saturating_add(1),
         _ => 0,
     }
 }
 
 #[cycle(deep)]
 fn deepest_item(vs: &Vals) -> u32
-    requires { items_depth (items_of vs.now) ≤ 127 }
-    ensures { result ≡ items_depth (items_of vs.now) }
+    ensures { result ≡ min (items_depth (items_of vs.now)) (2 ^ 32 - 1) }
 {
     let mut deepest = 0;
     for v in &vs.items {
@@ -57,8 +56,7 @@ fn deepest_item(vs: &Vals) -> u32
 
 #[cycle(deep)]
 fn deepest_member(ps: &Params) -> u32
-    requires { members_depth (members_of ps.now) ≤ 127 }
-    ensures { result ≡ members_depth (members_of ps.now) }
+    ensures { result ≡ min (members_depth (members_of ps.now)) (2 ^ 32 - 1) }
 {
     let mut deepest = 0;
     for p in &ps.pairs {
@@ -84,6 +82,7 @@ pub fn same(a: &Val, b: &Val) -> bool
 }
 
 impl Vals {
+    /// Whether the items are equal, in their order.
     #[cycle(alike)]
     pub fn same(&self, other: &Vals) -> bool
         ensures { IsTrue result ↔ (self.now ≡ other.now) }
@@ -101,6 +100,7 @@ impl Vals {
 }
 
 impl Params {
+    /// Whether the names are the same, with equal values.
     #[cycle(alike)]
     pub fn same(&self, other: &Params) -> bool
         ensures { IsTrue result ↔ (self.now ≡ other.now) }
@@ -109,7 +109,7 @@ impl Params {
             return false;
         }
         for i in 0..self.pairs.len() {
-            if !same_pair(&self.pairs[i], &other.pairs[i]) {
+            if !self.pairs[i].same(&other.pairs[i]) {
                 return false;
             }
         }
@@ -117,11 +117,14 @@ impl Params {
     }
 }
 
-#[cycle(alike)]
-fn same_pair(p: &Pair, q: &Pair) -> bool
-    ensures { IsTrue result ↔ (p.now ≡ q.now) }
-{
-    p.name.same(&q.name) && same(&p.value, &q.value)
+impl Pair {
+    /// Whether the names and the values are equal.
+    #[cycle(alike)]
+    pub fn same(&self, other: &Pair) -> bool
+        ensures { IsTrue result ↔ (self.now ≡ other.now) }
+    {
+        self.name.same(&other.name) && same(&self.value, &other.value)
+    }
 }
 
 /// An equal value.
@@ -140,6 +143,7 @@ pub fn copy(alloc: Global, v: &Val) -> Result<Val, NoMemory>
 }
 
 impl Vals {
+    /// Equal items, in the same order.
     #[cycle(copied)]
     pub fn copy(&self, alloc: Global) -> Result<Vals, NoMemory>
         ensures { IfOk result (λ ws. ws ≡ self.now) }
@@ -153,6 +157,7 @@ impl Vals {
 }
 
 impl Params {
+    /// The same names, with equal values.
     #[cycle(copied)]
     pub fn copy(&self, alloc: Global) -> Result<Params, NoMemory>
         ensures { IfOk result (λ qs. qs ≡ self.now) }
@@ -166,6 +171,7 @@ impl Params {
 }
 
 impl Pair {
+    /// The same name, with an equal value.
     #[cycle(copied)]
     pub fn copy(&self, alloc: Global) -> Result<Pair, NoMemory>
         ensures { IfOk result (λ q. q ≡ self.now) }

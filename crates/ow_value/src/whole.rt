@@ -1,3 +1,4 @@
+// Integers of 64 bits, with a sign or without.
 ghost use Rattle.std.specs.Prelude.{◌≡◌, ℤ, pos, ◌∷◌, [], ◌++◌, OnOk};
 ghost use Rattle.json.specs.Token.{number};
 ghost use Rattle.serde_json.specs.Find.{of_integer};
@@ -29,18 +30,21 @@ impl Model for Whole {
 impl Whole {
     ghost use Rattle.ow_value.specs.Whole.{IsWhole, natural};
 
+    /// An integer that is not negative.
     pub fn of_u64(n: u64) -> Whole
         ensures { result ≡ pos n }
     {
         Whole { n: n as i128 }
     }
 
+    /// An integer with a sign.
     pub fn of_i64(n: i64) -> Whole
         ensures { result ≡ n }
     {
         Whole { n: n as i128 }
     }
 
+    /// The integer.
     pub fn get(self) -> i128
         ensures value { result ≡ self }
         ensures range { IsWhole result }

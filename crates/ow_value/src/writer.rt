@@ -1,3 +1,4 @@
+// Writes the text of a value.
 ghost use Rattle.std.specs.Prelude.{◌≡◌, ◌≤◌, ◌++◌, ℕ, Ok, IfOk, OnOk};
 ghost use Rattle.ow_value.specs.Value.{depth, items_of, members_of};
 ghost use Rattle.ow_value.specs.Read.{reading};

@@ -4,6 +4,7 @@ use Rattle.std.specs.Option.{option_map}
 use Rattle.std.proofs.lemmas.Bool.Decides.{nat_tests}
 use Rattle.std.proofs.lemmas.List.{take-append-le, drop-append-le}
 use Rattle.std.proofs.lemmas.List.Quantifiers.{position-Some}
+use Rattle.ow_whisk.specs.Limits.{most_line}
 use Rattle.ow_whisk.specs.Input.{is_newline}
 use Rattle.ow_whisk.specs.Statement.{Statement, At, Call, Ask, Next, Answer, Drain, End, Reading, Whole, Asks, line_of}
 use Rattle.ow_whisk.specs.Day.{Day, Finished, TooLong, ended, with_statements, First, Found, Wrong, Cut, line_at, asked, behind_line, first_in, first_statement, going_on, day_step, day_from}
@@ -91,20 +92,20 @@ behind_longer more (Some (Whole s)) rest later found = refl
 behind_longer more (Some (Asks count)) rest later found = asked_at more count rest later _ _ refl refl found
 
 -- a line that is too long is none
-too_long : (line : List ℕ) → 8388608 < length line → line_of line ≡ None
+too_long : (line : List ℕ) → most_line < length line → line_of line ≡ None
 unfolding line_of
-too_long line lt = rw (is_more 8388608 (length line) lt) refl
+too_long line lt = rw (is_more most_line (length line) lt) refl
 
-long_at : (more : Bool) (bytes later : List ℕ) (o : Option ℕ) → 8388608 < length bytes
+long_at : (more : Bool) (bytes later : List ℕ) (o : Option ℕ) → most_line < length bytes
     → first_in more (line_at more (bytes ++ later) (option_map (λ k. length bytes + k) o)) ≡ Wrong
 long_at more bytes later None lt =
-    let longer : 8388608 < length (bytes ++ later) = simp length-append (omega arith) in
-    rw (is_more 8388608 (length (bytes ++ later)) longer, too_long (bytes ++ later) longer) refl
+    let longer : most_line < length (bytes ++ later) = simp length-append (omega arith) in
+    rw (is_more most_line (length (bytes ++ later)) longer, too_long (bytes ++ later) longer) refl
 long_at more bytes later (Some k) lt =
-    let longer : 8388608 < length (take (length bytes + k) (bytes ++ later)) = omega (arith, length-take (length bytes + k) (bytes ++ later), length-append bytes later) in
+    let longer : most_line < length (take (length bytes + k) (bytes ++ later)) = omega (arith, length-take (length bytes + k) (bytes ++ later), length-append bytes later) in
     rw (too_long (take (length bytes + k) (bytes ++ later)) longer) refl
 
-longer_at : (more : Bool) (bytes later : List ℕ) (o : Option ℕ) (b : Bool) → position is_newline bytes ≡ o → nat_lt 8388608 (length bytes) ≡ b
+longer_at : (more : Bool) (bytes later : List ℕ) (o : Option ℕ) (b : Bool) → position is_newline bytes ≡ o → nat_lt most_line (length bytes) ≡ b
     → (first_in true (line_at true bytes o) ≡ Cut → ⊥) → first_statement more (bytes ++ later) ≡ extended later (first_in true (line_at true bytes o))
 unfolding first_statement
 longer_at more bytes later (Some k) b is long found =
@@ -114,7 +115,7 @@ longer_at more bytes later (Some k) b is long found =
     rw (position-append_some is_newline bytes later k is, front, back) (behind_longer more (line_of (take k bytes)) (drop (k + 1) bytes) later found)
 longer_at more bytes later None false is long found = absurd (found (rw long refl))
 longer_at more bytes later None true is long found =
-    let lt : 8388608 < length bytes = grind (arith, nat_tests) in
+    let lt : most_line < length bytes = grind (arith, nat_tests) in
     rw (position-append_none is_newline bytes later is, long_at more bytes later (position is_newline later) lt, long, too_long bytes lt) refl
 
 -- what stands at the front stays there, whatever follows
@@ -136,7 +137,7 @@ behind_last None rest cut = cc
 behind_last (Some (Whole s)) rest cut = cc
 behind_last (Some (Asks count)) rest cut = at_last count rest _ _ _ refl refl refl cut
 
-line_last : (bytes : List ℕ) (o : Option ℕ) (b : Bool) → nat_lt 8388608 (length bytes) ≡ b → first_in false (line_at false bytes o) ≡ Cut → ⊥
+line_last : (bytes : List ℕ) (o : Option ℕ) (b : Bool) → nat_lt most_line (length bytes) ≡ b → first_in false (line_at false bytes o) ≡ Cut → ⊥
 line_last bytes (Some k) b long cut = behind_last (line_of (take k bytes)) (drop (k + 1) bytes) cut
 line_last bytes None true long cut = behind_last (line_of bytes) [] (rw long at cut)
 line_last bytes None false long cut = behind_last (line_of bytes) [] (rw long at cut)

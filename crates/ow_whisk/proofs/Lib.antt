@@ -6,5 +6,7 @@ pub mod Days
 pub mod Carrying
 pub mod Meeting
 pub mod Telling
+pub mod SoFar
 pub mod Runs
+pub mod Ended
 pub mod Keeping

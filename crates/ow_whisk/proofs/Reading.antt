@@ -11,9 +11,9 @@ gives_piece (Some bytes) (Some more) room n read =
     let e : more ≡ drop n bytes = let is = read.1 in cc in
     (more, refl, rw (read.2, e) (sym (take-append-drop n bytes)))
 
-pub ends_at_none : (left left' : Option (List ℕ)) (room : List ℕ) (n : ℕ) → ReadsSome left left' room (Ok n) → n ≡ 0 → IfSome left (λ bytes. bytes ≡ [])
-ends_at_none None left' room n read none = tt
-ends_at_none (Some bytes) left' room n read none = read.3 none
+pub ends_at_none : (left left' : Option (List ℕ)) (room : List ℕ) (n : ℕ) → ReadsSome left left' room (Ok n) → n ≡ 0 → (left' ≡ left) × IfSome left (λ bytes. bytes ≡ [])
+ends_at_none None left' room n read none = (read, tt)
+ends_at_none (Some bytes) left' room n read none = (rw none at read.1, read.3 none)
 
 pub length_piece : (room : List ℕ) (n space : ℕ) → n ≤ space → space ≤ length room → length (take n room) ≡ n
 length_piece room n space le within = omega (arith, length-take n room)

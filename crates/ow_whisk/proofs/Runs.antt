@@ -1,5 +1,5 @@
 -- A day under way: how each step of the code takes it on, and what it ends in.
-use Rattle.std.proofs.Common.{◌≡◌, ◌<◌, ◌≤◌, ◌+◌, ◌-◌, ◌++◌, ℕ, zero, suc, Bool, true, false, not, List, [], ◌∷◌, Option, Some, None, Result, Ok, Err, OnOk, OnErr, IfSome, length, take, drop, refl, sym, ap, subst, ◌∙◌, arith, append_assoc, append-nil, length-append, length-drop, inl, inr, if◌then◌else◌}
+use Rattle.std.proofs.Common.{◌≡◌, ◌<◌, ◌≤◌, ◌+◌, ◌-◌, ◌++◌, ℕ, Bool, true, false, not, List, [], ◌∷◌, Option, Some, None, Result, Ok, Err, OnOk, OnErr, IfSome, length, take, drop, refl, sym, ap, subst, ◌∙◌, arith, append_assoc, append-nil, length-append, length-drop, inl, inr, if◌then◌else◌}
 use Rattle.std.specs.Result.{is_err}
 use Rattle.std.proofs.lemmas.Bool.{false≢true}
 use Rattle.std.proofs.Math.Seq.{take-append-add, take-nil, take-append_seam, take-length}
@@ -11,6 +11,7 @@ use Rattle.ow_whisk.specs.declared.session.Step.TheVariants as steps
 use Rattle.ow_whisk.specs.declared.status.Status.{Status}
 use Rattle.ow_whisk.specs.declared.status.Status.TheVariants as statuses
 use Rattle.ow_whisk.specs.declared.input.Filled.TheVariants.{More}
+use Rattle.ow_whisk.specs.Limits.{most_bytes}
 use Rattle.ow_whisk.specs.Input.{Fills, Gives}
 use Rattle.ow_whisk.specs.Statement.{Statement, End}
 use Rattle.ow_whisk.specs.Machine.{start, text}
@@ -19,6 +20,7 @@ use Rattle.ow_whisk.specs.Day.{Day, DayEnd, Finished, Bad, TooLong, ended, with_
 use Rattle.ow_whisk.specs.Office.{Tells, Wrote, WroteFront}
 use Rattle.ow_whisk.specs.Run.{Closes, ClosesSo, EndsSo, IsAtEnd, IsBounded, IsUnderWay, StepsOn, in_window}
 use Rattle.ow_whisk.proofs.Carrying.{carried_more}
+use Rattle.ow_whisk.proofs.SoFar.{cut_day, read_at_start, read_done, read_more, read_same}
 use Rattle.ow_whisk.proofs.Days.{at_no_bytes, by_first, cut_nothing, extended, extended-nil, first_last, first_longer, is_more, is_short, statement_goes_on, with_both}
 
 -- at the start nothing is read, carried out or written
@@ -30,7 +32,8 @@ begins bytes left taken r told at pending read answers number unended = record {
   done = [];
   count = length (window bytes) + 1;
   written = [];
-  told = λ e. told;
+  told = told;
+  read = read_at_start bytes r pending read number;
   all = omega arith;
   none = λ e. absurd (false≢true (sym unended ∙ e));
   enough = rw (pending, read) (omega arith);
@@ -55,29 +58,29 @@ ends_so bytes before left taken r new u ending answers machine is =
 
 in_window-nil : (read : ℕ) → in_window read [] ≡ []
 unfolding in_window
-in_window-nil read = take-nil (1073741824 - read)
+in_window-nil read = take-nil (most_bytes - read)
 
-in_window-most : (read : ℕ) (rest : List ℕ) → read ≡ 1073741824 → in_window read rest ≡ []
+in_window-most : (read : ℕ) (rest : List ℕ) → read ≡ most_bytes → in_window read rest ≡ []
 unfolding in_window
 in_window-most read rest is = rw is refl
 
-has_more-false : (bytes : List ℕ) → length bytes ≤ 1073741824 → has_more bytes ≡ false
+has_more-false : (bytes : List ℕ) → length bytes ≤ most_bytes → has_more bytes ≡ false
 unfolding has_more
-has_more-false bytes le = is_short 1073741824 (length bytes) le
+has_more-false bytes le = is_short most_bytes (length bytes) le
 
-has_more-true : (bytes : List ℕ) → 1073741824 < length bytes → has_more bytes ≡ true
+has_more-true : (bytes : List ℕ) → most_bytes < length bytes → has_more bytes ≡ true
 unfolding has_more
-has_more-true bytes lt = is_more 1073741824 (length bytes) lt
+has_more-true bytes lt = is_more most_bytes (length bytes) lt
 
 -- where the end was read, all that was read has its place in the window
-at_end : {P : Type 0} (bytes : List ℕ) (before left taken : Option (List ℕ)) (r : Run P) (u : IsUnderWay bytes before left taken r) → r.input.taken ≤ 1073741824 → r.ended ≡ true
+at_end : {P : Type 0} (bytes : List ℕ) (before left taken : Option (List ℕ)) (r : Run P) (u : IsUnderWay bytes before left taken r) → r.input.taken ≤ most_bytes → r.ended ≡ true
     → (in_window r.input.taken u.rest ≡ []) × (has_more bytes ≡ false)
 at_end bytes before left taken r u most end =
     let none : u.rest ≡ [] = u.none end in
     (rw none (in_window-nil r.input.taken), has_more-false bytes (omega (arith, u.all, ap length none, most)))
 
 -- the day goes by the first statement of the bytes that wait
-first_at : {P : Type 0} (bytes : List ℕ) (before left taken : Option (List ℕ)) (r : Run P) (u : IsUnderWay bytes before left taken r) (b : Bool) → r.input.taken ≤ 1073741824 → r.ended ≡ b
+first_at : {P : Type 0} (bytes : List ℕ) (before left taken : Option (List ℕ)) (r : Run P) (u : IsUnderWay bytes before left taken r) (b : Bool) → r.input.taken ≤ most_bytes → r.ended ≡ b
     → (first_statement (not b) r.input.pending ≡ Cut → ⊥)
     → first_statement (has_more bytes) (r.input.pending ++ in_window r.input.taken u.rest) ≡ extended (in_window r.input.taken u.rest) (first_statement (not b) r.input.pending)
 first_at bytes before left taken r u false most is found = first_longer (has_more bytes) r.input.pending (in_window r.input.taken u.rest) found
@@ -85,7 +88,7 @@ first_at bytes before left taken r u true most is found =
     let e = at_end bytes before left taken r u most is in
     rw (e.0, e.1, append-nil r.input.pending) (sym (extended-nil (first_statement false r.input.pending)))
 
-goes_by : {P : Type 0} (bytes : List ℕ) (before left taken : Option (List ℕ)) (r : Run P) (u : IsUnderWay bytes before left taken r) (f : First) → r.input.taken ≤ 1073741824 → 0 < length r.input.pending
+goes_by : {P : Type 0} (bytes : List ℕ) (before left taken : Option (List ℕ)) (r : Run P) (u : IsUnderWay bytes before left taken r) (f : First) → r.input.taken ≤ most_bytes → 0 < length r.input.pending
     → f ≡ first_statement (not r.ended) r.input.pending → (f ≡ Cut → ⊥)
     → day_from u.count (has_more bytes) r.number (r.input.pending ++ in_window r.input.taken u.rest)
     ≡ day_step r.number (extended (in_window r.input.taken u.rest) f) (λ rest. day_from (u.count - 1) (has_more bytes) (r.number + 1) rest)
@@ -97,8 +100,11 @@ goes_by bytes before left taken r u f most some is found =
     by_first u.count (has_more bytes) r.number (r.input.pending ++ later) u.enough longer
     ∙ ap (λ x. day_step r.number x (λ rest. day_from (u.count - 1) (has_more bytes) (r.number + 1) rest)) first
 
+found_more : (bytes : List ℕ) (s : Statement) (rest : List ℕ) (b : Bool) → b ≡ false → Found s rest ≡ first_statement (not b) bytes → first_statement true bytes ≡ Found s rest
+found_more bytes s rest b unended is = sym (rw unended at is)
+
 -- a statement is carried out
-pub statement_done : {P : Type 0} (bytes : List ℕ) (before left taken : Option (List ℕ)) (old new : Run P) (s : Statement) (used : ℕ) → old.input.taken ≤ 1073741824 → 0 < length old.input.pending
+pub statement_done : {P : Type 0} (bytes : List ℕ) (before left taken : Option (List ℕ)) (old new : Run P) (s : Statement) (used : ℕ) → old.input.taken ≤ most_bytes → 0 < length old.input.pending
     → Found s (drop used old.input.pending) ≡ first_statement (not old.ended) old.input.pending → used ≤ length old.input.pending → 0 < used
     → (s ≡ End → ⊥) → Performs old.session new.session s old.answers.items new.answers.items
     → new.input.pending ≡ drop used old.input.pending → new.input.taken ≡ old.input.taken → new.number ≡ old.number + 1 → new.ended ≡ old.ended
@@ -115,7 +121,8 @@ statement_done bytes before left taken old new s used most some is within moves 
       done = u.done ++ s ∷ [];
       count = u.count - 1;
       written = u.written;
-      told = λ e. u.told (sym unended ∙ e);
+      told = u.told;
+      read = read_done bytes u.rest u.done old new s used some (λ e. found_more old.input.pending s (drop used old.input.pending) old.ended e is) moves not_end pending read number unended u.read;
       all = rw read u.all;
       none = λ end. u.none (sym unended ∙ end);
       enough = rw (pending, read) (omega (arith, u.enough, length-append old.input.pending later, length-append (drop used old.input.pending) later, length-drop used old.input.pending));
@@ -126,19 +133,19 @@ statement_done bytes before left taken old new s used most some is within moves 
     }
 
 -- what is no statement ends the day, and `end`
-pub wrong_ends : {P : Type 0} (old new : Run P) → old.input.taken ≤ 1073741824 → 0 < length old.input.pending → Wrong ≡ first_statement (not old.ended) old.input.pending
+pub wrong_ends : {P : Type 0} (old new : Run P) → old.input.taken ≤ most_bytes → 0 < length old.input.pending → Wrong ≡ first_statement (not old.ended) old.input.pending
     → new.answers.items ≡ old.answers.items → machine_of new.session ≡ machine_of old.session → new.number ≡ old.number → EndsSo old new (Bad new.number)
 wrong_ends old new most some is answers machine number = λ bytes before left taken u.
     let P : ℕ → Type 0 = λ n. IsAtEnd bytes before taken new (Bad n) in
     subst P (sym number) (ends_so bytes before left taken old new u (Bad old.number) answers machine (goes_by bytes before left taken old u Wrong most some is (λ e. cc)))
 
-pub end_ends : {P : Type 0} (old new : Run P) (rest : List ℕ) → old.input.taken ≤ 1073741824 → 0 < length old.input.pending → Found End rest ≡ first_statement (not old.ended) old.input.pending
+pub end_ends : {P : Type 0} (old new : Run P) (rest : List ℕ) → old.input.taken ≤ most_bytes → 0 < length old.input.pending → Found End rest ≡ first_statement (not old.ended) old.input.pending
     → new.answers.items ≡ old.answers.items → machine_of new.session ≡ machine_of old.session → EndsSo old new Finished
 end_ends old new rest most some is answers machine = λ bytes before left taken u.
     ends_so bytes before left taken old new u Finished answers machine (goes_by bytes before left taken old u (Found End rest) most some is (λ e. cc))
 
 -- nothing waits, and the end was read
-pub nothing_ends : {P : Type 0} (old : Run P) → old.input.taken ≤ 1073741824 → length old.input.pending ≡ 0 → old.ended ≡ true → EndsSo old old Finished
+pub nothing_ends : {P : Type 0} (old : Run P) → old.input.taken ≤ most_bytes → length old.input.pending ≡ 0 → old.ended ≡ true → EndsSo old old Finished
 nothing_ends old most none end = λ bytes before left taken u.
     let e = at_end bytes before left taken old u most end in
     let all : old.input.pending ++ in_window old.input.taken u.rest ≡ old.input.pending = rw e.0 (append-nil old.input.pending) in
@@ -177,14 +184,6 @@ cut_at old new false unended is same = (same, unended, sym is)
 pub cut_steps : {P : Type 0} (old new : Run P) → Cut ≡ first_statement (not old.ended) old.input.pending → new ≡ old → StepsOn old new steps.Cut
 cut_steps old new is same = cut_at old new old.ended refl is same
 
--- a statement takes bytes away
-pub found_bounded : {P : Type 0} (old new : Run P) (used : ℕ) → used ≤ length old.input.pending → 0 < used → new.input.pending ≡ drop used old.input.pending → new.input.taken ≡ old.input.taken → new.number ≡ old.number + 1
-    → IsBounded old → IsBounded new
-found_bounded old new used within moves pending read number b = record {
-  bytes = rw (pending, read, number) (omega (arith, b.bytes, length-drop used old.input.pending));
-  most = rw read b.most;
-}
-
 -- ---- what is written
 
 -- a front of the statements
@@ -213,7 +212,8 @@ written bytes before left taken taken' old new took none input session number un
   done = u.done;
   count = u.count;
   written = u.written ++ old.answers.items;
-  told = λ e. u.told (sym unended ∙ e);
+  told = u.told;
+  read = read_same bytes u.rest u.done old new input number (λ e. sym unended ∙ e) u.read;
   all = rw input u.all;
   none = λ end. u.none (sym unended ∙ end);
   enough = rw input u.enough;
@@ -228,9 +228,9 @@ window_after most read n piece rest is le =
     let e : most - read ≡ length piece + (most - (read + n)) = omega arith in
     rw e (take-append-add piece rest (most - (read + n)))
 
-in_window-append : (read : ℕ) (piece rest : List ℕ) → read + length piece ≤ 1073741824 → in_window read (piece ++ rest) ≡ piece ++ in_window (read + length piece) rest
+in_window-append : (read : ℕ) (piece rest : List ℕ) → read + length piece ≤ most_bytes → in_window read (piece ++ rest) ≡ piece ++ in_window (read + length piece) rest
 unfolding in_window
-in_window-append read piece rest le = window_after 1073741824 read (length piece) piece rest refl le
+in_window-append read piece rest le = window_after most_bytes read (length piece) piece rest refl le
 
 given_rest : (left left' : Option (List ℕ)) (piece rest : List ℕ) → left ≡ Some rest → Gives left left' piece → (rest' : List ℕ) × (left' ≡ Some rest') × (rest ≡ piece ++ rest')
 given_rest None left' piece rest told gives = cc
@@ -239,10 +239,10 @@ given_rest (Some bytes) left' piece rest told gives =
     (gives.0, gives.1, e ∙ gives.2)
 
 pub filled : {P : Type 0} (bytes : List ℕ) (before left left' taken : Option (List ℕ)) (old new : Run P) → Fills left left' old.input new.input (Ok More) → new.session ≡ old.session → new.answers.items ≡ old.answers.items
-    → new.number ≡ old.number → new.ended ≡ old.ended → old.ended ≡ false → IsUnderWay bytes before left taken old → IsUnderWay bytes before left' taken new
-filled bytes before left left' taken old new (piece, some, pending, read, most, gives) session answers number same unended u =
-    let g = given_rest left left' piece u.rest (u.told unended) gives in
-    let le : old.input.taken + length piece ≤ 1073741824 = omega arith in
+    → new.number ≡ old.number → new.ended ≡ old.ended → old.ended ≡ false → first_statement true old.input.pending ≡ Cut → IsUnderWay bytes before left taken old → IsUnderWay bytes before left' taken new
+filled bytes before left left' taken old new (piece, some, short, pending, read, most, gives) session answers number same unended cut u =
+    let g = given_rest left left' piece u.rest u.told gives in
+    let le : old.input.taken + length piece ≤ most_bytes = omega arith in
     let later : in_window old.input.taken u.rest ≡ piece ++ in_window (old.input.taken + length piece) g.0 = ap (in_window old.input.taken) g.2 ∙ in_window-append old.input.taken piece g.0 le in
     let joined : old.input.pending ++ in_window old.input.taken u.rest ≡ new.input.pending ++ in_window new.input.taken g.0 =
     rw (later, pending, read) (sym (append_assoc old.input.pending piece (in_window (old.input.taken + length piece) g.0))) in
@@ -251,7 +251,8 @@ filled bytes before left left' taken old new (piece, some, pending, read, most, 
       done = u.done;
       count = u.count;
       written = u.written;
-      told = λ e. g.1;
+      told = g.1;
+      read = read_more bytes u.rest g.0 piece u.done old new cut unended g.2 short pending read number u.read;
       all = rw read (omega (arith, u.all, ap length g.2, length-append piece g.0));
       none = λ end. absurd (false≢true (sym (same ∙ unended) ∙ end));
       enough = rw (← joined) u.enough;
@@ -265,16 +266,17 @@ nothing_left None rest told none = cc
 nothing_left (Some bytes) rest told none = let e : bytes ≡ rest = cc in sym e ∙ none
 
 -- the end was read, which changes nothing else
-pub end_read : {P : Type 0} (bytes : List ℕ) (before left left' taken : Option (List ℕ)) (old new : Run P) → IfSome left (λ b. b ≡ []) → old.ended ≡ false → new.ended ≡ true → new.input ≡ old.input → new.session ≡ old.session
+pub end_read : {P : Type 0} (bytes : List ℕ) (before left left' taken : Option (List ℕ)) (old new : Run P) → left' ≡ left → IfSome left (λ b. b ≡ []) → old.ended ≡ false → new.ended ≡ true → new.input ≡ old.input → new.session ≡ old.session
     → new.answers.items ≡ old.answers.items → new.number ≡ old.number → IsUnderWay bytes before left taken old → IsUnderWay bytes before left' taken new
-end_read bytes before left left' taken old new none unended end input session answers number u = record {
+end_read bytes before left left' taken old new same none unended end input session answers number u = record {
   rest = u.rest;
   done = u.done;
   count = u.count;
   written = u.written;
-  told = λ e. absurd (false≢true (sym e ∙ end));
+  told = same ∙ u.told;
+  read = read_same bytes u.rest u.done old new input number (λ e. absurd (false≢true (sym e ∙ end))) u.read;
   all = rw input u.all;
-  none = λ e. nothing_left left u.rest (u.told unended) none;
+  none = λ e. nothing_left left u.rest u.told none;
   enough = rw input u.enough;
   took = u.took;
   carried = rw (answers, session) u.carried;
@@ -346,18 +348,14 @@ some_left : (left : Option (List ℕ)) (rest : List ℕ) → left ≡ Some rest 
 some_left None rest told some = cc
 some_left (Some bytes) rest told some = let e : bytes ≡ rest = cc in rw (← e) some
 
-cut_day : (count : ℕ) (n : ℕ) (bytes : List ℕ) → first_statement true bytes ≡ Cut → length bytes < count → (k : ℕ) → length bytes ≡ k → day_from count true n bytes ≡ ended TooLong
-cut_day count n bytes cut enough zero is = at_no_bytes count true n bytes enough is
-cut_day count n bytes cut enough (suc k) is = by_first count true n bytes enough (omega arith) ∙ rw cut refl
-
 -- where more bytes follow than a day may have
-pub past_tells : {P : Type 0} (bytes : List ℕ) (before left taken : Option (List ℕ)) (r : Run P) → first_statement true r.input.pending ≡ Cut → r.ended ≡ false → r.answers.items ≡ [] → r.input.taken ≡ 1073741824
+pub past_tells : {P : Type 0} (bytes : List ℕ) (before left taken : Option (List ℕ)) (r : Run P) → first_statement true r.input.pending ≡ Cut → r.ended ≡ false → r.answers.items ≡ [] → r.input.taken ≡ most_bytes
     → IfSome left (λ b. 0 < length b) → IsUnderWay bytes before left taken r → Tells before taken statuses.DayTooLong (day_of bytes)
 past_tells bytes before left taken r cut unended answers most some u =
-    let more : has_more bytes ≡ true = has_more-true bytes (omega (arith, u.all, most, some_left left u.rest (u.told unended) some)) in
+    let more : has_more bytes ≡ true = has_more-true bytes (omega (arith, u.all, most, some_left left u.rest u.told some)) in
     let seen : r.input.pending ++ in_window r.input.taken u.rest ≡ r.input.pending = rw (in_window-most r.input.taken u.rest most) (append-nil r.input.pending) in
     let enough : length r.input.pending < u.count = rw (← seen) u.enough in
-    let e = ends_so bytes before left taken r r u TooLong refl refl (rw (seen, more) (cut_day u.count r.number r.input.pending cut enough (length r.input.pending) refl)) in
+    let e = ends_so bytes before left taken r r u TooLong refl refl (rw (seen, more) (cut_day u.count r.number r.input.pending enough cut)) in
     let none : Takes taken taken r.answers.items = rw answers (Takes-none taken) in
     wrote bytes before taken taken r TooLong none e
 

@@ -1,6 +1,7 @@
 -- The day file: its statements, and how it ends.
 use Rattle.std.specs.Prelude.{◌+◌, ◌++◌, ◌==◌, ◌&&◌, ℕ, Bool, true, false, not, nat_lt, List, [], ◌∷◌, Option, Some, None, if◌then◌else◌, length, take, drop, position, slice_index}
 use Rattle.std.proofs.Common.{zero, suc}
+use Rattle.ow_whisk.specs.Limits.{most_bytes, most_line}
 use Rattle.ow_whisk.specs.Input.{is_newline}
 use Rattle.ow_whisk.specs.Statement.{Statement, Ask, End, Reading, Whole, Asks, line_of}
 
@@ -33,7 +34,7 @@ pub data First : Type 0 where
 -- looked at, a line that may still be short enough has no end
 abbrev pub line_at : Bool → List ℕ → Option ℕ → Option (List ℕ × List ℕ)
 line_at more bytes (Some k) = Some (take k bytes, drop (k + 1) bytes)
-line_at more bytes None = if not (nat_lt 8388608 (length bytes)) && more then None else Some (bytes, [])
+line_at more bytes None = if not (nat_lt most_line (length bytes)) && more then None else Some (bytes, [])
 
 -- what is so only at the end of the day
 abbrev pub at_end : Bool → First → First
@@ -78,11 +79,11 @@ day_from (suc count) more n (c ∷ cs) = day_step n (first_statement more (c ∷
 
 -- the bytes of a day that are looked at
 unfoldable pub window : List ℕ → List ℕ
-window bytes = take 1073741824 bytes
+window bytes = take most_bytes bytes
 
 -- whether more bytes follow those
 unfoldable pub has_more : List ℕ → Bool
-has_more bytes = nat_lt 1073741824 (length bytes)
+has_more bytes = nat_lt most_bytes (length bytes)
 
 -- the day of these bytes: they have fewer statements than one more than there are bytes
 abbrev pub day_of : List ℕ → Day

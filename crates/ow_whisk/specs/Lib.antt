@@ -1,3 +1,4 @@
+pub mod Limits
 pub mod Statement
 pub mod Line
 pub mod Input
@@ -11,4 +12,5 @@ pub mod Session
 pub mod Day
 pub mod First
 pub mod Office
+pub mod Reads
 pub mod Run

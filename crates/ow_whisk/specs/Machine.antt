@@ -1,18 +1,19 @@
 -- The plain machine of a day: what each statement writes over the book so far, and what is booked by it.
 use Rattle.std.specs.Prelude.{◌≡◌, ◌++◌, ℕ, List, [], ◌∷◌, Result, Ok, Err}
 use Rattle.ow_traits.specs.declared.replies.RunReply.TheVariants as runs
+use Rattle.ow_http.specs.Reason.{plain}
 use Rattle.ow_http.specs.Refusal.{refusal_number}
 use Rattle.ow_http.specs.Refused.{refusal_of}
 use Rattle.ow_http.specs.declared.http_refusal.HttpRefusal.{HttpRefusal}
 use Rattle.ow_http.specs.declared.request.Request.{Request}
+use Rattle.ow_hall.specs.Asks.{is_full}
 use Rattle.ow_hall.specs.Book.{opened}
 use Rattle.ow_hall.specs.History.{answer, counted, moment}
 use Rattle.ow_hall.specs.Ledger.{Ledger, posted}
-use Rattle.ow_hall.specs.Reasons.{plain}
 use Rattle.ow_hall.specs.declared.entry.Event.{Event}
 use Rattle.ow_hall.specs.declared.entry.Event.TheVariants as events
-use Rattle.ow_whisk.specs.declared.calls.Asked.TheVariants as calls
-use Rattle.ow_whisk.specs.declared.calls.Asked as code
+use Rattle.ow_whisk.specs.declared.calls.CallWords.{CallWords}
+use Rattle.ow_whisk.specs.declared.calls.CallWords.TheVariants as calls
 use Rattle.ow_whisk.specs.Called.{called}
 use Rattle.ow_whisk.specs.Request.{IsRead}
 use Rattle.ow_whisk.specs.Statement.{Statement, At, Call, Ask, Next, Answer, Drain, End}
@@ -38,7 +39,7 @@ pub data Act : Type 0 where
   Says : (lines : List ℕ) → Act
 
 -- a call that is refused for its own words doesn't reach the hall
-abbrev pub call_act : code.Asked → Act
+abbrev pub call_act : CallWords → Act
 call_act (calls.Refused reason) = Says (refused_text reason)
 call_act (calls.Calls name params) = Meets (events.Called name params)
 
@@ -50,7 +51,7 @@ ask_act (Err e) = Says (reply_text (refusal_of (plain (refusal_number e))))
 -- the statement comes to this act
 abbrev pub ComesTo : Machine → Statement → Act → Type 0
 ComesTo M (At moment) act = act ≡ Gives moment
-ComesTo M (Call name text) act = act ≡ call_act (called (counted M.ledger.entries) name text)
+ComesTo M (Call name text) act = act ≡ call_act (called (is_full (counted M.ledger.entries) 0) name text)
 ComesTo M (Ask bytes) act = (read : Result Request HttpRefusal) × IsRead bytes read × (act ≡ ask_act read)
 ComesTo M Next act = act ≡ Meets events.Next
 ComesTo M (Answer run text) act = act ≡ Meets (events.Answered run (runs.Answer text []))

@@ -9,12 +9,29 @@ use Rattle.ow_whisk.specs.declared.run.Run.{Run}
 use Rattle.ow_whisk.specs.Statement.{Statement}
 use Rattle.ow_whisk.specs.Machine.{CarriesOut, start}
 use Rattle.ow_whisk.specs.Session.{machine_of}
+use Rattle.ow_whisk.specs.Limits.{most_bytes, most_piece}
 use Rattle.ow_whisk.specs.Day.{DayEnd, Finished, Bad, Cut, day_from, day_of, first_statement, has_more, with_statements}
 use Rattle.ow_whisk.specs.Office.{Tells}
+use Rattle.ow_whisk.specs.Reads.{IsAnswered, IsUnfinished, LeavesRest}
 
 -- what is left of a day inside its greatest length, where so much was read
 unfoldable pub in_window : ℕ → List ℕ → List ℕ
-in_window taken rest = take (1073741824 - taken) rest
+in_window taken rest = take (most_bytes - taken) rest
+
+-- whatever follows what was read, its statements are those that are done, and then those of what waits
+abbrev pub GoesOn : List ℕ → List Statement → ℕ → List ℕ → Type 0
+GoesOn read done number pending = (later : List ℕ) → (count : ℕ) × (length (pending ++ later) < count)
+    × (day_from (length (read ++ later) + 1) true 1 (read ++ later) ≡ with_statements done (day_from count true number (pending ++ later)))
+
+-- what was read of a day: a front, in which the day isn't over, and the last piece behind it
+pub record HasRead {P : Type 0} (bytes rest : List ℕ) (done : List Statement) (r : Run P) : Type 0 where
+  pub front : List ℕ
+  pub last : List ℕ
+  pub whole : bytes ≡ front ++ (last ++ rest)
+  pub unfinished : IsUnfinished front
+  pub piece : length last ≤ most_piece
+  pub taken : r.input.taken ≡ length (front ++ last)
+  pub goes_on : r.ended ≡ false → GoesOn (front ++ last) done r.number r.input.pending
 
 -- some statements are done, and their lines written or ready: the rest of the day gives the rest of the statements
 pub record IsUnderWay {P : Type 0} (bytes : List ℕ) (before left taken : Option (List ℕ)) (r : Run P) : Type 0 where
@@ -22,7 +39,8 @@ pub record IsUnderWay {P : Type 0} (bytes : List ℕ) (before left taken : Optio
   pub done : List Statement
   pub count : ℕ
   pub written : List ℕ
-  pub told : r.ended ≡ false → left ≡ Some rest
+  pub told : left ≡ Some rest
+  pub read : HasRead bytes rest done r
   pub all : length bytes ≡ r.input.taken + length rest
   pub none : r.ended ≡ true → rest ≡ []
   pub enough : length (r.input.pending ++ in_window r.input.taken rest) < count
@@ -58,19 +76,26 @@ Closes old new r steps.End result = ClosesSo old new r.answers.items statuses.Ok
 Closes old new r steps.Bad result = ClosesSo old new r.answers.items (statuses.BadDay r.number) result
 Closes old new r step result = (result ≡ statuses.NoMemory) × (new ≡ old)
 
+-- the day ended with this status: what was written for it, what is left of it, and that all that was read is answered where
+-- it could not be read on
+pub record HasEnded (bytes : List ℕ) (before left taken : Option (List ℕ)) (status : Status) : Type 0 where
+  pub tells : Tells before taken status (day_of bytes)
+  pub leaves : LeavesRest bytes left
+  pub answered : status ≡ statuses.ReadFault → IsAnswered bytes left before taken
+
 -- one turn: the day goes on, or ends with this status
 abbrev pub Turns : {P : Type 0} → Option (List ℕ) → Option (List ℕ) → Option (List ℕ) → Option (List ℕ) → Run P → Run P → Option Status → Type 0
 Turns left left' taken taken' old new None = (bytes : List ℕ) (before : Option (List ℕ)) → IsUnderWay bytes before left taken old → IsUnderWay bytes before left' taken' new
-Turns left left' taken taken' old new (Some status) = (bytes : List ℕ) (before : Option (List ℕ)) → IsUnderWay bytes before left taken old → Tells before taken' status (day_of bytes)
+Turns left left' taken taken' old new (Some status) = (bytes : List ℕ) (before : Option (List ℕ)) → IsUnderWay bytes before left taken old → HasEnded bytes before left' taken' status
 
 -- no number can pass its type: each statement has a byte of the day
 pub record IsBounded {P : Type 0} (r : Run P) : Type 0 where
   pub bytes : r.number + length r.input.pending ≤ r.input.taken + 1
-  pub most : r.input.taken ≤ 1073741824
+  pub most : r.input.taken ≤ most_bytes
 
 -- the work that is left: bytes to be read, the end to be seen, and bytes to be carried out
 abbrev pub work : {P : Type 0} → Run P → ℕ
-work r = 2 * (1073741824 - r.input.taken) + (if r.ended then 0 else 1) + length r.input.pending
+work r = 2 * (most_bytes - r.input.taken) + (if r.ended then 0 else 1) + length r.input.pending
 
 -- a status that a day can end with
 abbrev pub IsOfDay : Status → Type 0

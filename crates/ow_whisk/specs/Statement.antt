@@ -1,7 +1,9 @@
 -- The statements of a day file, and what its lines are.
-use Rattle.std.specs.Prelude.{◌==◌, ◌+◌, ◌-◌, ◌*◌, ◌^◌, ◌&&◌, ℕ, nat_lt, List, [], ◌∷◌, Option, Some, None, if◌then◌else◌, length, take, drop, position, codes, option_and_then}
-use Rattle.std.specs.Char.{is_ascii_digit}
+use Rattle.std.specs.Prelude.{◌==◌, ◌+◌, ℕ, nat_lt, List, Option, Some, None, if◌then◌else◌, length, take, drop, position, codes}
 use Rattle.std.specs.Str.{bytes_eq, is_utf8}
+use Rattle.ow_value.specs.Decimal.{decimal_of}
+use Rattle.ow_hall.specs.History.{greatest_moment}
+use Rattle.ow_whisk.specs.Limits.{most_line}
 
 pub data Statement : Type 0 where
   At : (moment : ℕ) → Statement
@@ -16,21 +18,6 @@ pub data Statement : Type 0 where
 pub data Reading : Type 0 where
   Whole : (statement : Statement) → Reading
   Asks : (count : ℕ) → Reading
-
--- a number with one more digit, below 2 ^ 64
-abbrev pub digit_after : ℕ → ℕ → Option ℕ
-digit_after n c = if is_ascii_digit c && nat_lt (n * 10 + (c - 48)) (2 ^ 64) then Some (n * 10 + (c - 48)) else None
-
--- decimal digits after a number
-abbrev pub number_after : ℕ → List ℕ → Option ℕ
-number_after n [] = Some n
-number_after n (c ∷ cs) = option_and_then (λ m. number_after m cs) (digit_after n c)
-
--- a decimal number of 64 bits without a leading zero
-abbrev pub number_of : List ℕ → Option ℕ
-number_of [] = None
-number_of (c ∷ []) = number_after 0 (c ∷ [])
-number_of (c ∷ d ∷ cs) = if c == 48 then None else number_after 0 (c ∷ d ∷ cs)
 
 abbrev pub parted_at : List ℕ → Option ℕ → Option (List ℕ × List ℕ)
 parted_at line None = None
@@ -64,7 +51,7 @@ answered (Some run) (Some text) = Some (Whole (Answer run text))
 
 abbrev pub answer_in : Option (List ℕ × List ℕ) → Option Reading
 answer_in None = None
-answer_in (Some parts) = answered (number_of parts.0) (utf8_text parts.1)
+answer_in (Some parts) = answered (decimal_of parts.0) (utf8_text parts.1)
 
 -- `answer RUN TEXT`
 unfoldable pub answer_of : List ℕ → Option Reading
@@ -72,19 +59,19 @@ answer_of rest = answer_in (parted rest)
 
 abbrev pub at_moment : Option ℕ → Option Reading
 at_moment None = None
-at_moment (Some moment) = if nat_lt 253402300799999 moment then None else Some (Whole (At moment))
+at_moment (Some moment) = if nat_lt greatest_moment moment then None else Some (Whole (At moment))
 
 -- `at MOMENT`: milliseconds, up to the last of the year 9999
 unfoldable pub at_of : List ℕ → Option Reading
-at_of rest = at_moment (number_of rest)
+at_of rest = at_moment (decimal_of rest)
 
 abbrev pub asks_for : Option ℕ → Option Reading
 asks_for None = None
-asks_for (Some count) = if nat_lt 8388608 count then None else Some (Asks count)
+asks_for (Some count) = if nat_lt most_line count then None else Some (Asks count)
 
 -- `ask N`: at most 8,388,608 bytes
 unfoldable pub ask_of : List ℕ → Option Reading
-ask_of rest = asks_for (number_of rest)
+ask_of rest = asks_for (decimal_of rest)
 
 -- the line that begins with this word, and goes on with the rest
 unfoldable pub worded : List ℕ → List ℕ → Option Reading
@@ -99,7 +86,7 @@ worded_in (Some parts) = worded parts.0 parts.1
 
 -- what a line is, which has no newline
 unfoldable pub line_of : List ℕ → Option Reading
-line_of line = if nat_lt 8388608 (length line) then None
+line_of line = if nat_lt most_line (length line) then None
     else (if bytes_eq line (codes "next") then Some (Whole Next)
     else (if bytes_eq line (codes "drain") then Some (Whole Drain)
     else (if bytes_eq line (codes "end") then Some (Whole End)

@@ -43,8 +43,13 @@ abbrev pub order_text : Order → List ℕ
 order_text (Run order) = run_text order
 order_text (Nothing idle) = codes "nothing empty\n"
 
+-- a refusal
+abbrev pub refused_text : Reason → List ℕ
+refused_text reason = codes "refused " ++ (decimal reason.number ++ (codes " " ++ (text_of reason ++ codes "\n")))
+
+-- no run has the number
 abbrev pub no_run_text : ℕ → List ℕ
-no_run_text run = codes "refused 29 No run " ++ (decimal run ++ codes ".\n")
+no_run_text run = refused_text (record { number = 29; name = []; first = run; second = 0 })
 
 -- the line of a refusal that no run has the number, for a private clause
 abbrev pub TellsNoRun : AnswerRefusal → List ℕ → List ℕ → Type 0
@@ -59,10 +64,6 @@ answered_text (answers.Recorded happened) = happenings_text happened
 abbrev pub drain_text : Drain → List ℕ
 drain_text (Drained n) = codes "drained " ++ (decimal n ++ codes "\n")
 drain_text (StillOpen n) = codes "open " ++ (decimal n ++ codes "\n")
-
--- a refusal of a call
-abbrev pub refused_text : Reason → List ℕ
-refused_text reason = codes "refused " ++ (decimal reason.number ++ (codes " " ++ (text_of reason ++ codes "\n")))
 
 -- what became of a call
 abbrev pub called_text : Called → List ℕ

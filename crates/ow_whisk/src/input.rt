@@ -1,5 +1,5 @@
 // The bytes of a day as they come: read in pieces, kept until they are carried out.
-ghost use Rattle.std.specs.Prelude.{◌≡◌, ◌==◌, ◌≤◌, ◌<◌, ◌+◌, ◌-◌, ℕ, [], length, drop, position, IfOk, OnOk, OnErr, Err, ◌++◌};
+ghost use Rattle.std.specs.Prelude.{◌≡◌, ◌==◌, ◌≤◌, ◌<◌, ◌+◌, ◌-◌, [], length, drop, position, vec_capacity, vec_len, IfOk, OnOk, OnErr, Err, ◌++◌};
 ghost use Rattle.ow_traits.specs.Streams.{Rose};
 ghost use Rattle.ow_whisk.specs.Input.{Fills, IsPast, ReadsBehind, is_newline};
 
@@ -168,6 +168,7 @@ fn append(bytes: &mut Vec<u8>, piece: &[u8]) -> Result<(), FillError>
     ensures ok { OnOk result (bytes.new.items ≡ bytes.old.items ++ piece.now) }
     ensures err { OnErr result (bytes.new.items ≡ bytes.old.items) }
     ensures cause { OnErr result (result ≡ Err FillError.NoMemory) }
+    ensures full { OnErr result (vec_capacity bytes.old < vec_len bytes.old + length piece.now) }
 {
     match bytes.extend_from_slice(piece) {
         Ok(()) => Ok(()),
@@ -178,7 +179,7 @@ fn append(bytes: &mut Vec<u8>, piece: &[u8]) -> Result<(), FillError>
 // Looks whether a byte follows those that a day may have.
 fn read_past<S: Source>(source: &mut S, room: &mut [u8]) -> Result<Filled, FillError>
     requires { 0 < length room.old }
-    ensures told { IsPast (S.left source.old) result }
+    ensures told { IsPast (S.left source.old) (S.left source.new) result }
     ensures later { S.faults source.old ≤ S.faults source.new }
     ensures cause { result ≡ Err FillError.Failed → Rose (S.faults source.old) (S.faults source.new) }
 {

@@ -1,17 +1,17 @@
 // The lines of a day, and the statements that they are.
 ghost use Rattle.std.specs.Prelude.{◌≡◌, ◌==◌, position};
 ghost use Rattle.std.specs.Option.{option_map};
-ghost use Rattle.ow_whisk.specs.Statement.{answer_of, ask_of, at_of, call_of, digit_after, line_of, number_after, number_of, parted, utf8_text, worded};
+ghost use Rattle.ow_whisk.specs.Statement.{answer_of, ask_of, at_of, call_of, line_of, parted, utf8_text, worded};
 ghost use Rattle.ow_whisk.specs.Line.{reading};
+
+use ow_hall::GREATEST_MOMENT;
+use ow_value::decimal_of;
 
 /// The most bytes of a line, without its newline.
 pub const LONGEST_LINE: usize = 8_388_608;
 
 /// The most bytes of a request.
 const MOST_ASKED: u64 = 8_388_608;
-
-/// The greatest moment, in milliseconds: the last of the year 9999.
-pub const GREATEST_MOMENT: u64 = 253_402_300_799_999;
 
 /// A statement, its words and its request lent from the day.
 #[derive(Clone, Copy)]
@@ -93,7 +93,7 @@ fn answer_of(rest: &[u8]) -> Option<Line<'_>>
     ensures { option_map reading result ≡ answer_of rest.now }
 {
     let (number, text) = parted(rest)?;
-    let run = number_of(number)?;
+    let run = decimal_of(number)?;
     let text = text_of(text)?;
     Some(Line::Whole(Statement::Answer(run, text)))
 }
@@ -102,7 +102,7 @@ fn answer_of(rest: &[u8]) -> Option<Line<'_>>
 fn at_of(rest: &[u8]) -> Option<Line<'_>>
     ensures { option_map reading result ≡ at_of rest.now }
 {
-    let moment = number_of(rest)?;
+    let moment = decimal_of(rest)?;
     if moment > GREATEST_MOMENT {
         return None;
     }
@@ -113,7 +113,7 @@ fn at_of(rest: &[u8]) -> Option<Line<'_>>
 fn ask_of(rest: &[u8]) -> Option<Line<'_>>
     ensures { option_map reading result ≡ ask_of rest.now }
 {
-    let count = number_of(rest)?;
+    let count = decimal_of(rest)?;
     if count > MOST_ASKED {
         return None;
     }
@@ -143,38 +143,4 @@ fn space_in(text: &[u8]) -> Option<usize>
     ensures { result ≡ position (λ c. c == 32) text.now }
 {
     text.iter().position(|c| *c == b' ')
-}
-
-// A decimal number of 64 bits, with no leading zero and no sign.
-fn number_of(text: &[u8]) -> Option<u64>
-    ensures { result ≡ number_of text.now }
-{
-    match text {
-        [] => None,
-        [b'0', _, ..] => None,
-        _ => number_after(text),
-    }
-}
-
-fn number_after(text: &[u8]) -> Option<u64>
-    ensures { result ≡ number_after 0 text.now }
-{
-    let mut n = 0u64;
-    let mut rest = text;
-    while let [c, after @ ..] = rest {
-        n = digit_after(n, *c)?;
-        rest = after;
-    }
-    Some(n)
-}
-
-// The number with one more digit.
-fn digit_after(n: u64, c: u8) -> Option<u64>
-    ensures { result ≡ digit_after n c }
-{
-    if !c.is_ascii_digit() {
-        return None;
-    }
-    let digit = u64::from(c - b'0');
-    n.checked_mul(10)?.checked_add(digit)
 }

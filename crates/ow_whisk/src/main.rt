@@ -6,7 +6,6 @@ mod first;
 mod input;
 mod line;
 mod office;
-mod reasons;
 mod run;
 mod session;
 mod status;

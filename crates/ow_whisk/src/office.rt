@@ -4,6 +4,7 @@ ghost use Rattle.ow_traits.specs.Streams.{Rose, Takes, TakesFront};
 ghost use Rattle.ow_whisk.specs.Words.{command_of};
 ghost use Rattle.ow_whisk.specs.Status.{err_text};
 ghost use Rattle.ow_whisk.specs.Office.{KeepsEach, TellsCommand, TellsText};
+ghost use Rattle.ow_whisk.specs.Reads.{IsAnswered, LeavesRest};
 
 use crate::run::run_day;
 use crate::status::{Status, report};
@@ -21,6 +22,7 @@ fn write_text<O: Sink>(out: &mut O, text: &[u8]) -> Status
     }
 }
 
+#[tactic(auto, using(crate::proofs::SoFar::leaves_unread))]
 fn perform<S: Source, O: Sink, P: Keeper + Drop>(
     alloc: Global,
     words: &[String],
@@ -29,6 +31,8 @@ fn perform<S: Source, O: Sink, P: Keeper + Drop>(
     out: &mut O,
 ) -> (Status, Option<P>)
     ensures told { TellsCommand HELP.now VERSION.now (command_of (map string_bytes words.now)) (S.left day.old) (O.taken out.old) (O.taken out.new) result.0 }
+    ensures reads { IfSome (S.left day.old) (λ bytes. LeavesRest bytes (S.left day.new)) }
+    ensures answered { result.0 ≡ Status.ReadFault → IfSome (S.left day.old) (λ bytes. IsAnswered bytes (S.left day.new) (O.taken out.old) (O.taken out.new)) }
     ensures words { (result.0 ≡ Status.BadWords) ↔ (command_of (map string_bytes words.now) ≡ None) }
     ensures read { result.0 ≡ Status.ReadFault → Rose (S.faults day.old) (S.faults day.new) }
     ensures write { result.0 ≡ Status.WriteFault → Rose (O.faults out.old) (O.faults out.new) }
@@ -60,6 +64,8 @@ pub fn office<T: Source, S: Source, O: Sink, E: Sink, P: Keeper + Drop>(
 ) -> (Status, Option<P>)
     // What was written, by the status.
     ensures told { TellsCommand HELP.now VERSION.now (command_of (map string_bytes words.now)) (S.left day.old) (O.taken out.old) (O.taken out.new) result.0 }
+    ensures reads { IfSome (S.left day.old) (λ bytes. LeavesRest bytes (S.left day.new)) }
+    ensures answered { result.0 ≡ Status.ReadFault → IfSome (S.left day.old) (λ bytes. IsAnswered bytes (S.left day.new) (O.taken out.old) (O.taken out.new)) }
     ensures kept { (bytes : List ℕ) → KeepsEach bytes }
     ensures line { TakesFront (E.taken err.old) (E.taken err.new) (err_text result.0) }
     ensures whole_line { (Rose (E.faults err.old) (E.faults err.new) → ⊥) → Takes (E.taken err.old) (E.taken err.new) (err_text result.0) }

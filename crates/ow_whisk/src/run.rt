@@ -1,16 +1,17 @@
 // A day read as a stream: each statement is carried out as soon as its bytes are there, and the answers are
 // written before more of the day is asked for.
-ghost use Rattle.std.specs.Prelude.{◌≡◌, ◌≢◌, ◌<◌, ◌≤◌, if◌then◌else◌, false, true, Some, None, IfSome, IfNone};
-ghost use Rattle.ow_traits.specs.Streams.{Rose};
+ghost use Rattle.std.specs.Prelude.{◌≡◌, ◌≢◌, ◌<◌, ◌≤◌, if◌then◌else◌, false, true, [], Some, None, OnOk, OnErr, IfSome, IfNone};
+ghost use Rattle.ow_traits.specs.Streams.{HasCause, Rose, Takes, TakesFront};
 ghost use Rattle.ow_whisk.specs.Day.{Cut as CutFirst, day_of, first_statement};
 ghost use Rattle.ow_whisk.specs.Office.{Tells};
+ghost use Rattle.ow_whisk.specs.Reads.{IsAnswered, LeavesRest};
 ghost use Rattle.ow_whisk.specs.Run.{Closes, IsBounded, IsOfDay, StepsOn, Turns, work};
 
 use crate::first::{First, first_statement};
 use crate::input::{FillError, Filled, Input};
 use crate::session::{Session, Step};
 use crate::status::Status;
-use ow_traits::{Keeper, Sink, Source, write_all};
+use ow_traits::{Failed, Keeper, Sink, Source, write_all};
 use std::alloc::Global;
 
 /// A day under way: what was read of it, and the answers that aren't written yet. `number` is that of the
@@ -26,6 +27,23 @@ pub struct Run<P: Keeper + Drop> {
 }
 
 impl<P: Keeper + Drop> Run<P> {
+    // Nothing is read of the day yet.
+    fn new(alloc: Global, session: Session<P>, input: Input) -> Self
+        ensures session { result.session ≡ session }
+        ensures input { result.input ≡ input }
+        ensures ended { result.ended ≡ false }
+        ensures answers { result.answers.items ≡ [] }
+        ensures number { result.number ≡ 1 }
+    {
+        Run {
+            session,
+            input,
+            ended: false,
+            answers: Vec::new(alloc),
+            number: 1,
+        }
+    }
+
     // Carries out the first statement of what waits.
     fn step(&mut self, alloc: Global) -> Step
         requires { IsBounded self.old }
@@ -95,10 +113,9 @@ impl<P: Keeper + Drop> Run<P> {
         ensures day_later { S.faults day.old ≤ S.faults day.new }
         ensures out_later { O.faults out.old ≤ O.faults out.new }
     {
-        if write_all(out, &self.answers).is_err() {
+        if flush(&mut self.answers, out).is_err() {
             return Some(Status::WriteFault);
         }
-        self.answers.clear();
         match self.input.fill(day) {
             Ok(Filled::More) => None,
             Ok(Filled::End) => {
@@ -154,6 +171,8 @@ pub fn run_day<S: Source, O: Sink, P: Keeper + Drop>(
     out: &mut O,
 ) -> (Status, Option<P>)
     ensures told { IfSome (S.left day.old) (λ bytes. Tells (O.taken out.old) (O.taken out.new) result.0 (day_of bytes)) }
+    ensures reads { IfSome (S.left day.old) (λ bytes. LeavesRest bytes (S.left day.new)) }
+    ensures answered { result.0 ≡ Status.ReadFault → IfSome (S.left day.old) (λ bytes. IsAnswered bytes (S.left day.new) (O.taken out.old) (O.taken out.new)) }
     ensures own { IsOfDay result.0 }
     ensures read { result.0 ≡ Status.ReadFault → Rose (S.faults day.old) (S.faults day.new) }
     ensures write { result.0 ≡ Status.WriteFault → Rose (O.faults out.old) (O.faults out.new) }
@@ -166,16 +185,22 @@ pub fn run_day<S: Source, O: Sink, P: Keeper + Drop>(
     let Ok(session) = Session::new(alloc, store) else {
         return (Status::NoMemory, None);
     };
-    let mut run = Run {
-        session,
-        input,
-        ended: false,
-        answers: Vec::new(alloc),
-        number: 1,
-    };
+    let mut run = Run::new(alloc, session, input);
     'turns: loop {
         if let Some(status) = run.turn(alloc, day, out) {
             return (status, Some(run.finish()));
         }
     }
+}
+
+// Writes the answers, and lets go of them.
+fn flush<O: Sink>(answers: &mut Vec<u8>, out: &mut O) -> Result<(), Failed>
+    ensures ok { OnOk result (Takes (O.taken out.old) (O.taken out.new) answers.old.items) }
+    ensures none { OnOk result (answers.new.items ≡ []) }
+    ensures err { OnErr result (TakesFront (O.taken out.old) (O.taken out.new) answers.old.items) }
+    ensures cause { HasCause (O.faults out.old) (O.faults out.new) result }
+{
+    write_all(out, answers)?;
+    answers.clear();
+    Ok(())
 }

@@ -1,27 +1,26 @@
 // A day under way: statements carried out over the hall.
 ghost use Rattle.std.specs.Prelude.{◌≡◌, ◌++◌, [], IfOk, OnOk};
-ghost use Rattle.ow_hall.specs.Reasons.{plain};
 ghost use Rattle.ow_hall.specs.declared.entry.Event.TheVariants as events;
+ghost use Rattle.ow_http.specs.Reason.{plain};
 ghost use Rattle.ow_http.specs.Refusal.{refusal_number};
 ghost use Rattle.ow_http.specs.Refused.{refusal_of};
 ghost use Rattle.ow_traits.specs.declared.replies.RunReply.TheVariants as replies;
 ghost use Rattle.ow_whisk.specs.Line.{statement};
 ghost use Rattle.ow_whisk.specs.Request.{IsRead};
-ghost use Rattle.ow_whisk.specs.Machine.{Meets, call_act, start};
-ghost use Rattle.ow_whisk.specs.Called.{IsTold};
+ghost use Rattle.ow_whisk.specs.Machine.{Gives, Meets, after, call_act, start};
+ghost use Rattle.ow_whisk.specs.Called.{WordsHaveText};
 ghost use Rattle.ow_whisk.specs.Session.{CarriesOut, Does, Performs, machine_of};
 ghost use Rattle.ow_whisk.specs.Texts.{reply_text};
 ghost use Rattle.ow_whisk.specs.Statement.{Ask, Call};
 
-use crate::calls::{Asked, asked_of};
+use crate::calls::{CallWords, call_words};
 use crate::line::Statement;
-use crate::reasons::plain;
 use crate::texts::{
     push_answered, push_asked, push_called, push_drain, push_order, push_refused, push_reply,
     push_unanswered,
 };
 use ow_hall::Hall;
-use ow_http::{HttpRefusal, Request, Routes, refusal};
+use ow_http::{HttpRefusal, Reason, Request, Routes, refusal};
 use ow_names::FullName;
 use ow_traits::{Keeper, RunReply};
 use ow_value::{Lines, NoMemory, Params, Scratch, Str};
@@ -32,9 +31,9 @@ use std::alloc::Global;
 pub struct Session<P: Keeper + Drop> {
     pub hall: Hall<P>,
     pub given: u64,
-    // In which the texts of calls are read.
+    /// In which the texts of calls are read.
     pub scratch: Scratch,
-    // By which requests are read.
+    /// By which requests are read.
     pub routes: Routes,
 }
 
@@ -102,7 +101,7 @@ impl<P: Keeper + Drop> Session<P> {
     {
         match said {
             Statement::At(moment) => {
-                self.given = moment;
+                self.set_moment(moment);
                 Ok(())
             }
             Statement::Call(name, text) => self.call(alloc, name, text, answers),
@@ -112,6 +111,13 @@ impl<P: Keeper + Drop> Session<P> {
             Statement::Drain => self.drain(alloc, answers),
             Statement::End => Ok(()),
         }
+    }
+
+    fn set_moment(&mut self, moment: u64)
+        ensures machine { machine_of self.new ≡ after (machine_of self.old) (Gives moment) }
+        ensures store { self.new.hall.store ≡ self.old.hall.store }
+    {
+        self.given = moment;
     }
 
     fn call(
@@ -124,24 +130,24 @@ impl<P: Keeper + Drop> Session<P> {
         ensures ok { OnOk result (Performs self.old self.new (Call name.now text.now) answers.old.items answers.new.items) }
         ensures store { self.new.hall.store ≡ self.old.hall.store }
     {
-        let counted = self.hall.book().counted();
-        let asked = asked_of(alloc, &mut self.scratch, counted, name, text)?;
-        self.perform_call(alloc, asked, answers)
+        let full = self.hall.book().is_full(0);
+        let words = call_words(alloc, &mut self.scratch, full, name, text)?;
+        self.perform_call(alloc, words, answers)
     }
 
     fn perform_call(
         &mut self,
         alloc: Global,
-        asked: Asked,
+        words: CallWords,
         answers: &mut Vec<u8>,
     ) -> Result<(), NoMemory>
-        requires { IsTold asked }
-        ensures ok { OnOk result (Does self.old self.new (call_act asked) answers.old.items answers.new.items) }
+        requires { WordsHaveText words }
+        ensures ok { OnOk result (Does self.old self.new (call_act words) answers.old.items answers.new.items) }
         ensures store { self.new.hall.store ≡ self.old.hall.store }
     {
-        match asked {
-            Asked::Refused(reason) => push_refused(alloc, answers, &reason),
-            Asked::Calls { name, params } => self.invoke(alloc, &name, params, answers),
+        match words {
+            CallWords::Refused(reason) => push_refused(alloc, answers, &reason),
+            CallWords::Calls { name, params } => self.invoke(alloc, &name, params, answers),
         }
     }
 
@@ -206,7 +212,7 @@ impl<P: Keeper + Drop> Session<P> {
         };
         match self.hall.answered(alloc, self.given, run, reply) {
             Ok(answered) => push_answered(answers, &answered),
-            Err(refusal) => push_unanswered(answers, &refusal),
+            Err(refusal) => push_unanswered(alloc, answers, &refusal),
         }
     }
 
@@ -243,6 +249,6 @@ fn read(
 fn push_unread(alloc: Global, refused: HttpRefusal, answers: &mut Vec<u8>) -> Result<(), NoMemory>
     ensures { OnOk result (answers.new.items ≡ answers.old.items ++ reply_text (refusal_of (plain (refusal_number refused)))) }
 {
-    let answer = refusal(alloc, &plain(alloc, refused.number()))?;
+    let answer = refusal(alloc, &Reason::plain(alloc, refused.number()))?;
     push_reply(alloc, answers, &answer)
 }

@@ -1,7 +1,6 @@
 // Days and words, with what the office answers and writes for them.
 use crate::office::office;
 use crate::status::Status;
-use crate::words::{HELP, VERSION};
 use ow_traits::{MemoryKeeper, MemorySink, MemorySource};
 use std::alloc::Global;
 use std::test::Fail;
@@ -10,6 +9,8 @@ use std::test::Fail;
 #[derive(Drop)]
 struct Told {
     status: Status,
+    // How many bytes of the day are left.
+    left: usize,
     out: MemorySink,
     err: MemorySink,
 }
@@ -37,7 +38,12 @@ fn office_over(
         &mut err,
         store,
     );
-    Ok(Told { status, out, err })
+    Ok(Told {
+        status,
+        left: source.bytes().len(),
+        out,
+        err,
+    })
 }
 
 // The name of the built-in action is written out in each day, as a user writes it.
@@ -46,27 +52,67 @@ const CASES: [(&[u8], &[u8], Status); 17] = [
     (b"", b"", Status::Ok),
     (
         b"call /whisk.system/utils/echo {\"a\":1}\nnext\nanswer 1 {\"a\":1}\ndrain\nend\n",
-        b"accepted 00000000000000000000000000000001\nrun 1 00000000000000000000000000000001\nrecorded 00000000000000000000000000000001 0\ndrained 1\n",
+        b"accepted 00000000000000000000000000000001
+run 1 00000000000000000000000000000001
+recorded 00000000000000000000000000000001 0
+drained 1
+",
         Status::Ok,
     ),
     (
         b"call /whisk.system/utils/echo {}\nnext\ndrain",
-        b"accepted 00000000000000000000000000000001\nrun 1 00000000000000000000000000000001\nopen 1\n",
+        b"accepted 00000000000000000000000000000001
+run 1 00000000000000000000000000000001
+open 1
+",
         Status::Ok,
     ),
     (
-        b"call /whisk.system/utils/no {}\nnext\nanswer 1 {}\ncall /whisk.system/utils/echo x\nend\n",
-        b"refused 14 The resource does not exist.\nnothing empty\nrefused 29 No run 1.\nrefused 1 The text is no JSON.\n",
+        b"call /whisk.system/utils/no {}
+next
+answer 1 {}
+call /whisk.system/utils/echo x
+end
+",
+        b"refused 14 The resource does not exist.
+nothing empty
+refused 29 No run 1.
+refused 1 The text is no JSON.
+",
         Status::Ok,
     ),
     (
-        b"call /whisk.system/utils/echo {}\ncall /whisk.system/utils/echo {}\nnext\nnext\nanswer 2 {\"error\":null}\nanswer 2 {}\nanswer 1 7\ndrain\n",
-        b"accepted 00000000000000000000000000000001\naccepted 00000000000000000000000000000002\nrun 1 00000000000000000000000000000001\nrun 2 00000000000000000000000000000002\nrecorded 00000000000000000000000000000002 1\nrefused 29 No run 2.\nrecorded 00000000000000000000000000000001 2\ndrained 2\n",
+        b"call /whisk.system/utils/echo {}
+call /whisk.system/utils/echo {}
+next
+next
+answer 2 {\"error\":null}
+answer 2 {}
+answer 1 7
+drain
+",
+        b"accepted 00000000000000000000000000000001
+accepted 00000000000000000000000000000002
+run 1 00000000000000000000000000000001
+run 2 00000000000000000000000000000002
+recorded 00000000000000000000000000000002 1
+refused 29 No run 2.
+recorded 00000000000000000000000000000001 2
+drained 2
+",
         Status::Ok,
     ),
     (
-        b"call /whisk.system/utils/no x\ncall /whisk.system/utils/echo [1]\ncall /whisk.system/utils/echo {\"a\":0.5}\ncall /whisk.system/utils/echo \n",
-        b"refused 1 The text is no JSON.\nrefused 10 The field body has a wrong type.\nrefused 2 A number is not a whole number of 64 bits.\nrefused 1 The text is no JSON.\n",
+        b"call /whisk.system/utils/no x
+call /whisk.system/utils/echo [1]
+call /whisk.system/utils/echo {\"a\":0.5}
+call /whisk.system/utils/echo 
+",
+        b"refused 1 The text is no JSON.
+refused 10 The field body has a wrong type.
+refused 2 A number is not a whole number of 64 bits.
+refused 1 The text is no JSON.
+",
         Status::Ok,
     ),
     (b"next\nend\nnonsense\n", b"nothing empty\n", Status::Ok),
@@ -103,42 +149,263 @@ const MALFORMED: &[u8] = b"{\"code\":35,\"error\":\"The request head is malforme
 const ASKS: [(&[u8], &[u8], Status); 15] = [
     (
         b"call /whisk.system/utils/echo {}\nnext\ndrain\ncall /whisk.system/utils/echo {}\n",
-        b"accepted 00000000000000000000000000000001\nrun 1 00000000000000000000000000000001\nopen 1\nrefused 32 The office is draining.\n",
+        b"accepted 00000000000000000000000000000001
+run 1 00000000000000000000000000000001
+open 1
+refused 32 The office is draining.
+",
         Status::Ok,
     ),
     (
-        b"ask 51\nGET /api/v1/namespaces/_/actions/hello HTTP/1.1\r\n\r\n\nask 55\nGET /api/v1/namespaces/_/actions?limit=201 HTTP/1.1\r\n\r\n\n",
-        b"reply 128\nHTTP/1.1 404 Not Found\r\nContent-Type: application/json\r\nContent-Length: 50\r\n\r\n{\"code\":14,\"error\":\"The resource does not exist.\"}\nreply 133\nHTTP/1.1 400 Bad Request\r\nContent-Type: application/json\r\nContent-Length: 53\r\n\r\n{\"code\":39,\"error\":\"The query value limit is wrong.\"}\n",
+        b"ask 51
+GET /api/v1/namespaces/_/actions/hello HTTP/1.1\r
+\r
+
+ask 55
+GET /api/v1/namespaces/_/actions?limit=201 HTTP/1.1\r
+\r
+
+",
+        b"reply 128
+HTTP/1.1 404 Not Found\r
+Content-Type: application/json\r
+Content-Length: 50\r
+\r
+{\"code\":14,\"error\":\"The resource does not exist.\"}
+reply 133
+HTTP/1.1 400 Bad Request\r
+Content-Type: application/json\r
+Content-Length: 53\r
+\r
+{\"code\":39,\"error\":\"The query value limit is wrong.\"}
+",
         Status::Ok,
     ),
     (
-        b"ask 272\nPUT /api/v1/namespaces/_/actions/hello HTTP/1.1\r\nHost: localhost\r\nUser-Agent: curl/8.5.0\r\nAccept: */*\r\nX-Whisk-Key: k1\r\nContent-Type: application/json\r\nContent-Length: 98\r\n\r\n{\"exec\":{\"kind\":\"plain:1\",\"code\":\"{\\\"cases\\\":[{\\\"when\\\":{},\\\"give\\\":{\\\"greeting\\\":\\\"Hello\\\"}}]}\"}}\nask 272\nPUT /api/v1/namespaces/_/actions/hello HTTP/1.1\r\nHost: localhost\r\nUser-Agent: curl/8.5.0\r\nAccept: */*\r\nX-Whisk-Key: k1\r\nContent-Type: application/json\r\nContent-Length: 98\r\n\r\n{\"exec\":{\"kind\":\"plain:1\",\"code\":\"{\\\"cases\\\":[{\\\"when\\\":{},\\\"give\\\":{\\\"greeting\\\":\\\"Hello\\\"}}]}\"}}\nask 287\nPUT /api/v1/namespaces/_/actions/hello?overwrite=true HTTP/1.1\r\nHost: localhost\r\nUser-Agent: curl/8.5.0\r\nAccept: */*\r\nX-Whisk-Key: k1\r\nContent-Type: application/json\r\nContent-Length: 98\r\n\r\n{\"exec\":{\"kind\":\"plain:1\",\"code\":\"{\\\"cases\\\":[{\\\"when\\\":{},\\\"give\\\":{\\\"greeting\\\":\\\"Hello\\\"}}]}\"}}\nask 290\nPUT /api/v1/namespaces/_/actions/hello?overwrite=true HTTP/1.1\r\nHost: localhost\r\nUser-Agent: curl/8.5.0\r\nAccept: */*\r\nX-Whisk-Key: k1\r\nContent-Type: application/json\r\nContent-Length: 100\r\n\r\n{\"exec\":{\"kind\":\"nodejs:20\",\"code\":\"{\\\"cases\\\":[{\\\"when\\\":{},\\\"give\\\":{\\\"greeting\\\":\\\"Hello\\\"}}]}\"}}\nask 58\nDELETE /api/v1/namespaces/guest/actions/hello HTTP/1.1\r\n\r\n\nask 58\nDELETE /api/v1/namespaces/guest/actions/hello HTTP/1.1\r\n\r\n\n",
-        b"reply 322\nHTTP/1.1 200 OK\r\nContent-Type: application/json\r\nContent-Length: 250\r\n\r\n{\"annotations\":[],\"exec\":{\"code\":\"{\\\"cases\\\":[{\\\"when\\\":{},\\\"give\\\":{\\\"greeting\\\":\\\"Hello\\\"}}]}\",\"kind\":\"plain:1\"},\"limits\":{\"logs\":10,\"memory\":256,\"timeout\":60000},\"name\":\"hello\",\"namespace\":\"guest\",\"parameters\":[],\"publish\":false,\"version\":\"0.0.1\"}\nreply 119\nHTTP/1.1 409 Conflict\r\nContent-Type: application/json\r\nContent-Length: 42\r\n\r\n{\"code\":17,\"error\":\"The resource exists.\"}\nreply 322\nHTTP/1.1 200 OK\r\nContent-Type: application/json\r\nContent-Length: 250\r\n\r\n{\"annotations\":[],\"exec\":{\"code\":\"{\\\"cases\\\":[{\\\"when\\\":{},\\\"give\\\":{\\\"greeting\\\":\\\"Hello\\\"}}]}\",\"kind\":\"plain:1\"},\"limits\":{\"logs\":10,\"memory\":256,\"timeout\":60000},\"name\":\"hello\",\"namespace\":\"guest\",\"parameters\":[],\"publish\":false,\"version\":\"0.0.2\"}\nreply 122\nHTTP/1.1 400 Bad Request\r\nContent-Type: application/json\r\nContent-Length: 42\r\n\r\n{\"code\":12,\"error\":\"The kind is unknown.\"}\nreply 322\nHTTP/1.1 200 OK\r\nContent-Type: application/json\r\nContent-Length: 250\r\n\r\n{\"annotations\":[],\"exec\":{\"code\":\"{\\\"cases\\\":[{\\\"when\\\":{},\\\"give\\\":{\\\"greeting\\\":\\\"Hello\\\"}}]}\",\"kind\":\"plain:1\"},\"limits\":{\"logs\":10,\"memory\":256,\"timeout\":60000},\"name\":\"hello\",\"namespace\":\"guest\",\"parameters\":[],\"publish\":false,\"version\":\"0.0.2\"}\nreply 128\nHTTP/1.1 404 Not Found\r\nContent-Type: application/json\r\nContent-Length: 50\r\n\r\n{\"code\":14,\"error\":\"The resource does not exist.\"}\n",
+        b"ask 272
+PUT /api/v1/namespaces/_/actions/hello HTTP/1.1\r
+Host: localhost\r
+User-Agent: curl/8.5.0\r
+Accept: */*\r
+X-Whisk-Key: k1\r
+Content-Type: application/json\r
+Content-Length: 98\r
+\r
+{\"exec\":{\"kind\":\"plain:1\",\"code\":\"{\\\"cases\\\":[{\\\"when\\\":{},\
+\\\"give\\\":{\\\"greeting\\\":\\\"Hello\\\"}}]}\"}}
+ask 272
+PUT /api/v1/namespaces/_/actions/hello HTTP/1.1\r
+Host: localhost\r
+User-Agent: curl/8.5.0\r
+Accept: */*\r
+X-Whisk-Key: k1\r
+Content-Type: application/json\r
+Content-Length: 98\r
+\r
+{\"exec\":{\"kind\":\"plain:1\",\"code\":\"{\\\"cases\\\":[{\\\"when\\\":{},\
+\\\"give\\\":{\\\"greeting\\\":\\\"Hello\\\"}}]}\"}}
+ask 287
+PUT /api/v1/namespaces/_/actions/hello?overwrite=true HTTP/1.1\r
+Host: localhost\r
+User-Agent: curl/8.5.0\r
+Accept: */*\r
+X-Whisk-Key: k1\r
+Content-Type: application/json\r
+Content-Length: 98\r
+\r
+{\"exec\":{\"kind\":\"plain:1\",\"code\":\"{\\\"cases\\\":[{\\\"when\\\":{},\
+\\\"give\\\":{\\\"greeting\\\":\\\"Hello\\\"}}]}\"}}
+ask 290
+PUT /api/v1/namespaces/_/actions/hello?overwrite=true HTTP/1.1\r
+Host: localhost\r
+User-Agent: curl/8.5.0\r
+Accept: */*\r
+X-Whisk-Key: k1\r
+Content-Type: application/json\r
+Content-Length: 100\r
+\r
+{\"exec\":{\"kind\":\"nodejs:20\",\"code\":\"{\\\"cases\\\":[{\\\"when\\\":{},\
+\\\"give\\\":{\\\"greeting\\\":\\\"Hello\\\"}}]}\"}}
+ask 58
+DELETE /api/v1/namespaces/guest/actions/hello HTTP/1.1\r
+\r
+
+ask 58
+DELETE /api/v1/namespaces/guest/actions/hello HTTP/1.1\r
+\r
+
+",
+        b"reply 322
+HTTP/1.1 200 OK\r
+Content-Type: application/json\r
+Content-Length: 250\r
+\r
+{\"annotations\":[],\"exec\":{\"code\":\"{\\\"cases\\\":[{\\\"when\\\":{},\
+\\\"give\\\":{\\\"greeting\\\":\\\"Hello\\\"}}]}\",\"kind\":\"plain:1\"},\"limits\":{\"logs\":10,\"memory\":256,\
+\"timeout\":60000},\"name\":\"hello\",\"namespace\":\"guest\",\"parameters\":[],\"publish\":false,\
+\"version\":\"0.0.1\"}
+reply 119
+HTTP/1.1 409 Conflict\r
+Content-Type: application/json\r
+Content-Length: 42\r
+\r
+{\"code\":17,\"error\":\"The resource exists.\"}
+reply 322
+HTTP/1.1 200 OK\r
+Content-Type: application/json\r
+Content-Length: 250\r
+\r
+{\"annotations\":[],\"exec\":{\"code\":\"{\\\"cases\\\":[{\\\"when\\\":{},\
+\\\"give\\\":{\\\"greeting\\\":\\\"Hello\\\"}}]}\",\"kind\":\"plain:1\"},\"limits\":{\"logs\":10,\"memory\":256,\
+\"timeout\":60000},\"name\":\"hello\",\"namespace\":\"guest\",\"parameters\":[],\"publish\":false,\
+\"version\":\"0.0.2\"}
+reply 122
+HTTP/1.1 400 Bad Request\r
+Content-Type: application/json\r
+Content-Length: 42\r
+\r
+{\"code\":12,\"error\":\"The kind is unknown.\"}
+reply 322
+HTTP/1.1 200 OK\r
+Content-Type: application/json\r
+Content-Length: 250\r
+\r
+{\"annotations\":[],\"exec\":{\"code\":\"{\\\"cases\\\":[{\\\"when\\\":{},\
+\\\"give\\\":{\\\"greeting\\\":\\\"Hello\\\"}}]}\",\"kind\":\"plain:1\"},\"limits\":{\"logs\":10,\"memory\":256,\
+\"timeout\":60000},\"name\":\"hello\",\"namespace\":\"guest\",\"parameters\":[],\"publish\":false,\
+\"version\":\"0.0.2\"}
+reply 128
+HTTP/1.1 404 Not Found\r
+Content-Type: application/json\r
+Content-Length: 50\r
+\r
+{\"code\":14,\"error\":\"The resource does not exist.\"}
+",
         Status::Ok,
     ),
     (
-        b"ask 272\nPUT /api/v1/namespaces/_/actions/hello HTTP/1.1\r\nHost: localhost\r\nUser-Agent: curl/8.5.0\r\nAccept: */*\r\nX-Whisk-Key: k1\r\nContent-Type: application/json\r\nContent-Length: 98\r\n\r\n{\"exec\":{\"kind\":\"plain:1\",\"code\":\"{\\\"cases\\\":[{\\\"when\\\":{},\\\"give\\\":{\\\"greeting\\\":\\\"Hello\\\"}}]}\"}}\nat 5\ncall /guest/hello {\"a\":1}\nnext\nask 55\nGET /api/v1/namespaces/_/actions/hello HTTP/1.1\r\n\r\nmore\nanswer 1 {}\ndrain\nask 45\nGET /api/v1/namespaces/_/actions HTTP/1.1\r\n\r\n\n",
-        b"reply 322\nHTTP/1.1 200 OK\r\nContent-Type: application/json\r\nContent-Length: 250\r\n\r\n{\"annotations\":[],\"exec\":{\"code\":\"{\\\"cases\\\":[{\\\"when\\\":{},\\\"give\\\":{\\\"greeting\\\":\\\"Hello\\\"}}]}\",\"kind\":\"plain:1\"},\"limits\":{\"logs\":10,\"memory\":256,\"timeout\":60000},\"name\":\"hello\",\"namespace\":\"guest\",\"parameters\":[],\"publish\":false,\"version\":\"0.0.1\"}\naccepted 00000000000000010000000000000001\nrun 1 00000000000000010000000000000001\nreply 322\nHTTP/1.1 200 OK\r\nContent-Type: application/json\r\nContent-Length: 250\r\n\r\n{\"annotations\":[],\"exec\":{\"code\":\"{\\\"cases\\\":[{\\\"when\\\":{},\\\"give\\\":{\\\"greeting\\\":\\\"Hello\\\"}}]}\",\"kind\":\"plain:1\"},\"limits\":{\"logs\":10,\"memory\":256,\"timeout\":60000},\"name\":\"hello\",\"namespace\":\"guest\",\"parameters\":[],\"publish\":false,\"version\":\"0.0.1\"}\nrecorded 00000000000000010000000000000001 0\ndrained 1\nreply 160\nHTTP/1.1 200 OK\r\nContent-Type: application/json\r\nContent-Length: 89\r\n\r\n[{\"annotations\":[],\"name\":\"hello\",\"namespace\":\"guest\",\"publish\":false,\"version\":\"0.0.1\"}]\n",
+        b"ask 272
+PUT /api/v1/namespaces/_/actions/hello HTTP/1.1\r
+Host: localhost\r
+User-Agent: curl/8.5.0\r
+Accept: */*\r
+X-Whisk-Key: k1\r
+Content-Type: application/json\r
+Content-Length: 98\r
+\r
+{\"exec\":{\"kind\":\"plain:1\",\"code\":\"{\\\"cases\\\":[{\\\"when\\\":{},\
+\\\"give\\\":{\\\"greeting\\\":\\\"Hello\\\"}}]}\"}}
+at 5
+call /guest/hello {\"a\":1}
+next
+ask 55
+GET /api/v1/namespaces/_/actions/hello HTTP/1.1\r
+\r
+more
+answer 1 {}
+drain
+ask 45
+GET /api/v1/namespaces/_/actions HTTP/1.1\r
+\r
+
+",
+        b"reply 322
+HTTP/1.1 200 OK\r
+Content-Type: application/json\r
+Content-Length: 250\r
+\r
+{\"annotations\":[],\"exec\":{\"code\":\"{\\\"cases\\\":[{\\\"when\\\":{},\
+\\\"give\\\":{\\\"greeting\\\":\\\"Hello\\\"}}]}\",\"kind\":\"plain:1\"},\"limits\":{\"logs\":10,\"memory\":256,\
+\"timeout\":60000},\"name\":\"hello\",\"namespace\":\"guest\",\"parameters\":[],\"publish\":false,\
+\"version\":\"0.0.1\"}
+accepted 00000000000000010000000000000001
+run 1 00000000000000010000000000000001
+reply 322
+HTTP/1.1 200 OK\r
+Content-Type: application/json\r
+Content-Length: 250\r
+\r
+{\"annotations\":[],\"exec\":{\"code\":\"{\\\"cases\\\":[{\\\"when\\\":{},\
+\\\"give\\\":{\\\"greeting\\\":\\\"Hello\\\"}}]}\",\"kind\":\"plain:1\"},\"limits\":{\"logs\":10,\"memory\":256,\
+\"timeout\":60000},\"name\":\"hello\",\"namespace\":\"guest\",\"parameters\":[],\"publish\":false,\
+\"version\":\"0.0.1\"}
+recorded 00000000000000010000000000000001 0
+drained 1
+reply 160
+HTTP/1.1 200 OK\r
+Content-Type: application/json\r
+Content-Length: 89\r
+\r
+[{\"annotations\":[],\"name\":\"hello\",\"namespace\":\"guest\",\"publish\":false,\"version\":\"0.0.1\"}]
+",
         Status::Ok,
     ),
     (
-        b"call x x\ncall /guest x\ncall /a/b/c/d x\ncall //b x\ncall /-a/b x\ncall /a%20/b x\ncall /guest/%zz x\ncall /guest/x%80 x\ncall /guest/x x\ncall /guest/x 1.5\ncall /guest/x [[[[[[[[[[[[[[[[[[[[[[[[[[[[[[[[[[[[[[[[[[[[[[[[[[[[[[[[[[[[[[[[[[[[[[[[[[[[[[[[[[[[[[[[[[[[[[[[[[[[[]]]]]]]]]]]]]]]]]]]]]]]]]]]]]]]]]]]]]]]]]]]]]]]]]]]]]]]]]]]]]]]]]]]]]]]]]]]]]]]]]]]]]]]]]]]]]]]]]]]]]\ncall /guest/x 7\ncall /_/x {}\ncall %2fwhisk.system%2Futils/echo {}\n",
-        b"refused 8 The path names no entity.\nrefused 8 The path names no entity.\nrefused 8 The path names no entity.\nrefused 4 A name is empty.\nrefused 6 A name has a wrong byte at 0.\nrefused 7 A name ends in a space.\nrefused 6 A name has a wrong byte at 0.\nrefused 6 A name has a wrong byte at 1.\nrefused 1 The text is no JSON.\nrefused 2 A number is not a whole number of 64 bits.\nrefused 3 The value is nested deeper than 100.\nrefused 10 The field body has a wrong type.\nrefused 14 The resource does not exist.\naccepted 00000000000000000000000000000001\n",
+        b"call x x
+call /guest x
+call /a/b/c/d x
+call //b x
+call /-a/b x
+call /a%20/b x
+call /guest/%zz x
+call /guest/x%80 x
+call /guest/x x
+call /guest/x 1.5
+call /guest/x [[[[[[[[[[[[[[[[[[[[[[[[[[[[[[[[[[[[[[[[[[[[[[[[[[[[[[[[[[[[[[[[[[[[[[[[[[[[[[[[[[[[[[[[[[[[[[[[[[[[[]]\
+]]]]]]]]]]]]]]]]]]]]]]]]]]]]]]]]]]]]]]]]]]]]]]]]]]]]]]]]]]]]]]]]]]]]]]]]]]]]]]]]]]]]]]]]]]]]]]]]]]]
+call /guest/x 7
+call /_/x {}
+call %2fwhisk.system%2Futils/echo {}
+",
+        b"refused 8 The path names no entity.
+refused 8 The path names no entity.
+refused 8 The path names no entity.
+refused 4 A name is empty.
+refused 6 A name has a wrong byte at 0.
+refused 7 A name ends in a space.
+refused 6 A name has a wrong byte at 0.
+refused 6 A name has a wrong byte at 1.
+refused 1 The text is no JSON.
+refused 2 A number is not a whole number of 64 bits.
+refused 3 The value is nested deeper than 100.
+refused 10 The field body has a wrong type.
+refused 14 The resource does not exist.
+accepted 00000000000000000000000000000001
+",
         Status::Ok,
     ),
     (
         b"ask 0",
-        b"reply 127\nHTTP/1.1 400 Bad Request\r\nContent-Type: application/json\r\nContent-Length: 47\r\n\r\n{\"code\":40,\"error\":\"The request is cut short.\"}\n",
+        b"reply 127
+HTTP/1.1 400 Bad Request\r
+Content-Type: application/json\r
+Content-Length: 47\r
+\r
+{\"code\":40,\"error\":\"The request is cut short.\"}
+",
         Status::Ok,
     ),
     (
         b"ask 0\n\nnext\n",
-        b"reply 127\nHTTP/1.1 400 Bad Request\r\nContent-Type: application/json\r\nContent-Length: 47\r\n\r\n{\"code\":40,\"error\":\"The request is cut short.\"}\nnothing empty\n",
+        b"reply 127
+HTTP/1.1 400 Bad Request\r
+Content-Type: application/json\r
+Content-Length: 47\r
+\r
+{\"code\":40,\"error\":\"The request is cut short.\"}
+nothing empty
+",
         Status::Ok,
     ),
     (
         b"ask 3\nabc",
-        b"reply 127\nHTTP/1.1 400 Bad Request\r\nContent-Type: application/json\r\nContent-Length: 47\r\n\r\n{\"code\":40,\"error\":\"The request is cut short.\"}\n",
+        b"reply 127
+HTTP/1.1 400 Bad Request\r
+Content-Type: application/json\r
+Content-Length: 47\r
+\r
+{\"code\":40,\"error\":\"The request is cut short.\"}
+",
         Status::Ok,
     ),
     (
@@ -206,8 +473,8 @@ fn requests_are_answered(rt: HostRuntime) -> Result<(), Fail> {
     Ok(())
 }
 
-// A day that asks by so many bytes, which are no request.
-fn long_request(alloc: Global, head: &str, size: usize) -> Result<Vec<u8>, Fail> {
+// A day of this text and so many bytes behind it.
+fn long_day(alloc: Global, head: &str, size: usize) -> Result<Vec<u8>, Fail> {
     let mut day = Vec::from_slice(alloc, head.as_bytes())?;
     for _ in 0..size {
         day.push(b'x')?;
@@ -217,12 +484,45 @@ fn long_request(alloc: Global, head: &str, size: usize) -> Result<Vec<u8>, Fail>
 
 #[test]
 fn a_long_request_is_read_in_pieces(rt: HostRuntime) -> Result<(), Fail> {
-    let day = long_request(rt.alloc(), "ask 200000\n", 200_000)?;
+    let day = long_day(rt.alloc(), "ask 200000\n", 200_000)?;
     let told = office_over(rt.alloc(), "day", &day, &[], &[])?;
     assert_eq!(rt; told.status, Status::Ok);
     assert!(rt; told.out.bytes().ends_with(MALFORMED));
     Ok(())
 }
+
+#[test]
+fn what_follows_a_day_is_left(rt: HostRuntime) -> Result<(), Fail> {
+    for (head, status, left) in [
+        ("end\n", Status::Ok, 4_468),
+        ("x\n", Status::BadDay { statement: 1 }, 4_466),
+    ] {
+        let day = long_day(rt.alloc(), head, 70_000)?;
+        let told = office_over(rt.alloc(), "day", &day, &[], &[])?;
+        assert_eq!(rt; told.status, status);
+        assert_eq!(rt; told.left, left);
+    }
+    Ok(())
+}
+
+const HELP: &[u8] = b"ow_whisk: a function service after Apache OpenWhisk
+
+usage: ow_whisk day < FILE     carries out the statements of a day, and writes each answer
+       ow_whisk --help         writes this text
+       ow_whisk --version      writes the version
+
+A day has one statement a line:
+  at MOMENT           sets the moment, in milliseconds; 0 at first
+  ask N               asks by an HTTP request, whose N bytes and a newline follow this line
+  call NAME TEXT      calls an action with a JSON object; /whisk.system/utils/echo is built in
+  next                orders what has waited longest to run
+  answer RUN TEXT     is a runner's answer to the run of this number
+  drain               takes no more calls, and tells whether all that was accepted has ended
+  end                 ends the day; what follows is not acted on
+
+exit status: 0 all was carried out, 1 bad day, 2 bad words, 3 read fault, 4 write fault,
+             7 no memory, 8 day too long; every status but 0 has a line on standard error
+";
 
 #[test]
 fn faults_and_words_have_their_status(rt: HostRuntime) -> Result<(), Fail> {
@@ -243,6 +543,6 @@ fn faults_and_words_have_their_status(rt: HostRuntime) -> Result<(), Fail> {
     assert_eq!(rt; help.status, Status::Ok);
     assert_eq!(rt; help.out.bytes(), HELP);
     let version = office_over(alloc, "--version", b"", &[], &[])?;
-    assert_eq!(rt; version.out.bytes(), VERSION);
+    assert_eq!(rt; version.out.bytes(), b"ow_whisk 0.1.0\n".as_slice());
     Ok(())
 }

@@ -1,7 +1,7 @@
-// The lines that answer statements.
+// The lines that answer statements. Without memory a front of a line may stand behind those that are there.
 ghost use Rattle.std.specs.Prelude.{◌≡◌, ◌++◌, OnOk, IsSome, codes};
 ghost use Rattle.std.specs.Fmt.{decimal};
-ghost use Rattle.ow_hall.specs.Works.{IsTellable};
+ghost use Rattle.ow_hall.specs.Works.{CalledHasText};
 ghost use Rattle.ow_http.specs.Reason.{told};
 ghost use Rattle.ow_records.specs.Id.{id_text};
 ghost use Rattle.ow_whisk.specs.Texts.{TellsNoRun, answered_text, asked_text, called_text, drain_text, happening_text, happenings_text, no_run_text, order_text, refused_text, reply_text, run_text};
@@ -86,20 +86,25 @@ pub fn push_answered(answers: &mut Vec<u8>, answered: &Answered) -> Result<(), N
     }
 }
 
-fn push_no_run(answers: &mut Vec<u8>, run: u64) -> Result<(), NoMemory>
+#[tactic(auto, unfolding(ow_http::specs::Reason::told))]
+fn push_no_run(alloc: Global, answers: &mut Vec<u8>, run: u64) -> Result<(), NoMemory>
     ensures ok { OnOk result (answers.new.items ≡ answers.old.items ++ no_run_text run) }
 {
-    push(answers, b"refused 29 No run ")?;
-    push_number(answers, run)?;
-    push(answers, b".\n")
+    let mut reason = Reason::plain(alloc, 29);
+    reason.first = run;
+    push_refused(alloc, answers, &reason)
 }
 
 /// Puts the line that no run has the number.
-pub fn push_unanswered(answers: &mut Vec<u8>, refusal: &AnswerRefusal) -> Result<(), NoMemory>
+pub fn push_unanswered(
+    alloc: Global,
+    answers: &mut Vec<u8>,
+    refusal: &AnswerRefusal,
+) -> Result<(), NoMemory>
     ensures ok { OnOk result (TellsNoRun refusal.now answers.old.items answers.new.items) }
 {
     match refusal {
-        AnswerRefusal::NoRun { run, .. } => push_no_run(answers, *run),
+        AnswerRefusal::NoRun { run, .. } => push_no_run(alloc, answers, *run),
         AnswerRefusal::NoMemory(_) => Err(NoMemory),
     }
 }
@@ -137,7 +142,7 @@ pub fn push_refused(alloc: Global, answers: &mut Vec<u8>, reason: &Reason) -> Re
 
 /// Puts what became of a call.
 pub fn push_called(alloc: Global, answers: &mut Vec<u8>, called: &Called) -> Result<(), NoMemory>
-    requires { IsTellable called.now }
+    requires { CalledHasText called.now }
     ensures ok { OnOk result (answers.new.items ≡ answers.old.items ++ called_text called.now) }
 {
     match called {

@@ -1,6 +1,6 @@
 use Rattle.std.proofs.Common.{length, sym, arith, rules}
 use Rattle.std.proofs.lemmas.List.Sums.{position_or_len_is}
-use Rattle.ow_http.specs.Segment.{is_slash}
+use Rattle.ow_names.specs.Slash.{is_slash}
 use Rattle.ow_http.proofs.parts.slash_place.Goals as goal
 
 pub returns-then-b-eq47-clause-place : goal.returns-then-b-eq47-clause-place

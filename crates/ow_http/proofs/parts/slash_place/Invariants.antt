@@ -1,5 +1,5 @@
 use Rattle.std.proofs.Common.{◌≡◌, ℕ, ◌<◌, false, get_or}
-use Rattle.ow_http.specs.Segment.{is_slash}
+use Rattle.ow_names.specs.Slash.{is_slash}
 use Rattle.ow_http.proofs.parts.slash_place.Given as goal
 
 abbrev pub invariant-loop-i : goal.invariant-loop-i

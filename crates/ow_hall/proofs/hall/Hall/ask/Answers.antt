@@ -19,7 +19,7 @@ invariant_of-self-2 g c =
     let decided = decided_ask c.self.inside.works ledger at c.counted.result c.in_ok-copied.copied _ c.in_ok-done.done c.self.invariant c.in_ok-done.ensures.done c.counted.ensures c.in_ok-copied.ensures in
     let given = sym (ap (λ a. Some (told.Asked (replies.Now a))) (c.in_ok-kept.ensures ∙ c.in_ok-answer.ensures)) in
     let moved = c.apply.ensures at _ (stays_at c.self.inside.works c.asked.new.self _ c.in_ok-done.ensures.floor c.in_ok-done.ensures.rows c.self.invariant.stands) in
-    let kept = keeps_entry c.self.inside.works c.apply.new.self ledger at event (Asks (done_of c.in_ok-done.done)) answered c.self.invariant (rw c.moment-at.ensures (not_before ledger.entries c.args.at)) (rw c.moment-at.ensures (not_after ledger.entries c.args.at c.self.invariant.legal)) (λ b. refl) decided given moved in
+    let kept = keeps_entry c.self.inside.works c.apply.new.self ledger at event (Asks (done_of c.in_ok-done.done)) answered c.self.invariant (rw c.moment-at.ensures.value (not_before ledger.entries c.args.at)) (rw c.moment-at.ensures.value (not_after ledger.entries c.args.at c.self.invariant.legal)) (λ b. refl) decided given moved in
     rw (c.add.ensures ∙ ap (with at event answered) c.in_ok-bytes.ensures.ledger) kept
 
 pub returns-clause-ledger : goal.returns-clause-ledger
@@ -33,7 +33,7 @@ returns-clause-ledger g c =
     let added = c.add.ensures ∙ ap (with at event answered) c.in_ok-bytes.ensures.ledger in
     let booked = posted_kept ledger at event (Asks (done_of c.in_ok-done.done)) answered decided (skips_done ledger.entries c.in_ok-done.done ∙ (sym c.is_full.ensures ∙ c.if-is_full.false)) given in
     let same = ap (λ r. posted ledger at (events.Asked r)) (told_by_parts c.in_ok-copied.copied c.args.request.now c.in_ok-copied.ensures) in
-    let timed = ap (λ m. posted ledger m (events.Asked c.args.request.now)) c.moment-at.ensures in
+    let timed = ap (λ m. posted ledger m (events.Asked c.args.request.now)) c.moment-at.ensures.value in
     let seen_so : ledger ≡ c.args.self.now.ledger = λ i. (c.self.view_is i).ledger in
     let viewed = ap (λ (L : Ledger). posted L (moment L.entries c.args.at) (events.Asked c.args.request.now)) seen_so in
     added ∙ (booked ∙ (same ∙ (timed ∙ viewed)))

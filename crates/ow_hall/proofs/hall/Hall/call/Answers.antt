@@ -1,6 +1,5 @@
-use Rattle.std.proofs.Common.{arith}
 use Rattle.ow_hall.proofs.HallLaws.{last_fit}
 use Rattle.ow_hall.proofs.hall.Hall.call.Goals as goal
 
 pub plan_call-requires : goal.plan_call-requires
-plan_call-requires g c = last_fit c.self.inside.works c.self.inside.book.ledger c.self.invariant (omega (arith, c.len-entries.ensures.value, c.len-entries.ensures.small))
+plan_call-requires g c = last_fit c.self.inside.works c.self.inside.book.ledger c.self.invariant c.moment-at.ensures.small

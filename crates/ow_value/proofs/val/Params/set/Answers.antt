@@ -12,7 +12,7 @@ invariant_of-self c =
 
 pub invariant_of-self-in-Continue-1 : goal.invariant_of-self-in-Continue-1
 invariant_of-self-in-Continue-1 c =
-    let same = insert_at c.self.inside.pairs.items c.deref.result.now c.insert.new.self.items c.as_str.result.now c.args.name (record { name = c.args.name; value = c.args.value }) c.in-Err.i _ c.deref.ensures.value c.as_str.ensures.value c.in_ok-insert-in-Err.ensures.items refl c.in-Err.ensures.err.1 refl in
+    let same = insert_at c.self.inside.pairs.items c.deref.result.now c.insert.new.self.items c.as_str.result.now (record { name = c.args.name; value = c.args.value }) c.in-Err.i _ c.deref.ensures.value c.as_str.ensures.value c.in_ok-insert-in-Err.ensures.items c.in-Err.ensures.err refl in
     subst IsObject (sym same) (IsObject-with_pair _ c.args.name (view c.args.value) c.self.invariant (subst IsUtf8 c.as_str.ensures.value c.as_str.ensures.utf8) c.known.ensures)
 
 pub returns-in-Ok-clause-ok : goal.returns-in-Ok-clause-ok
@@ -21,4 +21,4 @@ returns-in-Ok-clause-ok c =
 
 pub returns-in_ok-insert-in-Err-clause-ok : goal.returns-in_ok-insert-in-Err-clause-ok
 returns-in_ok-insert-in-Err-clause-ok c =
-    insert_at c.self.inside.pairs.items c.deref.result.now c.insert.new.self.items c.as_str.result.now c.args.name (record { name = c.args.name; value = c.args.value }) c.in-Err.i _ c.deref.ensures.value c.as_str.ensures.value c.in_ok-insert-in-Err.ensures.items refl c.in-Err.ensures.err.1 c.self.view_is
+    insert_at c.self.inside.pairs.items c.deref.result.now c.insert.new.self.items c.as_str.result.now (record { name = c.args.name; value = c.args.value }) c.in-Err.i _ c.deref.ensures.value c.as_str.ensures.value c.in_ok-insert-in-Err.ensures.items c.in-Err.ensures.err c.self.view_is

@@ -15,4 +15,4 @@ returns-in-Ok c =
 pub returns-in-Err : goal.returns-in-Err
 returns-in-Err c =
     let same = ap pair_views c.as_slice-pairs.ensures.value in
-    sym (absent c.args.name.now c.as_slice-pairs.result.now _ c.in-Err.ensures.err.1) ∙ ap (find c.args.name.now) (same ∙ c.self.view_is)
+    sym (absent c.args.name.now c.as_slice-pairs.result.now _ c.in-Err.ensures.err.0 c.in-Err.ensures.err.1) ∙ ap (find c.args.name.now) (same ∙ c.self.view_is)

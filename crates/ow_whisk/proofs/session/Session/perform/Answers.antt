@@ -6,7 +6,7 @@ use Rattle.ow_whisk.proofs.Meeting.{performed}
 use Rattle.ow_whisk.proofs.session.Session.perform.Goals as goal
 
 pub returns-in-At-clause-ok : goal.returns-in-At-clause-ok
-returns-in-At-clause-ok g c = rw c.in-At.is (Gives _, refl, (sym (append-nil _), refl))
+returns-in-At-clause-ok g c = rw c.in-At.is (Gives _, refl, (sym (append-nil _), c.set_moment.ensures.machine))
 
 pub returns-in-Next-clause-ok : goal.returns-in-Next-clause-ok
 returns-in-Next-clause-ok g c = rw c.in-Next.is (performed c.args.self.now c.next.new.self Next (Meets events.Next) _ _ c.next.result refl c.next.ensures.ok)

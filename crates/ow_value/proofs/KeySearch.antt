@@ -1,0 +1,115 @@
+-- What a search by key finds in a list, where `key` tells the key of each.
+use Rattle.std.proofs.Common.{◌≡◌, ◌≢◌, ℕ, zero, suc, ◌<◌, ◌≤◌, false, List, [], ◌∷◌, length, map, get_or, Result, Ok, Err, IfOk, IfErr, Ordering, Less, Equal, Greater, is_eq, refl, sym, ap, ◌∙◌, subst, inl, inr, arith}
+use Rattle.std.specs.List.{AllByRecursion, HoldsAt}
+use Rattle.std.specs.List.Sorted.{IsStrictlySortedBy, IsNonDecreasingBy, IsPartitionPoint, IsSearchInRange, IsBinarySearchResult}
+use Rattle.std.specs.Ordering.{ordering_index, ordering_reverse}
+use Rattle.std.specs.Str.{bytes_eq}
+use Rattle.std.proofs.lemmas.Bool.{cases_lt}
+use Rattle.std.proofs.lemmas.Cmp.{nat_list_cmp_total}
+use Rattle.std.proofs.lemmas.List.{get_or-map, length-map}
+use Rattle.std.proofs.lemmas.Map.Text.{is_eq-slice_cmp}
+use Rattle.std.proofs.lemmas.Slice.Eq.{bytes_eq-Decides}
+use Rattle.ow_value.specs.Value.{text_cmp}
+
+-- ---- two texts
+
+pub test_of : (a b : List ℕ) (o : Ordering) → text_cmp a b ≡ o → bytes_eq a b ≡ is_eq o
+test_of a b o e = sym (is_eq-slice_cmp a b) ∙ ap is_eq e
+
+pub equal_texts : (a b : List ℕ) → text_cmp a b ≡ Equal → a ≡ b
+equal_texts a b e = (bytes_eq-Decides a b).0 (test_of a b Equal e)
+
+pub turned : (a b : List ℕ) (o : Ordering) → text_cmp a b ≡ o → text_cmp b a ≡ ordering_reverse o
+turned a b o e = nat_list_cmp_total.antisymm b a ∙ ap ordering_reverse e
+
+-- a text below one that equals k is not k
+pub below_equal : (a b k : List ℕ) → text_cmp a b ≡ Less → text_cmp b k ≡ Equal → text_cmp k a ≡ Greater
+below_equal a b k lt eq = sym (nat_list_cmp_total.congr b k a eq) ∙ turned a b Less lt
+
+-- the order to k does not fall from a text to one above it
+pub rises_at : (a b k : List ℕ) (o : Ordering) → text_cmp a b ≡ Less → text_cmp b k ≡ o → ordering_index (text_cmp a k) ≤ ordering_index o
+rises_at a b k Less lt e = omega (arith, ap ordering_index (nat_list_cmp_total.trans a b k lt e))
+rises_at a b k Equal lt e = omega (arith, ap ordering_index (turned k a Greater (below_equal a b k lt e)))
+rises_at a b k Greater lt e = at_most (text_cmp a k)
+  where
+    at_most : (o : Ordering) → ordering_index o ≤ 2
+    at_most Less = omega arith
+    at_most Equal = omega arith
+    at_most Greater = omega arith
+
+not_equal : (o : Ordering) → ordering_reverse o ≢ Equal → is_eq o ≡ false
+not_equal Less h = refl
+not_equal Equal h = absurd (h refl)
+not_equal Greater h = refl
+
+-- a text to which k does not compare as equal is not k
+pub other : (a k : List ℕ) → text_cmp a k ≢ Equal → is_eq (text_cmp k a) ≡ false
+other a k h = not_equal _ (λ e. h (nat_list_cmp_total.antisymm a k ∙ e))
+
+-- ---- a list whose keys rise
+
+module _ {B : Type 0} (key : B → List ℕ) where
+  -- what holds of each key holds of the one at a place
+  pub key_at : (P : List ℕ → Type 0) (bs : List B) (j : ℕ) (d : B) → AllByRecursion P (map key bs) → j < length bs → P (key (get_or bs j d))
+  key_at P [] j d h lt = absurd (omega arith)
+  key_at P (b ∷ bs) zero d h lt = h.0
+  key_at P (b ∷ bs) (suc j) d h lt = key_at P bs j d h.1 (omega arith)
+
+  pub rises : (k : List ℕ) (bs : List B) → IsStrictlySortedBy text_cmp (map key bs) → IsNonDecreasingBy (λ b. ordering_index (text_cmp (key b) k)) bs
+  unfolding IsStrictlySortedBy
+  rises k [] h i j d le lt = absurd (omega arith)
+  rises k (b ∷ bs) h zero zero d le lt = omega arith
+  rises k (b ∷ bs) h zero (suc j) d le lt = rises_at (key b) (key (get_or bs j d)) k _ (key_at (λ a. text_cmp (key b) a ≡ Less) bs j d h.0 (omega arith)) refl
+  rises k (b ∷ bs) h (suc i) zero d le lt = absurd (omega arith)
+  rises k (b ∷ bs) h (suc i) (suc j) d le lt = rises k bs h.1 i j d (omega arith) (omega arith)
+
+  -- the key stands at that place
+  abbrev pub StandsAt : List ℕ → List B → ℕ → Type 0
+  StandsAt k bs i = (i < length bs) × HoldsAt (λ b. text_cmp (key b) k ≡ Equal) bs i
+
+  -- the keys part there into those below and those above
+  abbrev pub PartsAt : List ℕ → List B → ℕ → Type 0
+  PartsAt k bs i = IsPartitionPoint (λ b. text_cmp (key b) k ≡ Less) (λ b. text_cmp (key b) k ≡ Greater) bs i
+
+  pub searched : (k : List ℕ) (bs : List B) → IsStrictlySortedBy text_cmp (map key bs) → (r : Result ℕ ℕ) → IsSearchInRange r (length bs) → IsBinarySearchResult (λ b. text_cmp (key b) k) bs r
+      → record {
+        ok : IfOk r (λ i. StandsAt k bs i);
+        err : IfErr r (λ i. (i ≤ length bs) × PartsAt k bs i);
+      }
+  searched k bs up (Ok i) range found = record { ok = (range, found); err = tt }
+  searched k bs up (Err i) range found = record { ok = tt; err = (range, found (rises k bs up)) }
+
+  -- where the keys part, none is k
+  pub parted : (k : List ℕ) (bs : List B) (i : ℕ) → PartsAt k bs i → (j : ℕ) (d : B) → j < length bs → text_cmp (key (get_or bs j d)) k ≢ Equal
+  parted k bs i h j d lt e = elim (cases_lt j i) [
+    | inl below ↦ apart Less e (sym (h.0 j d (omega arith) below)) (λ x. cc)
+    | inr above ↦ apart Greater e (sym (h.1 j d above lt)) (λ x. cc)
+  ]
+    where
+      apart : (o : Ordering) {p : Ordering} → p ≡ Equal → o ≡ p → (o ≡ Equal → ⊥) → ⊥
+      apart o e f g = g (f ∙ e)
+
+-- ---- a list of what `row` takes out of others
+
+through : {A B : Type 0} (key : B → List ℕ) (row : A → B) (xs : List A) → map key (map row xs) ≡ map (λ x. key (row x)) xs
+through key row [] = refl
+through key row (x ∷ xs) = ap (λ ks. key (row x) ∷ ks) (through key row xs)
+
+module _ {A B : Type 0} (key : B → List ℕ) (row : A → B) where
+  pub key_through : (P : List ℕ → Type 0) (xs : List A) (j : ℕ) (d : A) → AllByRecursion P (map key (map row xs)) → j < length xs → P (key (row (get_or xs j d)))
+  key_through P xs j d h = key_at (λ x. key (row x)) P xs j d (subst (AllByRecursion P) (through key row xs) h)
+
+  pub searched_through : (k : List ℕ) (xs : List A) → IsStrictlySortedBy text_cmp (map key (map row xs)) → (r : Result ℕ ℕ) → IsSearchInRange r (length xs) → IsBinarySearchResult (λ x. text_cmp (key (row x)) k) xs r
+      → record {
+        ok : IfOk r (λ i. StandsAt (λ x. key (row x)) k xs i);
+        err : IfErr r (λ i. (i ≤ length xs) × PartsAt (λ x. key (row x)) k xs i);
+      }
+  searched_through k xs up = searched (λ x. key (row x)) k xs (subst (IsStrictlySortedBy text_cmp) (through key row xs) up)
+
+  pub parts_through : (k : List ℕ) (xs : List A) (i : ℕ) → i ≤ length xs → PartsAt (λ x. key (row x)) k xs i → PartsAt key k (map row xs) i
+  parts_through k [] i le h = (λ j d a b. absurd (omega (arith, a, b)), λ j d a b. absurd (omega (arith, a, b)))
+  parts_through k (x ∷ xs) i le h =
+      let same = length-map (x ∷ xs) row in (
+        λ j d a b. subst (λ y. text_cmp (key y) k ≡ Less) (sym (get_or-map row (x ∷ xs) j x d (omega (arith, same, a, b)))) (h.0 j x (omega (arith, same, a, b)) (omega (arith, same, a, b))),
+        λ j d a b. subst (λ y. text_cmp (key y) k ≡ Greater) (sym (get_or-map row (x ∷ xs) j x d (omega (arith, same, a, b)))) (h.1 j x (omega (arith, same, a, b)) (omega (arith, same, a, b))),
+      )

@@ -1,0 +1,6 @@
+-- Sizes that limits are told in.
+use Rattle.std.specs.Prelude.{ℕ}
+
+-- the bytes of 1 MB
+abbrev pub megabyte : ℕ
+megabyte = 1048576
