@@ -8,6 +8,8 @@ import subprocess
 import sys
 
 PROGRAM = os.path.join(os.path.dirname(__file__), "..", "crates", "ow_whisk", "out", "ow_whisk")
+if not os.access(PROGRAM, os.X_OK):
+    sys.exit("build the program first: (cd crates/ow_whisk && rt run -- day < ../../examples/first.day)")
 ECHO = "/whisk.system/utils/echo"
 ID = "00000000000000000000000000000001"
 STATEMENTS = [

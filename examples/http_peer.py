@@ -14,6 +14,8 @@ import sys
 import threading
 
 PROGRAM = os.path.join(os.path.dirname(__file__), "..", "crates", "ow_http_bench", "out", "ow_http_bench")
+if not os.access(PROGRAM, os.X_OK):
+    sys.exit("build the program first: (cd crates/ow_http_bench && rt run -- 1)")
 BODY = '{"exec":{"kind":"plain:1","code":"{}"},"note":"ü"}'
 PATH = "/api/v1/namespaces"
 NO_ROUTE = '{"code":36,"error":"There is no such route."}'

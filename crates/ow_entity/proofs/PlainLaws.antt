@@ -1,6 +1,6 @@
 -- Reading the form of plain code.
-use Rattle.std.proofs.Common.{◌≡◌, ℕ, List, length, ap}
-use Rattle.ow_value.specs.Value.{V, Pairs, object, members_of}
+use Rattle.std.proofs.Common.{◌≡◌, length, ap}
+use Rattle.ow_value.specs.Value.{Pairs, object, members_of}
 use Rattle.ow_value.specs.Field.{pairs_in-members_of}
 use Rattle.ow_entity.specs.Plain.{names_in}
 

@@ -10,25 +10,36 @@ use std::alloc::Global;
 /// An action as it stands.
 #[derive(Drop)]
 pub struct Action {
+    /// Where it stands, and what it is called there.
     pub name: FullName,
     /// Shown as `0.0.version`. The first is 1.
     pub version: u32,
+    /// Kept and shown. Only a package is shared by it.
     pub publish: bool,
+    /// What each call is given, where it doesn't give another value itself.
     pub params: Params,
     /// The annotations.
     pub notes: Params,
+    /// What a run carries out.
     pub exec: Exec,
+    /// What a run may take.
     pub limits: Limits,
 }
 
 /// An action as a body gives it: each field, or none where the body leaves it out.
 #[derive(Drop)]
 pub struct ActionDraft {
+    /// This comes from the path, and not from the body.
     pub name: FullName,
+    /// Whether it is published.
     pub publish: Option<bool>,
+    /// The parameters.
     pub params: Option<Params>,
+    /// The annotations.
     pub notes: Option<Params>,
+    /// What a run carries out. A new action must have it.
     pub exec: Option<Exec>,
+    /// Each limit is given or not by itself.
     pub limits: GivenLimits,
 }
 

@@ -22,8 +22,11 @@ impl Limits {
 /// The limits that a body gives, in the units of `Limits`.
 #[derive(Clone, Copy, PartialEq, Eq, Debug, Drop)]
 pub struct GivenLimits {
+    /// The time that a run may take.
     pub timeout: Option<u32>,
+    /// The memory that it may take.
     pub memory: Option<u32>,
+    /// What it may log.
     pub logs: Option<u32>,
 }
 

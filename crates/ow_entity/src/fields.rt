@@ -5,16 +5,27 @@ ghost use Rattle.ow_entity.specs.FieldName.{field_name};
 /// What a refusal calls the part of a body that it speaks of: a field, at whatever depth it stands, or the body itself.
 #[derive(Clone, Copy, PartialEq, Eq, Debug, Drop)]
 pub enum FieldName {
+    /// The body itself, which is to be an object.
     Body,
+    /// A list of pairs.
     Annotations,
+    /// A list of pairs.
     Parameters,
+    /// Whether the entity is published.
     Publish,
+    /// What an action runs: an object of the next two.
     Exec,
+    /// Of which kind the code is.
     Kind,
+    /// The code, or the name of a program.
     Code,
+    /// What a run may take: an object of the next three.
     Limits,
+    /// A number of milliseconds.
     Timeout,
+    /// A number of MB.
     Memory,
+    /// A number of MB.
     Logs,
 }
 

@@ -14,8 +14,6 @@ mod pairs;
 mod plain;
 mod refusal;
 mod rows;
-#[cfg(test)]
-mod tests;
 mod written;
 
 pub use actions::{Action, ActionDraft};

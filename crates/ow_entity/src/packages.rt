@@ -8,11 +8,13 @@ use std::alloc::Global;
 /// A package as it stands: what actions lie in, with parameters of its own below theirs.
 #[derive(Drop)]
 pub struct Package {
+    /// Where it stands, and what it is called there. It lies in no package.
     pub name: FullName,
     /// Shown as `0.0.version`. The first is 1.
     pub version: u32,
     /// Whether it is shared: whether other namespaces may read and invoke what lies in it.
     pub publish: bool,
+    /// What each action in it is given below its own parameters.
     pub params: Params,
     /// The annotations.
     pub notes: Params,

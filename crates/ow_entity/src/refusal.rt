@@ -9,8 +9,11 @@ use std::alloc::{AllocError, AllocFailed};
 /// Why a body gives no entity.
 #[derive(Clone, Copy, PartialEq, Eq, Debug, Drop)]
 pub enum EntityRefusal {
+    /// The field must be there, and isn't.
     MissingField { name: FieldName },
+    /// The field's value isn't of its form. Null is a value.
     WrongType { name: FieldName },
+    /// The field's number lies outside its range.
     OutOfRange { name: FieldName },
     /// The kind of the code, or of the entity, is none that the service has.
     UnknownKind,
@@ -18,6 +21,7 @@ pub enum EntityRefusal {
     TooLarge,
     /// The version of the old entity can't be raised.
     LastVersion,
+    /// This says nothing of the body.
     NoMemory,
 }
 

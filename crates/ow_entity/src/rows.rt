@@ -14,13 +14,16 @@ use std::alloc::Global;
 /// An entity as it stands.
 #[derive(Drop)]
 pub enum Row {
+    /// What can be called.
     Action(Action),
+    /// What actions lie in.
     Package(Package),
 }
 
 /// An entity as a body gives it.
 #[derive(Drop)]
 pub enum Draft {
+    /// Of an action.
     Action(ActionDraft),
 }
 

@@ -82,58 +82,40 @@ fn action_value(alloc: Global, action: &Action) -> Result<Val, NoMemory>
     ensures { IfOk result (λ v. view v ≡ action_value action.now) }
 {
     let mut fields = Params::new(alloc);
-    put(
-        alloc,
-        &mut fields,
-        "annotations",
-        Val::List(listed(alloc, &action.notes)?),
-    )?;
-    put(alloc, &mut fields, "exec", exec_value(alloc, &action.exec)?)?;
-    put(alloc, &mut fields, "limits", action.limits.value(alloc)?)?;
-    put(
-        alloc,
-        &mut fields,
-        "name",
-        text(alloc, action.name.name.as_str())?,
-    )?;
-    put(
-        alloc,
-        &mut fields,
-        "namespace",
-        shown_namespace(alloc, &action.name)?,
-    )?;
-    put(
-        alloc,
-        &mut fields,
-        "parameters",
-        Val::List(listed(alloc, &action.params)?),
-    )?;
+    let notes = listed(alloc, &action.notes)?;
+    put(alloc, &mut fields, "annotations", Val::List(notes))?;
+    let exec = exec_value(alloc, &action.exec)?;
+    put(alloc, &mut fields, "exec", exec)?;
+    let limits = action.limits.value(alloc)?;
+    put(alloc, &mut fields, "limits", limits)?;
+    let name = text(alloc, action.name.name.as_str())?;
+    put(alloc, &mut fields, "name", name)?;
+    let namespace = shown_namespace(alloc, &action.name)?;
+    put(alloc, &mut fields, "namespace", namespace)?;
+    let params = listed(alloc, &action.params)?;
+    put(alloc, &mut fields, "parameters", Val::List(params))?;
     put(alloc, &mut fields, "publish", Val::Bool(action.publish))?;
-    put(
-        alloc,
-        &mut fields,
-        "version",
-        shown_version(alloc, action.version)?,
-    )?;
+    let version = shown_version(alloc, action.version)?;
+    put(alloc, &mut fields, "version", version)?;
     Ok(Val::Object(fields))
 }
 
-fn write_package(alloc: Global, package: &Package) -> Result<Val, NoMemory>
-    ensures { IfOk result (λ v. view v ≡ package_value «package».now) }
+fn write_package(alloc: Global, bundle: &Package) -> Result<Val, NoMemory>
+    ensures { IfOk result (λ v. view v ≡ package_value bundle.now) }
 {
     let mut fields = Params::new(alloc);
-    let notes = listed(alloc, &package.notes)?;
+    let notes = listed(alloc, &bundle.notes)?;
     put(alloc, &mut fields, "annotations", Val::List(notes))?;
-    let binding = binding_value(alloc, &package.binding)?;
+    let binding = binding_value(alloc, &bundle.binding)?;
     put(alloc, &mut fields, "binding", binding)?;
-    let name = text(alloc, package.name.name.as_str())?;
+    let name = text(alloc, bundle.name.name.as_str())?;
     put(alloc, &mut fields, "name", name)?;
-    let namespace = shown_namespace(alloc, &package.name)?;
+    let namespace = shown_namespace(alloc, &bundle.name)?;
     put(alloc, &mut fields, "namespace", namespace)?;
-    let params = listed(alloc, &package.params)?;
+    let params = listed(alloc, &bundle.params)?;
     put(alloc, &mut fields, "parameters", Val::List(params))?;
-    put(alloc, &mut fields, "publish", Val::Bool(package.publish))?;
-    let version = shown_version(alloc, package.version)?;
+    put(alloc, &mut fields, "publish", Val::Bool(bundle.publish))?;
+    let version = shown_version(alloc, bundle.version)?;
     put(alloc, &mut fields, "version", version)?;
     Ok(Val::Object(fields))
 }

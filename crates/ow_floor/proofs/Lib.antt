@@ -4,5 +4,6 @@ pub mod Alters
 pub mod Tallies
 pub mod Loads
 pub mod Among
+pub mod Live
 pub mod Soundness
 pub mod Standing

@@ -13,10 +13,11 @@ use Rattle.ow_floor.specs.declared.activations.State.TheVariants.{Waiting, Runni
 use Rattle.ow_floor.specs.declared.answers.Drain.TheVariants as drains
 use Rattle.ow_floor.specs.View.{waits, carries, ids_of, started, update_first, remove_first}
 use Rattle.ow_floor.specs.Trace.{Trace, Run, End, Accepted, Ordered, Ended, Drained, accepted, ends, records, record_of, last, standing, open_items, run_count, head, carried}
-use Rattle.ow_floor.specs.Laws.{times, loads, IsApart, AreApart, IsParted, IsSound}
+use Rattle.ow_floor.specs.Laws.{times, loads, IsApart, AreApart, IsParted, IsSound, RunOnce}
 use Rattle.ow_floor.specs.Calls.{IsNext, activation_of, after_accept, after_next, after_order, after_answered, after_end, after_drain, end_by, drain_answer, AllRecorded, KeepSound}
 use Rattle.ow_floor.proofs.Among.{known_push, known_more, found_among}
 use Rattle.ow_floor.proofs.Alters.{alter, alter_update, alter_remove, shown_new}
+use Rattle.ow_floor.proofs.Live.{live_accepted, live_ordered, live_ended, unknown_accepted, unknown_ordered, unknown_ended, run_once}
 use Rattle.ow_floor.proofs.Loads.{loads-waiting, loads-started, loads-removed, single_more, unused_more}
 use Rattle.ow_floor.proofs.Tallies.{times-push, ids_of-started, length-started, times-removed, length-removed, times-split, times_once}
 
@@ -85,7 +86,7 @@ pub records_ended : (end : End) (T : Trace) → records (Ended end ∷ T) ≡ re
 records_ended end T = map-append record_of (ends T) (end ∷ [])
 
 pub sound_start : IsSound []
-sound_start = record { apart = tt; drawn = tt; once = λ id. refl; number = refl; known = tt; single = λ run. omega arith; unused = λ run lt. refl }
+sound_start = record { apart = tt; drawn = tt; once = λ id. refl; number = refl; known = tt; single = λ run. omega arith; unused = λ run lt. refl; live = tt; unknown = λ id apart. refl }
 
 pub sound_accepted : (a : Activation) (T : Trace) → IsNext a.id T → IsSound T → IsSound (Accepted a ∷ T)
 sound_accepted a T new sound =
@@ -102,6 +103,8 @@ sound_accepted a T new sound =
       known = known_push a (accepted T) (ends T) sound.known;
       single = λ run. rw (is_open, loads-waiting run a (open_items T)) (sound.single run);
       unused = λ run lt. rw (is_open, loads-waiting run a (open_items T)) (sound.unused run lt);
+      live = live_accepted a T (accepted T) (new_id_apart a T new sound) sound.live sound.unknown;
+      unknown = unknown_accepted a T (accepted T) sound.unknown;
     }
 
 pub sound_ordered : (run : Run) (o : Open) (T : Trace) → run.task ≡ o.task → run.number ≡ run_count T + 1 → head T ≡ Some o → IsSound T → IsSound (Ordered run ∷ T)
@@ -117,6 +120,8 @@ sound_ordered run o T is next found sound =
           (single_more (run_count T) r (loads r (open_items T)) (sound.single r) (sound.unused r));
       unused = λ r lt. rw (is_open, loads-started r run.number (open_items T) o found, next)
           (unused_more (run_count T) r (loads r (open_items T)) lt (sound.unused r));
+      live = live_ordered run o T (accepted T) is found sound.live;
+      unknown = unknown_ordered run o T is found sound.unknown;
     }
 
 pub sound_ended : (p : Open → Bool) (end : End) (o : Open) (T : Trace) → end.task ≡ o.task → find p (open_items T) ≡ Some o → IsSound T → IsSound (Ended end ∷ T)
@@ -137,6 +142,8 @@ sound_ended p end o T is found sound =
       known = known_more end (accepted T) (ends T) (rw is (found_among p (standing T) (accepted T) o found)) sound.known;
       single = λ run. let fewer = loads-removed p run (open_items T) in rw is_open (omega (arith, fewer, sound.single run));
       unused = λ run lt. let fewer = loads-removed p run (open_items T) in rw is_open (omega (arith, fewer, sound.unused run lt));
+      live = live_ended end T (accepted T) sound.live;
+      unknown = unknown_ended end T (accepted T) sound.unknown;
     }
 
 pub sound_drained : (at : ℕ) (T : Trace) → IsSound T → IsSound (Drained at ∷ T)
@@ -148,6 +155,8 @@ sound_drained at T sound = record {
   known = sound.known;
   single = sound.single;
   unused = sound.unused;
+  live = sound.live;
+  unknown = sound.unknown;
 }
 
 -- the same for the calls
@@ -180,6 +189,10 @@ parted T sound = record {
   once = λ id. times_once id (accepted T) sound.apart;
   parts = λ id. rw (times-split id (open_items T)) (sound.once id);
 }
+
+-- in a sound trace no accepted activation has two live runs
+pub runs_once : (T : Trace) → IsSound T → RunOnce T
+runs_once T sound = run_once T sound.live
 
 none_open : (os : List Open) → length os ≡ 0 → (id : Id) → times id (ids_of os) ≡ 0
 none_open [] e id = refl

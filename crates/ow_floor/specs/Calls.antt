@@ -20,7 +20,7 @@ use Rattle.ow_floor.specs.declared.answers.AnswerRefusal.{AnswerRefusal}
 use Rattle.ow_floor.specs.declared.answers.AnswerRefusal.TheVariants.{NoRun, NoMemory}
 use Rattle.ow_floor.specs.declared.answers.Drain.{Drain}
 use Rattle.ow_floor.specs.declared.answers.Drain.TheVariants.{Drained, StillOpen}
-use Rattle.ow_floor.specs.View.{FloorView, carries, order_for, with_run, with_end}
+use Rattle.ow_floor.specs.View.{FloorLists, carries, order_for, with_run, with_end}
 use Rattle.ow_floor.specs.Trace as trace
 use Rattle.ow_floor.specs.Trace.{Trace, Run, End, grown, accepted, open_items, record_of, run_count, last, head, carried}
 use Rattle.ow_floor.specs.Laws.{Stands, IsSound, AreAllRecorded}
@@ -113,15 +113,15 @@ AllRecorded T (StillOpen n) = Unit {0}
 
 -- the contracts: whichever trace the floor stood as, this is the answer, and so it stands afterwards.
 -- An acceptance
-abbrev pub Accepts : FloorView → FloorView → ℕ → Plan → Type 0
+abbrev pub Accepts : FloorLists → FloorLists → ℕ → Plan → Type 0
 Accepts old new at plan = (T : Trace) → Stands old T → Stands new (after_accept at plan T)
 
 -- a call of `next`
-abbrev pub Orders : FloorView → FloorView → ℕ → Order → Type 0
+abbrev pub Orders : FloorLists → FloorLists → ℕ → Order → Type 0
 Orders old new at order = (T : Trace) → Stands old T → (order ≡ next_order T) × Stands new (after_next at T)
 
 -- a call of `answered`, which wants memory only where the run carries an activation
-abbrev pub Answers : FloorView → FloorView → ℕ → ℕ → RunReply → Result Answered AnswerRefusal → Type 0
+abbrev pub Answers : FloorLists → FloorLists → ℕ → ℕ → RunReply → Result Answered AnswerRefusal → Type 0
 Answers old new at run reply (Err (NoMemory back)) = (T : Trace) → Stands old T → IsSome (carried T run)
 Answers old new at run reply result = (T : Trace) → Stands old T → (result ≡ answer_to at run reply T) × Stands new (after_answered at run reply T)
 
@@ -130,13 +130,18 @@ abbrev pub given_of : Result AnsweredTwice AnswerRefusal → Result Answered Ans
 given_of (Ok two) = Ok two.given
 given_of (Err refusal) = Err refusal
 
+-- the number of a refusal
+abbrev pub answer_number : AnswerRefusal → ℕ
+answer_number (NoRun run reply) = 29
+answer_number (NoMemory reply) = 0
+
 -- a refusal hands back the run's number and the reply
 abbrev pub HandsBack : ℕ → RunReply → AnswerRefusal → Type 0
 HandsBack run reply (NoRun number back) = (number ≡ run) × (back ≡ reply)
 HandsBack run reply (NoMemory back) = back ≡ reply
 
 -- a call of `drain`
-abbrev pub Drains : FloorView → FloorView → ℕ → Drain → Type 0
+abbrev pub Drains : FloorLists → FloorLists → ℕ → Drain → Type 0
 Drains old new at drain = (T : Trace) → Stands old T → (drain ≡ drain_answer T) × Stands new (after_drain at T)
 
 -- each call keeps the trace sound
@@ -148,12 +153,12 @@ pub record KeepSound : Type 0 where
   pub drain : (at : ℕ) (T : Trace) → IsSound T → IsSound (after_drain at T)
 
 -- a call of `next` over the lists alone, of which the first that waits is given
-abbrev pub IsStarted : FloorView → FloorView → ℕ → Order → Option Open → Type 0
+abbrev pub IsStarted : FloorLists → FloorLists → ℕ → Order → Option Open → Type 0
 IsStarted old new at order None = (order ≡ order_of (old.runs + 1) None) × (new ≡ old)
 IsStarted old new at order (Some o) = (order ≡ order_of (old.runs + 1) (Some o)) × (new ≡ with_run at old)
 
 -- a call of `answered` over the lists alone, where what the run carries is given
-abbrev pub IsAnswered : FloorView → FloorView → ℕ → ℕ → RunReply → Result Answered AnswerRefusal → Option Open → Type 0
+abbrev pub IsAnswered : FloorLists → FloorLists → ℕ → ℕ → RunReply → Result Answered AnswerRefusal → Option Open → Type 0
 IsAnswered old new at run reply (Err (NoMemory back)) found = IsSome found
 IsAnswered old new at run reply result None = (result ≡ answer_of at run reply None) × (new ≡ old)
 IsAnswered old new at run reply result (Some o) = (result ≡ answer_of at run reply (Some o))

@@ -1,12 +1,14 @@
 -- What is true of every trace that the calls of a floor make, and what a floor is seen as.
-use Rattle.std.specs.Prelude.{◌≡◌, ◌⊎◌, ◌+◌, ◌<◌, ◌≤◌, ℕ, false, List, [], ◌∷◌, length, if◌then◌else◌}
+use Rattle.std.specs.Prelude.{◌≡◌, ◌⊎◌, ◌+◌, ◌<◌, ◌≤◌, ℕ, false, List, [], ◌∷◌, Option, Some, length, if◌then◌else◌}
 use Rattle.std.specs.List.{AllByRecursion}
 use Rattle.ow_records.specs.declared.ids.Id.{Id}
 use Rattle.ow_records.specs.Id.{same_id}
 use Rattle.ow_floor.specs.declared.activations.Activation.{Activation}
 use Rattle.ow_floor.specs.declared.activations.Open.{Open}
-use Rattle.ow_floor.specs.View.{FloorView, carries, last_of, ids_of, waiting_of, running_of, recorded_of}
-use Rattle.ow_floor.specs.Trace.{Trace, accepted, accepted_ids, ends, records, run_count, last, latest, is_draining, open_items, waiting, running, recorded}
+use Rattle.ow_floor.specs.declared.activations.State.{State}
+use Rattle.ow_floor.specs.declared.activations.State.TheVariants.{Running}
+use Rattle.ow_floor.specs.View.{FloorLists, carries, last_of, ids_of, waiting_of, running_of, recorded_of}
+use Rattle.ow_floor.specs.Trace.{Trace, accepted, accepted_ids, ends, records, run_count, last, latest, is_draining, open_items, waiting, running, recorded, standing, live_runs}
 
 -- how often an id stands in a list
 abbrev pub times : Id → List Id → ℕ
@@ -45,8 +47,18 @@ abbrev pub AreApart : List Activation → Type 0
 AreApart [] = Unit {0}
 AreApart (a ∷ xs) = IsApart a.id xs × AreApart xs
 
+-- how many live runs an activation has that stands so
+abbrev pub live_in : Option State → ℕ
+live_in (Some (Running run)) = 1
+live_in s = 0
+
+-- no accepted activation has two live runs
+abbrev pub RunOnce : Trace → Type 0
+RunOnce T = AllByRecursion (λ a. live_runs T a.id ≤ 1) (accepted T)
+
 -- no id is accepted twice; counts are drawn upwards; each accepted id is open or recorded, once; what has ended
--- was accepted; each run carries one activation at most, and none before it is ordered
+-- was accepted; each run carries one activation at most, and none before it is ordered; an accepted activation has
+-- a live run exactly where one carries it, and what was not accepted has none
 pub record IsSound (T : Trace) : Type 0 where
   pub apart : AreApart (accepted T)
   pub drawn : AllByRecursion (λ a. a.id.count ≤ last T a.id.namespace) (accepted T)
@@ -55,9 +67,11 @@ pub record IsSound (T : Trace) : Type 0 where
   pub known : EndedWereAccepted T
   pub single : (run : ℕ) → loads run (open_items T) ≤ 1
   pub unused : (run : ℕ) → run_count T < run → loads run (open_items T) ≡ 0
+  pub live : AllByRecursion (λ a. live_runs T a.id ≡ live_in (standing T a.id)) (accepted T)
+  pub unknown : (id : Id) → IsApart id (accepted T) → live_runs T id ≡ 0
 
 -- a floor stands as the trace says
-pub record Stands (v : FloorView) (T : Trace) : Type 0 where
+pub record Stands (v : FloorLists) (T : Trace) : Type 0 where
   pub items : v.open_items ≡ open_items T
   pub ended : v.ended ≡ records T
   pub drawn : (namespace : ℕ) → last_of v.drawn namespace ≡ last T namespace
@@ -67,7 +81,7 @@ pub record Stands (v : FloorView) (T : Trace) : Type 0 where
   pub sound : IsSound T
 
 -- the three lists of a floor are those of the trace
-pub record Shows (v : FloorView) (T : Trace) : Type 0 where
+pub record Shows (v : FloorLists) (T : Trace) : Type 0 where
   pub waiting : waiting_of v ≡ waiting T
   pub running : running_of v ≡ running T
   pub recorded : recorded_of v ≡ recorded T

@@ -122,6 +122,17 @@ abbrev pub standing : Trace → Id → Option State
 standing [] id = None
 standing (item ∷ T) id = standing_after item id (standing T id)
 
+-- a run is live from its order until its activation has ended
+abbrev pub live_after : Item → Id → ℕ → ℕ
+live_after (Ordered run) id n = if same_id run.task.id id then n + 1 else n
+live_after (Ended end) id n = if same_id end.task.id id then 0 else n
+live_after item id n = n
+
+-- how many runs of an activation are live
+abbrev pub live_runs : Trace → Id → ℕ
+live_runs [] id = 0
+live_runs (item ∷ T) id = live_after item id (live_runs T id)
+
 -- an open activation, where it stands in a state
 abbrev pub open_of : Activation → Option State → Option Open
 open_of a None = None

@@ -18,7 +18,7 @@ use Rattle.ow_floor.specs.declared.answers.RunOrder.{RunOrder}
 
 -- the activations that have not ended, by acceptance; the records of those that have, by their ends; the last
 -- id of each namespace; how many runs were ordered; the moment of the newest thing; whether it drains
-pub record FloorView : Type 0 where
+pub record FloorLists : Type 0 where
   pub open_items : List Open
   pub ended : List Ended
   pub drawn : List Id
@@ -27,8 +27,8 @@ pub record FloorView : Type 0 where
   pub draining : Bool
 
 -- a floor: its lists, and for how many more acceptances and ends there is room
-pub record FloorSight : Type 0 where
-  pub lists : FloorView
+pub record FloorView : Type 0 where
+  pub lists : FloorLists
   pub room : ℕ
 
 abbrev pub is_waiting : State → Bool
@@ -60,15 +60,15 @@ abbrev pub ids_of : List Open → List Id
 ids_of os = map (λ o. o.task.id) os
 
 -- the ids that wait on a floor
-abbrev pub waiting_of : FloorView → List Id
+abbrev pub waiting_of : FloorLists → List Id
 waiting_of v = ids_of (filter waits v.open_items)
 
 -- the ids that run on a floor
-abbrev pub running_of : FloorView → List Id
+abbrev pub running_of : FloorLists → List Id
 running_of v = ids_of (filter runs_now v.open_items)
 
 -- the ids that are recorded on a floor
-abbrev pub recorded_of : FloorView → List Id
+abbrev pub recorded_of : FloorLists → List Id
 recorded_of v = map (λ e. e.id) v.ended
 
 abbrev pub count_or_zero : Option Id → ℕ
@@ -134,7 +134,7 @@ abbrev pub started : ℕ → Open → Open
 started run o = record { task = o.task; state = Running run }
 
 -- an activation is accepted
-abbrev pub with_accepted : Activation → FloorView → FloorView
+abbrev pub with_accepted : Activation → FloorLists → FloorLists
 with_accepted a v = record v {
   open_items = v.open_items ++ record { task = a; state = Waiting } ∷ [];
   drawn = put_id a.id v.drawn;
@@ -142,7 +142,7 @@ with_accepted a v = record v {
 }
 
 -- the first that waits is run
-abbrev pub with_run : ℕ → FloorView → FloorView
+abbrev pub with_run : ℕ → FloorLists → FloorLists
 with_run at v = record v {
   open_items = update_first waits (started (v.runs + 1)) v.open_items;
   runs = v.runs + 1;
@@ -150,13 +150,9 @@ with_run at v = record v {
 }
 
 -- the first that passes has ended
-abbrev pub with_end : (Open → Bool) → Ended → FloorView → FloorView
+abbrev pub with_end : (Open → Bool) → Ended → FloorLists → FloorLists
 with_end p ended v = record v {
   open_items = remove_first p v.open_items;
   ended = v.ended ++ ended ∷ [];
   latest = ended.at;
 }
-
--- the floor drains
-abbrev pub with_drain : ℕ → FloorView → FloorView
-with_drain at v = record v { latest = at; draining = true }

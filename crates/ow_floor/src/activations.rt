@@ -26,16 +26,24 @@ pub struct Plan {
     pub until: Option<u64>,
 }
 
-/// What was accepted. `at` is the moment of the acceptance, in milliseconds, and the rest is that of its plan.
+/// What was accepted.
 #[derive(Drop)]
 pub struct Activation {
+    /// That of its plan, as all but the moment.
     pub id: Id,
+    /// The moment of the acceptance, in milliseconds.
     pub at: u64,
+    /// The namespace that is charged for it.
     pub namespace: EntityName,
+    /// The action as it stood at the acceptance.
     pub action: Action,
+    /// The merged parameters, with which it is run.
     pub params: Params,
+    /// In whose name it is run.
     pub subject: Str,
+    /// The activation that it is a part of.
     pub cause: Option<Id>,
+    /// Up to which moment, in milliseconds, the request that made it waits for the end.
     pub until: Option<u64>,
 }
 
@@ -57,11 +65,14 @@ pub struct Open {
     pub state: State,
 }
 
-/// The record of an activation that has ended. `at` is the moment of its end, in milliseconds.
+/// The record of an activation that has ended.
 #[derive(Drop)]
 pub struct Ended {
+    /// The activation.
     pub id: Id,
+    /// The moment of its end, in milliseconds.
     pub at: u64,
+    /// The outcome of what ended it.
     pub response: Response,
 }
 

@@ -104,6 +104,20 @@ pub enum Drain {
     StillOpen(u64),
 }
 
+impl AnswerRefusal {
+    ghost use Rattle.ow_floor.specs.Calls.{answer_number};
+
+    /// By which a client tells the refusals apart. Want of memory has 0.
+    pub fn number(&self) -> u32
+        ensures { result ≡ answer_number self.now }
+    {
+        match self {
+            AnswerRefusal::NoRun { .. } => 29,
+            AnswerRefusal::NoMemory(_) => 0,
+        }
+    }
+}
+
 impl RunOrder {
     ghost use Rattle.ow_floor.specs.View.{order_for};
 
@@ -203,7 +217,7 @@ impl Happened {
         ensures { IfOk result (λ h. h ≡ happening ∷ []) }
     {
         let mut items = Vec::with_capacity(alloc, 1)?;
-        items.push(happening)?;
+        items.push_reserved(happening);
         Ok(Happened { items })
     }
 

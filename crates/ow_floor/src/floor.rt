@@ -36,9 +36,9 @@ impl Model for Floor {
     ghost use Rattle.std.specs.Prelude.{◌-◌, min, vec_len, vec_capacity};
     ghost use Rattle.std.specs.Coded.{codes};
     ghost use Rattle.ow_value.specs.Code.{value_code};
-    ghost use Rattle.ow_floor.specs.View.{FloorSight};
+    ghost use Rattle.ow_floor.specs.View.{FloorView};
 
-    ghost Value = { FloorSight };
+    ghost Value = { FloorView };
 
     ghost coded = { Prim.hlevel (codes, value_code) };
 
@@ -113,6 +113,20 @@ impl Floor {
         self.ended.as_slice()
     }
 
+    /// What `next` would order now.
+    pub fn coming(&self, alloc: Global) -> Result<Order, NoMemory>
+        requires { self.now.lists.runs + 1 < 2 ^ 64 }
+        ensures order { IfOk result (λ order. order ≡ order_of (self.now.lists.runs + 1) (find waits self.now.lists.open_items)) }
+        ensures trace { IfOk result (λ order. (T : Trace) → Stands self.now.lists T → order ≡ next_order T) }
+        ensures empty { OnErr result (IsSome (find waits self.now.lists.open_items)) }
+    {
+        let Some(place) = waiting_place(&self.open_items) else {
+            return Ok(Order::Nothing(Idle::Empty));
+        };
+        let task = &self.open_items[place].task;
+        Ok(Order::Run(RunOrder::of(alloc, self.runs + 1, task)?))
+    }
+
     /// Makes room for so many acceptances and ends in all, so that these want no memory for the lists.
     pub fn reserve(&mut self, count: usize) -> Result<(), NoMemory>
         ensures lists { self.new.lists ≡ self.old.lists }
@@ -140,19 +154,6 @@ impl Floor {
         self.reserve(1)?;
         self.place(activation_of(at, plan));
         Ok(happened)
-    }
-
-    /// What `next` would order now.
-    pub fn coming(&self, alloc: Global) -> Result<Order, NoMemory>
-        requires { self.now.lists.runs + 1 < 2 ^ 64 }
-        ensures order { IfOk result (λ order. order ≡ order_of (self.now.lists.runs + 1) (find waits self.now.lists.open_items)) }
-        ensures trace { IfOk result (λ order. (T : Trace) → Stands self.now.lists T → order ≡ next_order T) }
-    {
-        let Some(place) = waiting_place(&self.open_items) else {
-            return Ok(Order::Nothing(Idle::Empty));
-        };
-        let task = &self.open_items[place].task;
-        Ok(Order::Run(RunOrder::of(alloc, self.runs + 1, task)?))
     }
 
     /// Runs what has waited longest, if anything waits. Runs are numbered from 1.
@@ -229,11 +230,10 @@ impl Floor {
     {
         note_id(&mut self.drawn, task.id);
         self.latest = task.at;
-        let item = Open {
+        self.open_items.push_reserved(Open {
             task,
             state: State::Waiting,
-        };
-        let _ = self.open_items.push(item);
+        });
     }
 
     // Starts the first that waits.
@@ -273,16 +273,16 @@ impl Floor {
         let Some(place) = run_place(&self.open_items, run) else {
             return Err(AnswerRefusal::NoRun { run, reply });
         };
+        if self.ended.reserve(1).is_err() {
+            return Err(AnswerRefusal::NoMemory(reply));
+        }
         let ending = Ending::Replied(reply);
         let task = &self.open_items[place].task;
         let Ok((ended, answered)) = record_end(alloc, &mut self.scratch, at, task, &ending) else {
             let Ending::Replied(reply) = ending;
             return Err(AnswerRefusal::NoMemory(reply));
         };
-        if self.ended.push(ended).is_err() {
-            let Ending::Replied(reply) = ending;
-            return Err(AnswerRefusal::NoMemory(reply));
-        }
+        self.ended.push_reserved(ended);
         let _ = self.open_items.remove(place);
         self.latest = at;
         Ok(answered)

@@ -2,7 +2,7 @@
 // contracts are the laws.
 ghost use Rattle.std.specs.Prelude.{◌≤◌, ℕ};
 ghost use Rattle.ow_floor.specs.Trace.{Trace, open_items};
-ghost use Rattle.ow_floor.specs.Laws.{EndedWereAccepted, IsParted, IsSound, Shows, Stands, loads};
+ghost use Rattle.ow_floor.specs.Laws.{EndedWereAccepted, IsParted, IsSound, RunOnce, Shows, Stands, loads};
 ghost use Rattle.ow_floor.specs.Calls.{AllRecorded, KeepSound, drain_answer};
 
 use crate::Floor;
@@ -24,6 +24,11 @@ pub fn sound_traces_are_parted()
 /// In a sound trace no run carries two activations.
 pub fn runs_carry_one_each()
     ensures { (T : Trace) → IsSound T → (run : ℕ) → loads run (open_items T) ≤ 1 }
+{}
+
+/// In a sound trace no accepted activation has two live runs.
+pub fn activations_run_once()
+    ensures { (T : Trace) → IsSound T → RunOnce T }
 {}
 
 /// In a sound trace what has ended was accepted, as it was planned.

@@ -6,8 +6,6 @@ mod answers;
 mod floor;
 mod laws;
 mod places;
-#[cfg(test)]
-mod tests;
 
 pub use activations::{Activation, Ended, Open, Plan, State};
 pub use answers::{
@@ -15,6 +13,6 @@ pub use answers::{
 };
 pub use floor::Floor;
 pub use laws::{
-    calls_keep_traces_sound, ended_were_accepted, runs_carry_one_each, sound_traces_are_parted,
-    when_drained_all_are_recorded,
+    activations_run_once, calls_keep_traces_sound, ended_were_accepted, runs_carry_one_each,
+    sound_traces_are_parted, when_drained_all_are_recorded,
 };

@@ -35,9 +35,7 @@ pub(crate) fn note_id(ids: &mut Vec<Id>, id: Id)
 {
     match namespace_place(ids, id.namespace) {
         Some(place) => ids[place] = id,
-        None => {
-            let _ = ids.push(id);
-        }
+        None => ids.push_reserved(id),
     }
 }
 

@@ -16,7 +16,7 @@ use Rattle.ow_hall.specs.Book.{Keeps}
 use Rattle.ow_hall.specs.Decisions.{Seen, Decision, Asks, told_of, after}
 use Rattle.ow_hall.specs.History.{AreAnswered, History, IsLegal, answer, counted, decision, greatest_moment, is_skipped, last_moment, moment, opens_here, seen, with_entry}
 use Rattle.ow_hall.specs.Ledger.{Ledger, posted, tallied}
-use Rattle.ow_hall.specs.Works.{WorksView, IsAt, done_of, is_full_done}
+use Rattle.ow_hall.specs.State.{StateView, IsAt, done_of, is_full_done}
 use Rattle.ow_hall.proofs.Bounds.{runs_small, last_small}
 
 -- ---- what is left out
@@ -28,27 +28,27 @@ skips_done B (Changed ready) = refl
 
 -- ---- numbers that fit
 
-pub runs_fit : (w : WorksView) (L : Ledger) → Keeps w L → length L.entries < 2 ^ 63 → w.floor.runs + 1 < 2 ^ 64
+pub runs_fit : (w : StateView) (L : Ledger) → Keeps w L → length L.entries < 2 ^ 63 → w.floor.runs + 1 < 2 ^ 64
 runs_fit w L keeps small =
     let most = runs_small L.entries in
     rw keeps.stands.stands.runs (omega (arith, most, small))
 
-pub last_fit : (w : WorksView) (L : Ledger) → Keeps w L → length L.entries < 2 ^ 63 → (n : ℕ) → last_of w.floor.drawn n + 1 < 2 ^ 64
+pub last_fit : (w : StateView) (L : Ledger) → Keeps w L → length L.entries < 2 ^ 63 → (n : ℕ) → last_of w.floor.drawn n + 1 < 2 ^ 64
 last_fit w L keeps small = λ n.
     let most = last_small L.entries n in
     rw (keeps.stands.stands.drawn n) (omega (arith, most, small))
 
 -- ---- what was decided, by what the code has in hand
 
-pub decided_ask : (w : WorksView) (L : Ledger) (at n : ℕ) (r : Request) (p : Parts) (d : Done) → Keeps w L
+pub decided_ask : (w : StateView) (L : Ledger) (at n : ℕ) (r : Request) (p : Parts) (d : Done) → Keeps w L
     → done_of d ≡ asked w.rows n p → n ≡ counted L.entries → parts_of r ≡ p → decision L.entries at (events.Asked r) ≡ Asks (done_of d)
 decided_ask w L at n r p d keeps done count parts =
     ap (λ rows. Asks (asked rows (counted L.entries) (parts_of r))) (sym keeps.stands.rows)
     ∙ (ap (λ m. Asks (asked w.rows m (parts_of r))) (sym count)
     ∙ (ap (λ q. Asks (asked w.rows n q)) parts ∙ ap Asks (sym done)))
 
--- works that stand as before
-pub stays_at : (old new : WorksView) (S : Seen) → new.floor ≡ old.floor → new.rows ≡ old.rows → IsAt old S → IsAt new S
+-- floor and rows that stand as before
+pub stays_at : (old new : StateView) (S : Seen) → new.floor ≡ old.floor → new.rows ≡ old.rows → IsAt old S → IsAt new S
 stays_at old new S floor rows stands = record {
   stands = subst (λ v. Stands v S.trace) (sym floor) stands.stands;
   rows = rows ∙ stands.rows;
@@ -88,7 +88,7 @@ pub not_after : (B : History) (at : ℕ) → IsLegal B → moment B at ≤ great
 not_after B at legal = max-le (newest_small B legal.answered) (min-le_right at greatest_moment)
 
 -- an entry that is booked as it was decided, and carried out so
-pub keeps_entry : (old new : WorksView) (L : Ledger) (at : ℕ) (event : Event) (d : Decision) (t : Told) → Keeps old L
+pub keeps_entry : (old new : StateView) (L : Ledger) (at : ℕ) (event : Event) (d : Decision) (t : Told) → Keeps old L
     → last_moment L.entries ≤ at → at ≤ greatest_moment → ((b : Bool) → opens_here event L.entries b ≡ b)
     → decision L.entries at event ≡ d → told_of d ≡ Some t → IsAt new (after at d (seen L.entries)) → Keeps new (with at event t L)
 keeps_entry old new L at event d t keeps later most opens same told stands = record {

@@ -1,4 +1,3 @@
-mod RequestLaws
 mod AskLaws
 mod Bounds
 mod HallLaws

@@ -14,8 +14,7 @@ use Rattle.ow_http.specs.Reason.{plain, name_reason, told}
 use Rattle.ow_http.specs.declared.call_refusal.CallRefusal.{CallRefusal}
 use Rattle.ow_http.specs.declared.call_refusal.CallRefusal.TheVariants as calls
 use Rattle.ow_http.specs.declared.reason.Reason.{Reason}
-use Rattle.ow_hall.specs.Reasons.{entity_reason, call_reason, table_reason}
-use Rattle.ow_hall.specs.Works.{HasStatus, HasText}
+use Rattle.ow_hall.specs.Reasons.{HasStatus, HasText, entity_reason, call_reason, table_reason}
 
 -- ---- those of the hall itself
 

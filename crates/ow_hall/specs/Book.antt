@@ -8,7 +8,7 @@ use Rattle.ow_hall.specs.declared.entry.Event.TheVariants as events
 use Rattle.ow_hall.specs.declared.entry.Told.TheVariants as told
 use Rattle.ow_hall.specs.History.{IsLegal, answer, moment, seen}
 use Rattle.ow_hall.specs.Ledger.{Ledger, no_entries, posted}
-use Rattle.ow_hall.specs.Works.{WorksView, IsAt}
+use Rattle.ow_hall.specs.State.{StateView, IsAt}
 
 -- a hall: its ledger, and its store
 pub record HallView (P : Type 0) : Type 0 where
@@ -16,7 +16,7 @@ pub record HallView (P : Type 0) : Type 0 where
   pub store : P
 
 -- the book is legal, and floor and rows stand as it says
-pub record Keeps (w : WorksView) (L : Ledger) : Type 0 where
+pub record Keeps (w : StateView) (L : Ledger) : Type 0 where
   pub stands : IsAt w (seen L.entries)
   pub legal : IsLegal L.entries
 

@@ -1,5 +1,5 @@
 -- The book: events with their moments and answers, the newest first. Every word about it is a recursion over that list.
-use Rattle.std.specs.Prelude.{◌≡◌, ◌+◌, ◌≤◌, ℕ, Bool, true, false, List, [], ◌∷◌, length, map, sum, min, max, Option, Some, None, if◌then◌else◌, Err}
+use Rattle.std.specs.Prelude.{◌≡◌, ◌+◌, ◌≤◌, ℕ, Bool, true, false, List, [], ◌∷◌, length, map, sum, min, max, Option, Some, None, Err}
 use Rattle.ow_traits.specs.declared.replies.RunReply.{RunReply}
 use Rattle.ow_traits.specs.declared.replies.RunReply.TheVariants as runs
 use Rattle.ow_floor.specs.declared.answers.Order.TheVariants as orders
@@ -103,10 +103,6 @@ is_skipped B d = false
 abbrev pub with_entry : ℕ → Event → Option Told → History → History
 with_entry at event None B = B
 with_entry at event (Some t) B = record { at = at; event = event; answer = t } ∷ B
-
--- the book after a call
-abbrev pub booked : History → ℕ → Event → History
-booked B at event = if is_skipped B (decision B at event) then B else with_entry at event (answer B at event) B
 
 -- ---- legal books
 

@@ -6,5 +6,5 @@ pub mod Calls
 pub mod Decisions
 pub mod History
 pub mod Ledger
-pub mod Works
+pub mod State
 pub mod Book

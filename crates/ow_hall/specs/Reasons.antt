@@ -1,5 +1,5 @@
 -- Refusals, by the numbers by which clients know them.
-use Rattle.std.specs.Prelude.{◌==◌, ℕ, Bool, Option, Some, None, if◌then◌else◌}
+use Rattle.std.specs.Prelude.{◌≢◌, ◌==◌, ℕ, Bool, Option, Some, None, IsSome, if◌then◌else◌}
 use Rattle.ow_value.specs.Refusal as values
 use Rattle.ow_entity.specs.FieldName.{field_name}
 use Rattle.ow_entity.specs.Refusal as entities
@@ -8,7 +8,7 @@ use Rattle.ow_entity.specs.declared.refusal.EntityRefusal.TheVariants.{MissingFi
 use Rattle.ow_tables.specs.Refusals.{table_refusal_number}
 use Rattle.ow_tables.specs.declared.refusal.TableRefusal.{TableRefusal}
 use Rattle.ow_tables.specs.declared.refusal.TableRefusal.TheVariants.{Entity}
-use Rattle.ow_http.specs.Reason.{plain, naming, name_reason}
+use Rattle.ow_http.specs.Reason.{plain, naming, name_reason, status_of, told}
 use Rattle.ow_http.specs.declared.call_refusal.CallRefusal.{CallRefusal}
 use Rattle.ow_http.specs.declared.call_refusal.CallRefusal.TheVariants as calls
 use Rattle.ow_http.specs.declared.reason.Reason.{Reason}
@@ -40,3 +40,12 @@ table_reason e = plain (table_refusal_number e)
 -- that the book is full
 abbrev pub tells_full : Reason → Bool
 tells_full reason = reason.number == 33
+
+-- clients can be answered so: the number has a status, and isn't 45, with which a result is told too
+pub record HasStatus (reason : Reason) : Type 0 where
+  pub status : IsSome (status_of reason)
+  pub alone : reason.number ≢ 45
+
+-- people can be told the refusal: the number has a text
+abbrev pub HasText : Reason → Type 0
+HasText reason = IsSome (told reason)

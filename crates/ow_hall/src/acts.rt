@@ -72,11 +72,27 @@ fn entity_act(kind: EntityKind, method: Verb, call: Call) -> Act
         draft,
         ..
     } = call;
-    match (method, name) {
-        (Verb::Get, Some(name)) => Act::Gets { kind, name },
-        (Verb::Delete, Some(name)) => Act::Removes { kind, name },
-        (Verb::Put, Some(_)) => put_act(draft, overwrite),
-        _ => Act::Nothing,
+    let Some(name) = name else {
+        drop(draft);
+        return Act::Nothing;
+    };
+    match method {
+        Verb::Get => {
+            drop(draft);
+            Act::Gets { kind, name }
+        }
+        Verb::Delete => {
+            drop(draft);
+            Act::Removes { kind, name }
+        }
+        Verb::Put => {
+            drop(name);
+            put_act(draft, overwrite)
+        }
+        _ => {
+            drop((draft, name));
+            Act::Nothing
+        }
     }
 }
 

@@ -3,7 +3,8 @@ ghost use Rattle.std.specs.Prelude.{◌≡◌, ℕ, IfOk, IfSome};
 ghost use Rattle.ow_http.specs.Request.{parts_of};
 ghost use Rattle.ow_hall.specs.Asks.{acted, asked, full, namespace_of, unbuilt, ungranted};
 ghost use Rattle.ow_hall.specs.Spaces as spaces;
-ghost use Rattle.ow_hall.specs.Works.{DoneHasStatus, HasStatus, IsReady, done_of};
+ghost use Rattle.ow_hall.specs.Reasons.{HasStatus};
+ghost use Rattle.ow_hall.specs.State.{DoneHasStatus, IsReady, done_of};
 
 use crate::acts::{Act, act_of, is_built};
 use crate::book::is_full;

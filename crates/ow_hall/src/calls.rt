@@ -5,7 +5,7 @@ ghost use Rattle.ow_floor.specs.Laws.{Stands};
 ghost use Rattle.ow_floor.specs.Trace.{Trace};
 ghost use Rattle.ow_hall.specs.Calls.{callee, fitting, pairs_of, plan_for};
 ghost use Rattle.ow_hall.specs.Decisions.{called_of};
-ghost use Rattle.ow_hall.specs.Works.{CalledHasText, IsNextOf, PlannedHasText, called_by, is_full_plan, planned_of};
+ghost use Rattle.ow_hall.specs.State.{CalledHasText, IsNextOf, PlannedHasText, called_by, is_full_plan, planned_of};
 
 use crate::asks::full;
 use crate::reasons::{DRAINING, FULL, NOT_FOUND, TOO_LARGE};
@@ -99,12 +99,15 @@ fn plan_for(
 ) -> Result<Plan, NoMemory>
     ensures { IfOk result (λ p. p ≡ plan_for id name.now action.now params) }
 {
+    let subject = Str::of(alloc, OFFICE)?;
+    let namespace = name.namespace.copy(alloc)?;
+    let action = action.copy(alloc)?;
     Ok(Plan {
         id,
-        namespace: name.namespace.copy(alloc)?,
-        action: action.copy(alloc)?,
+        namespace,
+        action,
         params,
-        subject: Str::of(alloc, OFFICE)?,
+        subject,
         cause: None,
         until: None,
     })

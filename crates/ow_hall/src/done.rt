@@ -3,7 +3,7 @@ ghost use Rattle.std.specs.Prelude.{◌≡◌, IfOk};
 ghost use Rattle.ow_value.specs.View.{view};
 ghost use Rattle.ow_hall.specs.Asks.{good, rows_done};
 ghost use Rattle.ow_hall.specs.Decisions.{answer_of};
-ghost use Rattle.ow_hall.specs.Works.{DoneHasStatus, IsReady, done_of, is_full_done};
+ghost use Rattle.ow_hall.specs.State.{DoneHasStatus, IsReady, done_of, is_full_done};
 
 use crate::reasons::FULL;
 use ow_entity::write_entity;
@@ -48,8 +48,10 @@ impl Done {
         requires { IsReady self tables.old.room }
         ensures { tables.new.rows ≡ rows_done (done_of self) tables.old.rows }
     {
-        if let Done::Changed(ready) = self {
-            tables.apply(ready);
+        match self {
+            Done::Refused(reason) => drop(reason),
+            Done::Shown(value) => drop(value),
+            Done::Changed(ready) => tables.apply(ready),
         }
     }
 }

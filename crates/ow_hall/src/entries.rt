@@ -72,7 +72,7 @@ impl Entries {
         requires { 1 ≤ self.old.room }
         ensures { self.new.items ≡ self.old.items ++ entry ∷ [] }
     {
-        let _ = self.items.push(entry);
+        self.items.push_reserved(entry);
     }
 
     /// An equal list.
@@ -82,7 +82,7 @@ impl Entries {
         let mut items = Vec::with_capacity(alloc, self.items.len())?;
         for entry in &self.items {
             let copied = entry.copy(alloc)?;
-            items.push(copied)?;
+            items.push_reserved(copied);
         }
         Ok(Entries { items })
     }

@@ -46,8 +46,11 @@ pub enum Told {
 /// An event with its moment, in milliseconds, and its answer.
 #[derive(Drop)]
 pub struct Entry {
+    /// The moment that is booked, which may be later than the one that was given.
     pub at: u64,
+    /// What came.
     pub event: Event,
+    /// What was answered.
     pub answer: Told,
 }
 

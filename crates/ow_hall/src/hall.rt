@@ -3,12 +3,12 @@ ghost use Rattle.std.specs.Prelude.{◌≡◌, Some, IfOk, OnOk, OnErr};
 ghost use Rattle.ow_hall.specs.Book.{RepliesSo, opened};
 ghost use Rattle.ow_hall.specs.History.{IsLegal, answer, moment};
 ghost use Rattle.ow_hall.specs.Ledger.{posted};
-ghost use Rattle.ow_hall.specs.Works.{CalledHasText};
+ghost use Rattle.ow_hall.specs.State.{CalledHasText};
 
 use crate::book::{Book, body_bytes, reply_bytes};
 use crate::entry::{Event, Told};
 use crate::replies::{Called, Reply};
-use crate::works::Works;
+use crate::state::HallState;
 use ow_floor::{AnswerRefusal, Answered, AnsweredTwice, Drain, Happened, Order};
 use ow_http::Request;
 use ow_names::FullName;
@@ -20,7 +20,7 @@ use std::marker::Model;
 /// The service behind one book. Moments are milliseconds; one that is before the last booked one counts as that.
 #[derive(Drop)]
 pub struct Hall<P: Keeper + Drop> {
-    works: Works,
+    state: HallState,
     book: Book,
     store: P,
 }
@@ -36,7 +36,7 @@ impl<P: Keeper + Drop> Model for Hall<P> {
 
     ghost view = { λ h. record { ledger = h.book.ledger; store = h.store } };
 
-    ghost invariant = { λ h. Keeps h.works h.book.ledger };
+    ghost invariant = { λ h. Keeps h.state h.book.ledger };
 }
 
 impl<P: Keeper + Drop> Hall<P> {
@@ -46,13 +46,13 @@ impl<P: Keeper + Drop> Hall<P> {
         ensures ledger { IfOk result (λ h. h.ledger ≡ opened at) }
         ensures store { IfOk result (λ h. h.store ≡ store) }
     {
-        let works = Works::new(alloc)?;
+        let state = HallState::new(alloc)?;
         let mut book = Book::new(alloc);
         let at = book.moment(at);
         let bytes = book.reserve(Some(0))?;
         let event = Event::Opened(Rows::new(alloc));
         book.add(at, event, Told::Opened(Happened::none(alloc)), bytes);
-        Ok(Hall { works, book, store })
+        Ok(Hall { state, book, store })
     }
 
     /// The book so far.
@@ -82,7 +82,7 @@ impl<P: Keeper + Drop> Hall<P> {
         ensures store { self.new.store ≡ self.old.store }
     {
         let at = self.book.moment(at);
-        let done = self.works.asked(alloc, self.book.counted(), request)?;
+        let done = self.state.asked(alloc, self.book.counted(), request)?;
         let answer = done.answer(alloc)?;
         if done.is_full() {
             return Ok(Reply::Now(answer));
@@ -91,7 +91,7 @@ impl<P: Keeper + Drop> Hall<P> {
         let bytes = self.book.reserve(bytes)?;
         let copied = request.copy(alloc)?;
         let kept = answer.copy(alloc)?;
-        self.works.apply(done);
+        self.state.apply(done);
         self.book.add(
             at,
             Event::Asked(copied),
@@ -118,16 +118,34 @@ impl<P: Keeper + Drop> Hall<P> {
         ensures text { IfOk result CalledHasText }
     {
         let at = self.book.moment(at);
-        let bytes = self.book.reserve(Some(0))?;
-        let copied = name.copy(alloc)?;
-        let planned = self
-            .works
-            .plan_call(alloc, self.book.counted(), name, &params)?;
-        let booked = planned.told(alloc)?;
+        let counted = self.book.counted();
+        let Ok(planned) = self.state.plan_call(alloc, counted, name, &params) else {
+            drop(params);
+            return Err(NoMemory);
+        };
+        let Ok(booked) = planned.told(alloc) else {
+            drop((planned, params));
+            return Err(NoMemory);
+        };
         if planned.is_full() {
+            drop((planned, params));
             return Ok(booked);
         }
-        let called = self.works.take(alloc, at, planned)?;
+        let Ok(bytes) = self.book.reserve(Some(0)) else {
+            drop((planned, params));
+            drop(booked);
+            return Err(NoMemory);
+        };
+        let Ok(copied) = name.copy(alloc) else {
+            drop((planned, params));
+            drop(booked);
+            return Err(NoMemory);
+        };
+        let Ok(called) = self.state.take(alloc, at, planned) else {
+            drop((copied, params));
+            drop(booked);
+            return Err(NoMemory);
+        };
         self.book.add(
             at,
             Event::Called {
@@ -150,13 +168,13 @@ impl<P: Keeper + Drop> Hall<P> {
         ensures store { self.new.store ≡ self.old.store }
     {
         let at = self.book.moment(at);
-        let booked = self.works.coming(alloc)?;
+        let booked = self.state.coming(alloc)?;
         if booked.is_nothing() && self.book.is_idle() {
             self.book.note_quiet();
             return Ok(booked);
         }
         let bytes = self.book.reserve(Some(0))?;
-        let order = self.works.next(alloc, at)?;
+        let order = self.state.next(alloc, at)?;
         self.book.add(at, Event::Next, Told::Next(booked), bytes);
         Ok(order)
     }
@@ -180,7 +198,7 @@ impl<P: Keeper + Drop> Hall<P> {
         let Ok(bytes) = self.book.reserve(reply_bytes(&reply)) else {
             return Err(AnswerRefusal::NoMemory(reply));
         };
-        match self.works.answered(alloc, at, run, reply) {
+        match self.state.answered(alloc, at, run, reply) {
             Ok(AnsweredTwice { given, kept }) => {
                 let event = Event::Answered { run, reply: copied };
                 self.book.add(at, event, Told::Answered(kept), bytes);
@@ -205,7 +223,7 @@ impl<P: Keeper + Drop> Hall<P> {
     {
         let at = self.book.moment(at);
         let bytes = self.book.reserve(Some(0))?;
-        let drain = self.works.drain(at);
+        let drain = self.state.drain(at);
         self.book.add(at, Event::Drain, Told::Drain(drain), bytes);
         Ok(drain)
     }

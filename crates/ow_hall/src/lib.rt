@@ -12,9 +12,7 @@ mod hall;
 mod reasons;
 mod replies;
 mod spaces;
-#[cfg(test)]
-mod tests;
-mod works;
+mod state;
 
 pub use book::{Book, GREATEST_MOMENT};
 pub use entries::Entries;

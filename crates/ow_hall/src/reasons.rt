@@ -1,7 +1,6 @@
 // Refusals by their numbers and with what they name: those of the hall itself, and those of the crates below.
 ghost use Rattle.std.specs.Prelude.{◌≡◌, IfOk};
-ghost use Rattle.ow_hall.specs.Reasons.{entity_reason, call_reason, table_reason};
-ghost use Rattle.ow_hall.specs.Works.{HasStatus};
+ghost use Rattle.ow_hall.specs.Reasons.{HasStatus, call_reason, entity_reason, table_reason};
 
 use ow_entity::EntityRefusal;
 use ow_http::{CallRefusal, Reason};

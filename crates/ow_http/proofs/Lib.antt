@@ -3,3 +3,5 @@ pub mod BySegments
 pub mod ByPart
 pub mod Rows
 pub mod PlaceFound
+pub mod RequestLaws
+mod ReadLaws

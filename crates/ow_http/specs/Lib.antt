@@ -9,6 +9,7 @@ pub mod Pair
 pub mod Parts
 pub mod PlaceOf
 pub mod Query
+pub mod Read
 pub mod Reason
 pub mod Refusal
 pub mod Refused

@@ -1,9 +1,9 @@
 -- The bytes of a reply.
 use Rattle.std.specs.Prelude.{ℕ, List, [], ◌∷◌, ◌++◌, Bool, ◌||◌, ◌&&◌, ◌==◌, nat_le, nat_lt, if◌then◌else◌, codes, decimal, unwrap_or, length}
 use Rattle.std.specs.List.{flat_map}
-use Rattle.std.specs.Str.{str_eq_ignore_ascii_case}
 use Rattle.http.specs.StatusCode.{reason_phrase}
 use Rattle.ow_http.specs.declared.answer.Answer.{Answer}
+use Rattle.ow_http.specs.Fields.{is_named, last_named}
 use Rattle.ow_http.specs.Pair.{Pair}
 
 -- CR LF
@@ -21,24 +21,16 @@ status_line status = codes "HTTP/1.1 " ++ decimal status ++ codes " " ++ phrase_
 unfoldable pub header_line : Pair → List ℕ
 header_line h = h.0 ++ codes ": " ++ h.1 ++ line_end
 
--- the header tells the body's type
-abbrev pub is_type : Pair → Bool
-is_type h = str_eq_ignore_ascii_case h.0 (codes "content-type")
-
 -- the type is written apart, in front of the length
 unfoldable pub own_line : Pair → List ℕ
-own_line h = if is_type h then [] else header_line h
+own_line h = if is_named (codes "content-type") h then [] else header_line h
 
 abbrev pub own_lines : List Pair → List ℕ
 own_lines headers = flat_map own_line headers
 
--- the type that the last such header tells, or this one
-abbrev pub type_or : List ℕ → List Pair → List ℕ
-type_or told [] = told
-type_or told (h ∷ hs) = type_or (if is_type h then h.1 else told) hs
-
+-- the type that the last such header tells
 abbrev pub type_of : List Pair → List ℕ
-type_of headers = type_or (codes "application/json") headers
+type_of headers = unwrap_or (last_named (codes "content-type") headers) (codes "application/json")
 
 -- the length, and the empty line
 unfoldable pub length_line : ℕ → List ℕ

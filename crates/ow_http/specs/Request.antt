@@ -1,6 +1,4 @@
 -- What a request tells.
-use Rattle.std.specs.Prelude.{ℕ}
-use Rattle.ow_http.specs.declared.request.Read.{Read}
 use Rattle.ow_http.specs.declared.request.Request.{Request}
 use Rattle.ow_http.specs.Parts.{Parts}
 
@@ -16,7 +14,3 @@ parts_of r = record {
   size = r.size;
   close = r.close;
 }
-
--- with how many bytes it took
-abbrev pub read_parts : Read → Parts × ℕ
-read_parts r = (parts_of r.request, r.used)

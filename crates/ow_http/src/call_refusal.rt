@@ -8,13 +8,17 @@ use std::alloc::Global;
 #[derive(Drop)]
 pub enum CallRefusal {
     /// The first wrong value of the query, by its name.
-    BadQuery { name: Str },
+    BadQuery {
+        /// As it stands in the query, decoded.
+        name: Str,
+    },
     /// A part of the path is no name.
     BadName(NameRefusal),
     /// The body is no value.
     BadValue(ValueRefusal),
     /// The body gives no entity.
     BadEntity(EntityRefusal),
+    /// Comes at any place, and says nothing of the request.
     NoMemory,
 }
 

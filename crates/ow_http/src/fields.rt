@@ -42,7 +42,8 @@ pub(crate) fn last_named<'a>(fields: &'a [(Str, Str)], name: &str) -> Option<&'a
     found
 }
 
-fn is_named(field: &(Str, Str), name: &str) -> bool
+/// Whether the header has this name, in any case of its letters.
+pub(crate) fn is_named(field: &(Str, Str), name: &str) -> bool
     ensures { result ≡ is_named name.now field.now }
 {
     field.0.as_str().eq_ignore_ascii_case(name)

@@ -13,10 +13,11 @@ pub enum HttpRefusal {
     NoRoute,
     /// No route takes the method, or that of the path doesn't.
     BadMethod,
-    /// Over 4,194,304 bytes.
+    /// The body has over 4,194,304 bytes.
     BodyTooLarge,
     /// The bytes end inside head or body.
     CutShort,
+    /// Comes at any place, and says nothing of the bytes.
     NoMemory,
 }
 

@@ -1,11 +1,9 @@
+//! Requests read from bytes, what they call for, and answers written as bytes.
 #![tactic(auto)]
 
-// HTTP requests as bytes are read here, and answers are written as bytes.
 mod answer;
 mod call;
 mod call_refusal;
-#[cfg(test)]
-mod call_tests;
 mod calls;
 mod fields;
 mod head;
@@ -20,8 +18,6 @@ mod reply;
 mod request;
 mod route;
 mod routes;
-#[cfg(test)]
-mod tests;
 mod texts;
 mod values;
 mod verb;

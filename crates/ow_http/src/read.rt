@@ -8,6 +8,7 @@ ghost use Rattle.ow_http.specs.Fields.{is_text, last_named};
 ghost use Rattle.ow_http.specs.Head.{HasHead, IsBadHead, IsCutHead};
 ghost use Rattle.ow_http.specs.Judged.{judged, judged_method, judged_body, asked_of, as_asked};
 ghost use Rattle.ow_http.specs.Gives.{Gives, GivesRead};
+ghost use Rattle.ow_http.specs.Read.{ReadsAs};
 ghost use Rattle.ow_http.specs.Route.{takes, is_whole};
 ghost use Rattle.ow_http.specs.Verb.{verb_of};
 ghost use Rattle.ow_http.specs.declared.http_refusal.HttpRefusal.TheVariants.{BadHead, CutShort, NoMemory as OutOfMemory};
@@ -41,6 +42,12 @@ struct Asked<'a> {
 impl Routes {
     /// The request at the front of the bytes, by routes that are there already.
     pub fn read(&self, alloc: Global, bytes: &[u8]) -> Result<Read, HttpRefusal>
+        ensures { ReadsAs bytes.now result }
+    {
+        self.read_as_judged(alloc, bytes)
+    }
+
+    fn read_as_judged(&self, alloc: Global, bytes: &[u8]) -> Result<Read, HttpRefusal>
         ensures judged { (h : RequestHead) (rest : List ℕ) → HasHead bytes.now h rest → GivesRead (judged (asked_of h rest)) result }
         ensures whole { OnOk result ((h : RequestHead) × (rest : List ℕ) × HasHead bytes.now h rest) }
         ensures headless { ((h : RequestHead) (rest : List ℕ) → ¬ (HasHead bytes.now h rest))
@@ -56,10 +63,7 @@ impl Routes {
 
 /// The request at the front of the bytes. It makes the routes anew: one that reads many requests calls `Routes::read`.
 pub fn read_request(alloc: Global, bytes: &[u8]) -> Result<Read, HttpRefusal>
-    ensures judged { (h : RequestHead) (rest : List ℕ) → HasHead bytes.now h rest → GivesRead (judged (asked_of h rest)) result }
-    ensures whole { OnOk result ((h : RequestHead) × (rest : List ℕ) × HasHead bytes.now h rest) }
-    ensures headless { ((h : RequestHead) (rest : List ℕ) → ¬ (HasHead bytes.now h rest))
-        → IfErr result (λ e. ((e ≡ BadHead) × IsBadHead bytes.now) ⊎ ((e ≡ CutShort) × IsCutHead bytes.now) ⊎ (e ≡ OutOfMemory)) }
+    ensures { ReadsAs bytes.now result }
 {
     let routes = Routes::new(alloc)?;
     routes.read(alloc, bytes)

@@ -6,6 +6,7 @@ use std::alloc::Global;
 /// Why something is refused: a number, and what its text names.
 #[derive(Drop)]
 pub struct Reason {
+    /// By which clients tell refusals apart. Want of memory has 0.
     pub number: u32,
     /// A field, a parameter or a query value.
     pub name: Str,

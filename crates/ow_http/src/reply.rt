@@ -1,9 +1,10 @@
 // Answers as bytes (RFC 9112).
 ghost use Rattle.std.specs.Prelude.{◌≡◌, ◌++◌, OnOk, IfOk, unwrap_or, [], length, codes};
 ghost use Rattle.http.specs.StatusCode.{reason_phrase, IsStatusCode};
-ghost use Rattle.ow_http.specs.Reply.{phrase_of, header_line, status_line, is_bare, length_line, body_part, reply_bytes, is_type, own_lines, own_line, type_of};
+ghost use Rattle.ow_http.specs.Reply.{phrase_of, header_line, status_line, is_bare, length_line, body_part, reply_bytes, own_lines, own_line, type_of};
 
 use crate::answer::Answer;
+use crate::fields::{is_named, last_named};
 use http::StatusCode;
 use ow_value::{NoMemory, Str};
 use std::alloc::Global;
@@ -33,7 +34,7 @@ fn push_headers(out: &mut Vec<u8>, headers: &[(Str, Str)]) -> Result<(), NoMemor
 fn push_own(out: &mut Vec<u8>, header: &(Str, Str)) -> Result<(), NoMemory>
     ensures { OnOk result (out.new.items ≡ out.old.items ++ own_line header.now) }
 {
-    if is_type(header) {
+    if is_named(header, "content-type") {
         return Ok(());
     }
     push_header(out, header.0.as_str(), header.1.as_str())
@@ -50,22 +51,13 @@ fn push_body(alloc: Global, out: &mut Vec<u8>, a: &Answer) -> Result<(), NoMemor
     }
 }
 
-fn is_type(header: &(Str, Str)) -> bool
-    ensures { result ≡ is_type header.now }
-{
-    header.0.as_str().eq_ignore_ascii_case("content-type")
-}
-
 fn type_of(headers: &[(Str, Str)]) -> &str
     ensures { result.now ≡ type_of headers.now }
 {
-    let mut found = "application/json";
-    for header in headers {
-        if is_type(header) {
-            found = header.1.as_str();
-        }
+    match last_named(headers, "content-type") {
+        Some(kind) => kind.as_str(),
+        None => "application/json",
     }
-    found
 }
 
 // A number that isn't of three digits has no phrase.

@@ -10,7 +10,9 @@ use std::alloc::Global;
 /// A request that was read. Its route takes its method.
 #[derive(Drop)]
 pub struct Request {
+    /// What the path names.
     pub route: Route,
+    /// One that the route takes.
     pub method: Verb,
     /// The value of the last header `X-Whisk-Key`.
     pub key: Option<Str>,
@@ -20,6 +22,7 @@ pub struct Request {
     pub raw_query: Str,
     /// All headers in their order, with their names as they came.
     pub headers: Pairs,
+    /// As many bytes as `Content-Length` tells, or none.
     pub body: Bytes,
     /// How many bytes head and body have.
     pub size: u64,
@@ -34,8 +37,21 @@ impl Request {
     ghost use Rattle.std.specs.Prelude.{◌↔◌, IsTrue, IfOk};
     ghost use Rattle.ow_http.specs.Request.{parts_of};
 
-    /// Whether both have the same parts.
+    /// Whether both are equal.
     pub fn same(&self, other: &Request) -> bool
+        ensures { IsTrue result ↔ (self.now ≡ other.now) }
+    {
+        self.has_parts_of(other)
+    }
+
+    /// An equal request.
+    pub fn copy(&self, alloc: Global) -> Result<Request, NoMemory>
+        ensures { IfOk result (λ r. r ≡ self.now) }
+    {
+        self.made_of_parts(alloc)
+    }
+
+    fn has_parts_of(&self, other: &Request) -> bool
         ensures { IsTrue result ↔ (parts_of self.now ≡ parts_of other.now) }
     {
         self.route.same(&other.route)
@@ -49,8 +65,7 @@ impl Request {
             && self.close == other.close
     }
 
-    /// An equal request.
-    pub fn copy(&self, alloc: Global) -> Result<Request, NoMemory>
+    fn made_of_parts(&self, alloc: Global) -> Result<Request, NoMemory>
         ensures { IfOk result (λ r. parts_of r ≡ parts_of self.now) }
     {
         Ok(Request {
@@ -70,25 +85,27 @@ impl Request {
 /// A request and how many bytes of the input it took.
 #[derive(Drop)]
 pub struct Read {
+    /// The request at the front of the input.
     pub request: Request,
-    /// The bytes of head and body, as many as the request's size.
+    /// The bytes of its head and body.
     pub used: usize,
+
+    pub ghost sized: { used ≡ request.size },
 }
 
 impl Read {
     ghost use Rattle.std.specs.Prelude.{◌↔◌, IsTrue, IfOk};
-    ghost use Rattle.ow_http.specs.Request.{read_parts};
 
-    /// Whether both have the same parts.
+    /// Whether both are equal.
     pub fn same(&self, other: &Read) -> bool
-        ensures { IsTrue result ↔ (read_parts self.now ≡ read_parts other.now) }
+        ensures { IsTrue result ↔ (self.now ≡ other.now) }
     {
-        self.request.same(&other.request) && self.used == other.used
+        self.request.same(&other.request)
     }
 
-    /// An equal request.
+    /// An equal request, of as many bytes.
     pub fn copy(&self, alloc: Global) -> Result<Read, NoMemory>
-        ensures { IfOk result (λ r. read_parts r ≡ read_parts self.now) }
+        ensures { IfOk result (λ r. r ≡ self.now) }
     {
         Ok(Read {
             request: self.request.copy(alloc)?,

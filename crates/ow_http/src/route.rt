@@ -26,31 +26,45 @@ pub enum Route {
     Namespaces,
     /// The entities of one kind in a namespace.
     List {
+        /// `_` where it is the caller's own.
         namespace: Bytes,
+        /// The kind of all that are listed.
         kind: EntityKind,
     },
-    /// One entity. Only an action stands in a package.
+    /// One entity.
     Entity {
+        /// `_` where it is the caller's own.
         namespace: Bytes,
+        /// The kind by which the path names it.
         kind: EntityKind,
+        /// The package in which it stands. Only an action has one.
         package: Option<Bytes>,
+        /// Its own name, without namespace and package.
         name: Bytes,
     },
     /// The activations of a namespace.
     Activations {
+        /// `_` where it is the caller's own.
         namespace: Bytes,
     },
     /// One activation, or a part of it.
     Activation {
+        /// `_` where it is the caller's own.
         namespace: Bytes,
+        /// As the path tells it, of any length.
         id: Bytes,
+        /// What of it is asked for.
         part: Part,
     },
-    /// A web action. The rest of the path has no slash at its front, and U+FFFD for what isn't UTF-8. It is empty where the path ends with the name.
+    /// A web action.
     Web {
+        /// That of the action.
         namespace: Bytes,
+        /// `default` where the action stands in no package.
         package: Bytes,
+        /// The action's name with its extension.
         name: Bytes,
+        /// What follows the slash behind the name, with U+FFFD for what isn't UTF-8. It is empty where the path ends with the name.
         rest: Str,
     },
 }

@@ -9,13 +9,14 @@ use ow_value::{Str, decimal_of};
 
 /// Which values are looked at.
 #[derive(Clone, Copy, PartialEq, Eq, Debug, Drop)]
-pub enum Wants {
+pub(crate) enum Wants {
     /// `limit` and `skip` of a list.
     Pages,
     /// `overwrite` of a put.
     Overwrite,
     /// `blocking` and `result` of an invocation.
     Invocation,
+    /// None.
     Nothing,
 }
 

@@ -4,11 +4,17 @@ ghost use Rattle.std.specs.Prelude.{◌≡◌};
 /// A method that some route takes (RFC 9110, section 9, and RFC 5789 for PATCH).
 #[derive(Clone, Copy, PartialEq, Eq, Debug, Drop)]
 pub enum Verb {
+    /// `GET`, to read.
     Get,
+    /// `PUT`, to make or replace.
     Put,
+    /// `POST`, to start something or to set a state.
     Post,
+    /// `DELETE`, to remove.
     Delete,
+    /// `PATCH`, which web actions alone take.
     Patch,
+    /// `OPTIONS`, which web actions alone take.
     Options,
 }
 

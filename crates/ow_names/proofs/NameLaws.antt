@@ -1,7 +1,8 @@
 -- What the first fault says of a text, and that a name has none.
-use Rattle.std.proofs.Common.{◌≡◌, ◌≢◌, ℕ, zero, suc, ◌<◌, ◌≤◌, ◌==◌, List, Bool, true, false, not, cond, length, get_or, nat_lt, Option, Some, None, MatchOption, refl, sym, ap, subst, ◌-◌, ◌∙◌, inl, inr, ◌⊎◌, arith, slice_index, zero-add}
+use Rattle.std.proofs.Common.{◌≡◌, ◌≢◌, ℕ, zero, suc, ◌<◌, ◌≤◌, ◌==◌, List, Bool, true, false, not, cond, length, get_or, nat_lt, Option, Some, None, MatchOption, Result, Ok, Err, MatchResult, refl, sym, ap, subst, ◌-◌, ◌∙◌, inl, inr, ◌⊎◌, arith, slice_index, zero-add}
 use Rattle.std.specs.List.{enumerate_from, position_or_len, All}
 use Rattle.std.specs.Str.{IsUtf8}
+use Rattle.std.specs.Result.{result_err}
 use Rattle.std.proofs.lemmas.Bool.{cases_lt, not-true, not-false, not_from_true}
 use Rattle.std.proofs.lemmas.List.{get_or_default, get_or_past}
 use Rattle.std.proofs.lemmas.List.FromFn.{length-enumerate_from, get_or-enumerate_from}
@@ -66,6 +67,11 @@ first_fault-tells s = by_least s _ refl
 
 pub name_if_no_fault : (s : List ℕ) → first_fault s ≡ None → IsName s
 name_if_no_fault s e = subst (λ o. MatchOption o (IsName s) (IsFirstFault s)) e (first_fault-tells s)
+
+-- a result that tells the first fault: a name, or a fault that stands
+pub told : {A : Type 0} (s : List ℕ) (r : Result A NameRefusal) → result_err r ≡ first_fault s → MatchResult r (λ _. IsName s) (λ e. IsFirstFault s e)
+told s (Ok v) e = name_if_no_fault s (sym e)
+told s (Err fault) e = subst (λ o. MatchOption o (IsName s) (IsFirstFault s)) (sym e) (first_fault-tells s)
 
 -- ---- a name has no fault
 

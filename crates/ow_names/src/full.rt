@@ -14,8 +14,11 @@ use std::cmp::Ordering;
 /// What an entity is called in all of the service. A package is called by a name without a package.
 #[derive(Drop)]
 pub struct FullName {
+    /// The namespace that the entity stands in.
     pub namespace: EntityName,
+    /// The package of this namespace that it stands in, if any.
     pub package: Option<EntityName>,
+    /// What the entity is called there.
     pub name: EntityName,
 }
 

@@ -7,8 +7,6 @@ mod names;
 mod order;
 mod paths;
 mod refusal;
-#[cfg(test)]
-mod tests;
 
 pub use full::{FullName, full_text};
 pub use name::{EntityName, check_name, read_name};

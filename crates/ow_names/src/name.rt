@@ -1,9 +1,9 @@
 // Names of one part, and what is wrong with bytes that are none.
-ghost use Rattle.std.specs.Prelude.{◌≡◌, ◌≢◌, ◌↔◌, ◌==◌, [], ◌∷◌, ◌++◌, ◌-◌, IsTrue, Some, None, IfOk, MatchResult};
+ghost use Rattle.std.specs.Prelude.{◌≡◌, ◌≢◌, ◌↔◌, ◌==◌, [], ◌∷◌, ◌++◌, ◌-◌, IsTrue, Some, None, IfOk, IfErr, MatchResult};
 ghost use Rattle.std.specs.Result.{result_err};
 ghost use Rattle.ow_value.specs.Value.{text_cmp};
 ghost use Rattle.ow_names.specs.Slash.{HasNoSlash};
-ghost use Rattle.ow_names.specs.Name.{IsName, first_fault, wrong_place, is_first_byte, is_later_byte, may_stand};
+ghost use Rattle.ow_names.specs.Name.{IsName, IsFirstFault, first_fault, wrong_place, is_first_byte, is_later_byte, may_stand};
 
 use crate::order::order_of_parts;
 use crate::refusal::NameRefusal;
@@ -31,22 +31,12 @@ impl Model for EntityName {
 
 /// Whether the bytes are a name, as the OpenWhisk documentation has it: a letter, a digit or `_`, then these, spaces, `@`,
 /// `.` and `-`, and no space at the end. Letters are ASCII, and 256 bytes are the most.
+#[tactic(auto, using(crate::proofs::NameLaws::told))]
 pub fn check_name(bytes: &[u8]) -> Result<(), NameRefusal>
-    ensures { result_err result ≡ first_fault bytes.now }
+    ensures value { result_err result ≡ first_fault bytes.now }
+    ensures tells { MatchResult result (λ _. IsName bytes.now) (λ e. IsFirstFault bytes.now e) }
 {
-    if bytes.is_empty() {
-        return Err(NameRefusal::Empty);
-    }
-    if bytes.len() > 256 {
-        return Err(NameRefusal::TooLong);
-    }
-    if let Some(place) = wrong_place(bytes) {
-        return Err(NameRefusal::BadChar { place });
-    }
-    if bytes[bytes.len() - 1] == b' ' {
-        return Err(NameRefusal::EndsInSpace);
-    }
-    Ok(())
+    scan(bytes)
 }
 
 /// The name that the bytes are.
@@ -55,6 +45,7 @@ pub fn read_name(alloc: Global, bytes: &[u8]) -> Result<EntityName, NameRefusal>
     ensures ok { IfOk result (λ n. n ≡ bytes.now) }
     ensures fault { MatchResult result (λ _. first_fault bytes.now ≡ None)
         (λ e. e ≢ NameRefusal.NoMemory → first_fault bytes.now ≡ Some e) }
+    ensures tells { IfErr result (λ e. e ≢ NameRefusal.NoMemory → IsFirstFault bytes.now e) }
 {
     check_name(bytes)?;
     let Ok(text) = std::str::from_utf8(bytes) else {
@@ -129,6 +120,25 @@ impl EntityName {
             None => Ok(None),
         }
     }
+}
+
+// Looks at each byte once.
+fn scan(bytes: &[u8]) -> Result<(), NameRefusal>
+    ensures { result_err result ≡ first_fault bytes.now }
+{
+    if bytes.is_empty() {
+        return Err(NameRefusal::Empty);
+    }
+    if bytes.len() > 256 {
+        return Err(NameRefusal::TooLong);
+    }
+    if let Some(place) = wrong_place(bytes) {
+        return Err(NameRefusal::BadChar { place });
+    }
+    if bytes[bytes.len() - 1] == b' ' {
+        return Err(NameRefusal::EndsInSpace);
+    }
+    Ok(())
 }
 
 fn wrong_place(bytes: &[u8]) -> Option<usize>

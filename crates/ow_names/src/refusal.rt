@@ -10,12 +10,15 @@ use std::alloc::{AllocError, AllocFailed};
 pub enum NameRefusal {
     /// More or fewer parts than a full name has.
     BadPath,
+    /// No byte at all.
     Empty,
     /// Over 256 bytes.
     TooLong,
     /// The first byte that may not stand where it stands, counted from 0 in its name.
     BadChar { place: usize },
+    /// The last byte is a space.
     EndsInSpace,
+    /// No memory was left for a name.
     NoMemory,
 }
 

@@ -5,8 +5,6 @@ mod digits;
 mod ids;
 mod outcomes;
 mod responses;
-#[cfg(test)]
-mod tests;
 
 pub use ids::Id;
 pub use outcomes::{Ending, outcome, outcome_in};

@@ -1,5 +1,5 @@
 -- Rows in the order of their kinds and full texts: what is found, what a put and a removal leave, what a list shows.
-use Rattle.std.specs.Prelude.{◌&&◌, ◌==◌, ℕ, List, [], ◌∷◌, Bool, not, find, filter, map, take, drop, if◌then◌else◌, Option}
+use Rattle.std.specs.Prelude.{◌&&◌, ◌==◌, ℕ, List, [], ◌∷◌, Bool, not, find, filter, map, take, drop, if◌then◌else◌, Option, Some, None}
 use Rattle.std.specs.Ordering.{match_ordering}
 use Rattle.std.specs.List.Sorted.{IsStrictlySortedBy}
 use Rattle.std.specs.Str.{bytes_eq}
@@ -55,6 +55,10 @@ without kind name rows = filter (λ r. not (is_row kind name r)) rows
 -- the rows after a change that was made ready
 abbrev pub changed : Change → List Row → List Row
 changed c rows = if c.removes then without (kind_of c.row) (name_of c.row) rows else put_row c.row rows
+
+-- what is found after a change: of its kind and name the row that was put, or none, and of any other what was found before
+abbrev pub found_after : Change → EntityKind → FullName → Option Row → Option Row
+found_after c kind name before = if is_row kind name c.row then (if c.removes then None else Some c.row) else before
 
 -- ---- lists
 

@@ -8,8 +8,6 @@ mod place;
 mod ready;
 mod refusal;
 mod tables;
-#[cfg(test)]
-mod tests;
 
 pub use ready::Ready;
 pub use refusal::TableRefusal;

@@ -15,6 +15,7 @@ pub enum TableRefusal {
     Exists,
     /// The draft makes no entity. Want of memory is none of these.
     Entity(EntityRefusal),
+    /// The rows stand as before.
     NoMemory,
 }
 

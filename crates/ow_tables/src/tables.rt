@@ -1,9 +1,11 @@
 // The rows of the entities that stand.
 ghost use Rattle.std.specs.Prelude.{◌≡◌, ◌≢◌, ◌≤◌, [], ◌∷◌, true, false, Some, None, Ok, IfOk, OnOk, IfErr, OnErr, MatchResult};
+ghost use Rattle.ow_names.specs.declared.full.FullName.{FullName};
 ghost use Rattle.ow_entity.specs.Chain.{first_some};
+ghost use Rattle.ow_entity.specs.declared.kinds.EntityKind.{EntityKind};
 ghost use Rattle.ow_entity.specs.Finish.{finished};
 ghost use Rattle.ow_tables.specs.Builtin.{builtin};
-ghost use Rattle.ow_tables.specs.Rows.{AreRows, found, put_row, changed, listing};
+ghost use Rattle.ow_tables.specs.Rows.{AreRows, found, found_after, put_row, changed, listing};
 ghost use Rattle.ow_tables.specs.Refusals.{package_of, package_missing, in_the_way, unfinished, old_row, put_refusal, remove_refusal};
 
 use crate::builtin::{echo, utils};
@@ -97,14 +99,11 @@ impl Tables {
     /// Makes the change. This takes no memory.
     pub fn apply(&mut self, ready: Ready)
         requires { ready.removes ≡ false → 1 ≤ self.old.room }
-        ensures { self.new.rows ≡ changed ready self.old.rows }
+        ensures rows { self.new.rows ≡ changed ready self.old.rows }
+        ensures finds { (kind : EntityKind) (name : FullName)
+            → found kind name self.new.rows ≡ found_after ready kind name (found kind name self.old.rows) }
     {
-        let Ready { row, removes } = ready;
-        if removes {
-            self.take_out(&row);
-        } else {
-            self.put_in(row);
-        }
+        self.make(ready);
     }
 
     /// The row of the kind and the name.
@@ -129,6 +128,17 @@ impl Tables {
         ensures order { AreRows self.now.rows }
     {
         listing(alloc, &self.rows, kind, namespace, skip, limit)
+    }
+
+    /// Equal tables, with memory of their own.
+    pub fn copy(&self, alloc: Global) -> Result<Tables, NoMemory>
+        ensures { IfOk result (λ t. t.rows ≡ self.now.rows) }
+    {
+        let mut rows = Vec::with_capacity(alloc, self.rows.len())?;
+        for row in &self.rows {
+            rows.push(Box::new(alloc, row.copy(alloc)?)?)?;
+        }
+        Ok(Tables { rows })
     }
 
     // That the package in which the name lies stands.
@@ -171,6 +181,18 @@ impl Tables {
             return Err(TableRefusal::Exists);
         }
         Ok(finish(alloc, draft, old)?)
+    }
+
+    fn make(&mut self, ready: Ready)
+        requires { ready.removes ≡ false → 1 ≤ self.old.room }
+        ensures { self.new.rows ≡ changed ready self.old.rows }
+    {
+        let Ready { row, removes } = ready;
+        if removes {
+            self.take_out(&row);
+        } else {
+            self.put_in(row);
+        }
     }
 
     fn put_in(&mut self, row: Box<Row>)

@@ -1,3 +1,4 @@
+pub mod Adapters
 pub mod Changes
 pub mod Keeper
 pub mod Rows

@@ -43,6 +43,7 @@ impl Calls {
 
     /// Counts a fault. The count stands still at the greatest u64.
     pub(crate) fn count_fault(&mut self)
+        ensures faults { self.new.faults ≡ min (self.old.faults + 1) (2 ^ 64 - 1) }
         ensures rose { Rose self.old.faults self.new.faults }
         ensures later { self.old.faults ≤ self.new.faults }
         ensures made { self.new.made ≡ self.old.made }

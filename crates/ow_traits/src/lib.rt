@@ -11,8 +11,6 @@ mod replies;
 mod row_edits;
 mod row_list;
 mod streams;
-#[cfg(test)]
-mod tests;
 
 pub use adapters::{ReaderSource, WriterSink};
 pub use change_list::{Change, Changes};

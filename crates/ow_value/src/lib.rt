@@ -9,8 +9,6 @@ mod members;
 mod memory;
 mod quick;
 mod reader;
-#[cfg(test)]
-mod tests;
 mod text;
 mod val;
 mod walk;

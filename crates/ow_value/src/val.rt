@@ -14,11 +14,17 @@ use std::marker::Model;
 #[cycle(val)]
 #[derive(Drop)]
 pub enum Val {
+    /// The value `null`.
     Null,
+    /// The values `true` and `false`.
     Bool(bool),
+    /// A number.
     Int(Whole),
+    /// A text between quotes.
     Text(Str),
+    /// The items between square brackets.
     List(Vals),
+    /// The members between braces.
     Object(Params),
 }
 
@@ -40,7 +46,9 @@ pub struct Params {
 #[cycle(val)]
 #[derive(Drop)]
 pub struct Pair {
+    /// By which the member is found.
     pub name: Str,
+    /// What stands behind the colon.
     pub value: Val,
 }
 

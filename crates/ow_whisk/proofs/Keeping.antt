@@ -4,7 +4,7 @@ use Rattle.ow_value.specs.Value.{Pairs}
 use Rattle.ow_names.specs.declared.full.FullName.{FullName}
 use Rattle.ow_floor.specs.Trace.{Trace}
 use Rattle.ow_floor.specs.Laws.{IsSound}
-use Rattle.ow_floor.proofs.Soundness.{all_recorded, parted, sound_accept, sound_answered, sound_drain, sound_next, sound_start}
+use Rattle.ow_floor.proofs.Soundness.{all_recorded, parted, runs_once, sound_accept, sound_answered, sound_drain, sound_next, sound_start}
 use Rattle.ow_http.specs.declared.reason.Reason.{Reason}
 use Rattle.ow_hall.specs.Calls.{Callee, callee, call_refusal, plan_of}
 use Rattle.ow_hall.specs.Decisions.{Seen, Decision, Opens, Asks, Declines, Accepts, Orders, Ends, Drains, accepted, decide, trace_after}
@@ -65,7 +65,7 @@ begins_sound : IsSound (trace_of start)
 begins_sound = sound_posted no_entries (moment [] 0) (events.Opened []) sound_start
 
 kept : (T : Trace) → IsSound T → IsKept T
-kept T sound = record { parted = parted T sound; known = sound.known; drained = all_recorded T sound }
+kept T sound = record { parted = parted T sound; once = runs_once T sound; known = sound.known; drained = all_recorded T sound }
 
 pub keeps_each : (bytes : List ℕ) → KeepsEach bytes
 keeps_each bytes = λ count lines N carried. kept (trace_of N) (sound_all start (take count (day_of bytes).statements) lines N carried begins_sound)

@@ -1,5 +1,5 @@
 -- What calls and requests of a day are told.
-use Rattle.std.proofs.Common.{◌≡◌, ◌⊎◌, ℕ, Bool, true, false, List, Option, Some, None, Result, Ok, Err, IfOk, IsSome, refl, arith, rules, inl, inr}
+use Rattle.std.proofs.Common.{◌≡◌, ℕ, Bool, true, false, List, Option, Some, None, Result, Ok, Err, IfOk, IsSome, arith, rules}
 use Rattle.ow_value.specs.Value.{V, Pairs, members_of}
 use Rattle.ow_value.specs.Field.{pairs_in, pairs_in-members_of}
 use Rattle.ow_value.specs.Read.{reading}
@@ -8,17 +8,12 @@ use Rattle.ow_value.specs.declared.reader.ValueRefusal.TheVariants as values
 use Rattle.ow_names.specs.declared.full.FullName.{FullName}
 use Rattle.ow_names.specs.declared.refusal.NameRefusal.{NameRefusal}
 use Rattle.ow_names.specs.declared.refusal.NameRefusal.TheVariants as names
-use Rattle.httparse.specs.Grammar.{RequestHead}
-use Rattle.ow_http.specs.Gives.{GivesRead}
-use Rattle.ow_http.specs.Head.{HasHead, IsBadHead, IsCutHead}
-use Rattle.ow_http.specs.Judged.{judged, asked_of}
 use Rattle.ow_http.specs.Reason.{told, status_of, plain, name_reason}
 use Rattle.ow_http.specs.Refusal.{refusal_number}
 use Rattle.ow_http.specs.declared.http_refusal.HttpRefusal.{HttpRefusal}
 use Rattle.ow_http.specs.declared.http_refusal.HttpRefusal.TheVariants.{BadHead, NoRoute, BadMethod, BodyTooLarge, CutShort, NoMemory}
 use Rattle.ow_whisk.specs.declared.calls.CallWords.{CallWords}
 use Rattle.ow_whisk.specs.Called.{WordsHaveText, called, full_name, object_in, or_wrong, params_in, with_name, with_params}
-use Rattle.ow_whisk.specs.Request.{IsRead}
 
 -- ---- calls
 
@@ -81,20 +76,3 @@ unread_plain BadMethod is = omega (arith, is)
 unread_plain BodyTooLarge is = omega (arith, is)
 unread_plain CutShort is = omega (arith, is)
 unread_plain NoMemory is = omega (arith, is)
-
-headless : (bytes : List ℕ) (e : HttpRefusal) → (e ≡ NoMemory → ⊥) → ((e ≡ BadHead) × IsBadHead bytes) ⊎ ((e ≡ CutShort) × IsCutHead bytes) ⊎ (e ≡ NoMemory)
-    → ((e ≡ BadHead) × IsBadHead bytes) ⊎ ((e ≡ CutShort) × IsCutHead bytes)
-headless bytes e other (inl bad) = inl bad
-headless bytes e other (inr (inl cut)) = inr cut
-headless bytes e other (inr (inr none)) = absurd (other none)
-
--- bytes that are refused
-pub unread : (bytes : List ℕ) (e : HttpRefusal) → (e ≡ NoMemory → ⊥) → ((h : RequestHead) (rest : List ℕ) → HasHead bytes h rest → GivesRead (judged (asked_of h rest)) (Err e))
-    → (((h : RequestHead) (rest : List ℕ) → HasHead bytes h rest → ⊥) → ((e ≡ BadHead) × IsBadHead bytes) ⊎ ((e ≡ CutShort) × IsCutHead bytes) ⊎ (e ≡ NoMemory))
-    → IsRead bytes (Err e)
-unread bytes BadHead other headed none = (headed, λ h. headless bytes BadHead other (none h))
-unread bytes NoRoute other headed none = (headed, λ h. headless bytes NoRoute other (none h))
-unread bytes BadMethod other headed none = (headed, λ h. headless bytes BadMethod other (none h))
-unread bytes BodyTooLarge other headed none = (headed, λ h. headless bytes BodyTooLarge other (none h))
-unread bytes CutShort other headed none = (headed, λ h. headless bytes CutShort other (none h))
-unread bytes NoMemory other headed none = absurd (other refl)

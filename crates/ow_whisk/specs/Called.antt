@@ -11,7 +11,7 @@ use Rattle.ow_names.specs.declared.full.FullName.{FullName}
 use Rattle.ow_names.specs.declared.refusal.NameRefusal.{NameRefusal}
 use Rattle.ow_http.specs.Reason.{plain, naming, name_reason}
 use Rattle.ow_http.specs.declared.reason.Reason.{Reason}
-use Rattle.ow_hall.specs.Works.{HasText}
+use Rattle.ow_hall.specs.Reasons.{HasText}
 use Rattle.ow_whisk.specs.declared.calls.CallWords.{CallWords}
 use Rattle.ow_whisk.specs.declared.calls.CallWords.TheVariants.{Refused, Calls}
 

@@ -6,7 +6,6 @@ pub mod Status
 pub mod Words
 pub mod Texts
 pub mod Called
-pub mod Request
 pub mod Machine
 pub mod Session
 pub mod Day

@@ -1,6 +1,7 @@
 -- The plain machine of a day: what each statement writes over the book so far, and what is booked by it.
 use Rattle.std.specs.Prelude.{◌≡◌, ◌++◌, ℕ, List, [], ◌∷◌, Result, Ok, Err}
 use Rattle.ow_traits.specs.declared.replies.RunReply.TheVariants as runs
+use Rattle.ow_http.specs.Read.{IsRead}
 use Rattle.ow_http.specs.Reason.{plain}
 use Rattle.ow_http.specs.Refusal.{refusal_number}
 use Rattle.ow_http.specs.Refused.{refusal_of}
@@ -15,7 +16,6 @@ use Rattle.ow_hall.specs.declared.entry.Event.TheVariants as events
 use Rattle.ow_whisk.specs.declared.calls.CallWords.{CallWords}
 use Rattle.ow_whisk.specs.declared.calls.CallWords.TheVariants as calls
 use Rattle.ow_whisk.specs.Called.{called}
-use Rattle.ow_whisk.specs.Request.{IsRead}
 use Rattle.ow_whisk.specs.Statement.{Statement, At, Call, Ask, Next, Answer, Drain, End}
 use Rattle.ow_whisk.specs.Texts.{event_text, refused_text, reply_text}
 

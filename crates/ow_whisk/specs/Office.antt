@@ -2,7 +2,7 @@
 use Rattle.std.specs.Prelude.{◌≡◌, ℕ, List, Option, Some, None, IfSome, take}
 use Rattle.ow_traits.specs.Streams.{Takes, TakesFront}
 use Rattle.ow_floor.specs.Trace.{Trace}
-use Rattle.ow_floor.specs.Laws.{EndedWereAccepted, IsParted}
+use Rattle.ow_floor.specs.Laws.{EndedWereAccepted, IsParted, RunOnce}
 use Rattle.ow_floor.specs.Calls.{AllRecorded, drain_answer}
 use Rattle.ow_hall.specs.History.{seen}
 use Rattle.ow_whisk.specs.declared.status.Status.{Status}
@@ -54,10 +54,11 @@ TellsCommand help version (Some commands.Day) left old new status = IfSome left 
 abbrev pub trace_of : Machine → Trace
 trace_of M = (seen M.ledger.entries).trace
 
--- what holds of a trace at each moment: each accepted activation is exactly one of waiting, running and recorded, once;
--- what has ended was accepted, as it was planned; and where `drain` would answer drained, each is recorded, once
+-- what holds of a trace at each moment: each accepted activation is exactly one of waiting, running and recorded, once, and
+-- has one live run at most; what has ended was accepted, as it was planned; and where `drain` would answer drained, each is recorded, once
 pub record IsKept (T : Trace) : Type 0 where
   pub parted : IsParted T
+  pub once : RunOnce T
   pub known : EndedWereAccepted T
   pub drained : AllRecorded T (drain_answer T)
 

@@ -10,6 +10,12 @@ use ow_value::{NoMemory, Params, Scratch, Val, ValueRefusal, read_val_in};
 use percent_encoding::percent_decode;
 use std::alloc::Global;
 
+/// The text of a call is no object.
+const WRONG_TYPE: u32 = 10;
+
+/// The book is full.
+const FULL: u32 = 33;
+
 /// What the words of a call come to.
 #[derive(Drop)]
 pub enum CallWords {
@@ -44,7 +50,7 @@ fn called(
     ensures { IfOk result (λ w. w ≡ called full name.now text.now) }
 {
     if full {
-        return Ok(CallWords::Refused(Reason::plain(alloc, 33)));
+        return Ok(CallWords::Refused(Reason::plain(alloc, FULL)));
     }
     with_name(alloc, scratch, name, text)
 }
@@ -84,7 +90,7 @@ fn with_value(alloc: Global, name: FullName, value: Val) -> Result<CallWords, No
 {
     match object_in(value) {
         Some(params) => Ok(CallWords::Calls { name, params }),
-        None => Ok(CallWords::Refused(Reason::naming(alloc, 10, "body")?)),
+        None => Ok(CallWords::Refused(Reason::naming(alloc, WRONG_TYPE, "body")?)),
     }
 }
 

@@ -1,6 +1,7 @@
 // The first statement of bytes that were read of a day.
 ghost use Rattle.std.specs.Prelude.{◌≡◌, ◌≤◌, ◌<◌, ◌&&◌, if◌then◌else◌, None, length, drop, nat_lt, not, option_map, position};
 ghost use Rattle.ow_whisk.specs.Input.{is_newline};
+ghost use Rattle.ow_whisk.specs.Limits.{most_line};
 ghost use Rattle.ow_whisk.specs.Line.{reading};
 ghost use Rattle.ow_whisk.specs.Day.{asked, behind_line, first_statement};
 ghost use Rattle.ow_whisk.specs.First.{IsWithin, first_of};
@@ -47,7 +48,7 @@ fn without_newline(more: bool, bytes: &[u8]) -> First<'_>
 }
 
 fn is_cut(more: bool, bytes: &[u8]) -> bool
-    ensures { result ≡ not (nat_lt 8388608 (length bytes.now)) && more }
+    ensures { result ≡ not (nat_lt most_line (length bytes.now)) && more }
 {
     bytes.len() <= LONGEST_LINE && more
 }

@@ -16,10 +16,14 @@ const PIECE: usize = 65_536;
 /// What was read of a day and isn't carried out yet.
 #[derive(Drop)]
 pub struct Input {
+    // Those that wait, behind the first `start`, which are carried out.
     bytes: Vec<u8>,
     start: usize,
+    // Between `start` and this place no newline stands.
     searched: usize,
+    // How many bytes were read in all.
     taken: usize,
+    // Each piece is read into it.
     room: Vec<u8>,
 }
 
@@ -48,7 +52,9 @@ pub enum Filled {
 /// Why a read gave nothing.
 #[derive(Clone, Copy, Debug, PartialEq, Eq)]
 pub enum FillError {
+    /// The source failed.
     Failed,
+    /// There is no memory.
     NoMemory,
 }
 

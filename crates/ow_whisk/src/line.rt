@@ -16,19 +16,26 @@ const MOST_ASKED: u64 = 8_388_608;
 /// A statement, its words and its request lent from the day.
 #[derive(Clone, Copy)]
 pub enum Statement<'a> {
+    /// The moment is this, in milliseconds.
     At(u64),
+    /// A call of the action whose full name this is, percent-encoded, with the object that the text is as JSON.
     Call(&'a str, &'a str),
-    /// The bytes of a request.
+    /// A request of these bytes.
     Ask(&'a [u8]),
+    /// What has waited longest is ordered to run.
     Next,
+    /// A runner's answer to the run of this number.
     Answer(u64, &'a str),
+    /// No more calls are taken from now on.
     Drain,
+    /// The day ends.
     End,
 }
 
 /// What a line is.
 #[derive(Clone, Copy)]
 pub enum Line<'a> {
+    /// A whole statement.
     Whole(Statement<'a>),
     /// A request of so many bytes stands behind it.
     Asks(usize),

@@ -178,6 +178,7 @@ pub fn run_day<S: Source, O: Sink, P: Keeper + Drop>(
     ensures write { result.0 ≡ Status.WriteFault → Rose (O.faults out.old) (O.faults out.new) }
     ensures store { IfSome result.1 (λ back. back ≡ store) }
     ensures lost { result.1 ≡ None → result.0 ≡ Status.NoMemory }
+    ensures unbegun { result.1 ≡ None → (day.new ≡ day.old) × (out.new ≡ out.old) }
 {
     let Ok(input) = Input::new(alloc) else {
         return (Status::NoMemory, Some(store));

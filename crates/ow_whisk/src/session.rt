@@ -1,12 +1,12 @@
 // A day under way: statements carried out over the hall.
 ghost use Rattle.std.specs.Prelude.{◌≡◌, ◌++◌, [], IfOk, OnOk};
 ghost use Rattle.ow_hall.specs.declared.entry.Event.TheVariants as events;
+ghost use Rattle.ow_http.specs.Read.{IsRead};
 ghost use Rattle.ow_http.specs.Reason.{plain};
 ghost use Rattle.ow_http.specs.Refusal.{refusal_number};
 ghost use Rattle.ow_http.specs.Refused.{refusal_of};
 ghost use Rattle.ow_traits.specs.declared.replies.RunReply.TheVariants as replies;
 ghost use Rattle.ow_whisk.specs.Line.{statement};
-ghost use Rattle.ow_whisk.specs.Request.{IsRead};
 ghost use Rattle.ow_whisk.specs.Machine.{Gives, Meets, after, call_act, start};
 ghost use Rattle.ow_whisk.specs.Called.{WordsHaveText};
 ghost use Rattle.ow_whisk.specs.Session.{CarriesOut, Does, Performs, machine_of};
@@ -226,7 +226,6 @@ impl<P: Keeper + Drop> Session<P> {
 }
 
 // The request that the bytes begin with, or why they begin with none.
-#[tactic(auto, using(crate::proofs::Telling::unread))]
 fn read(
     alloc: Global,
     routes: &Routes,

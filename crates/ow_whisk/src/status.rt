@@ -42,14 +42,16 @@ impl Status {
     }
 }
 
-/// Writes the line of the status, which takes no memory. After a fault a front of it was taken.
+/// Writes the line of the status, where it has one. That takes no memory. After a fault a front of it was taken.
+#[tactic(auto, using(crate::proofs::Results::takes_none))]
 pub fn report<E: Sink>(status: Status, err: &mut E) -> Result<(), Failed>
     ensures ok { OnOk result (Takes (E.taken err.old) (E.taken err.new) (err_text status)) }
     ensures err { OnErr result (TakesFront (E.taken err.old) (E.taken err.new) (err_text status)) }
     ensures cause { HasCause (E.faults err.old) (E.faults err.new) result }
+    ensures quiet { status ≡ Status.Ok → err.new ≡ err.old }
 {
     match status {
-        Status::Ok => write_all(err, b""),
+        Status::Ok => Ok(()),
         Status::BadDay { statement } => report_place(statement, err),
         Status::BadWords => write_all(err, b"bad words\n"),
         Status::ReadFault => write_all(err, b"read fault\n"),

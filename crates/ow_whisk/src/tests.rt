@@ -15,7 +15,37 @@ struct Told {
     err: MemorySink,
 }
 
-// The office over these devices, whose calls of these numbers fail.
+// The office over a source of these bytes, of which the calls of these numbers fail, as those of its sink do.
+fn told_over(
+    alloc: Global,
+    words: &[String],
+    day: Vec<u8>,
+    failing_reads: Vec<u64>,
+    failing_writes: Vec<u64>,
+) -> Told {
+    let mut table = MemorySource::new(Vec::new(alloc), Vec::new(alloc));
+    let mut source = MemorySource::new(day, failing_reads);
+    let mut out = MemorySink::new(alloc, failing_writes);
+    let mut err = MemorySink::new(alloc, Vec::new(alloc));
+    let store = MemoryKeeper::new(alloc);
+    let (status, _) = office(
+        alloc,
+        words,
+        &mut table,
+        &mut source,
+        &mut out,
+        &mut err,
+        store,
+    );
+    Told {
+        status,
+        left: source.bytes().len(),
+        out,
+        err,
+    }
+}
+
+// The office for one word.
 fn office_over(
     alloc: Global,
     word: &str,
@@ -24,26 +54,38 @@ fn office_over(
     failing_writes: &[u64],
 ) -> Result<Told, Fail> {
     let words = vec![in alloc; String::from_str(alloc, word)?]?;
-    let mut table = MemorySource::new(Vec::new(alloc), Vec::new(alloc));
-    let mut source = MemorySource::new(day.to_vec(alloc)?, failing_reads.to_vec(alloc)?);
-    let mut out = MemorySink::new(alloc, failing_writes.to_vec(alloc)?);
-    let mut err = MemorySink::new(alloc, Vec::new(alloc));
-    let store = MemoryKeeper::new(alloc);
-    let (status, _) = office(
-        alloc,
-        &words,
-        &mut table,
-        &mut source,
-        &mut out,
-        &mut err,
-        store,
-    );
-    Ok(Told {
-        status,
-        left: source.bytes().len(),
-        out,
-        err,
-    })
+    let day = day.to_vec(alloc)?;
+    let failing_reads = failing_reads.to_vec(alloc)?;
+    let failing_writes = failing_writes.to_vec(alloc)?;
+    Ok(told_over(alloc, &words, day, failing_reads, failing_writes))
+}
+
+// Whether the day is answered by this text, and ends so.
+fn is_answered(alloc: Global, day: &[u8], text: &[u8], status: Status) -> Result<bool, Fail> {
+    let told = office_over(alloc, "day", day, &[], &[])?;
+    Ok(told.status == status && told.out.bytes() == text)
+}
+
+// Whether all of the day is carried out, and its answers end in this text.
+fn ends_in(alloc: Global, day: &[u8], text: &[u8]) -> Result<bool, Fail> {
+    let told = office_over(alloc, "day", day, &[], &[])?;
+    Ok(told.status == Status::Ok && told.out.bytes().ends_with(text))
+}
+
+// Whether so many bytes are left of a day that ends so.
+fn leaves(alloc: Global, day: &[u8], status: Status, left: usize) -> Result<bool, Fail> {
+    let told = office_over(alloc, "day", day, &[], &[])?;
+    Ok(told.status == status && told.left == left)
+}
+
+// A day of this text, so many bytes behind it, and this end.
+fn long_day(alloc: Global, head: &[u8], size: usize, end: &[u8]) -> Result<Vec<u8>, Fail> {
+    let mut day = Vec::from_slice(alloc, head)?;
+    for _ in 0..size {
+        day.push(b'x')?;
+    }
+    day.extend_from_slice(end)?;
+    Ok(day)
 }
 
 // The name of the built-in action is written out in each day, as a user writes it.
@@ -427,81 +469,63 @@ Content-Length: 47\r
 
 #[test]
 fn days_are_answered(rt: HostRuntime) -> Result<(), Fail> {
-    for (day, text, status) in CASES.iter() {
-        let told = office_over(rt.alloc(), "day", day, &[], &[])?;
-        assert_eq!(rt; told.status, *status);
-        assert_eq!(rt; told.out.bytes(), *text);
-    }
-    for (size, text) in [
-        (
-            1_048_576,
-            b"recorded 00000000000000000000000000000001 0\n".as_slice(),
-        ),
-        (
-            1_048_577,
-            b"recorded 00000000000000000000000000000001 2\n".as_slice(),
-        ),
-    ] {
-        let day = long_answer(rt.alloc(), size)?;
-        let told = office_over(rt.alloc(), "day", &day, &[], &[])?;
-        assert_eq!(rt; told.status, Status::Ok);
-        assert!(rt; told.out.bytes().ends_with(text));
+    for (number, (day, text, status)) in CASES.iter().enumerate() {
+        assert!(rt;
+            is_answered(rt.alloc(), day, text, *status)?,
+            "day {number}"
+        );
     }
     Ok(())
-}
-
-// A day whose answer has a text of so many bytes, at least 8.
-fn long_answer(alloc: Global, size: usize) -> Result<Vec<u8>, Fail> {
-    let mut day = Vec::from_slice(
-        alloc,
-        b"call /whisk.system/utils/echo {}\nnext\nanswer 1 {\"a\":\"",
-    )?;
-    for _ in 8..size {
-        day.push(b'x')?;
-    }
-    day.extend_from_slice(b"\"}")?;
-    Ok(day)
 }
 
 #[test]
 fn requests_are_answered(rt: HostRuntime) -> Result<(), Fail> {
-    for (day, text, status) in ASKS.iter() {
-        let told = office_over(rt.alloc(), "day", day, &[], &[])?;
-        assert_eq!(rt; told.status, *status);
-        assert_eq!(rt; told.out.bytes(), *text);
+    for (number, (day, text, status)) in ASKS.iter().enumerate() {
+        assert!(rt;
+            is_answered(rt.alloc(), day, text, *status)?,
+            "day {number}"
+        );
     }
     Ok(())
 }
 
-// A day of this text and so many bytes behind it.
-fn long_day(alloc: Global, head: &str, size: usize) -> Result<Vec<u8>, Fail> {
-    let mut day = Vec::from_slice(alloc, head.as_bytes())?;
-    for _ in 0..size {
-        day.push(b'x')?;
-    }
-    Ok(day)
+// A runner's answer of eight bytes and those that are put into its text.
+const ANSWER: &[u8] = b"call /whisk.system/utils/echo {}\nnext\nanswer 1 {\"a\":\"";
+
+#[test]
+fn an_answer_has_at_most_a_megabyte(rt: HostRuntime) -> Result<(), Fail> {
+    let day = long_day(rt.alloc(), ANSWER, 1_048_576 - 8, b"\"}")?;
+    let line = b"recorded 00000000000000000000000000000001 0\n";
+    assert!(rt; ends_in(rt.alloc(), &day, line)?);
+    Ok(())
+}
+
+#[test]
+fn a_longer_answer_is_none(rt: HostRuntime) -> Result<(), Fail> {
+    let day = long_day(rt.alloc(), ANSWER, 1_048_577 - 8, b"\"}")?;
+    let line = b"recorded 00000000000000000000000000000001 2\n";
+    assert!(rt; ends_in(rt.alloc(), &day, line)?);
+    Ok(())
 }
 
 #[test]
 fn a_long_request_is_read_in_pieces(rt: HostRuntime) -> Result<(), Fail> {
-    let day = long_day(rt.alloc(), "ask 200000\n", 200_000)?;
-    let told = office_over(rt.alloc(), "day", &day, &[], &[])?;
-    assert_eq!(rt; told.status, Status::Ok);
-    assert!(rt; told.out.bytes().ends_with(MALFORMED));
+    let day = long_day(rt.alloc(), b"ask 200000\n", 200_000, b"")?;
+    assert!(rt; ends_in(rt.alloc(), &day, MALFORMED)?);
     Ok(())
 }
 
 #[test]
-fn what_follows_a_day_is_left(rt: HostRuntime) -> Result<(), Fail> {
-    for (head, status, left) in [
-        ("end\n", Status::Ok, 4_468),
-        ("x\n", Status::BadDay { statement: 1 }, 4_466),
-    ] {
-        let day = long_day(rt.alloc(), head, 70_000)?;
-        let told = office_over(rt.alloc(), "day", &day, &[], &[])?;
-        assert_eq!(rt; told.status, status);
-        assert_eq!(rt; told.left, left);
-    }
+fn what_follows_the_end_is_left(rt: HostRuntime) -> Result<(), Fail> {
+    let day = long_day(rt.alloc(), b"end\n", 70_000, b"")?;
+    assert!(rt; leaves(rt.alloc(), &day, Status::Ok, 4_468)?);
+    Ok(())
+}
+
+#[test]
+fn what_follows_a_bad_statement_is_left(rt: HostRuntime) -> Result<(), Fail> {
+    let day = long_day(rt.alloc(), b"x\n", 70_000, b"")?;
+    assert!(rt; leaves(rt.alloc(), &day, Status::BadDay { statement: 1 }, 4_466)?);
     Ok(())
 }
 
@@ -511,38 +535,126 @@ usage: ow_whisk day < FILE     carries out the statements of a day, and writes e
        ow_whisk --help         writes this text
        ow_whisk --version      writes the version
 
-A day has one statement a line:
-  at MOMENT           sets the moment, in milliseconds; 0 at first
-  ask N               asks by an HTTP request, whose N bytes and a newline follow this line
-  call NAME TEXT      calls an action with a JSON object; /whisk.system/utils/echo is built in
-  next                orders what has waited longest to run
-  answer RUN TEXT     is a runner's answer to the run of this number
-  drain               takes no more calls, and tells whether all that was accepted has ended
-  end                 ends the day; what follows is not acted on
+A day has one statement a line, of at most 8388608 bytes. Its words are parted by one space, its
+numbers are decimal without leading zeros. NAME is an action's full name, percent-encoded, as
+/guest/hello, or /whisk.system/utils/echo, which is built in. TEXT is the rest of the line: a JSON
+object with whole numbers of 64 bits, nested at most 100 deep. An ID has 32 hexadecimal digits.
+Below each statement stand the forms of its answer.
 
-exit status: 0 all was carried out, 1 bad day, 2 bad words, 3 read fault, 4 write fault,
-             7 no memory, 8 day too long; every status but 0 has a line on standard error
+  at MOMENT          sets the moment, in milliseconds, at most 253402300799999; it is 0 at first
+                       no answer
+  ask N              is an HTTP request: N bytes, at most 8388608, follow the line, and a newline
+                       reply M               on the lines behind it its M bytes, and a newline
+  call NAME TEXT     calls an action with this object
+                       accepted ID           it waits
+                       refused NUMBER WHY    it was not accepted
+  next               orders what has waited longest to run
+                       run RUN ID            RUN is its number, from 1
+                       nothing empty         nothing waits
+  answer RUN TEXT    is a runner's answer to that run, of at most 1048576 bytes
+                       recorded ID CODE      0 success, 1 it has the name error, 2 no such object
+                       refused 29 WHY        no such run is under way
+  drain              takes no more calls from now on
+                       drained N             all N that were accepted have ended
+                       open N                N have not ended
+  end                ends the day; what follows is not acted on
+                       no answer
+
+exit status, and its line on standard error:
+  0  none            all was carried out
+  1  bad day at N    what stands at the Nth place is no statement; an ask and its bytes are one
+  2  bad words       the command line is none of the three above
+  3  read fault      the day could not be read on
+  4  write fault     an answer could not be written
+  7  no memory       memory was wanted
+  8  day too long    it has more than 1073741824 bytes
 ";
+
+// One call of the office for a word, and what is to come of it.
+struct Ending {
+    word: &'static str,
+    day: &'static [u8],
+    failing_reads: &'static [u64],
+    failing_writes: &'static [u64],
+    status: Status,
+    out: &'static [u8],
+    err: &'static [u8],
+}
+
+const ENDINGS: [Ending; 6] = [
+    Ending {
+        word: "day",
+        day: b"next\nnext",
+        failing_reads: &[1],
+        failing_writes: &[],
+        status: Status::ReadFault,
+        out: b"nothing empty\n",
+        err: b"read fault\n",
+    },
+    Ending {
+        word: "day",
+        day: b"next\nnext\nend\n",
+        failing_reads: &[],
+        failing_writes: &[0],
+        status: Status::WriteFault,
+        out: b"",
+        err: b"write fault\n",
+    },
+    Ending {
+        word: "day",
+        day: b"next\nnex\n",
+        failing_reads: &[],
+        failing_writes: &[],
+        status: Status::BadDay { statement: 2 },
+        out: b"nothing empty\n",
+        err: b"bad day at 2\n",
+    },
+    Ending {
+        word: "days",
+        day: b"next\n",
+        failing_reads: &[],
+        failing_writes: &[],
+        status: Status::BadWords,
+        out: b"",
+        err: b"bad words\n",
+    },
+    Ending {
+        word: "--help",
+        day: b"",
+        failing_reads: &[],
+        failing_writes: &[],
+        status: Status::Ok,
+        out: HELP,
+        err: b"",
+    },
+    Ending {
+        word: "--version",
+        day: b"",
+        failing_reads: &[],
+        failing_writes: &[],
+        status: Status::Ok,
+        out: b"ow_whisk 0.1.0\n",
+        err: b"",
+    },
+];
+
+// Whether the office ends so.
+fn has_ending(alloc: Global, case: &Ending) -> Result<bool, Fail> {
+    let told = office_over(
+        alloc,
+        case.word,
+        case.day,
+        case.failing_reads,
+        case.failing_writes,
+    )?;
+    let is_written = told.out.bytes() == case.out && told.err.bytes() == case.err;
+    Ok(told.status == case.status && is_written)
+}
 
 #[test]
 fn faults_and_words_have_their_status(rt: HostRuntime) -> Result<(), Fail> {
-    let alloc = rt.alloc();
-    let read = office_over(alloc, "day", b"next\nnext", &[1], &[])?;
-    assert_eq!(rt; read.status, Status::ReadFault);
-    assert_eq!(rt; read.out.bytes(), b"nothing empty\n".as_slice());
-    assert_eq!(rt; read.err.bytes(), b"read fault\n".as_slice());
-    let write = office_over(alloc, "day", b"next\nnext\nend\n", &[], &[0])?;
-    assert_eq!(rt; write.status, Status::WriteFault);
-    assert_eq!(rt; write.err.bytes(), b"write fault\n".as_slice());
-    let bad = office_over(alloc, "day", b"next\nnex\n", &[], &[])?;
-    assert_eq!(rt; bad.err.bytes(), b"bad day at 2\n".as_slice());
-    let words = office_over(alloc, "days", b"next\n", &[], &[])?;
-    assert_eq!(rt; words.status, Status::BadWords);
-    assert_eq!(rt; words.err.bytes(), b"bad words\n".as_slice());
-    let help = office_over(alloc, "--help", b"", &[], &[])?;
-    assert_eq!(rt; help.status, Status::Ok);
-    assert_eq!(rt; help.out.bytes(), HELP);
-    let version = office_over(alloc, "--version", b"", &[], &[])?;
-    assert_eq!(rt; version.out.bytes(), b"ow_whisk 0.1.0\n".as_slice());
+    for (number, case) in ENDINGS.iter().enumerate() {
+        assert!(rt; has_ending(rt.alloc(), case)?, "ending {number}");
+    }
     Ok(())
 }

@@ -1,7 +1,7 @@
 // The lines that answer statements. Without memory a front of a line may stand behind those that are there.
 ghost use Rattle.std.specs.Prelude.{◌≡◌, ◌++◌, OnOk, IsSome, codes};
 ghost use Rattle.std.specs.Fmt.{decimal};
-ghost use Rattle.ow_hall.specs.Works.{CalledHasText};
+ghost use Rattle.ow_hall.specs.State.{CalledHasText};
 ghost use Rattle.ow_http.specs.Reason.{told};
 ghost use Rattle.ow_records.specs.Id.{id_text};
 ghost use Rattle.ow_whisk.specs.Texts.{TellsNoRun, answered_text, asked_text, called_text, drain_text, happening_text, happenings_text, no_run_text, order_text, refused_text, reply_text, run_text};
@@ -13,6 +13,9 @@ use ow_http::{Answer, Reason, reason_text, write_reply};
 use ow_records::Id;
 use ow_value::NoMemory;
 use std::alloc::Global;
+
+/// No run has the number that a runner answers to.
+const NO_RUN: u32 = 29;
 
 /// Puts the bytes behind those that are there.
 pub fn push(answers: &mut Vec<u8>, bytes: &[u8]) -> Result<(), NoMemory>
@@ -90,7 +93,7 @@ pub fn push_answered(answers: &mut Vec<u8>, answered: &Answered) -> Result<(), N
 fn push_no_run(alloc: Global, answers: &mut Vec<u8>, run: u64) -> Result<(), NoMemory>
     ensures ok { OnOk result (answers.new.items ≡ answers.old.items ++ no_run_text run) }
 {
-    let mut reason = Reason::plain(alloc, 29);
+    let mut reason = Reason::plain(alloc, NO_RUN);
     reason.first = run;
     push_refused(alloc, answers, &reason)
 }

@@ -20,17 +20,39 @@ usage: ow_whisk day < FILE     carries out the statements of a day, and writes e
        ow_whisk --help         writes this text
        ow_whisk --version      writes the version
 
-A day has one statement a line:
-  at MOMENT           sets the moment, in milliseconds; 0 at first
-  ask N               asks by an HTTP request, whose N bytes and a newline follow this line
-  call NAME TEXT      calls an action with a JSON object; /whisk.system/utils/echo is built in
-  next                orders what has waited longest to run
-  answer RUN TEXT     is a runner's answer to the run of this number
-  drain               takes no more calls, and tells whether all that was accepted has ended
-  end                 ends the day; what follows is not acted on
+A day has one statement a line, of at most 8388608 bytes. Its words are parted by one space, its
+numbers are decimal without leading zeros. NAME is an action's full name, percent-encoded, as
+/guest/hello, or /whisk.system/utils/echo, which is built in. TEXT is the rest of the line: a JSON
+object with whole numbers of 64 bits, nested at most 100 deep. An ID has 32 hexadecimal digits.
+Below each statement stand the forms of its answer.
 
-exit status: 0 all was carried out, 1 bad day, 2 bad words, 3 read fault, 4 write fault,
-             7 no memory, 8 day too long; every status but 0 has a line on standard error
+  at MOMENT          sets the moment, in milliseconds, at most 253402300799999; it is 0 at first
+                       no answer
+  ask N              is an HTTP request: N bytes, at most 8388608, follow the line, and a newline
+                       reply M               on the lines behind it its M bytes, and a newline
+  call NAME TEXT     calls an action with this object
+                       accepted ID           it waits
+                       refused NUMBER WHY    it was not accepted
+  next               orders what has waited longest to run
+                       run RUN ID            RUN is its number, from 1
+                       nothing empty         nothing waits
+  answer RUN TEXT    is a runner's answer to that run, of at most 1048576 bytes
+                       recorded ID CODE      0 success, 1 it has the name error, 2 no such object
+                       refused 29 WHY        no such run is under way
+  drain              takes no more calls from now on
+                       drained N             all N that were accepted have ended
+                       open N                N have not ended
+  end                ends the day; what follows is not acted on
+                       no answer
+
+exit status, and its line on standard error:
+  0  none            all was carried out
+  1  bad day at N    what stands at the Nth place is no statement; an ask and its bytes are one
+  2  bad words       the command line is none of the three above
+  3  read fault      the day could not be read on
+  4  write fault     an answer could not be written
+  7  no memory       memory was wanted
+  8  day too long    it has more than 1073741824 bytes
 ";
 
 /// What `--version` writes.

@@ -1,4 +1,4 @@
-use Rattle.std.proofs.Common.{◌≡◌, ◌++◌, [], ◌∷◌, ◌∙◌, rules}
+use Rattle.std.proofs.Common.{◌∙◌}
 use Rattle.ow_floor.proofs.Drawn.{put_new, put_there}
 use Rattle.ow_floor.proofs.places.note_id.Goals as goal
 
@@ -9,5 +9,5 @@ returns-in-Some-clause-items c =
 
 pub returns-in-None-clause-items : goal.returns-in-None-clause-items
 returns-in-None-clause-items c =
-    let pushed : c.push.new.self.items ≡ c.args.ids.now.items ++ c.args.id ∷ [] = search rules in
+    let pushed = c.push_reserved.ensures.items in
     pushed ∙ rw (← c.deref.ensures.value) (put_new c.args.id c.deref.result.now c.in-None.ensures)

@@ -1,9 +1,5 @@
-use Rattle.std.proofs.Common.{ap, inl, inr, Err}
+use Rattle.ow_http.proofs.ReadLaws.{read_so}
 use Rattle.ow_http.proofs.routes.Routes.read.Goals as goal
 
-pub returns-in-Err-clause-headless : goal.returns-in-Err-clause-headless
-returns-in-Err-clause-headless c =
-    λ _. elim c.in-Err.ensures.only [
-      | inl e ↦ inl (e, c.in-Err.ensures.bad (ap Err e))
-      | inr e ↦ inr (inl (e, c.in-Err.ensures.cut (ap Err e)))
-    ]
+pub returns : goal.returns
+returns c = read_so c.args.bytes.now c.read_as_judged.result c.read_as_judged.ensures.judged c.read_as_judged.ensures.whole c.read_as_judged.ensures.headless

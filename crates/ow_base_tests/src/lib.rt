@@ -1,0 +1,11 @@
+//! The tests of ow_value, ow_names, ow_traits and ow_records, in a crate of their own, so that each of these is proved once.
+#![tactic(auto)]
+
+#[cfg(test)]
+mod of_names;
+#[cfg(test)]
+mod of_records;
+#[cfg(test)]
+mod of_traits;
+#[cfg(test)]
+mod of_value;

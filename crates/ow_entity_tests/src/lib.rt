@@ -1,0 +1,9 @@
+//! The tests of ow_entity and ow_tables, in a crate of their own, so that each of these is proved once.
+#![tactic(auto)]
+
+#[cfg(test)]
+mod held;
+#[cfg(test)]
+mod of_entity;
+#[cfg(test)]
+mod of_tables;

@@ -1,0 +1,7 @@
+//! The tests of ow_floor and ow_hall, in a crate of their own, so that each of these is proved once.
+#![tactic(auto)]
+
+#[cfg(test)]
+mod of_floor;
+#[cfg(test)]
+mod of_hall;
