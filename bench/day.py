@@ -76,4 +76,5 @@ def main():
         print(f"and {(held - nothing) / 1e6:.2f} MB more for 3,000,000 statements that keep nothing than for none")
 
 
-main()
+if __name__ == "__main__":
+    main()

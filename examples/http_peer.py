@@ -1,11 +1,12 @@
 #!/usr/bin/env python3
 """Shows that what a client on this machine sends is read right, and that what is written is read right by
 parsers that aren't this project's: curl sends requests to a listener on the loopback, which hands their bytes to
-the program and sends its reply back, as the program wrote it. What the program told is compared with what curl
-was asked to send, and status and body as curl got them with the reply's bytes as Python's http.client reads them.
-Build the program first: (cd crates/ow_http_bench && rt run -- 1)"""
+the program as an `ask` of a day and sends the reply's bytes back. Status and body as curl got them are compared
+with the reply's bytes as Python's http.client reads them, and with what the requests must be answered.
+Build the program first: (cd crates/ow_whisk && rt run -- day < ../../examples/first.day)"""
 import http.client
 import io
+import json
 import os
 import re
 import socket
@@ -13,42 +14,42 @@ import subprocess
 import sys
 import threading
 
-PROGRAM = os.path.join(os.path.dirname(__file__), "..", "crates", "ow_http_bench", "out", "ow_http_bench")
+PROGRAM = os.path.join(os.path.dirname(__file__), "..", "crates", "ow_whisk", "out", "ow_whisk")
 if not os.access(PROGRAM, os.X_OK):
-    sys.exit("build the program first: (cd crates/ow_http_bench && rt run -- 1)")
-BODY = '{"exec":{"kind":"plain:1","code":"{}"},"note":"ü"}'
+    sys.exit("build the program first: (cd crates/ow_whisk && rt run -- day < ../../examples/first.day)")
+BODY = '{"exec":{"kind":"plain:1","code":"{\\"cases\\":[]}"},"annotations":[{"key":"note","value":"ü"}]}'
 PATH = "/api/v1/namespaces"
-NO_ROUTE = '{"code":36,"error":"There is no such route."}'
-BAD_METHOD = '{"code":37,"error":"The method is not allowed."}'
-BAD_HEAD = '{"code":35,"error":"The request head is malformed."}'
-TOO_LARGE = '{"code":38,"error":"The body has too many bytes."}'
+PUT = ["-X", "PUT", "-d", BODY]
+NOT_FOUND = {"code": 14, "error": "The resource does not exist."}
+EXISTS = {"code": 17, "error": "The resource exists."}
+NOT_GRANTED = {"code": 24, "error": "The namespace is not granted."}
+BAD_HEAD = {"code": 35, "error": "The request head is malformed."}
+NO_ROUTE = {"code": 36, "error": "There is no such route."}
+BAD_METHOD = {"code": 37, "error": "The method is not allowed."}
+TOO_LARGE = {"code": 38, "error": "The body has too many bytes."}
+BAD_LIMIT = {"code": 39, "error": "The query value limit is wrong."}
 
-# What curl is told to send, beside the URL; the URL's path; the status and the phrase; the lines that must be in
-# the body that is told, or the whole body of a refusal.
+# What curl is told to send, beside the URL; the URL's path; the status and the phrase; the members that the body
+# must have, or the names in a list. The requests stand in the order in which the service gets them.
 CASES = [
-    (["-X", "PUT", "-H", "X-Whisk-Key: first", "-H", "x-whisk-key: last", "-d", BODY],
-     PATH + "/_/actions/p/hello?overwrite=true&a=%41+b&a=", 200, "OK",
-     ["route entity", "part _", "part p", "part hello", "method Put", "close false", "key last",
-      "query overwrite", "value true", "query a", "value A b", "header X-Whisk-Key", "value first",
-      "header Content-Type", "value application/x-www-form-urlencoded", "body", BODY]),
-    ([], PATH, 200, "OK", ["route namespaces", "method Get", "close false", "header Accept", "value */*"]),
-    (["--http1.0"], PATH + "/guest/actions?limit=5", 200, "OK",
-     ["route list", "part guest", "method Get", "close true", "query limit", "value 5"]),
-    (["-H", "Connection: Close"], PATH + "/_/activations/00/logs", 200, "OK",
-     ["route activation", "part _", "part 00", "close true"]),
-    (["-X", "DELETE"], PATH + "/_/actions/a%20b%2Fc", 200, "OK", ["part a b/c", "method Delete"]),
-    (["-X", "PATCH", "--data-binary", "1\r\n2"], "/api/v1/web/guest/default/n.http/x/y%20z//?q", 200, "OK",
-     ["route web", "part guest", "part default", "part n.http", "rest x/y z//", "method Patch", "query q", "value "]),
-    ([], "/api/v1/web/guest/default/n/", 404, "Not Found", NO_ROUTE),
+    (PUT, PATH + "/_/actions/hello", 200, "OK", {"name": "hello", "namespace": "guest", "version": "0.0.1"}),
+    (PUT, PATH + "/_/actions/hello", 409, "Conflict", EXISTS),
+    (PUT, PATH + "/guest/actions/h%65llo?a=%41+b&overwrite=%74rue&overwrite=x", 200, "OK",
+     {"name": "hello", "version": "0.0.2", "annotations": [{"key": "note", "value": "ü"}]}),
+    (PUT, PATH + "/_/actions/a%20b", 200, "OK", {"name": "a b"}),
+    ([], PATH + "/_/actions", 200, "OK", ["a b", "hello"]),
+    (["--http1.0"], PATH + "/_/actions?skip=1&limit=0", 200, "OK", ["hello"]),
+    (["-H", "Connection: Close"], PATH + "/_/actions?limit=x", 400, "Bad Request", BAD_LIMIT),
+    ([], PATH + "/other/actions", 403, "Forbidden", NOT_GRANTED),
+    (["-X", "DELETE"], PATH + "/_/actions/hello", 200, "OK", {"name": "hello", "version": "0.0.2"}),
+    ([], PATH + "/_/actions/hello", 404, "Not Found", NOT_FOUND),
     ([], "/", 404, "Not Found", NO_ROUTE),
     (["-X", "POST", "-d", ""], PATH, 405, "Method Not Allowed", BAD_METHOD),
-    (["-I"], PATH, 405, "Method Not Allowed", ""),
-    (["-X", "PUT", "-H", "Transfer-Encoding: chunked", "-d", BODY], PATH + "/_/actions/n", 400, "Bad Request", BAD_HEAD),
-    (["-X", "PUT", "-H", "Content-Encoding: gzip", "-d", BODY], PATH + "/_/actions/n", 400, "Bad Request", BAD_HEAD),
+    (["-I"], PATH, 405, "Method Not Allowed", None),
+    (PUT + ["-H", "Transfer-Encoding: chunked"], PATH + "/_/actions/n", 400, "Bad Request", BAD_HEAD),
+    (PUT + ["-H", "Content-Encoding: gzip"], PATH + "/_/actions/n", 400, "Bad Request", BAD_HEAD),
     (["-X", "PUT", "-H", "Expect:", "--data-binary", "@-"], PATH + "/_/actions/n", 413, "Payload Too Large", TOO_LARGE),
 ]
-# Statuses that the program is told to write, and their phrases.
-STATUSES = [(200, "OK"), (202, "Accepted"), (204, "No Content"), (304, "Not Modified"), (502, "Bad Gateway"), (599, "")]
 
 
 def whole_request(link):
@@ -66,18 +67,23 @@ def whole_request(link):
     return head + b"\r\n\r\n" + body
 
 
-def program_reply(request, *words):
-    done = subprocess.run([PROGRAM, "reply", *words], input=request, stdout=subprocess.PIPE, check=True)
-    return done.stdout
+def reply_to(day, request):
+    """The reply's bytes, as the program writes them to an `ask`."""
+    day.stdin.write(b"ask %d\n" % len(request) + request + b"\n")
+    day.stdin.flush()
+    word, size = day.stdout.readline().split()
+    expect(word, b"reply", "the answer to an ask")
+    reply = day.stdout.read(int(size))
+    expect(day.stdout.read(1), b"\n", "what stands behind a reply")
+    return reply
 
 
-def serve_one(listener, seen):
-    """Answers one client by what the program writes, and keeps both."""
+def serve_one(listener, day, seen):
+    """Answers one client by what the program writes, and keeps it."""
     link, _ = listener.accept()
     with link:
-        request = whole_request(link)
-        reply = program_reply(request)
-        seen.append((request, reply))
+        reply = reply_to(day, whole_request(link))
+        seen.append(reply)
         link.sendall(reply)
 
 
@@ -91,7 +97,7 @@ class Pretended:
         return io.BytesIO(self.reply)
 
 
-def parsed(reply, method="GET"):
+def parsed(reply, method):
     response = http.client.HTTPResponse(Pretended(reply), method=method)
     response.begin()
     return response, response.read()
@@ -102,20 +108,21 @@ def expect(got, wanted, what):
         sys.exit(f"{what}: got {got!r}, wanted {wanted!r}")
 
 
-def check_told(body, request, size, lines):
-    told = body.decode().split("\nbody\n", 1)
-    for line in lines:
-        if line not in told[0].split("\n") and line not in ("body", told[1]):
-            sys.exit(f"{line!r} isn't told: {body!r}")
-    expect(told[1].encode(), request.partition(b"\r\n\r\n")[2], "the body")
-    sent = re.findall(rb"(?m)^([^:\r\n]+): ?([^\r\n]*)\r$", request.partition(b"\r\n")[2].partition(b"\r\n\r\n")[0] + b"\r\n")
-    expect(re.findall(rb"(?m)^header (.*)\nvalue (.*)$", told[0].encode()), sent, "the headers")
-    expect(size, str(len(request)), "how many bytes were used")
+def check_body(body, wanted, what):
+    if wanted is None:
+        return
+    value = json.loads(body)
+    if isinstance(wanted, list):
+        expect([row["name"] for row in value], wanted, what)
+    elif "code" in wanted:
+        expect(value, wanted, what)
+    else:
+        expect({name: value[name] for name in wanted}, wanted, what)
 
 
-def check_curl(listener, words, path, status, phrase, wanted):
+def check_curl(listener, day, words, path, status, phrase, wanted):
     seen = []
-    server = threading.Thread(target=serve_one, args=(listener, seen))
+    server = threading.Thread(target=serve_one, args=(listener, day, seen))
     server.start()
     url = f"http://127.0.0.1:{listener.getsockname()[1]}{path}"
     head_only = "-I" in words
@@ -123,37 +130,27 @@ def check_curl(listener, words, path, status, phrase, wanted):
         ["curl", "-sS", "--path-as-is", *words, "-w", "\n%{http_code}", *(["-o", "/dev/null"] if head_only else []), url],
         input=b"x" * 4194305, stdout=subprocess.PIPE, check=True, timeout=20)
     server.join()
-    request, reply = seen[0]
-    response, body = parsed(reply, "HEAD" if head_only else "GET")
-    expect((response.version, response.status, response.reason), (11, status, phrase), f"{words} {path}")
-    expect(done.stdout, body + f"\n{status}".encode(), "what curl got")
-    if isinstance(wanted, str):
-        expect(body.decode(), wanted, f"{words} {path}")
-        expect(response.headers["Content-Type"], "application/json", "the type")
-    else:
-        expect(response.headers["Content-Type"], "text/plain; charset=utf-8", "the type")
+    what = f"{words} {path}"
+    response, body = parsed(seen[0], "HEAD" if head_only else "GET")
+    expect((response.version, response.status, response.reason), (11, status, phrase), what)
+    expect(response.headers["Content-Type"], "application/json", "the type")
+    if not head_only:
         expect(response.headers["Content-Length"], str(len(body)), "the length")
-        check_told(body, request, response.headers["X-Used"], wanted)
-
-
-def check_status(status, phrase):
-    reply = program_reply(b"GET /api/v1/namespaces HTTP/1.1\r\n\r\n", str(status))
-    response, body = parsed(reply)
-    bare = status in (204, 304)
-    expect((response.version, response.status, response.reason), (11, status, phrase), "the status line")
-    expect(response.headers["X-Used"], "35", "a header of the answer")
-    expect(response.headers["Content-Length"], None if bare else str(len(body)), "the length")
-    expect(body == b"", bare, "whether there is no body")
+    expect(done.stdout, body + f"\n{status}".encode(), "what curl got")
+    check_body(body, wanted, what)
 
 
 def main():
-    with socket.create_server(("127.0.0.1", 0)) as listener:
+    with socket.create_server(("127.0.0.1", 0)) as listener, subprocess.Popen(
+        [PROGRAM, "day"], stdin=subprocess.PIPE, stdout=subprocess.PIPE
+    ) as day:
         listener.settimeout(20)
-        for words, path, status, phrase, wanted in CASES:
-            check_curl(listener, words, path, status, phrase, wanted)
-    for status, phrase in STATUSES:
-        check_status(status, phrase)
-    print(f"{len(CASES)} requests of curl and {len(STATUSES)} statuses are read right on both sides")
+        for case in CASES:
+            check_curl(listener, day, *case)
+        day.stdin.write(b"end\n")
+        day.stdin.close()
+        expect(day.wait(timeout=20), 0, "the status of the day")
+    print(f"{len(CASES)} requests of curl and their replies are read right on both sides")
 
 
 main()

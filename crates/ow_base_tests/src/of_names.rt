@@ -3,7 +3,7 @@ use ow_names::{
     EntityName, FullName, NameRefusal, Names, check_name, full_text, named_in, read_full_text,
     read_name, resolve,
 };
-use ow_value::NoMemory;
+use ow_value::PlainData;
 use std::alloc::Global;
 use std::cmp::Ordering;
 use std::test::Fail;
@@ -35,7 +35,9 @@ fn names_are_read_where_they_are_names(rt: HostRuntime) -> Result<(), Fail> {
 
 // How many bytes of a name of so many are read.
 fn read_length(alloc: Global, bytes: usize) -> Result<usize, NameRefusal> {
-    let text = "a".repeat(alloc, bytes)?;
+    let Ok(text) = "a".repeat(alloc, bytes) else {
+        return Err(NameRefusal::NoMemory);
+    };
     Ok(name(alloc, text.as_str())?.as_str().len())
 }
 
@@ -149,9 +151,9 @@ fn parts_are_named_in_their_namespace(rt: HostRuntime) -> Result<(), Fail> {
 fn names_that_may_be_none_are_copied(rt: HostRuntime) -> Result<(), Fail> {
     let alloc = rt.alloc();
     let whole = Some(full(alloc, "p/a")?);
-    let copied = FullName::copy_option(alloc, &whole)?;
-    assert!(rt; FullName::same_option(&copied, &whole));
-    assert!(rt; !FullName::same_option(&copied, &None));
+    let copied = whole.copy(alloc)?;
+    assert!(rt; copied.same(&whole));
+    assert!(rt; !copied.same(&None));
     Ok(())
 }
 
@@ -159,9 +161,9 @@ fn names_that_may_be_none_are_copied(rt: HostRuntime) -> Result<(), Fail> {
 fn parts_that_may_be_none_are_copied(rt: HostRuntime) -> Result<(), Fail> {
     let alloc = rt.alloc();
     let part = Some(name(alloc, "p")?);
-    let copied = EntityName::copy_option(alloc, &part)?;
-    assert!(rt; EntityName::same_option(&copied, &part));
-    assert!(rt; !EntityName::same_option(&None, &part));
+    let copied = part.copy(alloc)?;
+    assert!(rt; copied.same(&part));
+    assert!(rt; !part.same(&None));
     Ok(())
 }
 
@@ -194,31 +196,25 @@ fn names_are_ordered_by_their_full_texts(rt: HostRuntime) -> Result<(), Fail> {
     Ok(())
 }
 
-fn listed(alloc: Global, paths: &[&str]) -> Result<Names, NameRefusal> {
-    let mut names = Names::new(alloc);
+fn listed(alloc: Global, paths: &[&str]) -> Result<Names, Fail> {
+    let mut names = Vec::new(alloc);
     for path in paths {
         names.push(full(alloc, path)?)?;
     }
-    Ok(names)
+    Ok(Names::from_vec(names)?)
 }
 
 // Whether the list is that of these paths.
-fn is_list_of(alloc: Global, names: &Names, paths: &[&str]) -> Result<bool, NameRefusal> {
+fn is_list_of(alloc: Global, names: &Names, paths: &[&str]) -> Result<bool, Fail> {
     Ok(listed(alloc, paths)?.same(names))
-}
-
-// Whether the list is that of the items of its copy.
-fn is_list_of_copied_items(alloc: Global, names: &Names) -> Result<bool, NoMemory> {
-    Ok(Names::from_vec(names.copy(alloc)?.into_vec()).same(names))
 }
 
 #[test]
 fn lists_keep_their_names(rt: HostRuntime) -> Result<(), Fail> {
     let alloc = rt.alloc();
-    assert!(rt; Names::new(alloc).is_empty());
+    assert!(rt; Names::new().is_empty());
     let names = listed(alloc, &["p/a", "b"])?;
     assert_eq!(rt; (names.len(), names.as_slice().len()), (2, 2));
-    assert!(rt; is_list_of_copied_items(alloc, &names)?);
     assert!(rt; is_list_of(alloc, &names, &["p/a", "b"])?);
     assert!(rt; !is_list_of(alloc, &names, &["p/a", "b", "c"])?);
     Ok(())

@@ -2,14 +2,14 @@
 use ow_entity::Limits;
 use ow_records::{Ending, Id, Response, outcome};
 use ow_traits::RunReply;
-use ow_value::{Lines, NoMemory, Str, Val, write_val};
+use ow_value::{Lines, NoMemory, PlainData, Str, Val, write_val};
 use std::alloc::{AllocError, Global};
 use std::test::Fail;
 
 fn answer(alloc: Global, text: &str) -> Result<RunReply, NoMemory> {
     Ok(RunReply::Answer {
         text: Str::of(alloc, text)?,
-        logs: Lines::new(alloc),
+        logs: Lines::new(),
     })
 }
 
@@ -31,7 +31,11 @@ fn shown(alloc: Global, response: &Response) -> Result<String, Fail> {
 
 // The response to a run that ended so.
 fn responded(alloc: Global, reply: RunReply) -> Result<String, Fail> {
-    let ending = Ending::Replied(reply);
+    ended(alloc, Ending::Replied(reply))
+}
+
+// The response of an activation that ended so.
+fn ended(alloc: Global, ending: Ending) -> Result<String, Fail> {
     if !ending_equals_copy(alloc, &ending)? {
         return Err(Fail::from("a copy differs"));
     }
@@ -106,7 +110,7 @@ fn what_other_endings_come_to(rt: HostRuntime) -> Result<(), Fail> {
     ] {
         let reply = RunReply::Exit {
             code,
-            logs: Lines::new(alloc),
+            logs: Lines::new(),
         };
         assert_eq!(rt; responded(alloc, reply)?.as_str(), want);
     }
@@ -135,5 +139,19 @@ fn the_text_of_an_id(rt: HostRuntime) -> Result<(), Fail> {
         Id { namespace, count }.push_text(&mut text)?;
         assert_eq!(rt; text.as_slice(), want.as_bytes());
     }
+    Ok(())
+}
+
+#[test]
+fn what_endings_without_a_reply_come_to(rt: HostRuntime) -> Result<(), Fail> {
+    let alloc = rt.alloc();
+    assert_eq!(rt;
+        ended(alloc, Ending::Overran)?.as_str(),
+        "2 {\"error\":\"The action exceeded its time limit of 60000 milliseconds.\"}"
+    );
+    assert_eq!(rt;
+        ended(alloc, Ending::Abandoned)?.as_str(),
+        "3 {\"error\":\"The activation was abandoned.\"}"
+    );
     Ok(())
 }

@@ -3,7 +3,7 @@ use ow_traits::{
     Change, Changes, Failed, Keeper, KeeperError, MemoryKeeper, MemorySink, MemorySource,
     ReaderSource, Rows, RunReply, Sink, Source, WriterSink, read_some, write_all,
 };
-use ow_value::{Lines, NoMemory, Str};
+use ow_value::{Lines, NoMemory, PlainData, Str};
 use std::alloc::{AllocError, Global};
 use std::io;
 use std::test::Fail;
@@ -131,13 +131,13 @@ fn drop_of(alloc: Global, key: &str) -> Result<Change, NoMemory> {
 }
 
 fn sample(alloc: Global) -> Result<Changes, NoMemory> {
-    let mut changes = Changes::new(alloc);
+    let mut changes = Vec::new(alloc);
     for (key, text) in [("b", "1"), ("a", "2"), ("b", "3"), ("c", "4")] {
         changes.push(put(alloc, key, text)?)?;
     }
     changes.push(drop_of(alloc, "c")?)?;
     changes.push(drop_of(alloc, "d")?)?;
-    Ok(changes)
+    Changes::from_vec(changes)
 }
 
 // The rows as a text.
@@ -175,13 +175,13 @@ fn changes_are_copied_and_told_apart(rt: HostRuntime) -> Result<(), Fail> {
     let alloc = rt.alloc();
     let changes = sample(alloc)?;
     assert!(rt; changes.same(&changes.copy(alloc)?));
-    assert!(rt; !changes.same(&Changes::new(alloc)));
+    assert!(rt; !changes.same(&Changes::new()));
     Ok(())
 }
 
 fn sample_rows(alloc: Global) -> Result<Rows, NoMemory> {
     let mut rows = Rows::new(alloc);
-    rows.apply(sample(alloc)?)?;
+    rows.apply(alloc, &sample(alloc)?)?;
     Ok(rows)
 }
 
@@ -198,9 +198,7 @@ fn rows_are_copied_and_told_apart(rt: HostRuntime) -> Result<(), Fail> {
 }
 
 fn line(alloc: Global, text: &str) -> Result<Lines, NoMemory> {
-    let mut lines = Lines::new(alloc);
-    lines.push(Str::of(alloc, text)?)?;
-    Ok(lines)
+    Ok(Lines::from_vec(vec![in alloc; Str::of(alloc, text)?]?)?)
 }
 
 fn reply(alloc: Global, number: u8) -> Result<RunReply, NoMemory> {

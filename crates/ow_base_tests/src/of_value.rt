@@ -1,7 +1,8 @@
 // Values, texts and lists.
 use ow_value::{
-    Bytes, Lines, NoMemory, Pairs, Params, Str, Val, Vals, ValueRefusal, Whole, copy, decimal_of,
-    depth, digits_of, merge, read_deep, read_val, same, size, write_val,
+    Fields, Items, Lines, NoMemory, Pairs, Params, PlainData, Shared, Str, Val, Vals, ValueRefusal,
+    Whole, bytes_of, copy, decimal_of, depth, digits_of, merge, read_deep, read_val, same, size,
+    write_val,
 };
 use std::alloc::Global;
 use std::cmp::Ordering;
@@ -36,18 +37,19 @@ fn nested(alloc: Global, depth: usize) -> Result<String, NoMemory> {
 }
 
 fn sample(alloc: Global) -> Result<Params, NoMemory> {
-    let mut items = Vals::new(alloc);
+    let mut items = Vec::new(alloc);
     items.push(Val::Int(Whole::of_u64(1)))?;
     items.push(Val::Int(Whole::of_i64(-20)))?;
     items.push(Val::Bool(false))?;
-    let mut members = Params::new(alloc);
+    let items = Vals::from_vec(items)?;
+    let mut members = Fields::new(alloc);
     members.set(Str::of(alloc, "list")?, Val::List(items))?;
     members.set(
         Str::of(alloc, "in\n")?,
         Val::Text(Str::of(alloc, "\"\u{1}é")?),
     )?;
     members.set(Str::of(alloc, "none")?, Val::Null)?;
-    Ok(members)
+    members.into_params()
 }
 
 #[test]
@@ -154,7 +156,7 @@ fn members_are_found_by_name(rt: HostRuntime) -> Result<(), Fail> {
 fn object(alloc: Global, text: &str) -> Result<Params, ValueRefusal> {
     match read_val(alloc, text.as_bytes())? {
         Val::Object(members) => Ok(members),
-        _ => Ok(Params::new(alloc)),
+        _ => Ok(Params::new()),
     }
 }
 
@@ -199,37 +201,51 @@ fn the_depth_of_a_value(rt: HostRuntime) -> Result<(), Fail> {
 }
 
 #[test]
-fn texts_and_lists_of_them(rt: HostRuntime) -> Result<(), Fail> {
-    let alloc = rt.alloc();
-    let text = Str::of(alloc, "é")?;
+fn texts_are_compared_by_their_bytes(rt: HostRuntime) -> Result<(), Fail> {
+    let text = Str::of(rt.alloc(), "é")?;
     assert_eq!(rt; text.len(), 2);
     assert_eq!(rt; text.compare("f"), Ordering::Greater);
-    let mut lines = Lines::new(alloc);
-    lines.push(text)?;
-    assert!(rt; lines.same(&lines.copy(alloc)?));
-    assert!(rt; !lines.same(&Lines::new(alloc)));
+    assert_eq!(rt; Str::empty().as_str(), "");
     Ok(())
 }
 
-#[test]
-fn lists_of_pairs(rt: HostRuntime) -> Result<(), Fail> {
-    let alloc = rt.alloc();
-    let mut pairs = Pairs::new(alloc);
-    pairs.push(Str::of(alloc, "k")?, Str::of(alloc, "é")?)?;
-    assert!(rt; pairs.same(&pairs.copy(alloc)?));
-    assert!(rt; !pairs.same(&Pairs::new(alloc)));
-    Ok(())
+// Whether a copy of the items is equal to them, and no items are not.
+fn is_told_from_none<T: PlainData + Drop>(
+    alloc: Global,
+    items: &Items<T>,
+) -> Result<bool, NoMemory> {
+    Ok(items.same(&items.copy(alloc)?) && !items.same(&Items::new()))
+}
+
+fn line(alloc: Global) -> Result<Lines, NoMemory> {
+    Ok(Lines::from_vec(vec![in alloc; Str::of(alloc, "é")?]?)?)
+}
+
+fn pair(alloc: Global) -> Result<Pairs, NoMemory> {
+    let pair = (Str::of(alloc, "k")?, Str::of(alloc, "é")?);
+    Ok(Pairs::from_vec(vec![in alloc; pair]?)?)
 }
 
 #[test]
-fn lists_of_bytes(rt: HostRuntime) -> Result<(), Fail> {
+fn lists_are_copied_and_told_apart(rt: HostRuntime) -> Result<(), Fail> {
     let alloc = rt.alloc();
-    let mut bytes = Bytes::of(alloc, b"ab")?;
-    bytes.push(255)?;
+    assert!(rt; is_told_from_none(alloc, &line(alloc)?)?);
+    assert!(rt; is_told_from_none(alloc, &pair(alloc)?)?);
+    assert!(rt; is_told_from_none(alloc, &bytes_of(alloc, b"ab\xff")?)?);
     assert_eq!(rt;
-        bytes.copy(alloc)?.into_vec().as_slice(),
+        bytes_of(alloc, b"ab\xff")?.as_slice(),
         b"ab\xff".as_slice()
     );
+    Ok(())
+}
+
+#[test]
+fn a_shared_value_is_lent_and_copied(rt: HostRuntime) -> Result<(), Fail> {
+    let alloc = rt.alloc();
+    let shared = Shared::new(alloc, line(alloc)?)?;
+    let copied = shared.copy(alloc)?;
+    drop(shared);
+    assert_eq!(rt; copied.get().len(), 1);
     Ok(())
 }
 
@@ -256,9 +272,9 @@ fn numbers_written_as_digits(rt: HostRuntime) -> Result<(), Fail> {
 fn texts_that_may_be_missing(rt: HostRuntime) -> Result<(), Fail> {
     let alloc = rt.alloc();
     let some = Some(Str::of(alloc, "a")?);
-    let copied = Str::copy_option(alloc, &some)?;
-    assert!(rt; Str::same_option(&some, &copied));
-    assert!(rt; !Str::same_option(&some, &None));
+    let copied = some.copy(alloc)?;
+    assert!(rt; some.same(&copied));
+    assert!(rt; !some.same(&None));
     Ok(())
 }
 
@@ -275,5 +291,31 @@ fn an_object_of_many_members(rt: HostRuntime) -> Result<(), Fail> {
         Val::Object(members) => assert_eq!(rt; members.len(), 70),
         _ => assert!(rt; false, "no object"),
     }
+    Ok(())
+}
+
+// The members `m0` to `m69`, put in by falling numbers, with an earlier value for each.
+fn fallen(alloc: Global) -> Result<Params, NoMemory> {
+    let mut members = Fields::new(alloc);
+    for value in [1, 2] {
+        for i in 0..70u32 {
+            let name = format!(in alloc; "m{}", 69 - i)?;
+            members.set(Str::from_string(name)?, Val::Int(Whole::of_u64(value)))?;
+        }
+    }
+    members.into_params()
+}
+
+#[test]
+fn an_object_is_built_from_names_in_any_order(rt: HostRuntime) -> Result<(), Fail> {
+    let members = fallen(rt.alloc())?;
+    assert_eq!(rt; members.len(), 70);
+    assert!(rt; matches!(members.find("m7"), Some(Val::Int(n)) if n.as_u64() == Some(2)));
+    assert!(rt;
+        members
+            .pairs()
+            .first()
+            .is_some_and(|p| p.name.as_str() == "m0")
+    );
     Ok(())
 }

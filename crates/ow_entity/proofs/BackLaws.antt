@@ -1,46 +1,51 @@
 -- What is written of an action, read again as a body and finished over no row.
-use Rattle.std.proofs.Common.{◌≡◌, ℕ, ◌&&◌, List, [], ◌∷◌, Bool, true, false, cond, length, nat_le, is_some, Option, Some, None, Result, Ok, Err, refl, ap, ◌∙◌, arith}
+use Rattle.std.proofs.Common.{◌≡◌, ℕ, pos, List, [], ◌∷◌, Bool, true, false, cond, length, is_some, Option, Some, None, Result, Ok, Err, refl, ap, ◌∙◌, arith}
 use Rattle.std.specs.Result.{result_err, result_unwrap_or}
-use Rattle.ow_value.specs.Value.{V, Pairs, AreParams}
+use Rattle.ow_value.specs.Value.{V, Pairs, AreParams, whole}
 use Rattle.ow_names.specs.declared.full.FullName.{FullName}
 use Rattle.ow_entity.specs.declared.kinds.EntityKind.TheVariants as kinds
-use Rattle.ow_entity.specs.declared.fields.FieldName.{FieldName}
-use Rattle.ow_entity.specs.declared.fields.FieldName.TheVariants as fields
+use Rattle.ow_entity.specs.declared.field_name.FieldName.{FieldName}
+use Rattle.ow_entity.specs.declared.field_name.FieldName.TheVariants as fields
 use Rattle.ow_entity.specs.declared.refusal.EntityRefusal.{EntityRefusal}
-use Rattle.ow_entity.specs.declared.refusal.EntityRefusal.TheVariants.{WrongType, OutOfRange}
+use Rattle.ow_entity.specs.declared.refusal.EntityRefusal.TheVariants.{WrongType}
 use Rattle.ow_entity.specs.declared.bounds.GivenLimits.{GivenLimits}
 use Rattle.ow_entity.specs.declared.bounds.Limits.{Limits}
-use Rattle.ow_entity.specs.declared.code.Exec.{Exec}
-use Rattle.ow_entity.specs.declared.code.Exec.TheVariants.{Plain, Program}
+use Rattle.ow_entity.specs.declared.exec.Exec.{Exec}
+use Rattle.ow_entity.specs.declared.exec.Exec.TheVariants.{Plain, Program}
 use Rattle.ow_entity.specs.declared.actions.Action.{Action}
 use Rattle.ow_entity.specs.declared.rows.Row.TheVariants as rows
 use Rattle.ow_entity.specs.declared.rows.Draft.{Draft}
 use Rattle.ow_entity.specs.declared.rows.Draft.TheVariants as drafts
-use Rattle.ow_entity.specs.Body.{limits_given, exec_given, exec_in, plain_exec, no_limits, or_draft, draft_of, entity_of}
+use Rattle.ow_entity.specs.declared.finishing.TheConstants.{FIRST_VERSION}
+use Rattle.ow_entity.specs.Bounds.{IsBetween, number_within}
+use Rattle.ow_entity.specs.Body.{number_in_range, number_or_none, no_limits, limits_given, exec_given, exec_in, draft_unless, draft_of, entity_of}
 use Rattle.ow_entity.specs.Chain.{and_then, first_some, result_map}
-use Rattle.ow_entity.specs.Finish.{finished}
-use Rattle.ow_entity.specs.Fit.{IsBetween, IsFitExec, IsFitLimits, IsFitAction, made_of}
-use Rattle.ow_entity.specs.Plain.{plain_cases}
+use Rattle.ow_entity.specs.Finish.{finished_row, row_of_body}
+use Rattle.ow_entity.specs.FitAction.{IsFitExec, IsFitLimits, IsFitAction}
+use Rattle.ow_entity.specs.PlainCode.{plain_cases}
 use Rattle.ow_entity.specs.Written.{exec_value, limits_value, action_value}
 use Rattle.ow_entity.proofs.PairLaws.{by_size, pairs_given-value}
 
 -- ---- what an action runs
 
-by_form : (b : Bool) (code : List ℕ) → b ≡ true → cond b (Ok (Plain code)) (Err (WrongType fields.Code)) ≡ Ok (Plain code)
+by_form : (b : Bool) (code : List ℕ) → b ≡ true → cond b (Ok code) (Err (WrongType fields.Code)) ≡ Ok code
 by_form true code e = refl
 by_form false code e = cc
 
 exec_in-value : (e : Exec) → IsFitExec e → exec_in (exec_value e) ≡ Ok e
-exec_in-value (Plain code) h = ap (λ r. and_then r plain_exec) (by_size (length code) (Ok code) h.0) ∙ by_form (is_some (plain_cases code)) code h.1
-exec_in-value (Program code) h = ap (result_map Program) (by_size (length code) (Ok code) h)
+exec_in-value (Plain code) h = ap (result_map Plain) (by_size (length code) _ h.size ∙ by_form (is_some (plain_cases code)) code h.form)
+exec_in-value (Program code) h = ap (result_map Program) (by_size (length code) (Ok code) h.size)
 
 exec_given-value : (e : Exec) → IsFitExec e → exec_given (Some (exec_value e)) ≡ Ok (Some e)
 exec_given-value e h = ap (result_map Some) (exec_in-value e h)
 
 -- ---- its limits
 
-in_range : (name : FieldName) (least most n : ℕ) → IsBetween least most n → cond (nat_le least n && nat_le n most) (Ok (Some n)) (Err (OutOfRange name)) ≡ Ok (Some n)
-in_range name least most n h = grind arith
+within-between : (least most n : ℕ) → IsBetween least most n → number_within least most n ≡ Some n
+within-between least most n h = grind arith
+
+number-value : (name : FieldName) (least most n : ℕ) → IsBetween least most n → number_or_none name least most (Some (whole (pos n))) ≡ Ok (Some n)
+number-value name least most n h = ap (λ o. result_map Some (number_in_range name o)) (within-between least most n h)
 
 abbrev all_given : Limits → GivenLimits
 all_given l = record { timeout = Some l.timeout; memory = Some l.memory; logs = Some l.logs }
@@ -50,15 +55,15 @@ three a b c = and_then a (λ timeout. and_then b (λ memory. and_then c (λ logs
 
 limits_given-value : (l : Limits) → IsFitLimits l → limits_given (Some (limits_value l)) ≡ Ok (all_given l)
 limits_given-value l h = λ i. three
-    (in_range fields.Timeout 100 300000 l.timeout h.timeout i)
-    (in_range fields.Memory 128 512 l.memory h.memory i)
-    (in_range fields.Logs 0 10 l.logs h.logs i)
+    (number-value fields.Timeout _ _ l.timeout h.timeout i)
+    (number-value fields.Memory _ _ l.memory h.memory i)
+    (number-value fields.Logs _ _ l.logs h.logs i)
 
 -- ---- the draft of five good fields
 
 abbrev drafted : FullName → Result (Option Pairs) EntityRefusal → Result (Option Pairs) EntityRefusal → Result (Option Bool) EntityRefusal → Result (Option Exec) EntityRefusal → Result GivenLimits EntityRefusal
     → Result Draft EntityRefusal
-drafted name n p b x l = or_draft
+drafted name n p b x l = draft_unless
     (first_some (result_err n ∷ result_err p ∷ result_err b ∷ result_err x ∷ result_err l ∷ []))
     (drafts.Action (record {
       name = name;
@@ -86,10 +91,10 @@ draft_of-value a rn rp h = λ i. drafted a.name
     (limits_given-value a.limits h.limits i)
 
 pub reads_back : (a : Action) → AreParams a.notes → AreParams a.params → IsFitAction a
-    → made_of kinds.Action a.name (action_value a) ≡ Ok (rows.Action (record a { version = 1 }))
-unfolding made_of entity_of finished
-reads_back a rn rp h = ap (λ r. and_then r (λ d. finished d None)) (draft_of-value a rn rp h)
+    → row_of_body kinds.Action a.name (action_value a) ≡ Ok (rows.Action (record a { version = FIRST_VERSION }))
+unfolding row_of_body entity_of finished_row
+reads_back a rn rp h = ap (λ r. and_then r (λ d. finished_row d None)) (draft_of-value a rn rp h)
 
 pub reads_back_as : (a : Action) (v : V) → v ≡ action_value a → AreParams a.notes → AreParams a.params → IsFitAction a
-    → made_of kinds.Action a.name v ≡ Ok (rows.Action (record a { version = 1 }))
-reads_back_as a v e rn rp h = ap (made_of kinds.Action a.name) e ∙ reads_back a rn rp h
+    → row_of_body kinds.Action a.name v ≡ Ok (rows.Action (record a { version = FIRST_VERSION }))
+reads_back_as a v e rn rp h = ap (row_of_body kinds.Action a.name) e ∙ reads_back a rn rp h

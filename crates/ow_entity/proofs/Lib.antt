@@ -1,3 +1,3 @@
-pub mod PlainLaws
+pub mod PlainCodeLaws
 pub mod PairLaws
 pub mod BackLaws

@@ -7,15 +7,15 @@ use Rattle.std.specs.Ordering.{ordering_reverse, match_ordering}
 use Rattle.std.proofs.lemmas.Cmp.{nat_list_cmp_total}
 use Rattle.ow_value.specs.Value.{V, Pairs, items_of, text_cmp, AreParams}
 use Rattle.ow_value.specs.Find.{with_pair}
-use Rattle.ow_value.specs.Size.{megabyte}
+use Rattle.ow_value.specs.declared.measure.TheConstants.{MEGABYTE}
 use Rattle.ow_entity.specs.Chain.{result_map}
 use Rattle.ow_entity.specs.Fit.{IsFitPairs}
-use Rattle.ow_entity.specs.Pairs.{pair_value, pairs_listed, pairs_value, pairs_given, pairs_size, put_all, standing}
-use Rattle.ow_entity.specs.declared.fields.FieldName.{FieldName}
+use Rattle.ow_entity.specs.Pairs.{pair_value, pairs_listed, pairs_value, pairs_given, pairs_size, with_pairs, pairs_of_list}
+use Rattle.ow_entity.specs.declared.field_name.FieldName.{FieldName}
 use Rattle.ow_entity.specs.declared.refusal.EntityRefusal.{EntityRefusal}
 use Rattle.ow_entity.specs.declared.refusal.EntityRefusal.TheVariants.{TooLarge}
 
-pub pairs_listed-map : (ps : Pairs) → pairs_listed (items_of (map pair_value ps)) ≡ Some ps
+pairs_listed-map : (ps : Pairs) → pairs_listed (items_of (map pair_value ps)) ≡ Some ps
 pairs_listed-map [] = refl
 pairs_listed-map (p ∷ ps) = ap (option_map (λ qs. p ∷ qs)) (pairs_listed-map ps)
 
@@ -41,24 +41,24 @@ with_pair_end [] p h = refl
 with_pair_end (q ∷ qs) p h =
     put_behind p.0 p.1 q qs (with_pair qs p.0 p.1) (text_cmp p.0 q.0) (nat_list_cmp_total.antisymm p.0 q.0 ∙ ap ordering_reverse h.0) (with_pair_end qs p h.1)
 
-put_all-append : (qs ps : Pairs) → AreParams (qs ++ ps) → put_all qs ps ≡ qs ++ ps
-put_all-append qs [] h = sym (append-nil qs)
-put_all-append qs (p ∷ ps) h =
+with_pairs-append : (qs ps : Pairs) → AreParams (qs ++ ps) → with_pairs qs ps ≡ qs ++ ps
+with_pairs-append qs [] h = sym (append-nil qs)
+with_pairs-append qs (p ∷ ps) h =
     let e : with_pair qs p.0 p.1 ≡ qs ++ p ∷ [] = with_pair_end qs p (below qs p ps h) in
     let same : (qs ++ p ∷ []) ++ ps ≡ qs ++ p ∷ ps = append_assoc qs (p ∷ []) ps in
-    ap (λ x. put_all x ps) e ∙ put_all-append (qs ++ p ∷ []) ps (subst AreParams (sym same) h) ∙ same
+    ap (λ x. with_pairs x ps) e ∙ with_pairs-append (qs ++ p ∷ []) ps (subst AreParams (sym same) h) ∙ same
 
 -- pairs whose names rise stand as they are listed
-pub put_all-same : (ps : Pairs) → AreParams ps → put_all [] ps ≡ ps
-put_all-same ps h = put_all-append [] ps h
+with_pairs-same : (ps : Pairs) → AreParams ps → with_pairs [] ps ≡ ps
+with_pairs-same ps h = with_pairs-append [] ps h
 
 -- what is no larger than the bound is taken
-pub by_size : {X : Type 0} (n : ℕ) (x : Result X EntityRefusal) → n ≤ megabyte → cond (nat_lt megabyte n) (Err TooLarge) x ≡ x
+pub by_size : {X : Type 0} (n : ℕ) (x : Result X EntityRefusal) → n ≤ MEGABYTE → cond (nat_lt MEGABYTE n) (Err TooLarge) x ≡ x
 by_size n x h = grind arith
 
 -- a list that was written of pairs gives them back
 pub pairs_given-value : (name : FieldName) (ps : Pairs) → AreParams ps → IsFitPairs ps → pairs_given name (Some (pairs_value ps)) ≡ Ok (Some ps)
 pairs_given-value name ps rises fits =
-    ap (λ o. standing name (option_map (put_all []) o)) (pairs_listed-map ps)
-    ∙ ap (λ qs. standing name (Some qs)) (put_all-same ps rises)
+    ap (λ o. pairs_of_list name (option_map (with_pairs []) o)) (pairs_listed-map ps)
+    ∙ ap (λ qs. pairs_of_list name (Some qs)) (with_pairs-same ps rises)
     ∙ ap (result_map Some) (by_size (pairs_size ps) (Ok ps) fits.size)

@@ -1,26 +1,27 @@
 -- What a body says of each field, the table of the fields, and the draft that a body gives.
-use Rattle.std.specs.Prelude.{◌&&◌, ℕ, pos, negsuc, List, [], ◌∷◌, Bool, true, false, map, filter, length, codes, nat_le, nat_lt, is_some, if◌then◌else◌, Option, Some, None, Result, Ok, Err}
+use Rattle.std.specs.Prelude.{ℕ, ℤ, pos, negsuc, List, [], ◌∷◌, Bool, true, false, map, filter, codes, if◌then◌else◌, Option, Some, None, Result, Ok, Err}
 use Rattle.std.specs.Result.{result_err, result_unwrap_or}
 use Rattle.std.specs.Str.{bytes_eq}
 use Rattle.ow_value.specs.Value.{V, boolean, whole, text, object}
 use Rattle.ow_value.specs.Field.{field}
-use Rattle.ow_value.specs.Size.{megabyte}
 use Rattle.ow_names.specs.declared.full.FullName.{FullName}
 use Rattle.ow_entity.specs.declared.kinds.EntityKind.{EntityKind}
 use Rattle.ow_entity.specs.declared.kinds.EntityKind.TheVariants as kinds
-use Rattle.ow_entity.specs.declared.fields.FieldName.{FieldName}
-use Rattle.ow_entity.specs.declared.fields.FieldName.TheVariants as fields
+use Rattle.ow_entity.specs.declared.field_name.FieldName.{FieldName}
+use Rattle.ow_entity.specs.declared.field_name.FieldName.TheVariants as fields
 use Rattle.ow_entity.specs.declared.refusal.EntityRefusal.{EntityRefusal}
-use Rattle.ow_entity.specs.declared.refusal.EntityRefusal.TheVariants.{MissingField, WrongType, OutOfRange, UnknownKind, TooLarge}
+use Rattle.ow_entity.specs.declared.refusal.EntityRefusal.TheVariants.{MissingField, WrongType, OutOfRange, UnknownKind}
 use Rattle.ow_entity.specs.declared.bounds.GivenLimits.{GivenLimits}
-use Rattle.ow_entity.specs.declared.code.Exec.{Exec}
-use Rattle.ow_entity.specs.declared.code.Exec.TheVariants.{Plain, Program}
+use Rattle.ow_entity.specs.declared.bounds.TheConstants.{LEAST_TIMEOUT, MOST_TIMEOUT, LEAST_MEMORY, MOST_MEMORY, LEAST_LOGS, MOST_LOGS}
+use Rattle.ow_entity.specs.declared.exec.Exec.{Exec}
+use Rattle.ow_entity.specs.declared.exec.Exec.TheVariants.{Plain, Program}
 use Rattle.ow_entity.specs.declared.rows.Draft.{Draft}
 use Rattle.ow_entity.specs.declared.rows.Draft.TheVariants as drafts
 use Rattle.ow_entity.specs.Chain.{and_then, first_some, result_map}
 use Rattle.ow_entity.specs.FieldName.{field_name}
 use Rattle.ow_entity.specs.Pairs.{pairs_field}
-use Rattle.ow_entity.specs.Plain.{plain_cases}
+use Rattle.ow_entity.specs.Bounds.{number_within}
+use Rattle.ow_entity.specs.Code.{plain_code, program_name}
 
 -- ---- fields of a plain type
 
@@ -41,27 +42,34 @@ text_given name (Some v) = Err (WrongType name)
 abbrev pub text_field : FieldName → V → Result (List ℕ) EntityRefusal
 text_field name v = text_given name (field (field_name name) v)
 
-abbrev pub number_given : FieldName → ℕ → ℕ → Option V → Result (Option ℕ) EntityRefusal
-number_given name least most None = Ok None
-number_given name least most (Some (whole (pos n))) = if nat_le least n && nat_le n most then Ok (Some n) else Err (OutOfRange name)
-number_given name least most (Some (whole (negsuc n))) = Err (OutOfRange name)
-number_given name least most (Some v) = Err (WrongType name)
+abbrev pub number_in_range : FieldName → Option ℕ → Result ℕ EntityRefusal
+number_in_range name None = Err (OutOfRange name)
+number_in_range name (Some n) = Ok n
+
+abbrev pub number_given : FieldName → ℕ → ℕ → ℤ → Result ℕ EntityRefusal
+number_given name least most (pos n) = number_in_range name (number_within least most n)
+number_given name least most (negsuc n) = Err (OutOfRange name)
+
+abbrev pub number_or_none : FieldName → ℕ → ℕ → Option V → Result (Option ℕ) EntityRefusal
+number_or_none name least most None = Ok None
+number_or_none name least most (Some (whole z)) = result_map Some (number_given name least most z)
+number_or_none name least most (Some v) = Err (WrongType name)
 
 abbrev pub number_field : FieldName → ℕ → ℕ → V → Result (Option ℕ) EntityRefusal
-number_field name least most v = number_given name least most (field (field_name name) v)
+number_field name least most v = number_or_none name least most (field (field_name name) v)
 
 -- ---- what an action runs
 
-abbrev pub code_in : V → Result (List ℕ) EntityRefusal
-code_in v = and_then (text_field fields.Code v) (λ code. if nat_lt megabyte (length code) then Err TooLarge else Ok code)
+abbrev pub plain_exec : V → Result Exec EntityRefusal
+plain_exec v = result_map Plain (and_then (text_field fields.Code v) plain_code)
 
-abbrev pub plain_exec : List ℕ → Result Exec EntityRefusal
-plain_exec code = if is_some (plain_cases code) then Ok (Plain code) else Err (WrongType fields.Code)
+abbrev pub program_exec : V → Result Exec EntityRefusal
+program_exec v = result_map Program (and_then (text_field fields.Code v) program_name)
 
 abbrev pub exec_of_kind : V → List ℕ → Result Exec EntityRefusal
 exec_of_kind v kind =
-    if bytes_eq kind (codes "plain:1") then and_then (code_in v) plain_exec
-    else if bytes_eq kind (codes "program:1") then result_map Program (code_in v)
+    if bytes_eq kind (codes "plain:1") then plain_exec v
+    else if bytes_eq kind (codes "program:1") then program_exec v
     else Err UnknownKind
 
 abbrev pub exec_in : V → Result Exec EntityRefusal
@@ -82,9 +90,9 @@ no_limits = record { timeout = None; memory = None; logs = None }
 
 abbrev pub limits_in : V → Result GivenLimits EntityRefusal
 limits_in v =
-    and_then (number_field fields.Timeout 100 300000 v) (λ timeout.
-    and_then (number_field fields.Memory 128 512 v) (λ memory.
-    and_then (number_field fields.Logs 0 10 v) (λ logs.
+    and_then (number_field fields.Timeout LEAST_TIMEOUT MOST_TIMEOUT v) (λ timeout.
+    and_then (number_field fields.Memory LEAST_MEMORY MOST_MEMORY v) (λ memory.
+    and_then (number_field fields.Logs LEAST_LOGS MOST_LOGS v) (λ logs.
     Ok (record { timeout = timeout; memory = memory; logs = logs }))))
 
 abbrev pub limits_given : Option V → Result GivenLimits EntityRefusal
@@ -102,36 +110,36 @@ pub record Field : Type 0 where
   pub of : EntityKind → Bool
   pub fault : V → Option EntityRefusal
 
-abbrev pub every : EntityKind → Bool
-every kind = true
+abbrev pub is_any : EntityKind → Bool
+is_any kind = true
 
-abbrev pub but_rules : EntityKind → Bool
-but_rules kinds.Rule = false
-but_rules kind = true
+abbrev pub is_no_rule : EntityKind → Bool
+is_no_rule kinds.Rule = false
+is_no_rule kind = true
 
-abbrev pub actions : EntityKind → Bool
-actions kinds.Action = true
-actions kind = false
+abbrev pub is_action : EntityKind → Bool
+is_action kinds.Action = true
+is_action kind = false
 
 -- the fields, in the order in which they are looked at
-abbrev pub table : List Field
-table =
-    record { of = every; fault = λ body. result_err (pairs_field fields.Annotations body) }
-    ∷ record { of = but_rules; fault = λ body. result_err (pairs_field fields.Parameters body) }
-    ∷ record { of = every; fault = λ body. result_err (bool_field fields.Publish body) }
-    ∷ record { of = actions; fault = λ body. result_err (exec_field body) }
-    ∷ record { of = actions; fault = λ body. result_err (limits_field body) }
+abbrev pub field_table : List Field
+field_table =
+    record { of = is_any; fault = λ body. result_err (pairs_field fields.Annotations body) }
+    ∷ record { of = is_no_rule; fault = λ body. result_err (pairs_field fields.Parameters body) }
+    ∷ record { of = is_any; fault = λ body. result_err (bool_field fields.Publish body) }
+    ∷ record { of = is_action; fault = λ body. result_err (exec_field body) }
+    ∷ record { of = is_action; fault = λ body. result_err (limits_field body) }
     ∷ []
 
 -- what is wrong with the first wrong field
-abbrev pub first_wrong : EntityKind → V → Option EntityRefusal
-first_wrong kind body = first_some (map (λ f. f.fault body) (filter (λ f. f.of kind) table))
+abbrev pub first_refusal : EntityKind → V → Option EntityRefusal
+first_refusal kind body = first_some (map (λ f. f.fault body) (filter (λ f. f.of kind) field_table))
 
 -- ---- the draft
 
-abbrev pub or_draft : Option EntityRefusal → Draft → Result Draft EntityRefusal
-or_draft None d = Ok d
-or_draft (Some e) d = Err e
+abbrev pub draft_unless : Option EntityRefusal → Draft → Result Draft EntityRefusal
+draft_unless None d = Ok d
+draft_unless (Some e) d = Err e
 
 -- each field as the body gives it
 abbrev pub action_draft : FullName → V → Draft
@@ -145,7 +153,7 @@ action_draft name body = drafts.Action (record {
 })
 
 abbrev pub draft_of : EntityKind → FullName → V → Result Draft EntityRefusal
-draft_of kinds.Action name body = or_draft (first_wrong kinds.Action body) (action_draft name body)
+draft_of kinds.Action name body = draft_unless (first_refusal kinds.Action body) (action_draft name body)
 draft_of kind name body = Err UnknownKind
 
 -- the entity that a body gives, or what is wrong with it

@@ -1,7 +1,7 @@
 -- What a body calls the kinds of code.
 use Rattle.std.specs.Prelude.{ℕ, List, codes}
-use Rattle.ow_entity.specs.declared.code.Exec.{Exec}
-use Rattle.ow_entity.specs.declared.code.Exec.TheVariants.{Plain, Program}
+use Rattle.ow_entity.specs.declared.exec.Exec.{Exec}
+use Rattle.ow_entity.specs.declared.exec.Exec.TheVariants.{Plain, Program}
 
 abbrev pub exec_kind : Exec → List ℕ
 exec_kind (Plain code) = codes "plain:1"

@@ -1,7 +1,7 @@
 -- How a body writes the names of its fields.
 use Rattle.std.specs.Prelude.{ℕ, List, codes}
-use Rattle.ow_entity.specs.declared.fields.FieldName.{FieldName}
-use Rattle.ow_entity.specs.declared.fields.FieldName.TheVariants.{Body, Annotations, Parameters, Publish, Exec, Kind, Code, Limits, Timeout, Memory, Logs}
+use Rattle.ow_entity.specs.declared.field_name.FieldName.{FieldName}
+use Rattle.ow_entity.specs.declared.field_name.FieldName.TheVariants.{Body, Annotations, Parameters, Publish, Exec, Kind, Code, Limits, Timeout, Memory, Logs}
 
 abbrev pub field_name : FieldName → List ℕ
 field_name Body = codes "body"

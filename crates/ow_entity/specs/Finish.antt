@@ -1,13 +1,18 @@
 -- The row that a draft makes, over an old row or over none.
 use Rattle.std.specs.Prelude.{◌==◌, ◌+◌, ℕ, [], false, if◌then◌else◌, unwrap_or, Option, Some, None, Result, Ok, Err}
-use Rattle.ow_entity.specs.Chain.{result_map}
+use Rattle.ow_entity.specs.Chain.{and_then, result_map}
+use Rattle.ow_value.specs.Value.{V}
 use Rattle.ow_names.specs.declared.full.FullName.{FullName}
-use Rattle.ow_entity.specs.declared.fields.FieldName.TheVariants as fields
+use Rattle.ow_entity.specs.declared.kinds.EntityKind.{EntityKind}
+use Rattle.ow_entity.specs.Body.{entity_of}
+use Rattle.ow_entity.specs.declared.field_name.FieldName.TheVariants as fields
 use Rattle.ow_entity.specs.declared.refusal.EntityRefusal.{EntityRefusal}
 use Rattle.ow_entity.specs.declared.refusal.EntityRefusal.TheVariants.{MissingField, LastVersion}
 use Rattle.ow_entity.specs.declared.bounds.GivenLimits.{GivenLimits}
 use Rattle.ow_entity.specs.declared.bounds.Limits.{Limits}
-use Rattle.ow_entity.specs.declared.code.Exec.{Exec}
+use Rattle.ow_entity.specs.declared.bounds.TheConstants.{DEFAULT_TIMEOUT, DEFAULT_MEMORY, DEFAULT_LOGS}
+use Rattle.ow_entity.specs.declared.finishing.TheConstants.{FIRST_VERSION, LAST_VERSION}
+use Rattle.ow_entity.specs.declared.exec.Exec.{Exec}
 use Rattle.ow_entity.specs.declared.actions.Action.{Action}
 use Rattle.ow_entity.specs.declared.actions.ActionDraft.{ActionDraft}
 use Rattle.ow_entity.specs.declared.rows.Row.{Row}
@@ -34,6 +39,9 @@ action_over d old version = record {
   limits = limits_over d.limits old.limits;
 }
 
+abbrev pub default_limits : Limits
+default_limits = record { timeout = DEFAULT_TIMEOUT; memory = DEFAULT_MEMORY; logs = DEFAULT_LOGS }
+
 -- the defaults: nothing but a name and what it runs
 abbrev pub default_action : FullName → Exec → Action
 default_action name exec = record {
@@ -43,16 +51,16 @@ default_action name exec = record {
   params = [];
   notes = [];
   exec = exec;
-  limits = record { timeout = 60000; memory = 256; logs = 10 };
+  limits = default_limits;
 }
 
 abbrev pub new_action : ActionDraft → Option Exec → Result Action EntityRefusal
 new_action d None = Err (MissingField fields.Exec)
-new_action d (Some exec) = Ok (action_over d (default_action d.name exec) 1)
+new_action d (Some exec) = Ok (action_over d (default_action d.name exec) FIRST_VERSION)
 
--- 4,294,967,295 is the last version
+-- the last version is the greatest that there can be
 abbrev pub next_action : ActionDraft → Action → Result Action EntityRefusal
-next_action d old = if old.version == 4294967295 then Err LastVersion else Ok (action_over d old (old.version + 1))
+next_action d old = if old.version == LAST_VERSION then Err LastVersion else Ok (action_over d old (old.version + 1))
 
 -- the action that a draft of an action is put over: a row of another kind is none
 abbrev pub old_action : Option Row → Option Action
@@ -63,5 +71,9 @@ abbrev pub action_made : ActionDraft → Option Action → Result Action EntityR
 action_made d None = new_action d d.exec
 action_made d (Some old) = next_action d old
 
-unfoldable pub finished : Draft → Option Row → Result Row EntityRefusal
-finished (drafts.Action d) old = result_map rows.Action (action_made d (old_action old))
+unfoldable pub finished_row : Draft → Option Row → Result Row EntityRefusal
+finished_row (drafts.Action d) old = result_map rows.Action (action_made d (old_action old))
+
+-- the row that a body makes over no row
+unfoldable pub row_of_body : EntityKind → FullName → V → Result Row EntityRefusal
+row_of_body kind name body = and_then (entity_of kind name body) (λ d. finished_row d None)

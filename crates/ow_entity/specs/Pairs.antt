@@ -4,12 +4,12 @@ use Rattle.ow_entity.specs.Chain.{result_map}
 use Rattle.ow_value.specs.Value.{V, Pairs, text, list, object, Items, no_items, item, items_of, members_of}
 use Rattle.ow_value.specs.Field.{field}
 use Rattle.ow_value.specs.Find.{with_pair}
-use Rattle.ow_value.specs.Size.{megabyte}
+use Rattle.ow_value.specs.declared.measure.TheConstants.{MEGABYTE}
 use Rattle.ow_value.specs.Text.{compact}
 use Rattle.ow_value.specs.declared.val.Val.{Val}
 use Rattle.ow_value.specs.declared.val.Val.TheVariants.{Object}
 use Rattle.ow_entity.specs.FieldName.{field_name}
-use Rattle.ow_entity.specs.declared.fields.FieldName.{FieldName}
+use Rattle.ow_entity.specs.declared.field_name.FieldName.{FieldName}
 use Rattle.ow_entity.specs.declared.refusal.EntityRefusal.{EntityRefusal}
 use Rattle.ow_entity.specs.declared.refusal.EntityRefusal.TheVariants.{WrongType, TooLarge}
 
@@ -34,23 +34,23 @@ pairs_listed no_items = Some []
 pairs_listed (item v vs) = option_and_then (λ p. option_map (λ ps. p ∷ ps) (pairs_listed vs)) (pair_of v)
 
 -- one pair after another over those that are there, so that a later equal key stands
-abbrev pub put_all : Pairs → Pairs → Pairs
-put_all = fold (λ ps p. with_pair ps p.0 p.1)
+abbrev pub with_pairs : Pairs → Pairs → Pairs
+with_pairs = fold (λ ps p. with_pair ps p.0 p.1)
 
 -- how many bytes the object of the pairs has
 abbrev pub pairs_size : Pairs → ℕ
 pairs_size ps = length (compact (object (members_of ps)))
 
-abbrev pub measured : Pairs → Result Pairs EntityRefusal
-measured ps = if nat_lt megabyte (pairs_size ps) then Err TooLarge else Ok ps
+abbrev pub measured_pairs : Pairs → Result Pairs EntityRefusal
+measured_pairs ps = if nat_lt MEGABYTE (pairs_size ps) then Err TooLarge else Ok ps
 
-abbrev pub standing : FieldName → Option Pairs → Result (Option Pairs) EntityRefusal
-standing name None = Err (WrongType name)
-standing name (Some ps) = result_map Some (measured ps)
+abbrev pub pairs_of_list : FieldName → Option Pairs → Result (Option Pairs) EntityRefusal
+pairs_of_list name None = Err (WrongType name)
+pairs_of_list name (Some ps) = result_map Some (measured_pairs ps)
 
 abbrev pub pairs_given : FieldName → Option V → Result (Option Pairs) EntityRefusal
 pairs_given name None = Ok None
-pairs_given name (Some (list vs)) = standing name (option_map (put_all []) (pairs_listed vs))
+pairs_given name (Some (list vs)) = pairs_of_list name (option_map (with_pairs []) (pairs_listed vs))
 pairs_given name (Some v) = Err (WrongType name)
 
 -- the pairs that a field of the body lists, if it is there

@@ -3,7 +3,7 @@ use Rattle.std.specs.Prelude.{ℕ, pos, Bool, List, [], ◌∷◌, ◌++◌, cod
 use Rattle.ow_value.specs.Value.{V, Pairs, boolean, whole, text, object, members_of}
 use Rattle.ow_names.specs.declared.full.FullName.{FullName}
 use Rattle.ow_entity.specs.declared.bounds.Limits.{Limits}
-use Rattle.ow_entity.specs.declared.code.Exec.{Exec}
+use Rattle.ow_entity.specs.declared.exec.Exec.{Exec}
 use Rattle.ow_entity.specs.declared.actions.Action.{Action}
 use Rattle.ow_entity.specs.declared.packages.Package.{Package}
 use Rattle.ow_entity.specs.declared.rows.Row.{Row}

@@ -1,10 +1,10 @@
 // Actions: as they stand, and as bodies give them.
-ghost use Rattle.std.specs.Prelude.{◌≡◌, ◌↔◌, IsTrue, IfOk};
 
 use crate::bounds::{GivenLimits, Limits};
-use crate::code::Exec;
+use crate::exec::Exec;
+use crate::params::EntityParams;
 use ow_names::FullName;
-use ow_value::{NoMemory, Params};
+use ow_value::{NoMemory, PlainData};
 use std::alloc::Global;
 
 /// An action as it stands.
@@ -17,9 +17,9 @@ pub struct Action {
     /// Kept and shown. Only a package is shared by it.
     pub publish: bool,
     /// What each call is given, where it doesn't give another value itself.
-    pub params: Params,
+    pub params: EntityParams,
     /// The annotations.
-    pub notes: Params,
+    pub notes: EntityParams,
     /// What a run carries out.
     pub exec: Exec,
     /// What a run may take.
@@ -34,9 +34,9 @@ pub struct ActionDraft {
     /// Whether it is published.
     pub publish: Option<bool>,
     /// The parameters.
-    pub params: Option<Params>,
+    pub params: Option<EntityParams>,
     /// The annotations.
-    pub notes: Option<Params>,
+    pub notes: Option<EntityParams>,
     /// What a run carries out. A new action must have it.
     pub exec: Option<Exec>,
     /// Each limit is given or not by itself.
@@ -44,10 +44,24 @@ pub struct ActionDraft {
 }
 
 impl Action {
-    /// Whether all fields are the same.
-    pub fn same(&self, other: &Action) -> bool
-        ensures { IsTrue result ↔ (self.now ≡ other.now) }
+    ghost use Rattle.ow_value.specs.Value.{AreParams};
+    ghost use Rattle.ow_entity.specs.FitAction.{IsFitAction};
+
+    // Makes known that each field lies within its bounds.
+    pub(crate) fn known(&self)
+        ensures fits { IsFitAction self.now }
+        ensures params { AreParams self.now.params }
+        ensures notes { AreParams self.now.notes }
     {
+        self.params.get();
+        self.notes.get();
+        self.exec.code();
+        self.limits.known();
+    }
+}
+
+impl PlainData for Action {
+    fn same(&self, other: &Action) -> bool {
         self.name.same(&other.name)
             && self.version == other.version
             && self.publish == other.publish
@@ -57,10 +71,7 @@ impl Action {
             && self.limits == other.limits
     }
 
-    /// An equal action with memory of its own.
-    pub fn copy(&self, alloc: Global) -> Result<Action, NoMemory>
-        ensures { IfOk result (λ a. a ≡ self.now) }
-    {
+    fn copy(&self, alloc: Global) -> Result<Action, NoMemory> {
         let name = self.name.copy(alloc)?;
         let params = self.params.copy(alloc)?;
         let notes = self.notes.copy(alloc)?;
@@ -77,27 +88,21 @@ impl Action {
     }
 }
 
-impl ActionDraft {
-    /// Whether all fields are the same.
-    pub fn same(&self, other: &ActionDraft) -> bool
-        ensures { IsTrue result ↔ (self.now ≡ other.now) }
-    {
+impl PlainData for ActionDraft {
+    fn same(&self, other: &ActionDraft) -> bool {
         self.name.same(&other.name)
             && self.publish == other.publish
-            && same_params(&self.params, &other.params)
-            && same_params(&self.notes, &other.notes)
-            && same_exec(&self.exec, &other.exec)
+            && self.params.same(&other.params)
+            && self.notes.same(&other.notes)
+            && self.exec.same(&other.exec)
             && self.limits == other.limits
     }
 
-    /// An equal draft with memory of its own.
-    pub fn copy(&self, alloc: Global) -> Result<ActionDraft, NoMemory>
-        ensures { IfOk result (λ d. d ≡ self.now) }
-    {
+    fn copy(&self, alloc: Global) -> Result<ActionDraft, NoMemory> {
         let name = self.name.copy(alloc)?;
-        let params = copy_params(alloc, &self.params)?;
-        let notes = copy_params(alloc, &self.notes)?;
-        let exec = copy_exec(alloc, &self.exec)?;
+        let params = self.params.copy(alloc)?;
+        let notes = self.notes.copy(alloc)?;
+        let exec = self.exec.copy(alloc)?;
         Ok(ActionDraft {
             name,
             publish: self.publish,
@@ -106,43 +111,5 @@ impl ActionDraft {
             exec,
             limits: self.limits,
         })
-    }
-}
-
-fn same_params(a: &Option<Params>, b: &Option<Params>) -> bool
-    ensures { IsTrue result ↔ (a.now ≡ b.now) }
-{
-    match (a, b) {
-        (Some(x), Some(y)) => x.same(y),
-        (None, None) => true,
-        _ => false,
-    }
-}
-
-fn same_exec(a: &Option<Exec>, b: &Option<Exec>) -> bool
-    ensures { IsTrue result ↔ (a.now ≡ b.now) }
-{
-    match (a, b) {
-        (Some(x), Some(y)) => x.same(y),
-        (None, None) => true,
-        _ => false,
-    }
-}
-
-fn copy_params(alloc: Global, params: &Option<Params>) -> Result<Option<Params>, NoMemory>
-    ensures { IfOk result (λ p. p ≡ params.now) }
-{
-    match params {
-        Some(params) => Ok(Some(params.copy(alloc)?)),
-        None => Ok(None),
-    }
-}
-
-fn copy_exec(alloc: Global, exec: &Option<Exec>) -> Result<Option<Exec>, NoMemory>
-    ensures { IfOk result (λ e. e ≡ exec.now) }
-{
-    match exec {
-        Some(exec) => Ok(Some(exec.copy(alloc)?)),
-        None => Ok(None),
     }
 }

@@ -1,28 +1,26 @@
 // The draft that a body gives.
-ghost use Rattle.std.specs.Prelude.{◌≡◌, ◌≢◌, Some, None, Ok, Err, IfOk, IfSome, MatchResult, length, ◌≤◌};
-ghost use Rattle.ow_value.specs.Size.{megabyte};
+ghost use Rattle.std.specs.Prelude.{◌≡◌, ◌≢◌, Some, None, Ok, Err, MatchResult};
 ghost use Rattle.ow_value.specs.Value.{members_of, object};
 ghost use Rattle.ow_value.specs.View.{view};
 ghost use Rattle.ow_entity.specs.declared.kinds.EntityKind.TheVariants as kinds;
-ghost use Rattle.ow_entity.specs.Fit.{IsBetween, IsFitDraft, IsFitExec, IsFitGiven};
-ghost use Rattle.ow_entity.specs.Chain.{and_then, result_map};
-ghost use Rattle.ow_entity.specs.Body.{bool_field, text_field, number_field, code_in, exec_in, exec_field, plain_exec, limits_in, limits_field, draft_of, entity_of};
+ghost use Rattle.ow_entity.specs.Chain.{result_map};
+ghost use Rattle.ow_entity.specs.Body.{bool_field, text_field, number_field, number_given, exec_in, exec_field, plain_exec, program_exec, limits_in, limits_field, draft_of, entity_of};
 
 use crate::actions::ActionDraft;
-use crate::bounds::GivenLimits;
-use crate::code::Exec;
-use crate::fields::FieldName;
+use crate::bounds::{Bounded, GivenLimits};
+use crate::exec::{Exec, ProgramName};
+use crate::field_name::FieldName;
 use crate::kinds::EntityKind;
 use crate::pairs::pairs_field;
-use crate::plain::is_plain_text;
+use crate::plain_code::PlainCode;
 use crate::refusal::EntityRefusal;
 use crate::rows::Draft;
 use ow_names::FullName;
-use ow_value::{MEGABYTE, Params, Str, Val};
+use ow_value::{Params, PlainData, Val, Whole};
 use std::alloc::Global;
 
-/// The entity of the kind and the name that a body gives. Of several wrong fields the refusal names the one that is looked at
-/// first; fields that the kind hasn't are ignored.
+/// The entity of the kind and the name that a body gives. Of several wrong fields the refusal names the one that is
+/// looked at first; fields that the kind hasn't are ignored.
 #[tactic(auto, unfolding(crate::specs::Body::entity_of))]
 pub fn read_entity(
     alloc: Global,
@@ -30,9 +28,8 @@ pub fn read_entity(
     name: &FullName,
     body: &Val,
 ) -> Result<Draft, EntityRefusal>
-    ensures value { MatchResult result (λ d. entity_of kind name.now (view body.now) ≡ Ok d)
+    ensures { MatchResult result (λ d. entity_of kind name.now (view body.now) ≡ Ok d)
         (λ e. e ≢ EntityRefusal.NoMemory → entity_of kind name.now (view body.now) ≡ Err e) }
-    ensures fits { IfOk result IsFitDraft }
 {
     let Val::Object(fields) = body else {
         return Err(EntityRefusal::WrongType {
@@ -46,9 +43,8 @@ pub fn read_entity(
 }
 
 fn read_action(alloc: Global, name: &FullName, body: &Params) -> Result<Draft, EntityRefusal>
-    ensures value { MatchResult result (λ d. draft_of kinds.Action name.now (object (members_of body.now)) ≡ Ok d)
+    ensures { MatchResult result (λ d. draft_of kinds.Action name.now (object (members_of body.now)) ≡ Ok d)
         (λ e. e ≢ EntityRefusal.NoMemory → draft_of kinds.Action name.now (object (members_of body.now)) ≡ Err e) }
-    ensures fits { IfOk result IsFitDraft }
 {
     let notes = pairs_field(alloc, body, FieldName::Annotations)?;
     let params = pairs_field(alloc, body, FieldName::Parameters)?;
@@ -76,9 +72,8 @@ fn bool_field(body: &Params, name: FieldName) -> Result<Option<bool>, EntityRefu
 }
 
 fn exec_field(alloc: Global, body: &Params) -> Result<Option<Exec>, EntityRefusal>
-    ensures value { MatchResult result (λ x. exec_field (object (members_of body.now)) ≡ Ok x)
+    ensures { MatchResult result (λ x. exec_field (object (members_of body.now)) ≡ Ok x)
         (λ e. e ≢ EntityRefusal.NoMemory → exec_field (object (members_of body.now)) ≡ Err e) }
-    ensures fits { IfOk result (λ x. IfSome x IsFitExec) }
 {
     match body.find("exec") {
         None => Ok(None),
@@ -90,47 +85,37 @@ fn exec_field(alloc: Global, body: &Params) -> Result<Option<Exec>, EntityRefusa
 }
 
 fn read_exec(alloc: Global, exec: &Params) -> Result<Exec, EntityRefusal>
-    ensures value { MatchResult result (λ x. exec_in (object (members_of exec.now)) ≡ Ok x)
+    ensures { MatchResult result (λ x. exec_in (object (members_of exec.now)) ≡ Ok x)
         (λ e. e ≢ EntityRefusal.NoMemory → exec_in (object (members_of exec.now)) ≡ Err e) }
-    ensures fits { IfOk result IsFitExec }
 {
     let kind = text_field(exec, FieldName::Kind)?;
     if kind == "plain:1" {
         return read_plain(alloc, exec);
     }
     if kind == "program:1" {
-        let code = code_in(exec)?;
-        return Ok(Exec::Program {
-            code: Str::of(alloc, code)?,
-        });
+        return read_program(alloc, exec);
     }
     Err(EntityRefusal::UnknownKind)
 }
 
 fn read_plain(alloc: Global, exec: &Params) -> Result<Exec, EntityRefusal>
-    ensures value { MatchResult result (λ x. and_then (code_in (object (members_of exec.now))) plain_exec ≡ Ok x)
-        (λ e. e ≢ EntityRefusal.NoMemory → and_then (code_in (object (members_of exec.now))) plain_exec ≡ Err e) }
-    ensures fits { IfOk result IsFitExec }
+    ensures { MatchResult result (λ x. plain_exec (object (members_of exec.now)) ≡ Ok x)
+        (λ e. e ≢ EntityRefusal.NoMemory → plain_exec (object (members_of exec.now)) ≡ Err e) }
 {
-    let code = code_in(exec)?;
-    if !is_plain_text(alloc, code)? {
-        return Err(EntityRefusal::WrongType {
-            name: FieldName::Code,
-        });
-    }
+    let text = text_field(exec, FieldName::Code)?;
     Ok(Exec::Plain {
-        code: Str::of(alloc, code)?,
+        code: PlainCode::read(alloc, text)?,
     })
 }
 
-fn code_in(exec: &Params) -> Result<&str, EntityRefusal>
-    ensures value { result_map (λ s. s.now) result ≡ code_in (object (members_of exec.now)) }
-    ensures fits { IfOk result (λ s. length s.now ≤ megabyte) }
+fn read_program(alloc: Global, exec: &Params) -> Result<Exec, EntityRefusal>
+    ensures { MatchResult result (λ x. program_exec (object (members_of exec.now)) ≡ Ok x)
+        (λ e. e ≢ EntityRefusal.NoMemory → program_exec (object (members_of exec.now)) ≡ Err e) }
 {
-    match text_field(exec, FieldName::Code) {
-        Ok(code) if code.len() as u64 > MEGABYTE => Err(EntityRefusal::TooLarge),
-        given => given,
-    }
+    let text = text_field(exec, FieldName::Code)?;
+    Ok(Exec::Program {
+        code: ProgramName::read(alloc, text)?,
+    })
 }
 
 // A text that must be there.
@@ -145,8 +130,7 @@ fn text_field(fields: &Params, name: FieldName) -> Result<&str, EntityRefusal>
 }
 
 fn limits_field(body: &Params) -> Result<GivenLimits, EntityRefusal>
-    ensures value { result ≡ limits_field (object (members_of body.now)) }
-    ensures fits { IfOk result IsFitGiven }
+    ensures { result ≡ limits_field (object (members_of body.now)) }
 {
     match body.find("limits") {
         None => Ok(GivenLimits::NONE),
@@ -158,12 +142,11 @@ fn limits_field(body: &Params) -> Result<GivenLimits, EntityRefusal>
 }
 
 fn read_limits(limits: &Params) -> Result<GivenLimits, EntityRefusal>
-    ensures value { result ≡ limits_in (object (members_of limits.now)) }
-    ensures fits { IfOk result IsFitGiven }
+    ensures { result ≡ limits_in (object (members_of limits.now)) }
 {
-    let timeout = number_field(limits, FieldName::Timeout, 100, 300_000)?;
-    let memory = number_field(limits, FieldName::Memory, 128, 512)?;
-    let logs = number_field(limits, FieldName::Logs, 0, 10)?;
+    let timeout = number_field(limits, FieldName::Timeout)?;
+    let memory = number_field(limits, FieldName::Memory)?;
+    let logs = number_field(limits, FieldName::Logs)?;
     Ok(GivenLimits {
         timeout,
         memory,
@@ -171,21 +154,30 @@ fn read_limits(limits: &Params) -> Result<GivenLimits, EntityRefusal>
     })
 }
 
-fn number_field(
+fn number_field<const LEAST: u32, const MOST: u32>(
     fields: &Params,
     name: FieldName,
-    least: u32,
-    most: u32,
-) -> Result<Option<u32>, EntityRefusal>
-    ensures value { result ≡ number_field name least most (object (members_of fields.now)) }
-    ensures fits { IfOk result (λ o. IfSome o (IsBetween least most)) }
+) -> Result<Option<Bounded<LEAST, MOST>>, EntityRefusal>
+    ensures { result ≡ number_field name LEAST MOST (object (members_of fields.now)) }
 {
     match fields.find(name.as_str()) {
         None => Ok(None),
-        Some(Val::Int(n)) => match n.as_u64() {
-            Some(n) if least as u64 <= n && n <= most as u64 => Ok(Some(n as u32)),
-            _ => Err(EntityRefusal::OutOfRange { name }),
-        },
+        Some(Val::Int(n)) => Ok(Some(number_given(*n, name)?)),
         Some(_) => Err(EntityRefusal::WrongType { name }),
+    }
+}
+
+fn number_given<const LEAST: u32, const MOST: u32>(
+    n: Whole,
+    name: FieldName,
+) -> Result<Bounded<LEAST, MOST>, EntityRefusal>
+    ensures { result ≡ number_given name LEAST MOST n }
+{
+    let Some(n) = n.as_u64() else {
+        return Err(EntityRefusal::OutOfRange { name });
+    };
+    match Bounded::of(n) {
+        Some(n) => Ok(n),
+        None => Err(EntityRefusal::OutOfRange { name }),
     }
 }

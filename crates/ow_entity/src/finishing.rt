@@ -1,39 +1,46 @@
 // The row that a draft makes.
-ghost use Rattle.std.specs.Prelude.{◌≡◌, ◌≢◌, unwrap_or, Some, None, Ok, Err, IfOk, IfSome, MatchResult};
+ghost use Rattle.std.specs.Prelude.{◌≡◌, ◌≢◌, unwrap_or, Some, None, Ok, Err, IfOk, MatchResult};
 ghost use Rattle.std.specs.Option.{option_copied};
-ghost use Rattle.ow_entity.specs.Fit.{IsFit, IsFitDraft, IsFitAction, IsFitActionDraft, IsFitExec, IsFitPairs, IsFitLimits, IsFitGiven};
-ghost use Rattle.ow_entity.specs.Finish.{finished, new_action, next_action, limits_over};
+ghost use Rattle.ow_entity.specs.declared.rows.Row.TheVariants as rows;
+ghost use Rattle.ow_entity.specs.Finish.{finished_row, new_action, next_action, limits_over};
 
 use crate::actions::{Action, ActionDraft};
 use crate::bounds::{GivenLimits, Limits};
-use crate::code::Exec;
-use crate::fields::FieldName;
+use crate::field_name::FieldName;
+use crate::params::EntityParams;
 use crate::refusal::EntityRefusal;
 use crate::rows::{Draft, Row};
-use ow_value::{NoMemory, Params};
+use ow_value::{NoMemory, PlainData, Shared};
 use std::alloc::Global;
 
-const LAST_VERSION: u32 = 4_294_967_295;
+/// The version of a new entity.
+pub const FIRST_VERSION: u32 = 1;
 
-/// The row that a draft makes: over an old row of its kind, whose values stand where the draft has none, or over none, with the
-/// defaults.
-#[tactic(auto, unfolding(crate::specs::Finish::finished))]
+// The version that can't be raised.
+const LAST_VERSION: u32 = u32::MAX;
+
+/// The row that a draft makes: over an old row of its kind, whose values stand where the draft has none, or over
+/// none, with the defaults.
+#[tactic(auto, unfolding(crate::specs::Finish::finished_row))]
 pub fn finish(alloc: Global, draft: Draft, old: Option<&Row>) -> Result<Row, EntityRefusal>
-    ensures value { MatchResult result (λ r. finished draft (option_copied old.entry) ≡ Ok r)
-        (λ e. e ≢ EntityRefusal.NoMemory → finished draft (option_copied old.entry) ≡ Err e) }
-    ensures fits { IsFitDraft draft → IfSome (option_copied old.entry) IsFit → IfOk result IsFit }
+    ensures { MatchResult result (λ r. finished_row draft (option_copied old.entry) ≡ Ok r)
+        (λ e. e ≢ EntityRefusal.NoMemory → finished_row draft (option_copied old.entry) ≡ Err e) }
 {
     let Draft::Action(draft) = draft;
     match old {
-        Some(Row::Action(old)) => Ok(Row::Action(next_action(alloc, draft, old)?)),
-        _ => Ok(Row::Action(new_action(alloc, draft)?)),
+        Some(Row::Action(old)) => action_row(alloc, next_action(alloc, draft, old.get())?),
+        _ => action_row(alloc, new_action(draft)?),
     }
 }
 
-fn new_action(alloc: Global, draft: ActionDraft) -> Result<Action, EntityRefusal>
-    ensures value { MatchResult result (λ a. new_action draft draft.exec ≡ Ok a)
-        (λ e. e ≢ EntityRefusal.NoMemory → new_action draft draft.exec ≡ Err e) }
-    ensures fits { IsFitActionDraft draft → IfOk result IsFitAction }
+fn action_row(alloc: Global, action: Action) -> Result<Row, EntityRefusal>
+    ensures { MatchResult result (λ r. r ≡ rows.Action action) (λ e. e ≡ EntityRefusal.NoMemory) }
+{
+    Ok(Row::Action(Shared::new(alloc, action)?))
+}
+
+fn new_action(draft: ActionDraft) -> Result<Action, EntityRefusal>
+    ensures { result ≡ new_action draft draft.exec }
 {
     let ActionDraft {
         name,
@@ -50,19 +57,18 @@ fn new_action(alloc: Global, draft: ActionDraft) -> Result<Action, EntityRefusal
     };
     Ok(Action {
         name,
-        version: 1,
+        version: FIRST_VERSION,
         publish: publish.unwrap_or(false),
-        params: params.unwrap_or(Params::new(alloc)),
-        notes: notes.unwrap_or(Params::new(alloc)),
+        params: params.unwrap_or(EntityParams::new()),
+        notes: notes.unwrap_or(EntityParams::new()),
         exec,
         limits: limits_over(limits, Limits::DEFAULT),
     })
 }
 
 fn next_action(alloc: Global, draft: ActionDraft, old: &Action) -> Result<Action, EntityRefusal>
-    ensures value { MatchResult result (λ a. next_action draft old.now ≡ Ok a)
+    ensures { MatchResult result (λ a. next_action draft old.now ≡ Ok a)
         (λ e. e ≢ EntityRefusal.NoMemory → next_action draft old.now ≡ Err e) }
-    ensures fits { IsFitActionDraft draft → IsFitAction old.now → IfOk result IsFitAction }
 {
     if old.version == LAST_VERSION {
         return Err(EntityRefusal::LastVersion);
@@ -79,26 +85,16 @@ fn next_action(alloc: Global, draft: ActionDraft, old: &Action) -> Result<Action
         name,
         version: old.version + 1,
         publish: publish.unwrap_or(old.publish),
-        params: params_over(alloc, params, &old.params)?,
-        notes: params_over(alloc, notes, &old.notes)?,
-        exec: exec_over(alloc, exec, &old.exec)?,
+        params: value_over(alloc, params, &old.params)?,
+        notes: value_over(alloc, notes, &old.notes)?,
+        exec: value_over(alloc, exec, &old.exec)?,
         limits: limits_over(limits, old.limits),
     })
 }
 
-fn params_over(alloc: Global, given: Option<Params>, old: &Params) -> Result<Params, NoMemory>
-    ensures value { IfOk result (λ ps. ps ≡ unwrap_or given old.now) }
-    ensures fits { IfSome given IsFitPairs → IsFitPairs old.now → IfOk result IsFitPairs }
-{
-    match given {
-        Some(given) => Ok(given),
-        None => old.copy(alloc),
-    }
-}
-
-fn exec_over(alloc: Global, given: Option<Exec>, old: &Exec) -> Result<Exec, NoMemory>
-    ensures value { IfOk result (λ e. e ≡ unwrap_or given old.now) }
-    ensures fits { IfSome given IsFitExec → IsFitExec old.now → IfOk result IsFitExec }
+// What is given, or else the old value.
+fn value_over<T: PlainData + Drop>(alloc: Global, given: Option<T>, old: &T) -> Result<T, NoMemory>
+    ensures { IfOk result (λ x. x ≡ unwrap_or given old.now) }
 {
     match given {
         Some(given) => Ok(given),
@@ -107,8 +103,7 @@ fn exec_over(alloc: Global, given: Option<Exec>, old: &Exec) -> Result<Exec, NoM
 }
 
 fn limits_over(given: GivenLimits, old: Limits) -> Limits
-    ensures value { result ≡ limits_over given old }
-    ensures fits { IsFitGiven given → IsFitLimits old → IsFitLimits result }
+    ensures { result ≡ limits_over given old }
 {
     Limits {
         timeout: given.timeout.unwrap_or(old.timeout),

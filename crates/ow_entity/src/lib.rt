@@ -1,31 +1,38 @@
 #![tactic(auto)]
 
-// What the service keeps: entities as they stand, as bodies give them and as bodies show them.
+//! Actions and packages: as they stand, as bodies give them and as clients see them. No value of these types lies
+//! outside the bounds that a body must keep.
 mod actions;
+mod annotations;
 mod body;
 mod bounds;
-mod code;
-mod fields;
+mod exec;
+mod field_name;
 mod finishing;
 mod kinds;
-mod notes;
 mod packages;
 mod pairs;
-mod plain;
+mod params;
+mod plain_code;
 mod refusal;
 mod rows;
 mod written;
 
 pub use actions::{Action, ActionDraft};
+pub use annotations::{is_conductor, is_set};
 pub use body::read_entity;
-pub use bounds::{GivenLimits, Limits};
-pub use code::Exec;
-pub use fields::FieldName;
-pub use finishing::finish;
+pub use bounds::{
+    Bounded, DEFAULT_LOGS, DEFAULT_MEMORY, DEFAULT_TIMEOUT, GivenLimits, LEAST_LOGS, LEAST_MEMORY,
+    LEAST_TIMEOUT, Limits, Logs, MOST_LOGS, MOST_MEMORY, MOST_TIMEOUT, Memory, Timeout,
+};
+pub use exec::{Exec, ProgramName};
+pub use field_name::FieldName;
+pub use finishing::{FIRST_VERSION, finish};
 pub use kinds::EntityKind;
-pub use notes::{is_conductor, is_set};
 pub use packages::Package;
 pub use pairs::listed;
+pub use params::EntityParams;
+pub use plain_code::PlainCode;
 pub use refusal::EntityRefusal;
 pub use rows::{Draft, Lookup, Row};
 pub use written::{summary, write_entity};

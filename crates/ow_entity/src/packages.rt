@@ -1,8 +1,8 @@
 // Packages as they stand.
-ghost use Rattle.std.specs.Prelude.{◌≡◌, ◌↔◌, IsTrue, IfOk};
 
+use crate::params::EntityParams;
 use ow_names::FullName;
-use ow_value::{NoMemory, Params};
+use ow_value::{NoMemory, PlainData};
 use std::alloc::Global;
 
 /// A package as it stands: what actions lie in, with parameters of its own below theirs.
@@ -15,34 +15,28 @@ pub struct Package {
     /// Whether it is shared: whether other namespaces may read and invoke what lies in it.
     pub publish: bool,
     /// What each action in it is given below its own parameters.
-    pub params: Params,
+    pub params: EntityParams,
     /// The annotations.
-    pub notes: Params,
+    pub notes: EntityParams,
     /// The package that it stands for, where it is a binding.
     pub binding: Option<FullName>,
 }
 
-impl Package {
-    /// Whether all fields are the same.
-    pub fn same(&self, other: &Package) -> bool
-        ensures { IsTrue result ↔ (self.now ≡ other.now) }
-    {
+impl PlainData for Package {
+    fn same(&self, other: &Package) -> bool {
         self.name.same(&other.name)
             && self.version == other.version
             && self.publish == other.publish
             && self.params.same(&other.params)
             && self.notes.same(&other.notes)
-            && FullName::same_option(&self.binding, &other.binding)
+            && self.binding.same(&other.binding)
     }
 
-    /// An equal package with memory of its own.
-    pub fn copy(&self, alloc: Global) -> Result<Package, NoMemory>
-        ensures { IfOk result (λ p. p ≡ self.now) }
-    {
+    fn copy(&self, alloc: Global) -> Result<Package, NoMemory> {
         let name = self.name.copy(alloc)?;
         let params = self.params.copy(alloc)?;
         let notes = self.notes.copy(alloc)?;
-        let binding = FullName::copy_option(alloc, &self.binding)?;
+        let binding = self.binding.copy(alloc)?;
         Ok(Package {
             name,
             version: self.version,

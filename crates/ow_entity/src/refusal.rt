@@ -2,9 +2,8 @@
 ghost use Rattle.std.specs.Prelude.{◌≡◌};
 ghost use Rattle.ow_entity.specs.Refusal.{refusal_number};
 
-use crate::fields::FieldName;
+use crate::field_name::FieldName;
 use ow_value::NoMemory;
-use std::alloc::{AllocError, AllocFailed};
 
 /// Why a body gives no entity.
 #[derive(Clone, Copy, PartialEq, Eq, Debug, Drop)]
@@ -39,28 +38,6 @@ impl EntityRefusal {
             EntityRefusal::TooLarge => 13,
             EntityRefusal::LastVersion => 18,
         }
-    }
-}
-
-impl From<AllocError> for EntityRefusal {
-    ghost use Rattle.std.specs.Prelude.{◌≡◌};
-    ghost use Rattle.ow_entity.specs.declared.refusal.EntityRefusal.TheVariants.{NoMemory};
-
-    ghost from_gives = { λ _ e. e ≡ NoMemory };
-
-    fn from(_refused: AllocError) -> EntityRefusal {
-        EntityRefusal::NoMemory
-    }
-}
-
-impl<T: Drop> From<AllocFailed<T>> for EntityRefusal {
-    ghost use Rattle.std.specs.Prelude.{◌≡◌};
-    ghost use Rattle.ow_entity.specs.declared.refusal.EntityRefusal.TheVariants.{NoMemory};
-
-    ghost from_gives = { λ _ e. e ≡ NoMemory };
-
-    fn from(_refused: AllocFailed<T>) -> EntityRefusal {
-        EntityRefusal::NoMemory
     }
 }
 

@@ -1,5 +1,5 @@
 // Entities of any kind, and where they stand.
-ghost use Rattle.std.specs.Prelude.{◌≡◌, ◌↔◌, Option, IsTrue, IfOk, IfSome};
+ghost use Rattle.std.specs.Prelude.{◌≡◌, Option, IfSome};
 ghost use Rattle.std.specs.Option.{option_copied};
 ghost use Rattle.ow_names.specs.declared.full.FullName.{FullName};
 ghost use Rattle.ow_entity.specs.declared.kinds.EntityKind.{EntityKind};
@@ -8,16 +8,16 @@ use crate::actions::{Action, ActionDraft};
 use crate::kinds::EntityKind;
 use crate::packages::Package;
 use ow_names::FullName;
-use ow_value::NoMemory;
+use ow_value::{NoMemory, PlainData, Shared};
 use std::alloc::Global;
 
 /// An entity as it stands.
 #[derive(Drop)]
 pub enum Row {
     /// What can be called.
-    Action(Action),
+    Action(Shared<Action>),
     /// What actions lie in.
-    Package(Package),
+    Package(Shared<Package>),
 }
 
 /// An entity as a body gives it.
@@ -59,8 +59,8 @@ impl Row {
         ensures { result.now ≡ name_of self.now }
     {
         match self {
-            Row::Action(action) => &action.name,
-            Row::Package(package) => &package.name,
+            Row::Action(action) => &action.get().name,
+            Row::Package(package) => &package.get().name,
         }
     }
 
@@ -69,15 +69,14 @@ impl Row {
         ensures { result ≡ version_of self.now }
     {
         match self {
-            Row::Action(action) => action.version,
-            Row::Package(package) => package.version,
+            Row::Action(action) => action.get().version,
+            Row::Package(package) => package.get().version,
         }
     }
+}
 
-    /// Whether kind and fields are the same.
-    pub fn same(&self, other: &Row) -> bool
-        ensures { IsTrue result ↔ (self.now ≡ other.now) }
-    {
+impl PlainData for Row {
+    fn same(&self, other: &Row) -> bool {
         match (self, other) {
             (Row::Action(a), Row::Action(b)) => a.same(b),
             (Row::Package(a), Row::Package(b)) => a.same(b),
@@ -85,10 +84,7 @@ impl Row {
         }
     }
 
-    /// An equal row with memory of its own.
-    pub fn copy(&self, alloc: Global) -> Result<Row, NoMemory>
-        ensures { IfOk result (λ r. r ≡ self.now) }
-    {
+    fn copy(&self, alloc: Global) -> Result<Row, NoMemory> {
         match self {
             Row::Action(action) => Ok(Row::Action(action.copy(alloc)?)),
             Row::Package(package) => Ok(Row::Package(package.copy(alloc)?)),
@@ -116,20 +112,16 @@ impl Draft {
             Draft::Action(draft) => &draft.name,
         }
     }
+}
 
-    /// Whether kind and fields are the same.
-    pub fn same(&self, other: &Draft) -> bool
-        ensures { IsTrue result ↔ (self.now ≡ other.now) }
-    {
+impl PlainData for Draft {
+    fn same(&self, other: &Draft) -> bool {
         match (self, other) {
             (Draft::Action(a), Draft::Action(b)) => a.same(b),
         }
     }
 
-    /// An equal draft with memory of its own.
-    pub fn copy(&self, alloc: Global) -> Result<Draft, NoMemory>
-        ensures { IfOk result (λ d. d ≡ self.now) }
-    {
+    fn copy(&self, alloc: Global) -> Result<Draft, NoMemory> {
         match self {
             Draft::Action(draft) => Ok(Draft::Action(draft.copy(alloc)?)),
         }

@@ -6,17 +6,18 @@ ghost use Rattle.ow_value.specs.View.{view};
 ghost use Rattle.ow_entity.specs.declared.kinds.EntityKind.TheVariants as kinds;
 ghost use Rattle.ow_entity.specs.declared.actions.Action.{Action};
 ghost use Rattle.ow_entity.specs.declared.rows.Row.TheVariants as rows;
-ghost use Rattle.ow_entity.specs.Fit.{IsFitAction, made_of};
+ghost use Rattle.ow_entity.specs.Finish.{row_of_body};
 ghost use Rattle.ow_entity.specs.Written.{exec_value, limits_value, shown_namespace, shown_version, action_value, binding_value, package_value, row_value, summary_of, summary_value};
 
 use crate::actions::Action;
 use crate::bounds::Limits;
-use crate::code::Exec;
+use crate::exec::Exec;
+use crate::finishing::FIRST_VERSION;
 use crate::packages::Package;
 use crate::pairs::listed;
 use crate::rows::Row;
 use ow_names::FullName;
-use ow_value::{NoMemory, Params, Str, Val, Whole};
+use ow_value::{Fields, NoMemory, Params, Str, Val, Whole};
 use std::alloc::Global;
 
 impl Limits {
@@ -24,11 +25,11 @@ impl Limits {
     pub fn value(self, alloc: Global) -> Result<Val, NoMemory>
         ensures { IfOk result (λ v. view v ≡ limits_value self) }
     {
-        let mut fields = Params::new(alloc);
-        put(alloc, &mut fields, "logs", number(self.logs))?;
-        put(alloc, &mut fields, "memory", number(self.memory))?;
-        put(alloc, &mut fields, "timeout", number(self.timeout))?;
-        Ok(Val::Object(fields))
+        let mut fields = Fields::new(alloc);
+        put(alloc, &mut fields, "logs", number(self.logs.get()))?;
+        put(alloc, &mut fields, "memory", number(self.memory.get()))?;
+        put(alloc, &mut fields, "timeout", number(self.timeout.get()))?;
+        Ok(Val::Object(fields.into_params()?))
     }
 }
 
@@ -36,12 +37,12 @@ impl Limits {
 #[tactic(auto, unfolding(crate::specs::Written::row_value))]
 pub fn write_entity(alloc: Global, row: &Row) -> Result<Val, NoMemory>
     ensures value { IfOk result (λ v. view v ≡ row_value row.now) }
-    ensures reads_back { IfOk result (λ v. (a : Action) → row.now ≡ rows.Action a → IsFitAction a
-        → made_of kinds.Action a.name (view v) ≡ Ok (rows.Action (record a { version = 1 }))) }
+    ensures reads_back { IfOk result (λ v. (a : Action) → row.now ≡ rows.Action a
+        → row_of_body kinds.Action a.name (view v) ≡ Ok (rows.Action (record a { version = FIRST_VERSION }))) }
 {
     match row {
-        Row::Action(action) => write_action(alloc, action),
-        Row::Package(package) => write_package(alloc, package),
+        Row::Action(action) => write_action(alloc, action.get()),
+        Row::Package(package) => write_package(alloc, package.get()),
     }
 }
 
@@ -51,38 +52,43 @@ pub fn summary(alloc: Global, row: &Row) -> Result<Val, NoMemory>
     ensures { IfOk result (λ v. view v ≡ summary_value row.now) }
 {
     match row {
-        Row::Action(action) => summary_of(
-            alloc,
-            &action.name,
-            &action.notes,
-            action.publish,
-            action.version,
-        ),
-        Row::Package(package) => summary_of(
-            alloc,
-            &package.name,
-            &package.notes,
-            package.publish,
-            package.version,
-        ),
+        Row::Action(action) => {
+            let action = action.get();
+            summary_of(
+                alloc,
+                &action.name,
+                action.notes.get(),
+                action.publish,
+                action.version,
+            )
+        }
+        Row::Package(package) => {
+            let package = package.get();
+            summary_of(
+                alloc,
+                &package.name,
+                package.notes.get(),
+                package.publish,
+                package.version,
+            )
+        }
     }
 }
 
 fn write_action(alloc: Global, action: &Action) -> Result<Val, NoMemory>
     ensures value { IfOk result (λ v. view v ≡ action_value action.now) }
-    ensures reads_back { IfOk result (λ v. IsFitAction action.now → made_of kinds.Action action.now.name (view v) ≡ Ok (rows.Action (record action.now { version = 1 }))) }
+    ensures reads_back { IfOk result (λ v. row_of_body kinds.Action action.now.name (view v) ≡ Ok (rows.Action (record action.now { version = FIRST_VERSION }))) }
 {
     let shown = action_value(alloc, action)?;
-    action.notes.pairs();
-    action.params.pairs();
+    action.known();
     Ok(shown)
 }
 
 fn action_value(alloc: Global, action: &Action) -> Result<Val, NoMemory>
     ensures { IfOk result (λ v. view v ≡ action_value action.now) }
 {
-    let mut fields = Params::new(alloc);
-    let notes = listed(alloc, &action.notes)?;
+    let mut fields = Fields::new(alloc);
+    let notes = listed(alloc, action.notes.get())?;
     put(alloc, &mut fields, "annotations", Val::List(notes))?;
     let exec = exec_value(alloc, &action.exec)?;
     put(alloc, &mut fields, "exec", exec)?;
@@ -92,19 +98,19 @@ fn action_value(alloc: Global, action: &Action) -> Result<Val, NoMemory>
     put(alloc, &mut fields, "name", name)?;
     let namespace = shown_namespace(alloc, &action.name)?;
     put(alloc, &mut fields, "namespace", namespace)?;
-    let params = listed(alloc, &action.params)?;
+    let params = listed(alloc, action.params.get())?;
     put(alloc, &mut fields, "parameters", Val::List(params))?;
     put(alloc, &mut fields, "publish", Val::Bool(action.publish))?;
     let version = shown_version(alloc, action.version)?;
     put(alloc, &mut fields, "version", version)?;
-    Ok(Val::Object(fields))
+    Ok(Val::Object(fields.into_params()?))
 }
 
 fn write_package(alloc: Global, bundle: &Package) -> Result<Val, NoMemory>
     ensures { IfOk result (λ v. view v ≡ package_value bundle.now) }
 {
-    let mut fields = Params::new(alloc);
-    let notes = listed(alloc, &bundle.notes)?;
+    let mut fields = Fields::new(alloc);
+    let notes = listed(alloc, bundle.notes.get())?;
     put(alloc, &mut fields, "annotations", Val::List(notes))?;
     let binding = binding_value(alloc, &bundle.binding)?;
     put(alloc, &mut fields, "binding", binding)?;
@@ -112,18 +118,18 @@ fn write_package(alloc: Global, bundle: &Package) -> Result<Val, NoMemory>
     put(alloc, &mut fields, "name", name)?;
     let namespace = shown_namespace(alloc, &bundle.name)?;
     put(alloc, &mut fields, "namespace", namespace)?;
-    let params = listed(alloc, &bundle.params)?;
+    let params = listed(alloc, bundle.params.get())?;
     put(alloc, &mut fields, "parameters", Val::List(params))?;
     put(alloc, &mut fields, "publish", Val::Bool(bundle.publish))?;
     let version = shown_version(alloc, bundle.version)?;
     put(alloc, &mut fields, "version", version)?;
-    Ok(Val::Object(fields))
+    Ok(Val::Object(fields.into_params()?))
 }
 
 fn binding_value(alloc: Global, binding: &Option<FullName>) -> Result<Val, NoMemory>
     ensures { IfOk result (λ v. view v ≡ binding_value binding.now) }
 {
-    let mut fields = Params::new(alloc);
+    let mut fields = Fields::new(alloc);
     if let Some(bound) = binding {
         put(
             alloc,
@@ -134,7 +140,7 @@ fn binding_value(alloc: Global, binding: &Option<FullName>) -> Result<Val, NoMem
         let namespace = text(alloc, bound.namespace.as_str())?;
         put(alloc, &mut fields, "namespace", namespace)?;
     }
-    Ok(Val::Object(fields))
+    Ok(Val::Object(fields.into_params()?))
 }
 
 fn summary_of(
@@ -146,7 +152,7 @@ fn summary_of(
 ) -> Result<Val, NoMemory>
     ensures { IfOk result (λ v. view v ≡ summary_of name.now notes.now publish version) }
 {
-    let mut fields = Params::new(alloc);
+    let mut fields = Fields::new(alloc);
     put(
         alloc,
         &mut fields,
@@ -167,13 +173,13 @@ fn summary_of(
         "version",
         shown_version(alloc, version)?,
     )?;
-    Ok(Val::Object(fields))
+    Ok(Val::Object(fields.into_params()?))
 }
 
 fn exec_value(alloc: Global, exec: &Exec) -> Result<Val, NoMemory>
     ensures { IfOk result (λ v. view v ≡ exec_value exec.now) }
 {
-    let mut fields = Params::new(alloc);
+    let mut fields = Fields::new(alloc);
     put(
         alloc,
         &mut fields,
@@ -181,7 +187,7 @@ fn exec_value(alloc: Global, exec: &Exec) -> Result<Val, NoMemory>
         text(alloc, exec.code().as_str())?,
     )?;
     put(alloc, &mut fields, "kind", text(alloc, exec.kind())?)?;
-    Ok(Val::Object(fields))
+    Ok(Val::Object(fields.into_params()?))
 }
 
 fn shown_namespace(alloc: Global, name: &FullName) -> Result<Val, NoMemory>
@@ -193,7 +199,7 @@ fn shown_namespace(alloc: Global, name: &FullName) -> Result<Val, NoMemory>
         Some(package) => {
             let package = package.as_str();
             let shown = format!(in alloc; "{namespace}/{package}")?;
-            Ok(Val::Text(Str::from_string(shown)))
+            Ok(Val::Text(Str::from_string(shown)?))
         }
     }
 }
@@ -202,7 +208,7 @@ fn shown_version(alloc: Global, version: u32) -> Result<Val, NoMemory>
     ensures { IfOk result (λ v. view v ≡ text (shown_version version)) }
 {
     let shown = format!(in alloc; "0.0.{version}")?;
-    Ok(Val::Text(Str::from_string(shown)))
+    Ok(Val::Text(Str::from_string(shown)?))
 }
 
 fn number(n: u32) -> Val
@@ -217,7 +223,7 @@ fn text(alloc: Global, s: &str) -> Result<Val, NoMemory>
     Ok(Val::Text(Str::of(alloc, s)?))
 }
 
-fn put(alloc: Global, fields: &mut Params, name: &str, value: Val) -> Result<(), NoMemory>
+fn put(alloc: Global, fields: &mut Fields, name: &str, value: Val) -> Result<(), NoMemory>
     ensures { OnOk result (fields.new ≡ with_pair fields.old name.now (view value)) }
 {
     fields.set(Str::of(alloc, name)?, value)

@@ -1,10 +1,10 @@
 use crate::held::{boxed, made, name_of, value_of};
 use ow_entity::{
-    Draft, EntityKind, EntityRefusal, FieldName, Package, Row, is_conductor, is_set, read_entity,
-    summary, write_entity,
+    Draft, EntityKind, EntityParams, EntityRefusal, FieldName, Package, Row, is_conductor, is_set,
+    read_entity, summary, write_entity,
 };
 use ow_names::FullName;
-use ow_value::{NoMemory, Params, Val, write_val};
+use ow_value::{NoMemory, Params, PlainData, Shared, Val, write_val};
 use std::alloc::Global;
 use std::test::Fail;
 
@@ -85,17 +85,22 @@ fn an_update_keeps_what_it_leaves_out(rt: HostRuntime) -> Result<(), Fail> {
 #[test]
 fn versions_stop_at_the_last(rt: HostRuntime) -> Result<(), Fail> {
     let alloc = rt.alloc();
-    let mut last = updated(alloc)?;
-    age(&mut last);
+    let row = updated(alloc)?;
+    let last = boxed(alloc, aged(alloc, &row))?;
     let refused = refusal(alloc, "{}", Some(&last))?;
     assert_eq!(rt; refused, Some(EntityRefusal::LastVersion));
     Ok(())
 }
 
-// Brings an action to the last version.
-fn age(row: &mut Row) {
-    if let Row::Action(action) = row {
-        action.version = 4_294_967_295;
+// The action of the row, with the last version.
+fn aged(alloc: Global, row: &Row) -> Result<Row, NoMemory> {
+    match row {
+        Row::Action(action) => {
+            let mut action = action.get().copy(alloc)?;
+            action.version = 4_294_967_295;
+            Ok(Row::Action(Shared::new(alloc, action)?))
+        }
+        Row::Package(_) => row.copy(alloc),
     }
 }
 
@@ -283,7 +288,7 @@ fn annotations_are_set_by_their_values(rt: HostRuntime) -> Result<(), Fail> {
     assert!(rt; all_are_set(alloc, "a b c d no", false)?);
     assert!(rt; all_are_set(alloc, "e f g h i", true)?);
     let row = put(alloc, CONDUCTOR, None)?;
-    assert!(rt; matches!(&*row, Row::Action(action) if is_conductor(action)));
+    assert!(rt; matches!(&*row, Row::Action(action) if is_conductor(action.get())));
     Ok(())
 }
 
@@ -341,14 +346,15 @@ fn package_of(alloc: Global, name: &FullName, binding: Option<&FullName>) -> Res
         Some(bound) => Some(bound.copy(alloc)?),
         None => None,
     };
-    Ok(Row::Package(Package {
+    let package = Package {
         name,
         version: 3,
         publish: true,
-        params: Params::new(alloc),
-        notes: Params::new(alloc),
+        params: EntityParams::new(),
+        notes: EntityParams::new(),
         binding,
-    }))
+    };
+    Ok(Row::Package(Shared::new(alloc, package)?))
 }
 
 const SHARED: &str =

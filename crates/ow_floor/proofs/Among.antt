@@ -1,5 +1,5 @@
 -- What stands among the accepted activations.
-use Rattle.std.proofs.Common.{◌≡◌, ◌⊎◌, ◌++◌, Bool, true, false, List, [], ◌∷◌, Option, Some, None, inl, inr, refl, subst}
+use Rattle.std.proofs.Common.{◌≡◌, ◌⊎◌, ◌++◌, Bool, true, false, List, [], ◌∷◌, Option, Some, None, inl, inr, refl, sym, subst}
 use Rattle.std.specs.List.{find, AllByRecursion}
 use Rattle.ow_records.specs.declared.ids.Id.{Id}
 use Rattle.ow_floor.specs.declared.activations.Activation.{Activation}
@@ -7,7 +7,7 @@ use Rattle.ow_floor.specs.declared.activations.Open.{Open}
 use Rattle.ow_floor.specs.declared.activations.State.{State}
 use Rattle.ow_floor.specs.Trace.{End}
 use Rattle.ow_floor.specs.Laws.{IsAmong}
-use Rattle.ow_floor.proofs.Alters.{shown}
+use Rattle.ow_floor.proofs.Alters.{opens}
 
 among_more : (a y x : Activation) (xs : List Activation) → (a ≡ x) ⊎ IsAmong a xs → (IsAmong a xs → IsAmong a (xs ++ y ∷ [])) → IsAmong a ((x ∷ xs) ++ y ∷ [])
 among_more a y x xs (inl same) rest = inl same
@@ -35,12 +35,18 @@ among_test p a q xs os o true t rest found =
 among_test p a q xs os o false t rest found = inr (rest (rw t at found))
 
 among_here : (p : Open → Bool) (f : Id → Option State) (a : Activation) (xs : List Activation) (o : Open) (s : Option State) → f a.id ≡ s
-    → (find p (shown f xs) ≡ Some o → IsAmong o.task xs) → find p (shown f (a ∷ xs)) ≡ Some o → IsAmong o.task (a ∷ xs)
+    → (find p (opens f xs) ≡ Some o → IsAmong o.task xs) → find p (opens f (a ∷ xs)) ≡ Some o → IsAmong o.task (a ∷ xs)
 among_here p f a xs o None e rest found = inr (rest (rw e at found))
 among_here p f a xs o (Some q) e rest found =
-    among_test p a q xs (shown f xs) o (p (record { task = a; state = q })) refl rest (rw e at found)
+    among_test p a q xs (opens f xs) o (p (record { task = a; state = q })) refl rest (rw e at found)
 
 -- what is found open stands among these
-pub found_among : (p : Open → Bool) (f : Id → Option State) (xs : List Activation) (o : Open) → find p (shown f xs) ≡ Some o → IsAmong o.task xs
+pub found_among : (p : Open → Bool) (f : Id → Option State) (xs : List Activation) (o : Open) → find p (opens f xs) ≡ Some o → IsAmong o.task xs
 found_among p f [] o found = cc
 found_among p f (a ∷ xs) o found = among_here p f a xs o (f a.id) refl (found_among p f xs o) found
+
+-- what holds of all of these holds of each among them
+pub all_among : (P : Activation → Type 0) (a : Activation) (xs : List Activation) → IsAmong a xs → AllByRecursion P xs → P a
+all_among P a [] among all = absurd among
+all_among P a (x ∷ xs) (inl same) all = subst P (sym same) all.0
+all_among P a (x ∷ xs) (inr rest) all = all_among P a xs rest all.1

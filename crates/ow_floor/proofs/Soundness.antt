@@ -1,25 +1,28 @@
--- Each item that a call adds keeps a trace sound, and a sound trace parts the accepted ids.
-use Rattle.std.proofs.Common.{◌≡◌, ◌==◌, ◌+◌, ◌≤◌, ◌++◌, ℕ, Bool, true, false, cond, List, [], ◌∷◌, Option, Some, None, length, refl, ap, ◌∙◌, arith, rules, length-append}
+-- Each item that may come keeps a trace sound, and does to the lists what it should.
+use Rattle.std.proofs.Common.{◌≡◌, ◌==◌, ◌+◌, ◌≤◌, ◌<◌, ◌++◌, ℕ, Bool, true, false, cond, List, [], ◌∷◌, Option, Some, None, length, refl, sym, ap, ◌∙◌, arith, rules, subst}
 use Rattle.std.specs.List.{find, AllByRecursion}
-use Rattle.std.proofs.lemmas.List.{map-append}
 use Rattle.std.proofs.lemmas.Bool.Decides.{nat_tests}
-use Rattle.ow_traits.specs.declared.replies.RunReply.{RunReply}
 use Rattle.ow_records.specs.declared.ids.Id.{Id}
 use Rattle.ow_records.specs.Id.{same_id}
-use Rattle.ow_floor.specs.declared.activations.Plan.{Plan}
 use Rattle.ow_floor.specs.declared.activations.Activation.{Activation}
 use Rattle.ow_floor.specs.declared.activations.Open.{Open}
+use Rattle.ow_floor.specs.declared.activations.Ended.{Ended as Record}
 use Rattle.ow_floor.specs.declared.activations.State.TheVariants.{Waiting, Running}
 use Rattle.ow_floor.specs.declared.answers.Drain.TheVariants as drains
-use Rattle.ow_floor.specs.View.{waits, carries, ids_of, started, update_first, remove_first}
-use Rattle.ow_floor.specs.Trace.{Trace, Run, End, Accepted, Ordered, Ended, Drained, accepted, ends, records, record_of, last, standing, open_items, run_count, head, carried}
-use Rattle.ow_floor.specs.Laws.{times, loads, IsApart, AreApart, IsParted, IsSound, RunOnce}
-use Rattle.ow_floor.specs.Calls.{IsNext, activation_of, after_accept, after_next, after_order, after_answered, after_end, after_drain, end_by, drain_answer, AllRecorded, KeepSound}
-use Rattle.ow_floor.proofs.Among.{known_push, known_more, found_among}
-use Rattle.ow_floor.proofs.Alters.{alter, alter_update, alter_remove, shown_new}
-use Rattle.ow_floor.proofs.Live.{live_accepted, live_ordered, live_ended, unknown_accepted, unknown_ordered, unknown_ended, run_once}
-use Rattle.ow_floor.proofs.Loads.{loads-waiting, loads-started, loads-removed, single_more, unused_more}
-use Rattle.ow_floor.proofs.Tallies.{times-push, ids_of-started, length-started, times-removed, length-removed, times-split, times_once}
+use Rattle.ow_floor.specs.declared.runs.Run.{Run}
+use Rattle.ow_floor.specs.View.{Shown, waits, carries, begun, ids_of, is_of, is_number, is_end_of, with_state, remove_first}
+use Rattle.ow_floor.specs.Trace.{Trace, Item, End, Accepted, Ordered, Begun, Answered, Lost, Gone, Ended, Swept, Drained, Reopened, accepted, accepted_ids, count, ends, records, recorded, record_of, last, drawn, standing, open_items, run_count, head, live, live_run, shown}
+use Rattle.ow_floor.specs.Growth.{grow, grown, open_after, IsRight, AreRight}
+use Rattle.ow_floor.specs.Laws.{times, IsAmong, loads, bearers, tally, IsApart, AreApart, IsParted, IsSound, RunOnce, Stands, Grows}
+use Rattle.ow_floor.specs.Calls.{drain_answer, AllRecorded}
+use Rattle.ow_floor.proofs.Among.{all_among, known_push, known_more, found_among}
+use Rattle.ow_floor.proofs.Alters.{opens_new}
+use Rattle.ow_floor.proofs.Drawn.{drawn_last}
+use Rattle.ow_floor.proofs.Firsts.{all_more, all_push, all_removed, all_updated, find_none, tally_fewer, tally_none, tally_push, tally_updated, update_none}
+use Rattle.ow_floor.proofs.Tallies.{one_if, eq_of, times-push, ids_of-started, times-removed, times-split, times_once}
+use Rattle.ow_floor.proofs.Standing.{open_ended, open_ordered, open_left, open_lost, open_begun, open_reopened, head_waits}
+
+-- ---- ids
 
 -- a new id is apart from those with lesser counts
 apart_at : (x y : Id) (b : Bool) (n : ℕ → ℕ) → (x.namespace == y.namespace) ≡ b → x.count ≡ n x.namespace + 1 → y.count ≤ n y.namespace → same_id x y ≡ false
@@ -32,156 +35,251 @@ apart_at x y false n e new old = rw e refl
 turned : (x y : Id) → same_id x y ≡ false → same_id y x ≡ false
 turned x y h = grind (arith, nat_tests)
 
+new_other : (x y : Id) (n : ℕ → ℕ) → x.count ≡ n x.namespace + 1 → y.count ≤ n y.namespace → same_id y x ≡ false
+new_other x y n new old = turned x y (apart_at x y (x.namespace == y.namespace) n refl new old)
+
 new_apart : (x : Id) (xs : List Activation) (n : ℕ → ℕ) → x.count ≡ n x.namespace + 1 → AllByRecursion (λ a. a.id.count ≤ n a.id.namespace) xs → IsApart x xs
-new_apart x [] n new drawn = tt
-new_apart x (a ∷ xs) n new drawn =
-    let one : same_id x a.id ≡ false = apart_at x a.id (x.namespace == a.id.namespace) n refl new drawn.0 in
-    ((one, turned x a.id one), new_apart x xs n new drawn.1)
+new_apart x xs n new drawn =
+    all_more _ _ xs (λ a le. let no = new_other x a.id n new le in (turned a.id x no, no)) drawn
 
 apart_one : (y : Id) (a : Activation) (xs : List Activation) → IsApart y xs → (same_id y a.id ≡ false) × (same_id a.id y ≡ false) → IsApart y (xs ++ a ∷ [])
-apart_one y a [] apart new = (new, tt)
-apart_one y a (z ∷ xs) apart new = (apart.0, apart_one y a xs apart.1 new)
+apart_one y a xs apart new = all_push _ a xs new apart
 
 apart_push : (a : Activation) (xs : List Activation) → AreApart xs → IsApart a.id xs → AreApart (xs ++ a ∷ [])
 apart_push a [] apart new = (tt, tt)
 apart_push a (z ∷ xs) apart new = (apart_one z.id a xs apart.0 (new.0.1, new.0.0), apart_push a xs apart.1 new.1)
 
 -- the last counts rise
-last_rises : (a : Activation) (T : Trace) (n : ℕ) → IsNext a.id T → last T n ≤ last (Accepted a ∷ T) n
-last_rises a T n new = at (a.id.namespace == n) refl
-  where
-    at : (b : Bool) → (a.id.namespace == n) ≡ b → last T n ≤ cond b a.id.count (last T n)
-    at true e =
-        let same : a.id.namespace ≡ n = grind (arith, nat_tests) in
-        let h : last T a.id.namespace ≡ last T n = ap (last T) same in
-        omega (arith, h, new)
-    at false e = omega arith
+last_at : (m n count before : ℕ) (b : Bool) → (m == n) ≡ b → (m ≡ n → count ≡ before + 1) → before ≤ cond b count before
+last_at m n count before true e new = let same : m ≡ n = grind (arith, nat_tests) in let h = new same in omega (arith, h)
+last_at m n count before false e new = omega arith
+
+last_rises : (a : Activation) (T : Trace) (n : ℕ) → a.id.count ≡ last T a.id.namespace + 1 → last T n ≤ last (Accepted a ∷ T) n
+last_rises a T n new = last_at a.id.namespace n a.id.count (last T n) (a.id.namespace == n) refl (λ same. new ∙ ap (λ k. last T k + 1) same)
 
 last_here : (a : Activation) (T : Trace) → a.id.count ≤ last (Accepted a ∷ T) a.id.namespace
 last_here a T =
     let e : (a.id.namespace == a.id.namespace) ≡ true = search (rules, nat_tests) in
     rw e (omega arith)
 
-drawn_push : (a : Activation) (xs : List Activation) (m n : ℕ → ℕ) → ((k : ℕ) → m k ≤ n k) → a.id.count ≤ n a.id.namespace
-    → AllByRecursion (λ y. y.id.count ≤ m y.id.namespace) xs → AllByRecursion (λ y. y.id.count ≤ n y.id.namespace) (xs ++ a ∷ [])
-drawn_push a [] m n rises here drawn = (here, tt)
-drawn_push a (z ∷ xs) m n rises here drawn = (omega (arith, rises z.id.namespace, drawn.0), drawn_push a xs m n rises here drawn.1)
+-- ---- what is open after each item
 
-pub new_id_apart : (a : Activation) (T : Trace) → IsNext a.id T → IsSound T → IsApart a.id (accepted T)
-new_id_apart a T new sound = new_apart a.id (accepted T) (last T) new sound.drawn
+no_end : (x : Id) (T : Trace) → x.count ≡ last T x.namespace + 1 → IsSound T → find (is_end_of x) (records T) ≡ None
+no_end x T new sound = find_none (is_end_of x) (records T) (all_more _ _ (records T) (λ e le. new_other x e.id (last T) new le) sound.ended_drawn)
 
--- what is open after each item
-pub open_accepted : (a : Activation) (T : Trace) → IsNext a.id T → IsSound T → open_items (Accepted a ∷ T) ≡ open_items T ++ record { task = a; state = Waiting } ∷ []
-open_accepted a T new sound = shown_new (standing T) a (accepted T) (new_id_apart a T new sound)
+no_run : (x : Id) (T : Trace) → x.count ≡ last T x.namespace + 1 → IsSound T → find (carries x) (live T) ≡ None
+no_run x T new sound = find_none (carries x) (live T) (all_more _ _ (live T) (λ r le. new_other x r.id (last T) new le) sound.live_drawn)
 
-pub open_ordered : (run : Run) (o : Open) (T : Trace) → run.task ≡ o.task → head T ≡ Some o → IsSound T → open_items (Ordered run ∷ T) ≡ update_first waits (started run.number) (open_items T)
-open_ordered run o T is found sound =
-    rw is (alter waits (standing T) (Some (Running run.number)) (accepted T) o sound.apart found ∙ alter_update waits run.number (open_items T))
+open_accepted : (a : Activation) (T : Trace) → a.id.count ≡ last T a.id.namespace + 1 → IsSound T → open_items (Accepted a ∷ T) ≡ open_items T ++ record { task = a; state = Waiting } ∷ []
+open_accepted a T new sound = opens_new (standing T) a (accepted T) (rw (no_end a.id T new sound, no_run a.id T new sound) refl)
 
-pub open_ended : (p : Open → Bool) (end : End) (o : Open) (T : Trace) → end.task ≡ o.task → find p (open_items T) ≡ Some o → IsSound T → open_items (Ended end ∷ T) ≡ remove_first p (open_items T)
-open_ended p end o T is found sound =
-    rw is (alter p (standing T) None (accepted T) o sound.apart found ∙ alter_remove p (open_items T))
+-- what is open was accepted, so its id was drawn
+open_drawn : (p : Open → Bool) (o : Open) (T : Trace) → find p (open_items T) ≡ Some o → IsSound T → o.task.id.count ≤ last T o.task.id.namespace
+open_drawn p o T found sound =
+    all_among (λ x. x.id.count ≤ last T x.id.namespace) o.task (accepted T) (found_among p (standing T) (accepted T) o found) sound.drawn
 
-pub records_ended : (end : End) (T : Trace) → records (Ended end ∷ T) ≡ records T ++ record_of end ∷ []
-records_ended end T = map-append record_of (ends T) (end ∷ [])
+-- ---- items
 
 pub sound_start : IsSound []
-sound_start = record { apart = tt; drawn = tt; once = λ id. refl; number = refl; known = tt; single = λ run. omega arith; unused = λ run lt. refl; live = tt; unknown = λ id apart. refl }
+sound_start = record { apart = tt; drawn = tt; ended_drawn = tt; live_drawn = tt; once = λ id. refl; known = tt; one = λ id. omega arith; single = λ run. omega arith; numbered = tt }
 
-pub sound_accepted : (a : Activation) (T : Trace) → IsNext a.id T → IsSound T → IsSound (Accepted a ∷ T)
+sound_accepted : (a : Activation) (T : Trace) → a.id.count ≡ last T a.id.namespace + 1 → IsSound T → IsSound (Accepted a ∷ T)
 sound_accepted a T new sound =
     let is_open = open_accepted a T new sound in
+    let rises : (n : ℕ) → last T n ≤ last (Accepted a ∷ T) n = λ n. last_rises a T n new in
     record {
-      apart = apart_push a (accepted T) sound.apart (new_id_apart a T new sound);
-      drawn = drawn_push a (accepted T) (last T) (last (Accepted a ∷ T)) (λ n. last_rises a T n new) (last_here a T) sound.drawn;
+      apart = apart_push a (accepted T) sound.apart (new_apart a.id (accepted T) (last T) new sound.drawn);
+      drawn = all_push _ a (accepted T) (last_here a T) (all_more _ _ (accepted T) (λ x le. let up = rises x.id.namespace in omega (arith, up, le)) sound.drawn);
+      ended_drawn = all_more _ _ (records T) (λ x le. let up = rises x.id.namespace in omega (arith, up, le)) sound.ended_drawn;
+      live_drawn = all_more _ _ (live T) (λ x le. let up = rises x.id.namespace in omega (arith, up, le)) sound.live_drawn;
       once = λ id.
           let before = sound.once id in
           let open_more = times-push (λ (o : Open). o.task.id) id (open_items T) (record { task = a; state = Waiting }) in
           let more = times-push (λ (y : Activation). y.id) id (accepted T) a in
           rw (is_open, open_more, more) (omega (arith, before));
-      number = rw (is_open, length-append, length-append) (omega (arith, sound.number));
       known = known_push a (accepted T) (ends T) sound.known;
-      single = λ run. rw (is_open, loads-waiting run a (open_items T)) (sound.single run);
-      unused = λ run lt. rw (is_open, loads-waiting run a (open_items T)) (sound.unused run lt);
-      live = live_accepted a T (accepted T) (new_id_apart a T new sound) sound.live sound.unknown;
-      unknown = unknown_accepted a T (accepted T) sound.unknown;
+      one = sound.one;
+      single = sound.single;
+      numbered = sound.numbered;
     }
 
-pub sound_ordered : (run : Run) (o : Open) (T : Trace) → run.task ≡ o.task → run.number ≡ run_count T + 1 → head T ≡ Some o → IsSound T → IsSound (Ordered run ∷ T)
-sound_ordered run o T is next found sound =
-    let is_open = open_ordered run o T is found sound in
+sound_ended : (e : End) (o : Open) (T : Trace) → find (is_of e.task.id) (open_items T) ≡ Some o → e.task ≡ o.task → IsSound T → IsSound (Ended e ∷ T)
+sound_ended e o T found is sound =
+    let is_open = open_ended e o T found is sound in
+    let same : e.task.id ≡ o.task.id = ap (λ (a : Activation). a.id) is in
     record {
       apart = sound.apart;
       drawn = sound.drawn;
-      once = λ id. rw (is_open, ids_of-started waits run.number (open_items T)) (sound.once id);
-      number = rw (is_open, length-started waits run.number (open_items T)) sound.number;
-      known = sound.known;
-      single = λ r. rw (is_open, loads-started r run.number (open_items T) o found, next)
-          (single_more (run_count T) r (loads r (open_items T)) (sound.single r) (sound.unused r));
-      unused = λ r lt. rw (is_open, loads-started r run.number (open_items T) o found, next)
-          (unused_more (run_count T) r (loads r (open_items T)) lt (sound.unused r));
-      live = live_ordered run o T (accepted T) is found sound.live;
-      unknown = unknown_ordered run o T is found sound.unknown;
-    }
-
-pub sound_ended : (p : Open → Bool) (end : End) (o : Open) (T : Trace) → end.task ≡ o.task → find p (open_items T) ≡ Some o → IsSound T → IsSound (Ended end ∷ T)
-sound_ended p end o T is found sound =
-    let is_open = open_ended p end o T is found sound in
-    let told = records_ended end T in
-    record {
-      apart = sound.apart;
-      drawn = sound.drawn;
+      ended_drawn = all_push _ (record_of e) (records T)
+          (subst (λ (x : Id). x.count ≤ last T x.namespace) (sym same) (open_drawn (is_of e.task.id) o T found sound)) sound.ended_drawn;
+      live_drawn = sound.live_drawn;
       once = λ id.
           let before = sound.once id in
-          let less = times-removed p id (open_items T) o found in
-          let more = times-push (λ e. e.id) id (records T) (record_of end) in
-          rw (is_open, told, more, is) (omega (arith, before, less));
-      number =
-          let less = length-removed p (open_items T) o found in
-          rw (is_open, told, length-append) (omega (arith, sound.number, less));
-      known = known_more end (accepted T) (ends T) (rw is (found_among p (standing T) (accepted T) o found)) sound.known;
-      single = λ run. let fewer = loads-removed p run (open_items T) in rw is_open (omega (arith, fewer, sound.single run));
-      unused = λ run lt. let fewer = loads-removed p run (open_items T) in rw is_open (omega (arith, fewer, sound.unused run lt));
-      live = live_ended end T (accepted T) sound.live;
-      unknown = unknown_ended end T (accepted T) sound.unknown;
+          let less = subst (λ n. times id (ids_of (open_items T)) ≡ times id (ids_of (remove_first (is_of e.task.id) (open_items T))) + one_if (same_id id n)) (sym same)
+          (times-removed (is_of e.task.id) id (open_items T) o found) in
+          let more = times-push (λ (x : Record). x.id) id (records T) (record_of e) in
+          rw (is_open, more) (omega (arith, before, less));
+      known = known_more e (accepted T) (ends T)
+          (subst (λ (a : Activation). IsAmong a (accepted T)) (sym is) (found_among (is_of e.task.id) (standing T) (accepted T) o found)) sound.known;
+      one = sound.one;
+      single = sound.single;
+      numbered = sound.numbered;
     }
 
-pub sound_drained : (at : ℕ) (T : Trace) → IsSound T → IsSound (Drained at ∷ T)
-sound_drained at T sound = record {
+-- the new run is the only one of its activation, and of its number
+only_one : {X : Type 0} (q : X → Bool) (x : X) (xs : List X) (b : Bool) → q x ≡ b → tally q xs ≤ 1 → (b ≡ true → tally q xs ≡ 0) → tally q (xs ++ x ∷ []) ≤ 1
+only_one q x xs true e le none = let zero = none refl in rw (tally_push q x xs, e) (omega (arith, zero))
+only_one q x xs false e le none = rw (tally_push q x xs, e) (omega (arith, le))
+
+loads_more : (r : Run) (T : Trace) → find (carries r.id) (live T) ≡ None → IsSound T → (id : Id) → loads id (live T ++ r ∷ []) ≤ 1
+loads_more r T free sound id =
+    only_one (carries id) r (live T) (carries id r) refl (sound.one id)
+    (λ e. let same : r.id ≡ id = eq_of r.id id e in subst (λ (x : Id). loads x (live T) ≡ 0) same (tally_none (carries r.id) (live T) free))
+
+greater : (n run : ℕ) (rs : List Run) → n < run → AllByRecursion (λ r. r.number ≤ n) rs → find (is_number run) rs ≡ None
+greater n run rs lt all = find_none (is_number run) rs (all_more _ _ rs (λ r le. grind (arith, nat_tests)) all)
+
+bearers_more : (r : Run) (T : Trace) → r.number ≡ run_count T + 1 → IsSound T → (run : ℕ) → bearers run (live T ++ r ∷ []) ≤ 1
+bearers_more r T next sound run =
+    only_one (is_number run) r (live T) (is_number run r) refl (sound.single run)
+    (λ e. let same : r.number ≡ run = grind (arith, nat_tests) in
+    tally_none (is_number run) (live T) (greater (run_count T) run (live T) (omega (arith, same, next)) sound.numbered))
+
+sound_ordered : (r : Run) (o : Open) (T : Trace) → r.number ≡ run_count T + 1 → head T ≡ Some o → r.id ≡ o.task.id → IsSound T → IsSound (Ordered r ∷ T)
+sound_ordered r o T next found is sound =
+    let is_open = open_ordered r o T found is sound in
+    let free : find (carries r.id) (live T) ≡ None = subst (λ (x : Id). find (carries x) (live T) ≡ None) (sym is) (head_waits o T found).1 in
+    record {
+      apart = sound.apart;
+      drawn = sound.drawn;
+      ended_drawn = sound.ended_drawn;
+      live_drawn = all_push _ r (live T) (subst (λ (x : Id). x.count ≤ last T x.namespace) (sym is) (open_drawn waits o T found sound)) sound.live_drawn;
+      once = λ id. rw (is_open, ids_of-started waits (Running r.number) (open_items T)) (sound.once id);
+      known = sound.known;
+      one = loads_more r T free sound;
+      single = bearers_more r T next sound;
+      numbered = all_push _ r (live T) (omega (arith, next)) (all_more _ _ (live T) (λ x le. omega (arith, le)) sound.numbered);
+    }
+
+fewer : {X : Type 0} (p q : X → Bool) (xs : List X) → tally q xs ≤ 1 → tally q (remove_first p xs) ≤ 1
+fewer p q xs le = let h = tally_fewer p q xs in omega (arith, h, le)
+
+left_answered : (run : ℕ) (alive : Bool) (at : ℕ) (T : Trace) → ids_of (open_items (Answered run alive at ∷ T)) ≡ ids_of (open_items T) → IsSound T → IsSound (Answered run alive at ∷ T)
+left_answered run alive at T ids sound = record {
   apart = sound.apart;
   drawn = sound.drawn;
-  once = sound.once;
-  number = sound.number;
+  ended_drawn = sound.ended_drawn;
+  live_drawn = all_removed _ (is_number run) (live T) sound.live_drawn;
+  once = λ id. rw ids (sound.once id);
   known = sound.known;
-  single = sound.single;
-  unused = sound.unused;
-  live = sound.live;
-  unknown = sound.unknown;
+  one = λ id. fewer (is_number run) (carries id) (live T) (sound.one id);
+  single = λ n. fewer (is_number run) (is_number n) (live T) (sound.single n);
+  numbered = all_removed _ (is_number run) (live T) sound.numbered;
 }
 
--- the same for the calls
-pub sound_accept : (at : ℕ) (plan : Plan) (T : Trace) → IsNext plan.id T → IsSound T → IsSound (after_accept at plan T)
-sound_accept at plan T new sound = sound_accepted (activation_of at plan) T new sound
+left_lost : (run at : ℕ) (T : Trace) → ids_of (open_items (Lost run at ∷ T)) ≡ ids_of (open_items T) → IsSound T → IsSound (Lost run at ∷ T)
+left_lost run at T ids sound = record {
+  apart = sound.apart;
+  drawn = sound.drawn;
+  ended_drawn = sound.ended_drawn;
+  live_drawn = all_removed _ (is_number run) (live T) sound.live_drawn;
+  once = λ id. rw ids (sound.once id);
+  known = sound.known;
+  one = λ id. fewer (is_number run) (carries id) (live T) (sound.one id);
+  single = λ n. fewer (is_number run) (is_number n) (live T) (sound.single n);
+  numbered = all_removed _ (is_number run) (live T) sound.numbered;
+}
 
-sound_order : (run at : ℕ) (found : Option Open) (T : Trace) → run ≡ run_count T + 1 → head T ≡ found → IsSound T → IsSound (after_order run at found T)
-sound_order run at None T is e sound = sound
-sound_order run at (Some o) T is e sound = sound_ordered (record { number = run; at = at; task = o.task }) o T refl is e sound
+sound_begun : (run at : ℕ) (T : Trace) → IsSound T → IsSound (Begun run at ∷ T)
+sound_begun run at T sound = record {
+  apart = sound.apart;
+  drawn = sound.drawn;
+  ended_drawn = sound.ended_drawn;
+  live_drawn = all_updated _ (is_number run) begun (live T) (λ x le. le) sound.live_drawn;
+  once = λ id. rw (open_begun run at T) (sound.once id);
+  known = sound.known;
+  one = λ id. rw (tally_updated (is_number run) (carries id) begun (live T) (λ x. refl)) (sound.one id);
+  single = λ n. rw (tally_updated (is_number run) (is_number n) begun (live T) (λ x. refl)) (sound.single n);
+  numbered = all_updated _ (is_number run) begun (live T) (λ x le. le) sound.numbered;
+}
 
-pub sound_next : (at : ℕ) (T : Trace) → IsSound T → IsSound (after_next at T)
-sound_next at T sound = sound_order (run_count T + 1) at (head T) T refl refl sound
+sound_gone : (slot generation at : ℕ) (T : Trace) → IsSound T → IsSound (Gone slot generation at ∷ T)
+sound_gone slot generation at T sound = record { apart = sound.apart; drawn = sound.drawn; ended_drawn = sound.ended_drawn; live_drawn = sound.live_drawn; once = sound.once; known = sound.known; one = sound.one; single = sound.single; numbered = sound.numbered }
 
-sound_end : (at run : ℕ) (reply : RunReply) (found : Option Open) (T : Trace) → carried T run ≡ found → IsSound T → IsSound (after_end at reply found T)
-sound_end at run reply None T e sound = sound
-sound_end at run reply (Some o) T e sound = sound_ended (carries run) (end_by at reply o) o T refl e sound
+sound_swept : (at : ℕ) (T : Trace) → IsSound T → IsSound (Swept at ∷ T)
+sound_swept at T sound = record { apart = sound.apart; drawn = sound.drawn; ended_drawn = sound.ended_drawn; live_drawn = sound.live_drawn; once = sound.once; known = sound.known; one = sound.one; single = sound.single; numbered = sound.numbered }
 
-pub sound_answered : (at run : ℕ) (reply : RunReply) (T : Trace) → IsSound T → IsSound (after_answered at run reply T)
-sound_answered at run reply T sound = sound_end at run reply (carried T run) T refl sound
+sound_drained : (at : ℕ) (T : Trace) → IsSound T → IsSound (Drained at ∷ T)
+sound_drained at T sound = record { apart = sound.apart; drawn = sound.drawn; ended_drawn = sound.ended_drawn; live_drawn = sound.live_drawn; once = sound.once; known = sound.known; one = sound.one; single = sound.single; numbered = sound.numbered }
 
-pub sound_drain : (at : ℕ) (T : Trace) → IsSound T → IsSound (after_drain at T)
-sound_drain at T sound = sound_drained at T sound
+sound_reopened : (at : ℕ) (T : Trace) → open_items T ≡ [] → IsSound T → IsSound (Reopened at ∷ T)
+sound_reopened at T none sound = record {
+  apart = sound.apart;
+  drawn = sound.drawn;
+  ended_drawn = sound.ended_drawn;
+  live_drawn = tt;
+  once = λ id.
+      let h : 0 + times id (recorded T) ≡ times id (accepted_ids T) = rw none at (sound.once id) in
+      rw (open_reopened at T none) h;
+  known = sound.known;
+  one = λ id. omega arith;
+  single = λ n. omega arith;
+  numbered = tt;
+}
 
-pub calls_keep_sound : KeepSound
-calls_keep_sound = record { start = sound_start; accept = sound_accept; next = sound_next; answered = sound_answered; drain = sound_drain }
+-- ---- each item
+
+-- it keeps the trace sound, and does this to what is open
+abbrev IsGrown : Item → Trace → Type 0
+IsGrown item T = IsSound (item ∷ T) × (open_items (item ∷ T) ≡ open_after item (live T) (open_items T))
+
+grown_lost : (run at : ℕ) (r : Run) (o : Option Open) (T : Trace) → live_run T run ≡ Some r → find (is_of r.id) (open_items T) ≡ o → IsSound T → IsGrown (Lost run at) T
+grown_lost run at r None T found none sound =
+    let is_open : open_items (Lost run at ∷ T) ≡ open_items T = open_left run r T found none in
+    let same = update_none (is_of r.id) (with_state Waiting) (open_items T) none in
+    (left_lost run at T (ap ids_of is_open) sound, is_open ∙ rw found (sym same))
+grown_lost run at r (Some o) T found here sound =
+    let is_open = open_lost run at r o T found here sound in
+    (left_lost run at T (ap ids_of is_open ∙ ids_of-started (is_of r.id) Waiting (open_items T)) sound, is_open ∙ rw found refl)
+
+grown_item : (item : Item) (T : Trace) → IsRight item (shown T) → IsSound T → IsGrown item T
+grown_item (Accepted a) T right sound =
+    let new : a.id.count ≡ last T a.id.namespace + 1 = right ∙ ap (λ n. n + 1) (drawn_last T a.id.namespace) in
+    (sound_accepted a T new sound, open_accepted a T new sound)
+grown_item (Ordered r) T right sound =
+    (sound_ordered r right.1.0 T right.0 right.1.1 right.1.2 sound, open_ordered r right.1.0 T right.1.1 right.1.2 sound)
+grown_item (Begun run at) T right sound = (sound_begun run at T sound, open_begun run at T)
+grown_item (Answered run alive at) T right sound =
+    let is_open : open_items (Answered run alive at ∷ T) ≡ open_items T = open_left run right.0 T right.1 right.2 in
+    (left_answered run alive at T (ap ids_of is_open) sound, is_open)
+grown_item (Lost run at) T right sound = grown_lost run at right.0 (find (is_of right.0.id) (open_items T)) T right.1 refl sound
+grown_item (Gone slot generation at) T right sound = (sound_gone slot generation at T sound, refl)
+grown_item (Ended e) T right sound = (sound_ended e right.0 T right.1 right.2 sound, open_ended e right.0 T right.1 right.2 sound)
+grown_item (Swept at) T right sound = (sound_swept at T sound, refl)
+grown_item (Drained at) T right sound = (sound_drained at T sound, refl)
+grown_item (Reopened at) T right sound = (sound_reopened at T right sound, open_reopened at T right ∙ sym right)
+
+shown_by : (item : Item) (T : Trace) → open_items (item ∷ T) ≡ open_after item (live T) (open_items T) → shown (item ∷ T) ≡ grow item (shown T)
+shown_by item T is_open = ap (λ (os : List Open). record (grow item (shown T)) { open_items = os }) is_open
+
+-- items that may come keep a trace sound, and do to the lists what they should
+pub sound_items : (items T : Trace) → AreRight items (shown T) → IsSound T → IsSound (items ++ T) × (shown (items ++ T) ≡ grown items (shown T))
+sound_items [] T right sound = (sound, refl)
+sound_items (item ∷ items) T right sound =
+    let before = sound_items items T right.1 sound in
+    let here = grown_item item (items ++ T) (subst (λ (v : Shown). IsRight item v) (sym before.1) right.0) before.0 in
+    (here.0, shown_by item (items ++ T) here.1 ∙ ap (grow item) before.1)
+
+-- where the items of a call may come, a floor of whose lists they are made grows by them
+pub grows : (f : Shown → Trace) (v w : Shown) → ((T : Trace) → Stands v T → AreRight (f (shown T)) (shown T)) → w ≡ grown (f v) v → Grows v w (λ T. f (shown T))
+grows f v w right is T st =
+    let both = sound_items (f (shown T)) T (right T st) st.sound in
+    record { is = is ∙ (ap (λ (u : Shown). grown (f u) u) st.is ∙ sym both.1); sound = both.0 }
+
+pub stands_start : Stands (shown []) []
+stands_start = record { is = refl; sound = sound_start }
+
+-- ---- laws
 
 -- in a sound trace each accepted id waits, runs or is recorded, once
 pub parted : (T : Trace) → IsSound T → IsParted T
@@ -190,16 +288,16 @@ parted T sound = record {
   parts = λ id. rw (times-split id (open_items T)) (sound.once id);
 }
 
--- in a sound trace no accepted activation has two live runs
+-- in a sound trace no activation has two live runs, and no two live runs have one number
 pub runs_once : (T : Trace) → IsSound T → RunOnce T
-runs_once T sound = run_once T sound.live
+runs_once T sound = record { one = sound.one; single = sound.single }
 
 none_open : (os : List Open) → length os ≡ 0 → (id : Id) → times id (ids_of os) ≡ 0
 none_open [] e id = refl
 none_open (o ∷ os) e id = absurd (omega (arith, e))
 
 recorded_at : (T : Trace) (b : Bool) → (length (open_items T) == 0) ≡ b → IsSound T
-    → AllRecorded T (cond b (drains.Drained (length (accepted T))) (drains.StillOpen (length (open_items T))))
+    → AllRecorded T (cond b (drains.Drained (count T)) (drains.StillOpen (length (open_items T))))
 recorded_at T true e sound =
     let empty : length (open_items T) ≡ 0 = grind (arith, nat_tests) in (
       refl,

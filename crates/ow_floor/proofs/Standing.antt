@@ -1,112 +1,219 @@
--- What each call does to a floor that stands as its trace says.
-use Rattle.std.proofs.Common.{◌≡◌, ◌+◌, ℕ, Bool, ◌∷◌, Option, Some, None, Result, Ok, Err, refl, sym, ap, ◌∙◌}
-use Rattle.std.specs.List.{find}
-use Rattle.std.specs.Prelude.{IfOk, IsSome, OnErr}
-use Rattle.ow_value.specs.declared.memory.NoMemory.{NoMemory}
-use Rattle.ow_traits.specs.declared.replies.RunReply.{RunReply}
-use Rattle.ow_floor.specs.declared.activations.Plan.{Plan}
+-- How activations stand behind each item.
+use Rattle.std.proofs.Common.{◌≡◌, ◌≤◌, ℕ, Bool, true, false, cond, List, [], ◌∷◌, Option, Some, None, refl, sym, ap, ◌∙◌, arith, subst}
+use Rattle.std.specs.List.{find, AllByRecursion}
+use Rattle.std.proofs.lemmas.Bool.Decides.{nat_tests}
+use Rattle.ow_records.specs.declared.ids.Id.{Id}
+use Rattle.ow_records.specs.Id.{same_id}
 use Rattle.ow_floor.specs.declared.activations.Activation.{Activation}
 use Rattle.ow_floor.specs.declared.activations.Open.{Open}
-use Rattle.ow_floor.specs.declared.answers.Order.{Order}
-use Rattle.ow_floor.specs.declared.answers.Answered.{Answered}
-use Rattle.ow_floor.specs.declared.answers.AnswerRefusal.{AnswerRefusal}
-use Rattle.ow_floor.specs.declared.answers.AnswerRefusal.TheVariants as refusals
-use Rattle.ow_floor.specs.View.{FloorLists, waits, carries, last_of, with_accepted, with_run, with_end}
-use Rattle.ow_floor.specs.Trace.{Trace, Run, End, head, Accepted, Ordered, Ended, record_of}
-use Rattle.ow_floor.specs.Laws.{Stands, Shows}
-use Rattle.ow_floor.specs.Calls.{IsNext, activation_of, answer_of, answer_to, after_answered, end_by, Accepts, Orders, Answers, IsStarted, IsAnswered}
-use Rattle.ow_floor.proofs.Drawn.{last_put}
-use Rattle.ow_floor.proofs.Soundness.{open_accepted, open_ordered, open_ended, records_ended, sound_accepted, sound_ordered, sound_ended}
+use Rattle.ow_floor.specs.declared.activations.Ended.{Ended as Record}
+use Rattle.ow_floor.specs.declared.activations.State.{State}
+use Rattle.ow_floor.specs.declared.activations.State.TheVariants.{Waiting, Running}
+use Rattle.ow_floor.specs.declared.runs.Run.{Run}
+use Rattle.ow_floor.specs.View.{waits, is_waiting, is_of, is_number, is_end_of, carries, with_state, update_first, remove_first, begun}
+use Rattle.ow_floor.specs.Trace.{Trace, End, Ordered, Begun, Lost, Ended, Reopened, accepted, records, record_of, live, open_items, end_of, carrier, live_run, standing, standing_by, state_by, head}
+use Rattle.ow_floor.specs.Laws.{loads, IsSound}
+use Rattle.ow_floor.proofs.Alters.{opens, but_at, agree, alter, alter_update, alter_remove, opens_same}
+use Rattle.ow_floor.proofs.Tallies.{eq_of}
+use Rattle.ow_floor.proofs.Firsts.{none_tail, or_new, find_push, find_other, none_left}
 
--- an activation is accepted
-pub stands_accepted : (v : FloorLists) (a : Activation) (T : Trace) → IsNext a.id T → Stands v T → Stands (with_accepted a v) (Accepted a ∷ T)
-stands_accepted v a T new st = record {
-  items = rw st.items (sym (open_accepted a T new st.sound));
-  ended = st.ended;
-  drawn = λ n. rw (last_put a.id v.drawn n, st.drawn n) refl;
-  runs = st.runs;
-  latest = refl;
-  draining = st.draining;
-  sound = sound_accepted a T new st.sound;
-}
+-- ---- what is found stands so
 
--- the first that waits is run
-pub stands_ordered : (v : FloorLists) (at : ℕ) (o : Open) (T : Trace) → Stands v T → find waits v.open_items ≡ Some o
-    → Stands (with_run at v) (Ordered (record { number = v.runs + 1; at = at; task = o.task }) ∷ T)
-stands_ordered v at o T st found =
-    let run : Run = record { number = v.runs + 1; at = at; task = o.task } in
-    let first = rw st.items at found in
-    record {
-      items = rw st.items (sym (open_ordered run o T refl first st.sound));
-      ended = st.ended;
-      drawn = st.drawn;
-      runs = rw st.runs refl;
-      latest = refl;
-      draining = st.draining;
-      sound = sound_ordered run o T refl (ap (λ n. n + 1) st.runs) first st.sound;
-    }
+abbrev pub IsFound : (Open → Bool) → (Id → Option State) → Open → Type 0
+IsFound p f o = (f o.task.id ≡ Some o.state) × (p o ≡ true)
 
--- the first that passes ends
-pub stands_ended : (v : FloorLists) (p : Open → Bool) (end : End) (o : Open) (T : Trace) → end.task ≡ o.task → Stands v T → find p v.open_items ≡ Some o
-    → Stands (with_end p (record_of end) v) (Ended end ∷ T)
-stands_ended v p end o T is st found =
-    let first = rw st.items at found in
-    record {
-      items = rw st.items (sym (open_ended p end o T is first st.sound));
-      ended = rw st.ended (sym (records_ended end T));
-      drawn = st.drawn;
-      runs = st.runs;
-      latest = refl;
-      draining = st.draining;
-      sound = sound_ended p end o T is first st.sound;
-    }
+found_test : (p : Open → Bool) (f : Id → Option State) (a : Activation) (q : State) (os : List Open) (o : Open) (b : Bool) → p (record { task = a; state = q }) ≡ b
+    → f a.id ≡ Some q → (find p os ≡ Some o → IsFound p f o) → find p (record { task = a; state = q } ∷ os) ≡ Some o → IsFound p f o
+found_test p f a q os o true t is rest found =
+    let e : Some (record { task = a; state = q }) ≡ Some o = rw t at found in
+    let same : record { task = a; state = q } ≡ o = cc in
+    subst (λ (z : Open). IsFound p f z) same (is, t)
+found_test p f a q os o false t is rest found = rest (rw t at found)
 
-pub shows : (v : FloorLists) (T : Trace) → Stands v T → Shows v T
-shows v T st = record { waiting = rw st.items refl; running = rw st.items refl; recorded = rw st.ended refl }
+found_here : (p : Open → Bool) (f : Id → Option State) (a : Activation) (xs : List Activation) (o : Open) (s : Option State) → f a.id ≡ s
+    → (find p (opens f xs) ≡ Some o → IsFound p f o) → find p (opens f (a ∷ xs)) ≡ Some o → IsFound p f o
+found_here p f a xs o None is rest found = rest (rw is at found)
+found_here p f a xs o (Some q) is rest found = found_test p f a q (opens f xs) o (p (record { task = a; state = q })) refl is rest (rw is at found)
 
--- what the calls ensure of the lists is what the trace says
-pub accepts : (old new : FloorLists) (at : ℕ) (plan : Plan) → plan.id.count ≡ last_of old.drawn plan.id.namespace + 1
-    → new ≡ with_accepted (activation_of at plan) old → Accepts old new at plan
-accepts old new at plan next is T st =
-    rw is (stands_accepted old (activation_of at plan) T (next ∙ ap (λ n. n + 1) (st.drawn plan.id.namespace)) st)
+pub is_found : (p : Open → Bool) (f : Id → Option State) (xs : List Activation) (o : Open) → find p (opens f xs) ≡ Some o → IsFound p f o
+is_found p f [] o found = cc
+is_found p f (a ∷ xs) o found = found_here p f a xs o (f a.id) refl (is_found p f xs o) found
 
-orders_found : (old new : FloorLists) (at : ℕ) (order : Order) (found : Option Open) → find waits old.open_items ≡ found
-    → IsStarted old new at order found → Orders old new at order
-orders_found old new at order None e h T st = let none = rw st.items at e in (rw (none, h.0) refl, rw (none, h.1) st)
-orders_found old new at order (Some o) e h T st =
-    let first = rw st.items at e in
-    (rw (first, h.0, st.runs) refl, rw (first, h.1, ← st.runs) (stands_ordered old at o T st e))
+-- ---- where nothing is found of an id, what changes that id alone changes nothing
 
-pub orders : (old new : FloorLists) (at : ℕ) (r : Result Order NoMemory) → IfOk r (λ order. IsStarted old new at order (find waits old.open_items))
-    → IfOk r (λ order. Orders old new at order)
-orders old new at (Ok order) h = orders_found old new at order (find waits old.open_items) refl h
-orders old new at (Err e) h = h
+turned : (x y : Id) → same_id x y ≡ false → same_id y x ≡ false
+turned x y h = grind (arith, nat_tests)
 
--- where nothing is refused for want of memory
-abbrev Replied : FloorLists → FloorLists → ℕ → ℕ → RunReply → Result Answered AnswerRefusal → Option Open → Type 0
-Replied old new at run reply r None = (r ≡ answer_of at run reply None) × (new ≡ old)
-Replied old new at run reply r (Some o) = (r ≡ answer_of at run reply (Some o)) × (new ≡ with_end (carries run) (record_of (end_by at reply o)) old)
+same_at : (f g : Id → Option State) (id : Id) (a : Activation) (xs : List Activation) (s : Option State) → f a.id ≡ s
+    → ((y : Id) → same_id id y ≡ false → g y ≡ f y) → ((y : Id) → f y ≡ None → g y ≡ f y)
+    → find (is_of id) (opens f (a ∷ xs)) ≡ None → (g a.id ≡ f a.id) × (find (is_of id) (opens f xs) ≡ None)
+same_at f g id a xs None e other none h = (none a.id e, rw e at h)
+same_at f g id a xs (Some q) e other none h =
+    let h' : find (is_of id) (record { task = a; state = q } ∷ opens f xs) ≡ None = rw e at h in
+    let two = none_tail (is_of id) (record { task = a; state = q }) (opens f xs) (same_id a.id id) refl h' in
+    (other a.id (turned a.id id two.0), two.1)
 
-replied : (old new : FloorLists) (at run : ℕ) (reply : RunReply) (r : Result Answered AnswerRefusal) (found : Option Open) → find (carries run) old.open_items ≡ found
-    → Replied old new at run reply r found → (T : Trace) → Stands old T → (r ≡ answer_to at run reply T) × Stands new (after_answered at run reply T)
-replied old new at run reply r None e h T st = let none = rw st.items at e in (rw (none, h.0) refl, rw (none, h.1) st)
-replied old new at run reply r (Some o) e h T st =
-    let first = rw st.items at e in
-    (rw (first, h.0) refl, rw (first, h.1) (stands_ended old (carries run) (end_by at reply o) o T refl st e))
+same_where : (f g : Id → Option State) (id : Id) (xs : List Activation)
+    → ((y : Id) → same_id id y ≡ false → g y ≡ f y) → ((y : Id) → f y ≡ None → g y ≡ f y)
+    → find (is_of id) (opens f xs) ≡ None → AllByRecursion (λ a. g a.id ≡ f a.id) xs
+same_where f g id [] other none h = tt
+same_where f g id (a ∷ xs) other none h =
+    let two = same_at f g id a xs (f a.id) refl other none h in
+    (two.0, same_where f g id xs other none two.1)
 
-answered_at : (old new : FloorLists) (at run : ℕ) (reply : RunReply) (r : Result Answered AnswerRefusal) (found : Option Open) → find (carries run) old.open_items ≡ found
-    → IsAnswered old new at run reply r found → Answers old new at run reply r
-answered_at old new at run reply (Ok a) None e h = replied old new at run reply (Ok a) None e h
-answered_at old new at run reply (Ok a) (Some o) e h = replied old new at run reply (Ok a) (Some o) e h
-answered_at old new at run reply (Err (refusals.NoRun number back)) None e h = replied old new at run reply (Err (refusals.NoRun number back)) None e h
-answered_at old new at run reply (Err (refusals.NoRun number back)) (Some o) e h = replied old new at run reply (Err (refusals.NoRun number back)) (Some o) e h
-answered_at old new at run reply (Err (refusals.NoMemory back)) found e h = λ T st. rw (← st.items, e) h
+-- ---- behind an end
 
-pub answers : (old new : FloorLists) (at run : ℕ) (reply : RunReply) (r : Result Answered AnswerRefusal)
-    → IsAnswered old new at run reply r (find (carries run) old.open_items) → Answers old new at run reply r
-answers old new at run reply r h = answered_at old new at run reply r (find (carries run) old.open_items) refl h
+ended_by : (e : Record) (y : Id) (o : Option Record) (c : Option Run) (b : Bool) → is_end_of y e ≡ b → standing_by (or_new (is_end_of y) e o) c ≡ cond b None (standing_by o c)
+ended_by e y None c true t = rw t refl
+ended_by e y None c false t = rw t refl
+ended_by e y (Some z) c true t = refl
+ended_by e y (Some z) c false t = refl
 
--- what waits on the floor waits in the trace
-pub waits_there : (v : FloorLists) (r : Result Order NoMemory) → OnErr r (IsSome (find waits v.open_items)) → OnErr r ((T : Trace) → Stands v T → IsSome (head T))
-waits_there v (Ok order) h = h
-waits_there v (Err e) h = λ T st. rw (← st.items) h
+standing_ended : (e : End) (T : Trace) (y : Id) → standing (Ended e ∷ T) y ≡ but_at (standing T) e.task.id None y
+standing_ended e T y = rw (find_push (is_end_of y) (record_of e) (records T)) (ended_by (record_of e) y (end_of T y) (carrier T y) (is_end_of y (record_of e)) refl)
+
+pub open_ended : (e : End) (o : Open) (T : Trace) → find (is_of e.task.id) (open_items T) ≡ Some o → e.task ≡ o.task → IsSound T
+    → open_items (Ended e ∷ T) ≡ remove_first (is_of e.task.id) (open_items T)
+open_ended e o T found is sound =
+    let same : e.task.id ≡ o.task.id = ap (λ (a : Activation). a.id) is in
+    opens_same (standing (Ended e ∷ T)) (but_at (standing T) o.task.id None) (accepted T) (λ y. standing_ended e T y ∙ ap (λ n. but_at (standing T) n None y) same)
+    ∙ (alter (is_of e.task.id) (standing T) None (accepted T) o sound.apart found ∙ alter_remove (is_of e.task.id) (open_items T))
+
+-- ---- behind an order
+
+or_other : (r : Run) (y : Id) (o : Option Run) → carries y r ≡ false → or_new (carries y) r o ≡ o
+or_other r y None t = rw t refl
+or_other r y (Some x) t = refl
+
+ordered_by : (r : Run) (T : Trace) (y : Id) (b : Bool) → carries y r ≡ b → end_of T r.id ≡ None → carrier T r.id ≡ None
+    → standing_by (end_of T y) (or_new (carries y) r (carrier T y)) ≡ cond b (Some (Running r.number)) (standing T y)
+ordered_by r T y true t unended free =
+    let same : r.id ≡ y = eq_of r.id y t in
+    let e0 : end_of T y ≡ None = subst (λ n. end_of T n ≡ None) same unended in
+    let c0 : carrier T y ≡ None = subst (λ n. carrier T n ≡ None) same free in
+    rw (e0, c0, t) refl
+ordered_by r T y false t unended free = rw (or_other r y (carrier T y) t) refl
+
+waits_by : (e : Option Record) (c : Option Run) → standing_by e c ≡ Some Waiting → (e ≡ None) × (c ≡ None)
+waits_by None None h = (refl, refl)
+waits_by None (Some r) h = cc
+waits_by (Some e) c h = cc
+
+waits_so : (s : State) → is_waiting s ≡ true → s ≡ Waiting
+waits_so Waiting e = refl
+waits_so (Running run) e = cc
+
+pub head_waits : (o : Open) (T : Trace) → head T ≡ Some o → (end_of T o.task.id ≡ None) × (carrier T o.task.id ≡ None)
+head_waits o T found =
+    let h = is_found waits (standing T) (accepted T) o found in
+    waits_by (end_of T o.task.id) (carrier T o.task.id) (h.0 ∙ ap Some (waits_so o.state h.1))
+
+pub open_ordered : (r : Run) (o : Open) (T : Trace) → head T ≡ Some o → r.id ≡ o.task.id → IsSound T
+    → open_items (Ordered r ∷ T) ≡ update_first waits (with_state (Running r.number)) (open_items T)
+open_ordered r o T found is sound =
+    let same : o.task.id ≡ r.id = sym is in
+    let free = head_waits o T found in
+    let e0 : end_of T r.id ≡ None = subst (λ n. end_of T n ≡ None) same free.0 in
+    let c0 : carrier T r.id ≡ None = subst (λ n. carrier T n ≡ None) same free.1 in
+    let each : (y : Id) → standing (Ordered r ∷ T) y ≡ but_at (standing T) r.id (Some (Running r.number)) y
+    = λ y. rw (find_push (carries y) r (live T)) (ordered_by r T y (carries y r) refl e0 c0) in
+    opens_same (standing (Ordered r ∷ T)) (but_at (standing T) o.task.id (Some (Running r.number))) (accepted T)
+    (λ y. each y ∙ ap (λ n. but_at (standing T) n (Some (Running r.number)) y) is)
+    ∙ (alter waits (standing T) (Some (Running r.number)) (accepted T) o sound.apart found ∙ alter_update waits (Running r.number) (open_items T))
+
+-- ---- behind a reply, and behind a loss
+
+gone_by : (e : Option Record) (c d : Option Run) → standing_by e c ≡ None → standing_by e d ≡ standing_by e c
+gone_by None c d h = cc
+gone_by (Some e) c d h = refl
+
+other_run : (run : ℕ) (r : Run) (T : Trace) (y : Id) → live_run T run ≡ Some r → same_id r.id y ≡ false
+    → standing_by (end_of T y) (find (carries y) (remove_first (is_number run) (live T))) ≡ standing T y
+other_run run r T y found t = ap (standing_by (end_of T y)) (find_other (is_number run) (carries y) r (live T) t found)
+
+pub open_left : (run : ℕ) (r : Run) (T : Trace) → live_run T run ≡ Some r → find (is_of r.id) (open_items T) ≡ None
+    → opens (λ y. standing_by (end_of T y) (find (carries y) (remove_first (is_number run) (live T)))) (accepted T) ≡ open_items T
+open_left run r T found none =
+    agree (λ y. standing_by (end_of T y) (find (carries y) (remove_first (is_number run) (live T)))) (standing T) (accepted T)
+    (same_where (standing T) (λ y. standing_by (end_of T y) (find (carries y) (remove_first (is_number run) (live T)))) r.id (accepted T)
+    (λ y t. other_run run r T y found t) (λ y h. gone_by (end_of T y) (carrier T y) _ h) none)
+
+freed_by : (e : Option Record) (c : Option Run) (q : State) → standing_by e c ≡ Some q → standing_by e None ≡ Some Waiting
+freed_by None c q h = refl
+freed_by (Some e) c q h = cc
+
+lost_by : (run : ℕ) (r : Run) (T : Trace) (q : State) (y : Id) (b : Bool) → same_id r.id y ≡ b → live_run T run ≡ Some r → loads r.id (live T) ≤ 1
+    → standing T r.id ≡ Some q
+    → standing_by (end_of T y) (find (carries y) (remove_first (is_number run) (live T))) ≡ cond b (Some Waiting) (standing T y)
+lost_by run r T q y true t found one stands =
+    let same : r.id ≡ y = eq_of r.id y t in
+    let free = none_left (is_number run) (carries y) r (live T) t (subst (λ n. loads n (live T) ≤ 1) same one) found in
+    rw free (freed_by (end_of T y) (carrier T y) q (subst (λ n. standing T n ≡ Some q) same stands))
+lost_by run r T q y false t found one stands = other_run run r T y found t
+
+pub open_lost : (run at : ℕ) (r : Run) (o : Open) (T : Trace) → live_run T run ≡ Some r → find (is_of r.id) (open_items T) ≡ Some o → IsSound T
+    → open_items (Lost run at ∷ T) ≡ update_first (is_of r.id) (with_state Waiting) (open_items T)
+open_lost run at r o T found here sound =
+    let h = is_found (is_of r.id) (standing T) (accepted T) o here in
+    let same : o.task.id ≡ r.id = eq_of o.task.id r.id h.1 in
+    let stands = subst (λ n. standing T n ≡ Some o.state) same h.0 in
+    opens_same (standing (Lost run at ∷ T)) (but_at (standing T) o.task.id (Some Waiting)) (accepted T)
+    (λ y. lost_by run r T o.state y (same_id r.id y) refl found (sound.one r.id) stands ∙ ap (λ n. but_at (standing T) n (Some Waiting) y) (sym same))
+    ∙ (alter (is_of r.id) (standing T) (Some Waiting) (accepted T) o sound.apart here ∙ alter_update (is_of r.id) Waiting (open_items T))
+
+-- ---- behind a beginning
+
+begun_at : (id : Id) (p : Run → Bool) (x : Run) (xs : List Run) (b : Bool) → p x ≡ b
+    → state_by (find (carries id) (update_first p begun xs)) ≡ state_by (find (carries id) xs)
+    → state_by (find (carries id) (update_first p begun (x ∷ xs))) ≡ state_by (find (carries id) (x ∷ xs))
+unfolding update_first
+begun_at id p x xs true e rest = rw e (here (carries id x) refl)
+  where
+    here : (b : Bool) → carries id x ≡ b → state_by (find (carries id) (begun x ∷ xs)) ≡ state_by (find (carries id) (x ∷ xs))
+    here true f = rw f refl
+    here false f = rw f refl
+begun_at id p x xs false e rest = rw e (here (carries id x) refl)
+  where
+    here : (b : Bool) → carries id x ≡ b → state_by (find (carries id) (x ∷ update_first p begun xs)) ≡ state_by (find (carries id) (x ∷ xs))
+    here true f = rw f refl
+    here false f = rw f rest
+
+pub state_begun : (id : Id) (p : Run → Bool) (xs : List Run) → state_by (find (carries id) (update_first p begun xs)) ≡ state_by (find (carries id) xs)
+unfolding update_first
+state_begun id p [] = refl
+state_begun id p (x ∷ xs) = begun_at id p x xs (p x) refl (state_begun id p xs)
+
+standing_state : (e : Option Record) (c d : Option Run) → state_by c ≡ state_by d → standing_by e c ≡ standing_by e d
+standing_state None c d h = ap Some h
+standing_state (Some e) c d h = refl
+
+pub open_begun : (run at : ℕ) (T : Trace) → open_items (Begun run at ∷ T) ≡ open_items T
+open_begun run at T = opens_same (standing (Begun run at ∷ T)) (standing T) (accepted T) (λ y. standing_state (end_of T y) _ _ (state_begun y (is_number run) (live T)))
+
+-- ---- behind a reopening
+
+empty_at : (f g : Id → Option State) (a : Activation) (xs : List Activation) (s : Option State) → f a.id ≡ s → ((y : Id) → f y ≡ None → g y ≡ None)
+    → (opens f xs ≡ [] → opens g xs ≡ []) → opens f (a ∷ xs) ≡ [] → opens g (a ∷ xs) ≡ []
+empty_at f g a xs None e none rest h = rw (none a.id e) (rest (rw e at h))
+empty_at f g a xs (Some q) e none rest h = let h' : record { task = a; state = q } ∷ opens f xs ≡ [] = rw e at h in cc
+
+empty_so : (f g : Id → Option State) (xs : List Activation) → ((y : Id) → f y ≡ None → g y ≡ None) → opens f xs ≡ [] → opens g xs ≡ []
+empty_so f g [] none h = refl
+empty_so f g (a ∷ xs) none h = empty_at f g a xs (f a.id) refl none (empty_so f g xs none) h
+
+pub open_reopened : (at : ℕ) (T : Trace) → open_items T ≡ [] → open_items (Reopened at ∷ T) ≡ []
+open_reopened at T h = empty_so (standing T) (standing (Reopened at ∷ T)) (accepted T) (λ y n. gone_by (end_of T y) (carrier T y) None n ∙ n) h
+
+-- ---- what has ended isn't open
+
+not_both : (id : Id) (T : Trace) (e : Record) (o : Option Open) → end_of T id ≡ Some e → find (is_of id) (open_items T) ≡ o → o ≡ None
+not_both id T e None h found = refl
+not_both id T e (Some o) h found =
+    let k = is_found (is_of id) (standing T) (accepted T) o found in
+    let same : o.task.id ≡ id = eq_of o.task.id id k.1 in
+    let stands : standing T id ≡ Some o.state = subst (λ n. standing T n ≡ Some o.state) same k.0 in
+    let none : standing T id ≡ None = rw h refl in
+    cc
+
+pub ended_not_open : (id : Id) (T : Trace) (e : Record) → end_of T id ≡ Some e → find (is_of id) (open_items T) ≡ None
+ended_not_open id T e h = not_both id T e (find (is_of id) (open_items T)) h refl

@@ -6,7 +6,8 @@ use Rattle.ow_records.specs.declared.ids.Id.{Id}
 use Rattle.ow_records.specs.Id.{same_id}
 use Rattle.ow_floor.specs.declared.activations.Activation.{Activation}
 use Rattle.ow_floor.specs.declared.activations.Open.{Open}
-use Rattle.ow_floor.specs.View.{waits, runs_now, ids_of, started, update_first, remove_first}
+use Rattle.ow_floor.specs.declared.activations.State.{State}
+use Rattle.ow_floor.specs.View.{waits, runs_now, ids_of, with_state, update_first, remove_first}
 use Rattle.ow_floor.specs.Laws.{times, IsApart, AreApart}
 
 abbrev pub one_if : Bool → ℕ
@@ -18,23 +19,23 @@ times-push f id [] x = omega arith
 times-push f id (y ∷ ys) x = let h = times-push f id ys x in omega (arith, h)
 
 -- a run that starts leaves the ids
-pub ids_of-started : (p : Open → Bool) (run : ℕ) (os : List Open) → ids_of (update_first p (started run) os) ≡ ids_of os
+pub ids_of-started : (p : Open → Bool) (q : State) (os : List Open) → ids_of (update_first p (with_state q) os) ≡ ids_of os
 unfolding update_first
-ids_of-started p run [] = refl
-ids_of-started p run (o ∷ os) = at (p o) (ids_of-started p run os)
+ids_of-started p q [] = refl
+ids_of-started p q (o ∷ os) = at (p o) (ids_of-started p q os)
   where
-    at : (b : Bool) → ids_of (update_first p (started run) os) ≡ ids_of os
-        → ids_of (cond b (started run o ∷ os) (o ∷ update_first p (started run) os)) ≡ ids_of (o ∷ os)
+    at : (b : Bool) → ids_of (update_first p (with_state q) os) ≡ ids_of os
+        → ids_of (cond b (with_state q o ∷ os) (o ∷ update_first p (with_state q) os)) ≡ ids_of (o ∷ os)
     at true rest = refl
     at false rest = ap (λ xs. o.task.id ∷ xs) rest
 
-pub length-started : (p : Open → Bool) (run : ℕ) (os : List Open) → length (update_first p (started run) os) ≡ length os
+pub length-started : (p : Open → Bool) (q : State) (os : List Open) → length (update_first p (with_state q) os) ≡ length os
 unfolding update_first
-length-started p run [] = refl
-length-started p run (o ∷ os) = at (p o) (length-started p run os)
+length-started p q [] = refl
+length-started p q (o ∷ os) = at (p o) (length-started p q os)
   where
-    at : (b : Bool) → length (update_first p (started run) os) ≡ length os
-        → length (cond b (started run o ∷ os) (o ∷ update_first p (started run) os)) ≡ length (o ∷ os)
+    at : (b : Bool) → length (update_first p (with_state q) os) ≡ length os
+        → length (cond b (with_state q o ∷ os) (o ∷ update_first p (with_state q) os)) ≡ length (o ∷ os)
     at true rest = refl
     at false rest = ap suc rest
 
@@ -83,7 +84,7 @@ times_apart : (x : Id) (xs : List Activation) → IsApart x xs → times x (ids 
 times_apart x [] apart = refl
 times_apart x (a ∷ xs) apart = rw apart.0.0 (omega (arith, times_apart x xs apart.1))
 
-eq_of : (x y : Id) → same_id x y ≡ true → x ≡ y
+pub eq_of : (x y : Id) → same_id x y ≡ true → x ≡ y
 eq_of x y h =
     let a : x.namespace ≡ y.namespace = grind (arith, nat_tests) in
     let b : x.count ≡ y.count = grind (arith, nat_tests) in

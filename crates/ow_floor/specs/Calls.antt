@@ -1,13 +1,17 @@
--- What the calls of a floor answer, and what they add to the trace.
-use Rattle.std.specs.Prelude.{◌≡◌, ◌==◌, ◌+◌, ℕ, List, [], ◌∷◌, Option, Some, None, length, if◌then◌else◌, Result, Ok, Err, IsSome}
+-- What the calls of a floor answer, and which items they add, the newest first.
+use Rattle.std.specs.Prelude.{◌≡◌, ◌==◌, ◌+◌, ◌-◌, ◌++◌, ℕ, Bool, true, false, List, [], ◌∷◌, Option, Some, None, length, if◌then◌else◌, is_some, nat_lt, not, Result, Ok, Err, IsSome}
+use Rattle.std.specs.List.{find}
 use Rattle.ow_traits.specs.declared.replies.RunReply.{RunReply}
+use Rattle.ow_traits.specs.declared.replies.RunReply.TheVariants as runs
 use Rattle.ow_records.specs.declared.ids.Id.{Id}
 use Rattle.ow_records.specs.declared.outcomes.Ending.{Ending}
-use Rattle.ow_records.specs.declared.outcomes.Ending.TheVariants.{Replied}
+use Rattle.ow_records.specs.declared.outcomes.Ending.TheVariants.{Replied, Overran, Abandoned}
 use Rattle.ow_records.specs.Outcome.{outcome}
 use Rattle.ow_floor.specs.declared.activations.Plan.{Plan}
 use Rattle.ow_floor.specs.declared.activations.Activation.{Activation}
 use Rattle.ow_floor.specs.declared.activations.Open.{Open}
+use Rattle.ow_floor.specs.declared.activations.Ended.{Ended as Record}
+use Rattle.ow_floor.specs.declared.runs.Run.{Run}
 use Rattle.ow_floor.specs.declared.answers.Order.{Order}
 use Rattle.ow_floor.specs.declared.answers.Order.TheVariants as orders
 use Rattle.ow_floor.specs.declared.answers.Idle.TheVariants.{Empty}
@@ -15,15 +19,30 @@ use Rattle.ow_floor.specs.declared.answers.Happening.{Happening}
 use Rattle.ow_floor.specs.declared.answers.Happening.TheVariants as happenings
 use Rattle.ow_floor.specs.declared.answers.Answered.{Answered}
 use Rattle.ow_floor.specs.declared.answers.Answered.TheVariants as answers
-use Rattle.ow_floor.specs.declared.answers.AnsweredTwice.{AnsweredTwice}
 use Rattle.ow_floor.specs.declared.answers.AnswerRefusal.{AnswerRefusal}
 use Rattle.ow_floor.specs.declared.answers.AnswerRefusal.TheVariants.{NoRun, NoMemory}
 use Rattle.ow_floor.specs.declared.answers.Drain.{Drain}
 use Rattle.ow_floor.specs.declared.answers.Drain.TheVariants.{Drained, StillOpen}
-use Rattle.ow_floor.specs.View.{FloorLists, carries, order_for, with_run, with_end}
+use Rattle.ow_floor.specs.View.{Shown, is_of, is_end_of, is_slot, order_for}
 use Rattle.ow_floor.specs.Trace as trace
-use Rattle.ow_floor.specs.Trace.{Trace, Run, End, grown, accepted, open_items, record_of, run_count, last, head, carried}
-use Rattle.ow_floor.specs.Laws.{Stands, IsSound, AreAllRecorded}
+use Rattle.ow_floor.specs.Trace.{Trace, Item, End, accepted, count, end_of, head, last, live, live_run, open_item, open_items, records, run_count, shown, slots}
+use Rattle.ow_floor.specs.Growth.{grown}
+use Rattle.ow_floor.specs.Laws.{AreAllRecorded, Grows, IsSound, Stands}
+
+-- ---- what is told of items
+
+-- of an acceptance its id, of an end its id and the code of its response
+abbrev pub happened_by : Item → List Happening
+happened_by (trace.Accepted a) = happenings.Accepted a.id ∷ []
+happened_by (trace.Ended e) = happenings.Recorded e.task.id (outcome e.ending e.task.action.limits).code ∷ []
+happened_by item = []
+
+-- of items, the earliest first
+abbrev pub happened : Trace → List Happening
+happened [] = []
+happened (item ∷ items) = happened items ++ happened_by item
+
+-- ---- acceptance
 
 -- an id is the next of its namespace
 abbrev pub IsNext : Id → Trace → Type 0
@@ -42,124 +61,194 @@ activation_of at plan = record {
   until = plan.until;
 }
 
--- what is told of an acceptance
+-- what `accept` adds
+abbrev pub accept_items : ℕ → Plan → Trace
+accept_items at plan = trace.Accepted (activation_of at plan) ∷ []
+
+-- what it tells
 abbrev pub happened_accepted : Id → List Happening
 happened_accepted id = happenings.Accepted id ∷ []
 
--- what is told of an end: the code is that of the outcome
-abbrev pub happened_recorded : End → List Happening
-happened_recorded e = happenings.Recorded e.task.id (outcome e.ending e.task.action.limits).code ∷ []
-
--- the trace after `accept`
-abbrev pub after_accept : ℕ → Plan → Trace → Trace
-after_accept at plan T = grown (trace.Accepted (activation_of at plan)) T
+-- ---- orders
 
 -- what `next` answers, over the first that waits
 abbrev pub order_of : ℕ → Option Open → Order
 order_of run None = orders.Nothing Empty
 order_of run (Some o) = orders.Run (order_for run o.task)
 
--- the trace after `next`, over the first that waits
-abbrev pub after_order : ℕ → ℕ → Option Open → Trace → Trace
-after_order run at None T = T
-after_order run at (Some o) T = grown (trace.Ordered (record { number = run; at = at; task = o.task })) T
+-- a run has a new slot for itself
+abbrev pub run_of : ℕ → ℕ → Id → Run
+run_of run at id = record { number = run; slot = run; generation = 1; at = at; id = id; begun = false }
+
+abbrev pub order_items : ℕ → ℕ → Option Open → Trace
+order_items run at None = []
+order_items run at (Some o) = trace.Ordered (run_of run at o.task.id) ∷ []
 
 -- what `next` answers
 abbrev pub next_order : Trace → Order
 next_order T = order_of (run_count T + 1) (head T)
 
--- the trace after `next`
-abbrev pub after_next : ℕ → Trace → Trace
-after_next at T = after_order (run_count T + 1) at (head T) T
+-- what it adds
+abbrev pub next_items : ℕ → Trace → Trace
+next_items at T = order_items (run_count T + 1) at (head T)
+
+-- ---- beginnings, losses, goings
+
+abbrev pub items_if : Bool → Item → Trace
+items_if b item = if b then item ∷ [] else []
+
+abbrev pub is_new : Option Run → Bool
+is_new None = false
+is_new (Some r) = not r.begun
+
+-- the run is live and hasn't begun
+abbrev pub begins : ℕ → Trace → Bool
+begins run T = is_new (live_run T run)
+
+-- the run is live
+abbrev pub loses : ℕ → Trace → Bool
+loses run T = is_some (live_run T run)
+
+-- the container of this slot and generation isn't gone
+abbrev pub goes : ℕ → ℕ → Trace → Bool
+goes slot generation T = is_some (find (is_slot slot generation) (slots T))
+
+abbrev pub begun_items : ℕ → ℕ → Trace → Trace
+begun_items at run T = items_if (begins run T) (trace.Begun run at)
+
+abbrev pub lost_items : ℕ → ℕ → Trace → Trace
+lost_items at run T = items_if (loses run T) (trace.Lost run at)
+
+abbrev pub gone_items : ℕ → ℕ → ℕ → Trace → Trace
+gone_items at slot generation T = items_if (goes slot generation T) (trace.Gone slot generation at)
+
+-- ---- ends
 
 -- the end of an activation at this moment
-abbrev pub end_of : ℕ → Ending → Activation → End
-end_of at ending task = record { task = task; ending = ending; at = at }
+abbrev pub ended_by : ℕ → Ending → Option ℕ → Activation → End
+ended_by at ending run task = record { task = task; ending = ending; run = run; at = at }
 
--- its end by a reply
-abbrev pub end_by : ℕ → RunReply → Open → End
-end_by at reply o = end_of at (Replied reply) o.task
+-- its end, where it is open
+abbrev pub end_items : ℕ → Ending → Option ℕ → Option Open → Trace
+end_items at ending run None = []
+end_items at ending run (Some o) = trace.Ended (ended_by at ending run o.task) ∷ []
 
--- what `answered` answers, over what the run carries
-abbrev pub answer_of : ℕ → ℕ → RunReply → Option Open → Result Answered AnswerRefusal
-answer_of at run reply None = Err (NoRun run reply)
-answer_of at run reply (Some o) = Ok (answers.Recorded (happened_recorded (end_by at reply o)))
+-- ---- replies
 
--- the trace after `answered`, over what the run carries
-abbrev pub after_end : ℕ → RunReply → Option Open → Trace → Trace
-after_end at reply None T = T
-after_end at reply (Some o) T = grown (trace.Ended (end_by at reply o)) T
+abbrev pub since : Option Record → ℕ
+since None = 0
+since (Some e) = e.at
 
--- what `answered` answers
-abbrev pub answer_to : ℕ → ℕ → RunReply → Trace → Result Answered AnswerRefusal
-answer_to at run reply T = answer_of at run reply (carried T run)
+-- the container can be used again behind an answer
+abbrev pub leaves_alive : RunReply → Bool
+leaves_alive (runs.Answer text logs) = true
+leaves_alive reply = false
 
--- the trace after `answered`
-abbrev pub after_answered : ℕ → ℕ → RunReply → Trace → Trace
-after_answered at run reply T = after_end at reply (carried T run) T
+-- what becomes of a reply to a live run: its activation ends, or has ended before
+abbrev pub answer_open : ℕ → ℕ → RunReply → Option Open → Option Record → Answered
+answer_open at run reply None ended = answers.Late run (since ended)
+answer_open at run reply (Some o) ended = answers.Recorded (happened (end_items at (Replied reply) (Some run) (Some o)))
 
--- what `drain` answers: how many were accepted where all have ended, else how many have not
-abbrev pub drain_answer : Trace → Drain
-drain_answer T = if length (open_items T) == 0 then Drained (length (accepted T)) else StillOpen (length (open_items T))
+-- and of any reply: none where the run isn't live
+abbrev pub answer_by : ℕ → ℕ → RunReply → Shown → Option Run → Option Answered
+answer_by at run reply v None = None
+answer_by at run reply v (Some r) = Some (answer_open at run reply (find (is_of r.id) v.open_items) (find (is_end_of r.id) v.ended))
 
--- the trace after `drain`
-abbrev pub after_drain : ℕ → Trace → Trace
-after_drain at T = grown (trace.Drained at) T
+abbrev pub reply_items : ℕ → ℕ → RunReply → Shown → Option Run → Trace
+reply_items at run reply v None = []
+reply_items at run reply v (Some r) = trace.Answered run (leaves_alive reply) at ∷ end_items at (Replied reply) (Some run) (find (is_of r.id) v.open_items)
 
--- where all have ended, so many were accepted, and each is recorded
-abbrev pub AllRecorded : Trace → Drain → Type 0
-AllRecorded T (Drained n) = (n ≡ length (accepted T)) × AreAllRecorded T
-AllRecorded T (StillOpen n) = Unit {0}
+-- what a runner's reply is answered
+abbrev pub answer_to : ℕ → ℕ → RunReply → Trace → Option Answered
+answer_to at run reply T = answer_by at run reply (shown T) (live_run T run)
 
--- the contracts: whichever trace the floor stood as, this is the answer, and so it stands afterwards.
--- An acceptance
-abbrev pub Accepts : FloorLists → FloorLists → ℕ → Plan → Type 0
-Accepts old new at plan = (T : Trace) → Stands old T → Stands new (after_accept at plan T)
+-- what it adds: the end of what the run carries, and then the reply
+abbrev pub answered_items : ℕ → ℕ → RunReply → Trace → Trace
+answered_items at run reply T = reply_items at run reply (shown T) (live_run T run)
 
--- a call of `next`
-abbrev pub Orders : FloorLists → FloorLists → ℕ → Order → Type 0
-Orders old new at order = (T : Trace) → Stands old T → (order ≡ next_order T) × Stands new (after_next at T)
-
--- a call of `answered`, which wants memory only where the run carries an activation
-abbrev pub Answers : FloorLists → FloorLists → ℕ → ℕ → RunReply → Result Answered AnswerRefusal → Type 0
-Answers old new at run reply (Err (NoMemory back)) = (T : Trace) → Stands old T → IsSome (carried T run)
-Answers old new at run reply result = (T : Trace) → Stands old T → (result ≡ answer_to at run reply T) × Stands new (after_answered at run reply T)
-
--- the answer that is given, of the two
-abbrev pub given_of : Result AnsweredTwice AnswerRefusal → Result Answered AnswerRefusal
-given_of (Ok two) = Ok two.given
-given_of (Err refusal) = Err refusal
-
--- the number of a refusal
-abbrev pub answer_number : AnswerRefusal → ℕ
-answer_number (NoRun run reply) = 29
-answer_number (NoMemory reply) = 0
+-- the answer by value, which hands a reply back that isn't taken
+abbrev pub answer_or : ℕ → RunReply → Option Answered → Result Answered AnswerRefusal
+answer_or run reply None = Err (NoRun run reply)
+answer_or run reply (Some answered) = Ok answered
 
 -- a refusal hands back the run's number and the reply
 abbrev pub HandsBack : ℕ → RunReply → AnswerRefusal → Type 0
 HandsBack run reply (NoRun number back) = (number ≡ run) × (back ≡ reply)
 HandsBack run reply (NoMemory back) = back ≡ reply
 
--- a call of `drain`
-abbrev pub Drains : FloorLists → FloorLists → ℕ → Drain → Type 0
-Drains old new at drain = (T : Trace) → Stands old T → (drain ≡ drain_answer T) × Stands new (after_drain at T)
+-- memory is wanted only where the run is live
+abbrev pub AnswersSo : Shown → ℕ → ℕ → RunReply → Result Answered AnswerRefusal → Type 0
+AnswersSo old at run reply (Err (NoMemory back)) = (T : Trace) → Stands old T → IsSome (live_run T run)
+AnswersSo old at run reply result = (T : Trace) → Stands old T → result ≡ answer_or run reply (answer_to at run reply T)
 
--- each call keeps the trace sound
+abbrev pub GrowsBy : Shown → Shown → (Trace → Trace) → Result Answered AnswerRefusal → Type 0
+GrowsBy old new items (Err (NoMemory back)) = Unit {0}
+GrowsBy old new items result = Grows old new items
+
+-- the number of a refusal
+abbrev pub answer_number : AnswerRefusal → ℕ
+answer_number (NoRun run reply) = 29
+answer_number (NoMemory reply) = 0
+
+-- ---- sweeps
+
+-- a run whose activation hasn't ended is late once it has taken more than the time limit
+abbrev pub is_late : ℕ → Run → Activation → Bool
+is_late at r task = nat_lt task.action.limits.timeout (at - r.at)
+
+abbrev pub late_items : ℕ → Run → Option Open → Trace
+late_items at r None = []
+late_items at r (Some o) = if is_late at r o.task then end_items at Overran (Some r.number) (Some o) else []
+
+-- the ends of what these runs carry, where they are late, one behind another
+abbrev pub overrun_items : ℕ → List Run → Shown → Trace
+overrun_items at [] v = []
+overrun_items at (r ∷ rs) v =
+    overrun_items at rs (grown (late_items at r (find (is_of r.id) v.open_items)) v) ++ late_items at r (find (is_of r.id) v.open_items)
+
+-- the ends that a sweep makes
+abbrev pub swept_ends : ℕ → Trace → Trace
+swept_ends at T = overrun_items at (live T) (shown T)
+
+-- what `sweep` adds: each activation whose live run is late ends, by the runs' orders, and then it is swept
+abbrev pub swept_items : ℕ → Trace → Trace
+swept_items at T = trace.Swept at ∷ swept_ends at T
+
+-- ---- openings
+
+-- each of these ends as abandoned, one behind another
+abbrev pub abandoned_items : ℕ → List Open → Trace
+abandoned_items at [] = []
+abandoned_items at (o ∷ os) = abandoned_items at os ++ end_items at Abandoned None (Some o)
+
+-- what `reopen` adds: all that is open ends, by acceptance, and then no run is live
+abbrev pub reopened_items : ℕ → Trace → Trace
+reopened_items at T = trace.Reopened at ∷ abandoned_items at (open_items T)
+
+-- ---- drains
+
+abbrev pub drain_by : ℕ → ℕ → Drain
+drain_by busy n = if busy == 0 then Drained n else StillOpen busy
+
+-- what `drain` answers: how many were accepted since the last opening where all have ended, else how many have not
+abbrev pub drain_answer : Trace → Drain
+drain_answer T = drain_by (length (open_items T)) (count T)
+
+-- where all have ended, so many were accepted since the last opening, and each accepted activation is recorded
+abbrev pub AllRecorded : Trace → Drain → Type 0
+AllRecorded T (Drained n) = (n ≡ count T) × AreAllRecorded T
+AllRecorded T (StillOpen n) = Unit {0}
+
+-- ---- each call keeps the trace sound
 pub record KeepSound : Type 0 where
   pub start : IsSound []
-  pub accept : (at : ℕ) (plan : Plan) (T : Trace) → IsNext plan.id T → IsSound T → IsSound (after_accept at plan T)
-  pub next : (at : ℕ) (T : Trace) → IsSound T → IsSound (after_next at T)
-  pub answered : (at run : ℕ) (reply : RunReply) (T : Trace) → IsSound T → IsSound (after_answered at run reply T)
-  pub drain : (at : ℕ) (T : Trace) → IsSound T → IsSound (after_drain at T)
-
--- a call of `next` over the lists alone, of which the first that waits is given
-abbrev pub IsStarted : FloorLists → FloorLists → ℕ → Order → Option Open → Type 0
-IsStarted old new at order None = (order ≡ order_of (old.runs + 1) None) × (new ≡ old)
-IsStarted old new at order (Some o) = (order ≡ order_of (old.runs + 1) (Some o)) × (new ≡ with_run at old)
-
--- a call of `answered` over the lists alone, where what the run carries is given
-abbrev pub IsAnswered : FloorLists → FloorLists → ℕ → ℕ → RunReply → Result Answered AnswerRefusal → Option Open → Type 0
-IsAnswered old new at run reply (Err (NoMemory back)) found = IsSome found
-IsAnswered old new at run reply result None = (result ≡ answer_of at run reply None) × (new ≡ old)
-IsAnswered old new at run reply result (Some o) = (result ≡ answer_of at run reply (Some o))
-    × (new ≡ with_end (carries run) (record_of (end_by at reply o)) old)
+  pub accept : (at : ℕ) (plan : Plan) (T : Trace) → IsNext plan.id T → IsSound T → IsSound (accept_items at plan ++ T)
+  pub next : (at : ℕ) (T : Trace) → IsSound T → IsSound (next_items at T ++ T)
+  pub begun : (at run : ℕ) (T : Trace) → IsSound T → IsSound (begun_items at run T ++ T)
+  pub answered : (at run : ℕ) (reply : RunReply) (T : Trace) → IsSound T → IsSound (answered_items at run reply T ++ T)
+  pub lost : (at run : ℕ) (T : Trace) → IsSound T → IsSound (lost_items at run T ++ T)
+  pub gone : (at slot generation : ℕ) (T : Trace) → IsSound T → IsSound (gone_items at slot generation T ++ T)
+  pub end : (at : ℕ) (id : Id) (ending : Ending) (T : Trace) → IsSound T → IsSound (end_items at ending None (open_item T id) ++ T)
+  pub sweep : (at : ℕ) (T : Trace) → IsSound T → IsSound (swept_items at T ++ T)
+  pub drain : (at : ℕ) (T : Trace) → IsSound T → IsSound (trace.Drained at ∷ T)
+  pub reopen : (at : ℕ) (T : Trace) → IsSound T → IsSound (reopened_items at T ++ T)

@@ -1,19 +1,30 @@
--- What is true of every trace that the calls of a floor make, and what a floor is seen as.
-use Rattle.std.specs.Prelude.{◌≡◌, ◌⊎◌, ◌+◌, ◌<◌, ◌≤◌, ℕ, false, List, [], ◌∷◌, Option, Some, length, if◌then◌else◌}
+-- What is true of every trace that the calls of a floor make, and when a floor stands as a trace says.
+use Rattle.std.specs.Prelude.{◌≡◌, ◌⊎◌, ◌+◌, ◌++◌, ◌≤◌, ℕ, Bool, false, List, [], ◌∷◌, if◌then◌else◌}
 use Rattle.std.specs.List.{AllByRecursion}
 use Rattle.ow_records.specs.declared.ids.Id.{Id}
 use Rattle.ow_records.specs.Id.{same_id}
 use Rattle.ow_floor.specs.declared.activations.Activation.{Activation}
-use Rattle.ow_floor.specs.declared.activations.Open.{Open}
-use Rattle.ow_floor.specs.declared.activations.State.{State}
-use Rattle.ow_floor.specs.declared.activations.State.TheVariants.{Running}
-use Rattle.ow_floor.specs.View.{FloorLists, carries, last_of, ids_of, waiting_of, running_of, recorded_of}
-use Rattle.ow_floor.specs.Trace.{Trace, accepted, accepted_ids, ends, records, run_count, last, latest, is_draining, open_items, waiting, running, recorded, standing, live_runs}
+use Rattle.ow_floor.specs.declared.runs.Run.{Run}
+use Rattle.ow_floor.specs.View.{Shown, carries, ids_of, is_number, recorded_of, running_of, waiting_of}
+use Rattle.ow_floor.specs.Trace.{Trace, accepted, accepted_ids, ends, last, live, open_items, records, recorded, run_count, running, shown, waiting}
 
 -- how often an id stands in a list
 abbrev pub times : Id → List Id → ℕ
 times id [] = 0
 times id (x ∷ xs) = (if same_id id x then 1 else 0) + times id xs
+
+-- how many pass
+abbrev pub tally : {X : Type 0} → (X → Bool) → List X → ℕ
+tally p [] = 0
+tally p (x ∷ xs) = (if p x then 1 else 0) + tally p xs
+
+-- how many runs carry an activation
+abbrev pub loads : Id → List Run → ℕ
+loads id rs = tally (carries id) rs
+
+-- how many runs have a number
+abbrev pub bearers : ℕ → List Run → ℕ
+bearers run rs = tally (is_number run) rs
 
 -- each accepted id stands in exactly one of the three lists, once, and nothing else stands in them
 pub record IsParted (T : Trace) : Type 0 where
@@ -23,11 +34,6 @@ pub record IsParted (T : Trace) : Type 0 where
 -- each accepted id is recorded, once, and no other
 abbrev pub AreAllRecorded : Trace → Type 0
 AreAllRecorded T = (id : Id) → (times id (recorded T) ≡ times id (accepted_ids T)) × (times id (recorded T) ≤ 1)
-
--- how many open activations the run of this number carries
-abbrev pub loads : ℕ → List Open → ℕ
-loads run [] = 0
-loads run (o ∷ os) = (if carries run o then 1 else 0) + loads run os
 
 -- an activation stands in a list
 abbrev pub IsAmong : Activation → List Activation → Type 0
@@ -47,41 +53,35 @@ abbrev pub AreApart : List Activation → Type 0
 AreApart [] = Unit {0}
 AreApart (a ∷ xs) = IsApart a.id xs × AreApart xs
 
--- how many live runs an activation has that stands so
-abbrev pub live_in : Option State → ℕ
-live_in (Some (Running run)) = 1
-live_in s = 0
+-- no activation has two live runs, and no two live runs have one number
+pub record RunOnce (T : Trace) : Type 0 where
+  pub one : (id : Id) → loads id (live T) ≤ 1
+  pub single : (run : ℕ) → bearers run (live T) ≤ 1
 
--- no accepted activation has two live runs
-abbrev pub RunOnce : Trace → Type 0
-RunOnce T = AllByRecursion (λ a. live_runs T a.id ≤ 1) (accepted T)
-
--- no id is accepted twice; counts are drawn upwards; each accepted id is open or recorded, once; what has ended
--- was accepted; each run carries one activation at most, and none before it is ordered; an accepted activation has
--- a live run exactly where one carries it, and what was not accepted has none
+-- no id is accepted twice; counts are drawn upwards, and what has ended or runs was drawn; each accepted id is open or recorded,
+-- once; what has ended was accepted; an activation has one live run at most; live runs have numbers of their own, drawn upwards
 pub record IsSound (T : Trace) : Type 0 where
   pub apart : AreApart (accepted T)
   pub drawn : AllByRecursion (λ a. a.id.count ≤ last T a.id.namespace) (accepted T)
+  pub ended_drawn : AllByRecursion (λ e. e.id.count ≤ last T e.id.namespace) (records T)
+  pub live_drawn : AllByRecursion (λ r. r.id.count ≤ last T r.id.namespace) (live T)
   pub once : (id : Id) → times id (ids_of (open_items T)) + times id (recorded T) ≡ times id (accepted_ids T)
-  pub number : length (open_items T) + length (records T) ≡ length (accepted T)
   pub known : EndedWereAccepted T
-  pub single : (run : ℕ) → loads run (open_items T) ≤ 1
-  pub unused : (run : ℕ) → run_count T < run → loads run (open_items T) ≡ 0
-  pub live : AllByRecursion (λ a. live_runs T a.id ≡ live_in (standing T a.id)) (accepted T)
-  pub unknown : (id : Id) → IsApart id (accepted T) → live_runs T id ≡ 0
+  pub one : (id : Id) → loads id (live T) ≤ 1
+  pub single : (run : ℕ) → bearers run (live T) ≤ 1
+  pub numbered : AllByRecursion (λ r. r.number ≤ run_count T) (live T)
 
 -- a floor stands as the trace says
-pub record Stands (v : FloorLists) (T : Trace) : Type 0 where
-  pub items : v.open_items ≡ open_items T
-  pub ended : v.ended ≡ records T
-  pub drawn : (namespace : ℕ) → last_of v.drawn namespace ≡ last T namespace
-  pub runs : v.runs ≡ run_count T
-  pub latest : v.latest ≡ latest T
-  pub draining : v.draining ≡ is_draining T
+pub record Stands (v : Shown) (T : Trace) : Type 0 where
+  pub is : v ≡ shown T
   pub sound : IsSound T
 
+-- items are added: whichever trace the floor stood as, it stands as that trace with the items in front, the newest first
+abbrev pub Grows : Shown → Shown → (Trace → Trace) → Type 0
+Grows old new items = (T : Trace) → Stands old T → Stands new (items T ++ T)
+
 -- the three lists of a floor are those of the trace
-pub record Shows (v : FloorLists) (T : Trace) : Type 0 where
+pub record Shows (v : Shown) (T : Trace) : Type 0 where
   pub waiting : waiting_of v ≡ waiting T
   pub running : running_of v ≡ running T
   pub recorded : recorded_of v ≡ recorded T

@@ -1,4 +1,10 @@
 pub mod View
+pub mod Kept
 pub mod Trace
-pub mod Calls
+pub mod Growth
 pub mod Laws
+pub mod Calls
+pub mod Owed
+pub mod Store
+pub mod Places
+pub mod Ends

@@ -1,46 +1,45 @@
 -- The trace: what happened on a floor, item by item, the newest first. Each other word here is a recursion
--- over that list by cases on the newest item, or a filter of such a word.
+-- over that list by cases on the newest item, or a filter of such words.
 use Rattle.std.specs.Prelude.{◌==◌, ◌+◌, ◌++◌, ℕ, Bool, true, false, List, [], ◌∷◌, Option, Some, None, if◌then◌else◌, map}
 use Rattle.std.specs.List.{find, filter, filter_map}
 use Rattle.ow_records.specs.declared.ids.Id.{Id}
 use Rattle.ow_records.specs.declared.outcomes.Ending.{Ending}
-use Rattle.ow_records.specs.Id.{same_id}
 use Rattle.ow_records.specs.Outcome.{outcome}
 use Rattle.ow_floor.specs.declared.activations.Activation.{Activation}
 use Rattle.ow_floor.specs.declared.activations.Open.{Open}
 use Rattle.ow_floor.specs.declared.activations.Ended.{Ended as Record}
 use Rattle.ow_floor.specs.declared.activations.State.{State}
 use Rattle.ow_floor.specs.declared.activations.State.TheVariants.{Waiting, Running}
-use Rattle.ow_floor.specs.View.{waits, runs_now, carries, ids_of}
+use Rattle.ow_floor.specs.declared.runs.Run.{Run}
+use Rattle.ow_floor.specs.declared.runs.Slot.{Slot}
+use Rattle.ow_floor.specs.View.{Shown, begun, carries, ids_of, is_end_of, is_number, is_of, is_slot, put_id, remove_first, runs_now, slot_of, update_first, waits}
 
--- a run of an activation: its number, the moment of its order
-pub record Run : Type 0 where
-  pub number : ℕ
-  pub at : ℕ
-  pub task : Activation
-
--- the end of an activation: what ended it, and the moment
+-- the end of an activation: what ended it, the run that carried it then, and the moment
 pub record End : Type 0 where
   pub task : Activation
   pub ending : Ending
+  pub run : Option ℕ
   pub at : ℕ
 
--- one thing that happened on a floor
+-- one thing that happened on a floor. A reply tells whether the container can be used again
 pub data Item : Type 0 where
   Accepted : (activation : Activation) → Item
   Ordered : (run : Run) → Item
+  Begun : (run at : ℕ) → Item
+  Answered : (run : ℕ) (alive : Bool) (at : ℕ) → Item
+  Lost : (run at : ℕ) → Item
+  Gone : (slot generation at : ℕ) → Item
   Ended : (end : End) → Item
+  Swept : (at : ℕ) → Item
   Drained : (at : ℕ) → Item
+  Reopened : (at : ℕ) → Item
 
 -- the newest first
 abbrev pub Trace : Type 0
 Trace = List Item
 
--- the trace after one more item
-abbrev pub grown : Item → Trace → Trace
-grown item T = item ∷ T
+-- ---- by the newest item
 
--- what the newest item makes of a word over the older ones
 abbrev pub accepted_after : Item → List Activation → List Activation
 accepted_after (Accepted activation) xs = xs ++ activation ∷ []
 accepted_after item xs = xs
@@ -53,6 +52,16 @@ accepted (item ∷ T) = accepted_after item (accepted T)
 -- their ids
 abbrev pub accepted_ids : Trace → List Id
 accepted_ids T = map (λ a. a.id) (accepted T)
+
+abbrev pub count_after : Item → ℕ → ℕ
+count_after (Accepted activation) n = n + 1
+count_after (Reopened at) n = 0
+count_after item n = n
+
+-- how many were accepted since the last opening
+abbrev pub count : Trace → ℕ
+count [] = 0
+count (item ∷ T) = count_after item (count T)
 
 abbrev pub ends_after : Item → List End → List End
 ends_after (Ended end) xs = xs ++ end ∷ []
@@ -67,18 +76,23 @@ ends (item ∷ T) = ends_after item (ends T)
 abbrev pub record_of : End → Record
 record_of e = record { id = e.task.id; at = e.at; response = outcome e.ending e.task.action.limits }
 
+abbrev pub records_after : Item → List Record → List Record
+records_after (Ended end) xs = xs ++ record_of end ∷ []
+records_after item xs = xs
+
 -- the records, by their order
 abbrev pub records : Trace → List Record
-records T = map record_of (ends T)
+records [] = []
+records (item ∷ T) = records_after item (records T)
 
-abbrev pub run_count_after : Item → ℕ → ℕ
-run_count_after (Ordered run) n = n + 1
-run_count_after item n = n
+abbrev pub drawn_after : Item → List Id → List Id
+drawn_after (Accepted a) ids = put_id a.id ids
+drawn_after item ids = ids
 
--- how many runs were ordered
-abbrev pub run_count : Trace → ℕ
-run_count [] = 0
-run_count (item ∷ T) = run_count_after item (run_count T)
+-- the last id of each namespace
+abbrev pub drawn : Trace → List Id
+drawn [] = []
+drawn (item ∷ T) = drawn_after item (drawn T)
 
 abbrev pub last_after : Item → ℕ → ℕ → ℕ
 last_after (Accepted a) namespace n = if a.id.namespace == namespace then a.id.count else n
@@ -89,12 +103,52 @@ abbrev pub last : Trace → ℕ → ℕ
 last [] namespace = 0
 last (item ∷ T) namespace = last_after item namespace (last T namespace)
 
+abbrev pub run_count_after : Item → ℕ → ℕ
+run_count_after (Ordered run) n = n + 1
+run_count_after item n = n
+
+-- how many runs were ordered
+abbrev pub run_count : Trace → ℕ
+run_count [] = 0
+run_count (item ∷ T) = run_count_after item (run_count T)
+
+-- a run is live from its order until its own reply or its loss
+abbrev pub live_after : Item → List Run → List Run
+live_after (Ordered run) rs = rs ++ run ∷ []
+live_after (Begun run at) rs = update_first (is_number run) begun rs
+live_after (Answered run alive at) rs = remove_first (is_number run) rs
+live_after (Lost run at) rs = remove_first (is_number run) rs
+live_after (Reopened at) rs = []
+live_after item rs = rs
+
+-- the live runs, by their orders
+abbrev pub live : Trace → List Run
+live [] = []
+live (item ∷ T) = live_after item (live T)
+
+abbrev pub slots_after : Item → List Slot → List Slot
+slots_after (Ordered run) ss = ss ++ slot_of run ∷ []
+slots_after (Gone slot generation at) ss = remove_first (is_slot slot generation) ss
+slots_after (Reopened at) ss = []
+slots_after item ss = ss
+
+-- the slots whose container isn't gone, by their orders
+abbrev pub slots : Trace → List Slot
+slots [] = []
+slots (item ∷ T) = slots_after item (slots T)
+
 -- when a thing happened
 abbrev pub moment_of : Item → ℕ
 moment_of (Accepted a) = a.at
 moment_of (Ordered run) = run.at
+moment_of (Begun run at) = at
+moment_of (Answered run alive at) = at
+moment_of (Lost run at) = at
+moment_of (Gone slot generation at) = at
 moment_of (Ended end) = end.at
+moment_of (Swept at) = at
 moment_of (Drained at) = at
+moment_of (Reopened at) = at
 
 -- the moment of the newest thing, 0 at first
 abbrev pub latest : Trace → ℕ
@@ -103,6 +157,7 @@ latest (item ∷ T) = moment_of item
 
 abbrev pub draining_after : Item → Bool → Bool
 draining_after (Drained at) b = true
+draining_after (Reopened at) b = false
 draining_after item b = b
 
 -- whether the floor drains
@@ -110,28 +165,32 @@ abbrev pub is_draining : Trace → Bool
 is_draining [] = false
 is_draining (item ∷ T) = draining_after item (is_draining T)
 
--- what the newest item that names an activation leaves it in: none where it has ended
-abbrev pub standing_after : Item → Id → Option State → Option State
-standing_after (Accepted a) id s = if same_id a.id id then Some Waiting else s
-standing_after (Ordered run) id s = if same_id run.task.id id then Some (Running run.number) else s
-standing_after (Ended end) id s = if same_id end.task.id id then None else s
-standing_after item id s = s
+-- ---- by filters
 
--- whether an activation waits, or which run carries it: none where it was not accepted or has ended
+-- the record of an activation that has ended
+abbrev pub end_of : Trace → Id → Option Record
+end_of T id = find (is_end_of id) (records T)
+
+-- the live run of this number
+abbrev pub live_run : Trace → ℕ → Option Run
+live_run T run = find (is_number run) (live T)
+
+-- the live run of an activation
+abbrev pub carrier : Trace → Id → Option Run
+carrier T id = find (carries id) (live T)
+
+-- it waits unless a live run carries it
+abbrev pub state_by : Option Run → State
+state_by None = Waiting
+state_by (Some r) = Running r.number
+
+-- how an activation stands: not at all where it has ended
+abbrev pub standing_by : Option Record → Option Run → Option State
+standing_by None run = Some (state_by run)
+standing_by (Some e) run = None
+
 abbrev pub standing : Trace → Id → Option State
-standing [] id = None
-standing (item ∷ T) id = standing_after item id (standing T id)
-
--- a run is live from its order until its activation has ended
-abbrev pub live_after : Item → Id → ℕ → ℕ
-live_after (Ordered run) id n = if same_id run.task.id id then n + 1 else n
-live_after (Ended end) id n = if same_id end.task.id id then 0 else n
-live_after item id n = n
-
--- how many runs of an activation are live
-abbrev pub live_runs : Trace → Id → ℕ
-live_runs [] id = 0
-live_runs (item ∷ T) id = live_after item id (live_runs T id)
+standing T id = standing_by (end_of T id) (carrier T id)
 
 -- an open activation, where it stands in a state
 abbrev pub open_of : Activation → Option State → Option Open
@@ -141,6 +200,10 @@ open_of a (Some state) = Some (record { task = a; state = state })
 -- the activations that have not ended, by acceptance, with whether each waits or which run carries it
 abbrev pub open_items : Trace → List Open
 open_items T = filter_map (λ a. open_of a (standing T a.id)) (accepted T)
+
+-- the open activation of this id
+abbrev pub open_item : Trace → Id → Option Open
+open_item T id = find (is_of id) (open_items T)
 
 -- the ids that wait, by acceptance
 abbrev pub waiting : Trace → List Id
@@ -158,6 +221,16 @@ recorded T = map (λ e. e.id) (records T)
 abbrev pub head : Trace → Option Open
 head T = find waits (open_items T)
 
--- the activation that the run of this number carries
-abbrev pub carried : Trace → ℕ → Option Open
-carried T run = find (carries run) (open_items T)
+-- what a floor is seen as that stands as the trace says
+abbrev pub shown : Trace → Shown
+shown T = record {
+  open_items = open_items T;
+  live = live T;
+  slots = slots T;
+  ended = records T;
+  drawn = drawn T;
+  runs = run_count T;
+  count = count T;
+  latest = latest T;
+  draining = is_draining T;
+}

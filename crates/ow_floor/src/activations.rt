@@ -4,7 +4,7 @@ ghost use Rattle.std.specs.Prelude.{◌≡◌, ◌↔◌, IsTrue, IfOk};
 use ow_entity::Action;
 use ow_names::EntityName;
 use ow_records::{Id, Response};
-use ow_value::{NoMemory, Params, Str};
+use ow_value::{NoMemory, Params, PlainData, Shared, Str};
 use std::alloc::Global;
 
 /// What is to be accepted.
@@ -15,7 +15,7 @@ pub struct Plan {
     /// The namespace that is charged for it.
     pub namespace: EntityName,
     /// The action as it stands at the acceptance.
-    pub action: Action,
+    pub action: Shared<Action>,
     /// The merged parameters, with which it is run.
     pub params: Params,
     /// In whose name it is run.
@@ -36,7 +36,7 @@ pub struct Activation {
     /// The namespace that is charged for it.
     pub namespace: EntityName,
     /// The action as it stood at the acceptance.
-    pub action: Action,
+    pub action: Shared<Action>,
     /// The merged parameters, with which it is run.
     pub params: Params,
     /// In whose name it is run.
@@ -76,11 +76,18 @@ pub struct Ended {
     pub response: Response,
 }
 
-impl Plan {
-    /// An equal plan.
-    pub fn copy(&self, alloc: Global) -> Result<Plan, NoMemory>
-        ensures { IfOk result (λ p. p ≡ self.now) }
-    {
+impl PlainData for Plan {
+    fn same(&self, other: &Plan) -> bool {
+        self.id == other.id
+            && self.namespace.same(&other.namespace)
+            && self.action.same(&other.action)
+            && self.params.same(&other.params)
+            && self.subject.same(&other.subject)
+            && self.cause == other.cause
+            && self.until == other.until
+    }
+
+    fn copy(&self, alloc: Global) -> Result<Plan, NoMemory> {
         let namespace = self.namespace.copy(alloc)?;
         let action = self.action.copy(alloc)?;
         let params = self.params.copy(alloc)?;
@@ -95,12 +102,12 @@ impl Plan {
             until: self.until,
         })
     }
+}
 
-    /// Whether both are equal.
-    pub fn same(&self, other: &Plan) -> bool
-        ensures { IsTrue result ↔ (self.now ≡ other.now) }
-    {
+impl PlainData for Activation {
+    fn same(&self, other: &Activation) -> bool {
         self.id == other.id
+            && self.at == other.at
             && self.namespace.same(&other.namespace)
             && self.action.same(&other.action)
             && self.params.same(&other.params)
@@ -108,13 +115,8 @@ impl Plan {
             && self.cause == other.cause
             && self.until == other.until
     }
-}
 
-impl Activation {
-    /// An equal activation.
-    pub fn copy(&self, alloc: Global) -> Result<Activation, NoMemory>
-        ensures { IfOk result (λ a. a ≡ self.now) }
-    {
+    fn copy(&self, alloc: Global) -> Result<Activation, NoMemory> {
         let namespace = self.namespace.copy(alloc)?;
         let action = self.action.copy(alloc)?;
         let params = self.params.copy(alloc)?;
@@ -130,57 +132,31 @@ impl Activation {
             until: self.until,
         })
     }
-
-    /// Whether both are equal.
-    pub fn same(&self, other: &Activation) -> bool
-        ensures { IsTrue result ↔ (self.now ≡ other.now) }
-    {
-        self.id == other.id
-            && self.at == other.at
-            && self.namespace.same(&other.namespace)
-            && self.action.same(&other.action)
-            && self.params.same(&other.params)
-            && self.subject.same(&other.subject)
-            && self.cause == other.cause
-            && self.until == other.until
-    }
 }
 
-impl Open {
-    /// An equal one.
-    pub fn copy(&self, alloc: Global) -> Result<Open, NoMemory>
-        ensures { IfOk result (λ o. o ≡ self.now) }
-    {
+impl PlainData for Open {
+    fn same(&self, other: &Open) -> bool {
+        self.state == other.state && self.task.same(&other.task)
+    }
+
+    fn copy(&self, alloc: Global) -> Result<Open, NoMemory> {
         Ok(Open {
             task: self.task.copy(alloc)?,
             state: self.state,
         })
     }
-
-    /// Whether both are equal.
-    pub fn same(&self, other: &Open) -> bool
-        ensures { IsTrue result ↔ (self.now ≡ other.now) }
-    {
-        self.state == other.state && self.task.same(&other.task)
-    }
 }
 
-impl Ended {
-    /// An equal record.
-    pub fn copy(&self, alloc: Global) -> Result<Ended, NoMemory>
-        ensures { IfOk result (λ e. e ≡ self.now) }
-    {
+impl PlainData for Ended {
+    fn same(&self, other: &Ended) -> bool {
+        self.id == other.id && self.at == other.at && self.response.same(&other.response)
+    }
+
+    fn copy(&self, alloc: Global) -> Result<Ended, NoMemory> {
         Ok(Ended {
             id: self.id,
             at: self.at,
             response: self.response.copy(alloc)?,
         })
-    }
-
-    /// Whether both are equal.
-    pub fn same(&self, other: &Ended) -> bool
-        ensures { IsTrue result ↔ (self.now ≡ other.now) }
-    {
-        self.id == other.id && self.at == other.at && self.response.same(&other.response)
     }
 }

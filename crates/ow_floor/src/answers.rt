@@ -6,7 +6,7 @@ use crate::Activation;
 use ow_entity::Exec;
 use ow_records::Id;
 use ow_traits::{Kind, RunReply};
-use ow_value::{NoMemory, Params, Str};
+use ow_value::{Items, NoMemory, Params, PlainData, Str};
 use std::alloc::Global;
 use std::marker::Model;
 
@@ -58,7 +58,7 @@ pub enum Happening {
 /// What happened in one call, in order.
 #[derive(Drop)]
 pub struct Happened {
-    items: Vec<Happening>,
+    items: Items<Happening>,
 }
 
 impl Model for Happened {
@@ -67,7 +67,7 @@ impl Model for Happened {
 
     ghost Value = { List Happening };
 
-    ghost view = { λ h. h.items.items };
+    ghost view = { λ h. h.items };
 }
 
 /// What became of a runner's reply.
@@ -75,21 +75,23 @@ impl Model for Happened {
 pub enum Answered {
     /// The end of what the run carries is recorded: this happened.
     Recorded(Happened),
+    /// What the run carries had ended before, at this moment, in milliseconds.
+    Late { run: u64, at: u64 },
 }
 
-/// What became of a reply, twice: to be given, and to be kept.
+/// What a sweep did.
 #[derive(Drop)]
-pub struct AnsweredTwice {
-    /// The one to be given.
-    pub given: Answered,
-    /// Its equal, to be kept.
-    pub kept: Answered,
+pub struct Swept {
+    /// The ends of what late runs carried, by the orders of the runs.
+    pub happened: Happened,
+    /// How many these are.
+    pub late: u64,
 }
 
 /// Why a runner's reply was not taken. Each hands the reply back.
 #[derive(Drop)]
 pub enum AnswerRefusal {
-    /// No activation is carried by a run of this number.
+    /// No live run has this number.
     NoRun { run: u64, reply: RunReply },
     /// Memory was wanted.
     NoMemory(RunReply),
@@ -98,7 +100,7 @@ pub enum AnswerRefusal {
 /// Whether all activations have ended.
 #[derive(Clone, Copy, Debug, PartialEq, Eq)]
 pub enum Drain {
-    /// All have: so many were accepted.
+    /// All have: so many were accepted since the last opening.
     Drained(u64),
     /// So many have not, at least one.
     StillOpen(u64),
@@ -121,10 +123,37 @@ impl AnswerRefusal {
 impl RunOrder {
     ghost use Rattle.ow_floor.specs.View.{order_for};
 
-    /// An equal order.
-    pub fn copy(&self, alloc: Global) -> Result<RunOrder, NoMemory>
-        ensures { IfOk result (λ order. order ≡ self.now) }
+    // The order to run an activation under this number.
+    pub(crate) fn of(alloc: Global, run: u64, task: &Activation) -> Result<RunOrder, NoMemory>
+        ensures { IfOk result (λ order. order ≡ order_for run task.now) }
     {
+        let action = task.action.get();
+        let code = action.exec.code().copy(alloc)?;
+        let params = task.params.copy(alloc)?;
+        Ok(RunOrder {
+            run,
+            id: task.id,
+            kind: kind_of(&action.exec),
+            code,
+            memory: action.limits.memory.get(),
+            params,
+            timeout: action.limits.timeout.get(),
+        })
+    }
+}
+
+impl PlainData for RunOrder {
+    fn same(&self, other: &RunOrder) -> bool {
+        self.run == other.run
+            && self.id == other.id
+            && self.kind == other.kind
+            && self.code.same(&other.code)
+            && self.memory == other.memory
+            && self.params.same(&other.params)
+            && self.timeout == other.timeout
+    }
+
+    fn copy(&self, alloc: Global) -> Result<RunOrder, NoMemory> {
         let code = self.code.copy(alloc)?;
         let params = self.params.copy(alloc)?;
         Ok(RunOrder {
@@ -135,37 +164,6 @@ impl RunOrder {
             memory: self.memory,
             params,
             timeout: self.timeout,
-        })
-    }
-
-    /// Whether both are equal.
-    pub fn same(&self, other: &RunOrder) -> bool
-        ensures { IsTrue result ↔ (self.now ≡ other.now) }
-    {
-        self.run == other.run
-            && self.id == other.id
-            && self.kind == other.kind
-            && self.code.same(&other.code)
-            && self.memory == other.memory
-            && self.params.same(&other.params)
-            && self.timeout == other.timeout
-    }
-
-    // The order to run an activation under this number.
-    pub(crate) fn of(alloc: Global, run: u64, task: &Activation) -> Result<RunOrder, NoMemory>
-        ensures { IfOk result (λ order. order ≡ order_for run task.now) }
-    {
-        let action = &task.action;
-        let code = action.exec.code().copy(alloc)?;
-        let params = task.params.copy(alloc)?;
-        Ok(RunOrder {
-            run,
-            id: task.id,
-            kind: kind_of(&action.exec),
-            code,
-            memory: action.limits.memory,
-            params,
-            timeout: action.limits.timeout,
         })
     }
 }
@@ -179,36 +177,32 @@ impl Order {
     {
         matches!(self, Order::Nothing(_))
     }
+}
 
-    /// An equal order.
-    pub fn copy(&self, alloc: Global) -> Result<Order, NoMemory>
-        ensures { IfOk result (λ order. order ≡ self.now) }
-    {
-        match self {
-            Order::Run(order) => Ok(Order::Run(order.copy(alloc)?)),
-            Order::Nothing(idle) => Ok(Order::Nothing(*idle)),
-        }
-    }
-
-    /// Whether both are equal.
-    pub fn same(&self, other: &Order) -> bool
-        ensures { IsTrue result ↔ (self.now ≡ other.now) }
-    {
+impl PlainData for Order {
+    fn same(&self, other: &Order) -> bool {
         match (self, other) {
             (Order::Run(a), Order::Run(b)) => a.same(b),
             (Order::Nothing(a), Order::Nothing(b)) => a == b,
             _ => false,
         }
     }
+
+    fn copy(&self, alloc: Global) -> Result<Order, NoMemory> {
+        match self {
+            Order::Run(order) => Ok(Order::Run(order.copy(alloc)?)),
+            Order::Nothing(idle) => Ok(Order::Nothing(*idle)),
+        }
+    }
 }
 
 impl Happened {
     /// Nothing happened. This takes no memory.
-    pub fn none(alloc: Global) -> Happened
+    pub fn none() -> Happened
         ensures { result ≡ [] }
     {
         Happened {
-            items: Vec::new(alloc),
+            items: Items::new(),
         }
     }
 
@@ -218,7 +212,16 @@ impl Happened {
     {
         let mut items = Vec::with_capacity(alloc, 1)?;
         items.push_reserved(happening);
-        Ok(Happened { items })
+        Happened::of(items)
+    }
+
+    // These things happened.
+    pub(crate) fn of(items: Vec<Happening>) -> Result<Happened, NoMemory>
+        ensures { IfOk result (λ h. h ≡ items.items) }
+    {
+        Ok(Happened {
+            items: Items::from_vec(items)?,
+        })
     }
 
     /// What happened, the earliest first.
@@ -227,47 +230,52 @@ impl Happened {
     {
         self.items.as_slice()
     }
+}
 
-    /// An equal list.
-    pub fn copy(&self, alloc: Global) -> Result<Happened, NoMemory>
-        ensures { IfOk result (λ h. h ≡ self.now) }
-    {
-        Ok(Happened {
-            items: Vec::from_slice(alloc, self.items.as_slice())?,
-        })
+impl PlainData for Happening {
+    fn same(&self, other: &Happening) -> bool {
+        *self == *other
     }
 
-    /// Whether both are equal.
-    pub fn same(&self, other: &Happened) -> bool
-        ensures { IsTrue result ↔ (self.now ≡ other.now) }
-    {
-        if self.items.len() != other.items.len() {
-            return false;
-        }
-        for i in 0..self.items.len() {
-            if self.items[i] != other.items[i] {
-                return false;
-            }
-        }
-        true
+    fn copy(&self, _alloc: Global) -> Result<Happening, NoMemory> {
+        Ok(*self)
     }
 }
 
-impl Answered {
-    /// An equal answer.
-    pub fn copy(&self, alloc: Global) -> Result<Answered, NoMemory>
-        ensures { IfOk result (λ a. a ≡ self.now) }
-    {
-        let Answered::Recorded(happened) = self;
-        Ok(Answered::Recorded(happened.copy(alloc)?))
+impl PlainData for Happened {
+    fn same(&self, other: &Happened) -> bool {
+        self.items.same(&other.items)
     }
 
-    /// Whether both are equal.
-    pub fn same(&self, other: &Answered) -> bool
-        ensures { IsTrue result ↔ (self.now ≡ other.now) }
-    {
-        let (Answered::Recorded(happened), Answered::Recorded(other_happened)) = (self, other);
-        happened.same(other_happened)
+    fn copy(&self, alloc: Global) -> Result<Happened, NoMemory> {
+        Ok(Happened {
+            items: self.items.copy(alloc)?,
+        })
+    }
+}
+
+impl PlainData for Answered {
+    fn same(&self, other: &Answered) -> bool {
+        match (self, other) {
+            (Answered::Recorded(happened), Answered::Recorded(other_happened)) => {
+                happened.same(other_happened)
+            }
+            (
+                Answered::Late { run, at },
+                Answered::Late {
+                    run: other_run,
+                    at: other_at,
+                },
+            ) => *run == *other_run && *at == *other_at,
+            _ => false,
+        }
+    }
+
+    fn copy(&self, alloc: Global) -> Result<Answered, NoMemory> {
+        match self {
+            Answered::Recorded(happened) => Ok(Answered::Recorded(happened.copy(alloc)?)),
+            Answered::Late { run, at } => Ok(Answered::Late { run: *run, at: *at }),
+        }
     }
 }
 

@@ -1,175 +1,258 @@
-// The floor and its calls.
-ghost use Rattle.std.specs.Prelude.{◌≡◌, ◌+◌, ◌^◌, ◌<◌, ◌≤◌, [], IfOk, IsOk, IsSome, OnOk, OnErr, IfErr};
-ghost use Rattle.std.specs.List.{find};
-ghost use Rattle.ow_floor.specs.View.{carries, last_of, waits, with_accepted};
-ghost use Rattle.ow_floor.specs.Trace.{Trace, head, is_draining, last, latest, record_of};
-ghost use Rattle.ow_floor.specs.Laws.{Stands};
-ghost use Rattle.ow_floor.specs.Calls.{Accepts, AllRecorded, Answers, Drains, HandsBack, IsAnswered, IsStarted, Orders, activation_of, end_of, given_of, happened_accepted, happened_recorded, next_order, order_of};
+// The floor and its calls. Each adds items to the trace. What was before a hold is kept until it is settled.
+ghost use Rattle.std.specs.Prelude.{◌≡◌, ◌+◌, ◌-◌, ◌<◌, ◌≤◌, [], ◌∷◌, length, None, Some, true, false, IfOk, IfSome, OnOk, OnErr, IfErr, IsSome};
+ghost use Rattle.ow_floor.specs.View.{begun, last_of};
+ghost use Rattle.ow_floor.specs.Trace.{Drained, Trace, head, is_draining, last, latest, live_run, open_item, open_items};
+ghost use Rattle.ow_floor.specs.Laws.{Grows, Stands};
+ghost use Rattle.ow_floor.specs.Owed.{owed, owed_of, owed_run};
+ghost use Rattle.ow_floor.specs.Calls.{AllRecorded, AnswersSo, GrowsBy, HandsBack, accept_items, activation_of, answer_to, answered_items, begins, begun_items, drain_answer, drain_by, end_items, goes, gone_items, happened, happened_accepted, loses, lost_items, next_items, next_order, reopened_items, run_of, swept_ends, swept_items};
 
-use crate::places::{namespace_place, note_id, run_place, waiting_place};
+use crate::ends::{abandon, end_at, end_run, free_run, sweep};
+use crate::lists::{Berth, Lists};
+use crate::places::{last_of, slot_place};
 use crate::{
-    Activation, AnswerRefusal, Answered, AnsweredTwice, Drain, Ended, Happened, Happening, Idle,
-    Open, Order, Plan, RunOrder, State,
+    Activation, AnswerRefusal, Answered, Drain, Ended, Happened, Happening, Idle, Order, Plan, Run,
+    RunOrder, Swept,
 };
-use ow_records::{Ending, Id, outcome_in};
+use ow_records::{Ending, Id};
 use ow_traits::RunReply;
-use ow_value::{NoMemory, Scratch};
+use ow_value::{NoMemory, Scratch, Shared};
 use std::alloc::Global;
 use std::marker::Model;
 
-/// What was accepted: the activations that have not ended, by acceptance, and the records of those
-/// that have, by their ends. What it holds of an ended activation is its record alone.
+/// What was accepted: the activations that have not ended, by acceptance, the live runs, and the records of the
+/// activations that have ended, by their ends. What it holds of an ended activation is its record alone.
 #[derive(Drop)]
 pub struct Floor {
-    open_items: Vec<Open>,
-    ended: Vec<Ended>,
-    // The last id of each namespace.
-    drawn: Vec<Id>,
-    runs: u64,
-    latest: u64,
-    draining: bool,
+    lists: Lists,
     // In which answers are read.
     scratch: Scratch,
 }
 
 impl Model for Floor {
-    ghost use Rattle.std.specs.Prelude.{◌-◌, min, vec_len, vec_capacity};
     ghost use Rattle.std.specs.Coded.{codes};
     ghost use Rattle.ow_value.specs.Code.{value_code};
     ghost use Rattle.ow_floor.specs.View.{FloorView};
+    ghost use Rattle.ow_floor.specs.Store.{IsGood, IsGoodPast, show, show_past};
 
     ghost Value = { FloorView };
 
     ghost coded = { Prim.hlevel (codes, value_code) };
 
-    ghost view = { λ f. record {
-      lists = record {
-        open_items = f.open_items.items;
-        ended = f.ended.items;
-        drawn = f.drawn.items;
-        runs = f.runs;
-        latest = f.latest;
-        draining = f.draining;
-      };
-      room = min (vec_capacity f.open_items - vec_len f.open_items)
-          (min (vec_capacity f.ended - vec_len f.ended) (vec_capacity f.drawn - vec_len f.drawn));
-    } };
+    ghost view = { λ f. record { now = show f.lists.now; before = show_past f.lists.past } };
+
+    ghost invariant = { λ f. IsGood f.lists.now × IsGoodPast f.lists.past };
 }
 
 impl Floor {
-    /// A floor where nothing has happened.
+    /// A floor where nothing has happened. It isn't held.
     pub fn new(alloc: Global) -> Floor
-        ensures { Stands result.lists [] }
+        ensures stands { Stands result.now [] }
+        ensures before { result.before ≡ None }
     {
         Floor {
-            open_items: Vec::new(alloc),
-            ended: Vec::new(alloc),
-            drawn: Vec::new(alloc),
-            runs: 0,
-            latest: 0,
-            draining: false,
+            lists: Lists::new(alloc),
             scratch: Scratch::new(alloc),
         }
     }
 
     /// The last count of an id that was accepted in this namespace, 0 at first.
     pub fn last(&self, namespace: u64) -> u64
-        ensures value { result ≡ last_of self.now.lists.drawn namespace }
-        ensures trace { (T : Trace) → Stands self.now.lists T → result ≡ last T namespace }
+        ensures value { result ≡ last_of self.now.now.drawn namespace }
+        ensures trace { (T : Trace) → Stands self.now.now T → result ≡ last T namespace }
     {
-        match namespace_place(&self.drawn, namespace) {
-            Some(place) => self.drawn[place].count,
-            None => 0,
-        }
+        last_of(self.lists.drawn(), namespace)
     }
 
     /// The moment of the newest thing that happened, in milliseconds, 0 at first.
     pub fn latest(&self) -> u64
-        ensures value { result ≡ self.now.lists.latest }
-        ensures trace { (T : Trace) → Stands self.now.lists T → result ≡ latest T }
+        ensures value { result ≡ self.now.now.latest }
+        ensures trace { (T : Trace) → Stands self.now.now T → result ≡ latest T }
     {
-        self.latest
+        self.lists.marks().latest
     }
 
-    /// Whether `drain` was called.
+    /// Whether the last of `drain` and `reopen` was `drain`.
     pub fn is_draining(&self) -> bool
-        ensures value { result ≡ self.now.lists.draining }
-        ensures trace { (T : Trace) → Stands self.now.lists T → result ≡ is_draining T }
+        ensures value { result ≡ self.now.now.draining }
+        ensures trace { (T : Trace) → Stands self.now.now T → result ≡ is_draining T }
     {
-        self.draining
+        self.lists.marks().draining
     }
 
-    /// The activations that have not ended, by acceptance.
-    pub fn open_items(&self) -> &[Open]
-        ensures { result.now ≡ self.now.lists.open_items }
+    /// How many activations have not ended.
+    pub fn busy(&self) -> u64
+        ensures value { result ≡ length self.now.now.open_items }
+        ensures trace { (T : Trace) → Stands self.now.now T → result ≡ length (open_items T) }
     {
-        self.open_items.as_slice()
+        (self.lists.spots().len() - self.lists.ended().len()) as u64
+    }
+
+    /// How many entries are owed: how many beginnings, replies or losses, and goings may still come.
+    pub fn owed(&self) -> usize
+        ensures value { result ≡ owed_of self.now.now }
+        ensures trace { (T : Trace) → Stands self.now.now T → result ≡ owed T }
+    {
+        self.lists.marks().owed
     }
 
     /// The records of the activations that have ended, by their ends.
     pub fn records(&self) -> &[Ended]
-        ensures { result.now ≡ self.now.lists.ended }
+        ensures { result.now ≡ self.now.now.ended }
     {
-        self.ended.as_slice()
+        self.lists.ended()
     }
 
-    /// What `next` would order now.
-    pub fn coming(&self, alloc: Global) -> Result<Order, NoMemory>
-        requires { self.now.lists.runs + 1 < 2 ^ 64 }
-        ensures order { IfOk result (λ order. order ≡ order_of (self.now.lists.runs + 1) (find waits self.now.lists.open_items)) }
-        ensures trace { IfOk result (λ order. (T : Trace) → Stands self.now.lists T → order ≡ next_order T) }
-        ensures empty { OnErr result (IsSome (find waits self.now.lists.open_items)) }
+    /// From now on the state of this moment is kept. It takes no memory, and nothing is copied.
+    pub fn hold(&mut self)
+        ensures now { self.new.now ≡ self.old.now }
+        ensures held { self.new.before ≡ Some self.old.now }
     {
-        let Some(place) = waiting_place(&self.open_items) else {
-            return Ok(Order::Nothing(Idle::Empty));
-        };
-        let task = &self.open_items[place].task;
-        Ok(Order::Run(RunOrder::of(alloc, self.runs + 1, task)?))
+        self.lists.hold();
     }
 
-    /// Makes room for so many acceptances and ends in all, so that these want no memory for the lists.
-    pub fn reserve(&mut self, count: usize) -> Result<(), NoMemory>
-        ensures lists { self.new.lists ≡ self.old.lists }
-        ensures room { OnOk result (count ≤ self.new.room) }
-        ensures keeps { self.old.room ≤ self.new.room }
-        ensures succeeds { count ≤ self.old.room → IsOk result }
+    /// Ends the hold. With `keep` what was done since stays, and without it is taken back. It takes no memory.
+    pub fn settle(&mut self, keep: bool)
+        ensures kept { keep ≡ true → self.new.now ≡ self.old.now }
+        ensures back { keep ≡ false → IfSome self.old.before (λ v. self.new.now ≡ v) }
+        ensures done { self.new.before ≡ None }
     {
-        self.open_items.reserve(count)?;
-        self.ended.reserve(count)?;
-        self.drawn.reserve(count)?;
-        Ok(())
+        if keep {
+            self.lists.keep();
+        } else {
+            self.lists.take_back();
+        }
     }
 
     /// Accepts an activation, which waits from now on. `at` is the moment, in milliseconds. Without
     /// memory the plan is dropped.
     pub fn accept(&mut self, alloc: Global, at: u64, plan: Plan) -> Result<Happened, NoMemory>
-        requires next { plan.id.count ≡ last_of self.old.lists.drawn plan.id.namespace + 1 }
-        ensures answer { IfOk result (λ happened. happened ≡ happened_accepted plan.id) }
-        ensures trace { OnOk result (Accepts self.old.lists self.new.lists at plan) }
-        ensures err { OnErr result (self.new.lists ≡ self.old.lists) }
-        ensures room { self.old.room ≤ self.new.room + 1 }
-        ensures runs { self.new.lists.runs ≡ self.old.lists.runs }
+        requires next { plan.id.count ≡ last_of self.old.now.drawn plan.id.namespace + 1 }
+        ensures told { IfOk result (λ h. h ≡ happened_accepted plan.id) }
+        ensures ok { OnOk result (Grows self.old.now self.new.now (λ T. accept_items at plan)) }
+        ensures before { self.new.before ≡ self.old.before }
     {
         let happened = Happened::one(alloc, Happening::Accepted { id: plan.id })?;
-        self.reserve(1)?;
-        self.place(activation_of(at, plan));
+        let task = Shared::new(alloc, activation_of(at, plan))?;
+        self.lists.accept(task)?;
         Ok(happened)
     }
 
     /// Runs what has waited longest, if anything waits. Runs are numbered from 1.
     pub fn next(&mut self, alloc: Global, at: u64) -> Result<Order, NoMemory>
-        requires { self.old.lists.runs + 1 < 2 ^ 64 }
-        ensures trace { IfOk result (λ order. Orders self.old.lists self.new.lists at order) }
-        ensures empty { OnErr result ((T : Trace) → Stands self.old.lists T → IsSome (head T)) }
-        ensures err { OnErr result (self.new.lists ≡ self.old.lists) }
-        ensures room { self.new.room ≡ self.old.room }
-        ensures runs { self.new.lists.runs ≤ self.old.lists.runs + 1 }
+        ensures told { IfOk result (λ order. (T : Trace) → Stands self.old.now T → order ≡ next_order T) }
+        ensures ok { OnOk result (Grows self.old.now self.new.now (λ T. next_items at T)) }
+        ensures empty { OnErr result ((T : Trace) → Stands self.old.now T → IsSome (head T)) }
+        ensures before { self.new.before ≡ self.old.before }
     {
-        self.start(alloc, at)
+        let Some(place) = self.lists.waiting_place() else {
+            return Ok(Order::Nothing(Idle::Empty));
+        };
+        let Some(task) = &self.lists.tasks()[place] else {
+            return Ok(Order::Nothing(Idle::Empty));
+        };
+        let Some(number) = (self.lists.runs().len() as u64).checked_add(1) else {
+            return Err(NoMemory);
+        };
+        let task = task.get();
+        let run = run_of(number, at, task.id);
+        let order = RunOrder::of(alloc, number, task)?;
+        if self.lists.order(place, run).is_err() {
+            drop(order);
+            return Err(NoMemory);
+        }
+        Ok(Order::Run(order))
     }
 
-    /// Records the end of the activation that the run carries: its response is the outcome of the
-    /// reply. The floor keeps neither the parameters nor the logs.
+    /// The run has begun: its container is up and its action initialised. It tells whether the run is live and had not begun.
+    pub fn begun(&mut self, at: u64, run: u64) -> bool
+        requires { self.old.before ≡ None }
+        ensures told { (T : Trace) → Stands self.old.now T → result ≡ begins run T }
+        ensures grows { Grows self.old.now self.new.now (λ T. begun_items at run T) }
+        ensures before { self.new.before ≡ None }
+    {
+        let Some(place) = self.lists.run_place(run) else {
+            return false;
+        };
+        let Some(berth) = self.lists.runs()[place] else {
+            return false;
+        };
+        if berth.run.begun {
+            return false;
+        }
+        let owed = self.lists.marks().owed.saturating_sub(1);
+        let _ = self.lists.put_run(at, owed, place, Some(begun(berth)));
+        true
+    }
+
+    /// The run is lost: what it carries waits again at its place by acceptance, unless it has ended. It tells whether the run is live.
+    pub fn lost(&mut self, at: u64, run: u64) -> bool
+        requires { self.old.before ≡ None }
+        ensures told { (T : Trace) → Stands self.old.now T → result ≡ loses run T }
+        ensures grows { Grows self.old.now self.new.now (λ T. lost_items at run T) }
+        ensures before { self.new.before ≡ None }
+    {
+        let Some(place) = self.lists.run_place(run) else {
+            return false;
+        };
+        let Some(berth) = self.lists.runs()[place] else {
+            return false;
+        };
+        free_run(&mut self.lists, berth.run);
+        let owed = left_owed(&self.lists, berth.run);
+        let _ = self.lists.put_run(at, owed, place, None);
+        true
+    }
+
+    /// The container of a slot is gone. It tells whether the slot had one of this generation.
+    pub fn gone(&mut self, at: u64, slot: u64, generation: u64) -> bool
+        requires { self.old.before ≡ None }
+        ensures told { (T : Trace) → Stands self.old.now T → result ≡ goes slot generation T }
+        ensures grows { Grows self.old.now self.new.now (λ T. gone_items at slot generation T) }
+        ensures before { self.new.before ≡ None }
+    {
+        let Some(place) = slot_place(self.lists.slots(), slot, generation) else {
+            return false;
+        };
+        let _ = self.lists.cut_slot(at, place);
+        true
+    }
+
+    /// Takes a runner's reply: what the run carries ends, unless it has ended before. None where no live run has this number.
+    pub fn replied(
+        &mut self,
+        alloc: Global,
+        at: u64,
+        run: u64,
+        reply: &RunReply,
+    ) -> Result<Option<Answered>, NoMemory>
+        ensures told { IfOk result (λ answer. (T : Trace) → Stands self.old.now T → answer ≡ answer_to at run reply.now T) }
+        ensures ok { OnOk result (Grows self.old.now self.new.now (λ T. answered_items at run reply.now T)) }
+        ensures live { OnErr result ((T : Trace) → Stands self.old.now T → IsSome (live_run T run)) }
+        ensures before { self.new.before ≡ self.old.before }
+    {
+        let Some(place) = self.lists.run_place(run) else {
+            return Ok(None);
+        };
+        let Some(berth) = self.lists.runs()[place] else {
+            return Ok(None);
+        };
+        let answered = end_run(
+            alloc,
+            &mut self.lists,
+            &mut self.scratch,
+            at,
+            berth.run,
+            reply,
+        )?;
+        let owed = left_owed(&self.lists, berth.run);
+        if self.lists.put_run(at, owed, place, None).is_err() {
+            drop(answered);
+            return Err(NoMemory);
+        }
+        Ok(Some(answered))
+    }
+
+    /// As `replied`, with the reply itself: a refusal hands it back. The floor keeps neither the parameters nor the logs.
     pub fn answered(
         &mut self,
         alloc: Global,
@@ -177,125 +260,74 @@ impl Floor {
         run: u64,
         reply: RunReply,
     ) -> Result<Answered, AnswerRefusal>
-        ensures trace { Answers self.old.lists self.new.lists at run reply result }
+        ensures told { AnswersSo self.old.now at run reply result }
+        ensures ok { GrowsBy self.old.now self.new.now (λ T. answered_items at run reply T) result }
         ensures refused { IfErr result (λ refusal. HandsBack run reply refusal) }
-        ensures err { OnErr result (self.new.lists ≡ self.old.lists) }
-        ensures room { self.old.room ≤ self.new.room + 1 }
-        ensures runs { self.new.lists.runs ≡ self.old.lists.runs }
+        ensures before { self.new.before ≡ self.old.before }
     {
-        given_of(self.end(alloc, at, run, reply))
+        match self.replied(alloc, at, run, &reply) {
+            Ok(Some(answered)) => Ok(answered),
+            Ok(None) => Err(AnswerRefusal::NoRun { run, reply }),
+            Err(NoMemory) => Err(AnswerRefusal::NoMemory(reply)),
+        }
     }
 
-    /// The same, with the answer twice, so that one can be kept.
-    pub fn answered_twice(
+    /// Ends an activation that no run ends, where it is open.
+    pub fn end(
         &mut self,
         alloc: Global,
         at: u64,
-        run: u64,
-        reply: RunReply,
-    ) -> Result<AnsweredTwice, AnswerRefusal>
-        ensures trace { Answers self.old.lists self.new.lists at run reply (given_of result) }
-        ensures same { IfOk result (λ two. two.kept ≡ two.given) }
-        ensures refused { IfErr result (λ refusal. HandsBack run reply refusal) }
-        ensures err { OnErr result (self.new.lists ≡ self.old.lists) }
-        ensures room { self.old.room ≤ self.new.room + 1 }
-        ensures runs { self.new.lists.runs ≡ self.old.lists.runs }
+        id: Id,
+        ending: &Ending,
+    ) -> Result<Happened, NoMemory>
+        ensures told { IfOk result (λ h. (T : Trace) → Stands self.old.now T → h ≡ happened (end_items at ending.now None (open_item T id))) }
+        ensures ok { OnOk result (Grows self.old.now self.new.now (λ T. end_items at ending.now None (open_item T id))) }
+        ensures before { self.new.before ≡ self.old.before }
     {
-        self.end(alloc, at, run, reply)
+        let Some(place) = self.lists.open_place(id) else {
+            return Ok(Happened::none());
+        };
+        let happening = end_at(alloc, &mut self.lists, &mut self.scratch, at, place, ending)?;
+        Happened::one(alloc, happening)
     }
 
-    /// From now on the floor drains. It tells whether all have ended.
+    /// Ends each activation whose live run is late, by the runs' orders. The runs stay live.
+    pub fn sweep(&mut self, alloc: Global, at: u64) -> Result<Swept, NoMemory>
+        ensures told { IfOk result (λ s. (T : Trace) → Stands self.old.now T → (s.happened ≡ happened (swept_ends at T)) × (s.late ≡ length (swept_ends at T))) }
+        ensures ok { OnOk result (Grows self.old.now self.new.now (λ T. swept_items at T)) }
+        ensures before { self.new.before ≡ self.old.before }
+    {
+        let happened = sweep(alloc, &mut self.lists, &mut self.scratch, at)?;
+        self.lists.note_moment(at);
+        let late = happened.len() as u64;
+        Ok(Swept {
+            happened: Happened::of(happened)?,
+            late,
+        })
+    }
+
+    /// Ends each open activation as abandoned, by acceptance. From then on no run is live, no container is there, and it doesn't drain.
+    pub fn reopen(&mut self, alloc: Global, at: u64) -> Result<Happened, NoMemory>
+        ensures told { IfOk result (λ h. (T : Trace) → Stands self.old.now T → h ≡ happened (reopened_items at T)) }
+        ensures ok { OnOk result (Grows self.old.now self.new.now (λ T. reopened_items at T)) }
+        ensures before { self.new.before ≡ self.old.before }
+    {
+        let happened = abandon(alloc, &mut self.lists, &mut self.scratch, at)?;
+        self.lists.reopen(alloc, at)?;
+        Happened::of(happened)
+    }
+
+    /// From now on the floor drains. It tells whether all have ended. It takes no memory.
     pub fn drain(&mut self, at: u64) -> Drain
-        ensures trace { Drains self.old.lists self.new.lists at result }
-        ensures recorded { (T : Trace) → Stands self.old.lists T → AllRecorded T result }
-        ensures room { self.new.room ≡ self.old.room }
-        ensures runs { self.new.lists.runs ≡ self.old.lists.runs }
+        ensures told { (T : Trace) → Stands self.old.now T → result ≡ drain_answer T }
+        ensures grows { Grows self.old.now self.new.now (λ T. Drained at ∷ []) }
+        ensures recorded { (T : Trace) → Stands self.old.now T → AllRecorded T result }
+        ensures before { self.new.before ≡ self.old.before }
     {
-        self.latest = at;
-        self.draining = true;
-        if self.open_items.is_empty() {
-            Drain::Drained(self.ended.len() as u64)
-        } else {
-            Drain::StillOpen(self.open_items.len() as u64)
-        }
-    }
-}
-
-impl Floor {
-    // Adds an activation, where there is room.
-    fn place(&mut self, task: Activation)
-        requires { 1 ≤ self.old.room }
-        ensures lists { self.new.lists ≡ with_accepted task self.old.lists }
-        ensures room { self.old.room ≤ self.new.room + 1 }
-    {
-        note_id(&mut self.drawn, task.id);
-        self.latest = task.at;
-        self.open_items.push_reserved(Open {
-            task,
-            state: State::Waiting,
-        });
-    }
-
-    // Starts the first that waits.
-    fn start(&mut self, alloc: Global, at: u64) -> Result<Order, NoMemory>
-        requires { self.old.lists.runs + 1 < 2 ^ 64 }
-        ensures ok { IfOk result (λ order. IsStarted self.old.lists self.new.lists at order (find waits self.old.lists.open_items)) }
-        ensures empty { OnErr result (IsSome (find waits self.old.lists.open_items)) }
-        ensures err { OnErr result (self.new.lists ≡ self.old.lists) }
-        ensures room { self.new.room ≡ self.old.room }
-    {
-        let Some(place) = waiting_place(&self.open_items) else {
-            return Ok(Order::Nothing(Idle::Empty));
-        };
-        let item = &mut self.open_items[place];
-        let order = RunOrder::of(alloc, self.runs + 1, &item.task)?;
-        item.state = State::Running(order.run);
-        self.runs = order.run;
-        self.latest = at;
-        Ok(Order::Run(order))
-    }
-
-    // Takes out what the run carries, and keeps its record.
-    fn end(
-        &mut self,
-        alloc: Global,
-        at: u64,
-        run: u64,
-        reply: RunReply,
-    ) -> Result<AnsweredTwice, AnswerRefusal>
-        ensures answer { IsAnswered self.old.lists self.new.lists at run reply (given_of result) (find (carries run) self.old.lists.open_items) }
-        ensures same { IfOk result (λ two. two.kept ≡ two.given) }
-        ensures refused { IfErr result (λ refusal. HandsBack run reply refusal) }
-        ensures err { OnErr result (self.new.lists ≡ self.old.lists) }
-        ensures room { self.old.room ≤ self.new.room + 1 }
-        ensures runs { self.new.lists.runs ≡ self.old.lists.runs }
-    {
-        let Some(place) = run_place(&self.open_items, run) else {
-            return Err(AnswerRefusal::NoRun { run, reply });
-        };
-        if self.ended.reserve(1).is_err() {
-            return Err(AnswerRefusal::NoMemory(reply));
-        }
-        let ending = Ending::Replied(reply);
-        let task = &self.open_items[place].task;
-        let Ok((ended, answered)) = record_end(alloc, &mut self.scratch, at, task, &ending) else {
-            let Ending::Replied(reply) = ending;
-            return Err(AnswerRefusal::NoMemory(reply));
-        };
-        self.ended.push_reserved(ended);
-        let _ = self.open_items.remove(place);
-        self.latest = at;
-        Ok(answered)
-    }
-}
-
-// The answer that is given, of the two.
-fn given_of(answered: Result<AnsweredTwice, AnswerRefusal>) -> Result<Answered, AnswerRefusal>
-    ensures { result ≡ given_of answered }
-{
-    match answered {
-        Ok(two) => Ok(two.given),
-        Err(refusal) => Err(refusal),
+        let busy = self.busy();
+        let count = (self.lists.spots().len() - self.lists.marks().opened) as u64;
+        self.lists.drain(at);
+        drain_by(busy, count)
     }
 }
 
@@ -324,29 +356,48 @@ fn activation_of(at: u64, plan: Plan) -> Activation
     }
 }
 
-// The record of an activation that ends so, and what is told of it, twice.
-fn record_end(
-    alloc: Global,
-    scratch: &mut Scratch,
-    at: u64,
-    task: &Activation,
-    ending: &Ending,
-) -> Result<(Ended, AnsweredTwice), NoMemory>
-    ensures entry { IfOk result (λ r. r.0 ≡ record_of (end_of at ending.now task.now)) }
-    ensures told { IfOk result (λ r. r.1.given ≡ Answered.Recorded (happened_recorded (end_of at ending.now task.now))) }
-    ensures same { IfOk result (λ r. r.1.kept ≡ r.1.given) }
+// A run has a new slot for itself.
+fn run_of(number: u64, at: u64, id: Id) -> Run
+    ensures { result ≡ run_of number at id }
 {
-    let response = outcome_in(alloc, scratch, ending, &task.action.limits)?;
-    let happening = Happening::Recorded {
-        id: task.id,
-        code: response.code(),
-    };
-    let given = Answered::Recorded(Happened::one(alloc, happening)?);
-    let kept = Answered::Recorded(Happened::one(alloc, happening)?);
-    let ended = Ended {
-        id: task.id,
+    Run {
+        number,
+        slot: number,
+        generation: 1,
         at,
-        response,
-    };
-    Ok((ended, AnsweredTwice { given, kept }))
+        id,
+        begun: false,
+    }
+}
+
+// The run has begun.
+fn begun(berth: Berth) -> Berth
+    ensures { result ≡ record { run = begun berth.run; place = berth.place } }
+{
+    Berth {
+        run: Run {
+            begun: true,
+            ..berth.run
+        },
+        place: berth.place,
+    }
+}
+
+// How much is owed without this live run.
+fn left_owed(lists: &Lists, run: Run) -> usize
+    ensures { result ≡ lists.now.now.marks.owed - owed_run run }
+{
+    let owed = if run.begun { 1 } else { 2 };
+    lists.marks().owed.saturating_sub(owed)
+}
+
+// How a floor drains where so many have not ended, and so many were accepted.
+fn drain_by(busy: u64, count: u64) -> Drain
+    ensures { result ≡ drain_by busy count }
+{
+    if busy == 0 {
+        Drain::Drained(count)
+    } else {
+        Drain::StillOpen(busy)
+    }
 }

@@ -1,18 +1,24 @@
-// The floor: which activations wait, which run, and how each one ended.
+// The floor: which activations wait, which runs are live, and how each activation ended.
 #![tactic(auto)]
 
 mod activations;
 mod answers;
+mod ends;
 mod floor;
+mod kept;
 mod laws;
+mod lists;
 mod places;
+mod runs;
 
 pub use activations::{Activation, Ended, Open, Plan, State};
 pub use answers::{
-    AnswerRefusal, Answered, AnsweredTwice, Drain, Happened, Happening, Idle, Order, RunOrder,
+    AnswerRefusal, Answered, Drain, Happened, Happening, Idle, Order, RunOrder, Swept,
 };
 pub use floor::Floor;
 pub use laws::{
-    activations_run_once, calls_keep_traces_sound, ended_were_accepted, runs_carry_one_each,
-    sound_traces_are_parted, when_drained_all_are_recorded,
+    activations_run_once, calls_keep_traces_sound, ended_were_accepted, entries_are_owed,
+    replies_after_the_end_are_late, right_items_keep_traces_sound, sound_traces_are_parted,
+    when_drained_all_are_recorded,
 };
+pub use runs::{Run, Slot};

@@ -1,23 +1,14 @@
-// Places of open activations and of ids.
-ghost use Rattle.std.specs.Prelude.{◌≡◌, ◌+◌, ◌<◌, ◌≤◌, position, vec_len, vec_capacity};
-ghost use Rattle.ow_floor.specs.View.{PlaceOf, carries, is_in, put_id, waits};
+// Places in lists.
+ghost use Rattle.std.specs.Prelude.{◌≡◌, length, position};
+ghost use Rattle.std.specs.List.{find};
+ghost use Rattle.ow_floor.specs.View.{is_end_of, is_in, last_of, is_number, is_of, is_slot, waits};
+ghost use Rattle.ow_floor.specs.Store.{AreGone, CellOf, SpotOf, run_in, slot_in};
+ghost use Rattle.ow_floor.specs.Places.{PlaceOf, has, has_id, has_open};
 
-use crate::{Open, State};
+use crate::lists::{Berth, Spot};
+use crate::{Activation, Ended, Slot, State};
 use ow_records::Id;
-
-/// The place of the first that waits.
-pub(crate) fn waiting_place(open_items: &[Open]) -> Option<usize>
-    ensures { PlaceOf waits open_items.now result }
-{
-    waiting_position(open_items)
-}
-
-/// The place of what the run carries.
-pub(crate) fn run_place(open_items: &[Open], run: u64) -> Option<usize>
-    ensures { PlaceOf (carries run) open_items.now result }
-{
-    run_position(open_items, run)
-}
+use ow_value::Shared;
 
 /// The place of the first id of the namespace.
 pub(crate) fn namespace_place(ids: &[Id], namespace: u64) -> Option<usize>
@@ -26,38 +17,124 @@ pub(crate) fn namespace_place(ids: &[Id], namespace: u64) -> Option<usize>
     namespace_position(ids, namespace)
 }
 
-/// The last id of its namespace is this one from now on. There is room for it.
-pub(crate) fn note_id(ids: &mut Vec<Id>, id: Id)
-    requires { vec_len ids.old < vec_capacity ids.old }
-    ensures items { ids.new.items ≡ put_id id ids.old.items }
-    ensures len { vec_len ids.new ≤ vec_len ids.old + 1 }
-    ensures capacity { vec_capacity ids.old ≤ vec_capacity ids.new }
-{
-    match namespace_place(ids, id.namespace) {
-        Some(place) => ids[place] = id,
-        None => ids.push_reserved(id),
-    }
-}
-
-fn waiting_position(open_items: &[Open]) -> Option<usize>
-    ensures { result ≡ position waits open_items.now }
-{
-    open_items
-        .iter()
-        .position(|item| matches!(item.state, State::Waiting))
-}
-
-fn run_position(open_items: &[Open], run: u64) -> Option<usize>
-    ensures { result ≡ position (carries run) open_items.now }
-{
-    open_items.iter().position(|item| match item.state {
-        State::Running(number) => number == run,
-        State::Waiting => false,
-    })
-}
-
 fn namespace_position(ids: &[Id], namespace: u64) -> Option<usize>
     ensures { result ≡ position (is_in namespace) ids.now }
 {
     ids.iter().position(|id| id.namespace == namespace)
+}
+
+/// The place of the record of an activation.
+pub(crate) fn record_place(ended: &[Ended], id: Id) -> Option<usize>
+    ensures { PlaceOf (is_end_of id) ended.now result }
+{
+    record_position(ended, id)
+}
+
+fn record_position(ended: &[Ended], id: Id) -> Option<usize>
+    ensures { result ≡ position (is_end_of id) ended.now }
+{
+    ended.iter().position(|e| e.id == id)
+}
+
+/// The place of the live run of this number. At the first `from` places no run stands.
+pub(crate) fn run_place(runs: &[Option<Berth>], from: usize, run: u64) -> Option<usize>
+    requires { AreGone from runs.now }
+    ensures { CellOf run_in (is_number run) runs.now result }
+{
+    for i in from..runs.len() {
+        if is_run(&runs[i], run) {
+            return Some(i);
+        }
+    }
+    None
+}
+
+// Whether the run of this number stands there.
+fn is_run(cell: &Option<Berth>, run: u64) -> bool
+    ensures { result ≡ has run_in (is_number run) cell.now }
+{
+    match cell {
+        Some(berth) => berth.run.number == run,
+        None => false,
+    }
+}
+
+/// The place of the slot of this number and generation.
+pub(crate) fn slot_place(slots: &[Option<Slot>], slot: u64, generation: u64) -> Option<usize>
+    ensures { CellOf slot_in (is_slot slot generation) slots.now result }
+{
+    slot_position(slots, slot, generation)
+}
+
+fn slot_position(slots: &[Option<Slot>], slot: u64, generation: u64) -> Option<usize>
+    ensures { result ≡ position (has slot_in (is_slot slot generation)) slots.now }
+{
+    slots.iter().position(|cell| match cell {
+        Some(found) => found.place == slot && found.generation == generation,
+        None => false,
+    })
+}
+
+/// The place of the first activation that waits. At the first `from` places nothing stands.
+pub(crate) fn waiting_place(
+    spots: &[Spot],
+    tasks: &[Option<Shared<Activation>>],
+    from: usize,
+) -> Option<usize>
+    requires paired { length tasks.now ≡ length spots.now }
+    requires gone { AreGone from tasks.now }
+    ensures { SpotOf waits spots.now tasks.now result }
+{
+    for i in from..spots.len() {
+        if waits_at(spots[i], &tasks[i]) {
+            return Some(i);
+        }
+    }
+    None
+}
+
+/// The place of the open activation of this id. At the first `from` places nothing stands.
+pub(crate) fn open_place(
+    spots: &[Spot],
+    tasks: &[Option<Shared<Activation>>],
+    from: usize,
+    id: Id,
+) -> Option<usize>
+    requires paired { length tasks.now ≡ length spots.now }
+    requires gone { AreGone from tasks.now }
+    ensures { SpotOf (is_of id) spots.now tasks.now result }
+{
+    for i in from..spots.len() {
+        if is_at(&tasks[i], id) {
+            return Some(i);
+        }
+    }
+    None
+}
+
+// Whether an activation stands there, and waits.
+fn waits_at(spot: Spot, task: &Option<Shared<Activation>>) -> bool
+    ensures { result ≡ has_open waits spot task.now }
+{
+    task.is_some() && matches!(spot.state, State::Waiting)
+}
+
+// Whether the activation of this id stands there.
+fn is_at(task: &Option<Shared<Activation>>, id: Id) -> bool
+    ensures { result ≡ has_id id task.now }
+{
+    match task {
+        Some(task) => task.get().id == id,
+        None => false,
+    }
+}
+
+/// The last count of the namespace, 0 where it has none.
+pub(crate) fn last_of(ids: &[Id], namespace: u64) -> u64
+    ensures { result ≡ last_of ids.now namespace }
+{
+    match namespace_place(ids, namespace) {
+        Some(place) => ids[place].count,
+        None => 0,
+    }
 }

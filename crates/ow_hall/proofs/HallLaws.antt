@@ -1,100 +1,185 @@
--- What is booked, by what the code has in hand.
-use Rattle.std.proofs.Common.{[], ◌≡◌, ◌+◌, ◌<◌, ◌≤◌, ◌^◌, ◌∙◌, ℕ, Bool, false, ◌∷◌, Some, if◌then◌else◌, length, refl, sym, ap, subst, arith}
+-- What is posted keeps the hall, and what isn't booked changes nothing.
+use Rattle.std.proofs.Common.{◌≡◌, ◌∙◌, ◌+◌, ◌≤◌, ◌++◌, ℕ, Bool, false, List, [], ◌∷◌, Option, Some, None, Result, Ok, Err, refl, sym, ap, subst, arith}
 use Rattle.std.proofs.Math.Nat.{le-max_left, max-le, min-le_right}
-use Rattle.ow_floor.specs.View.{last_of}
+use Rattle.ow_traits.specs.declared.replies.RunReply.{RunReply}
+use Rattle.ow_floor.specs.View.{Shown}
+use Rattle.ow_floor.specs.Trace.{Trace, head, live_run, run_count, shown}
+use Rattle.ow_floor.specs.Calls.{answer_by, order_items, order_of, reply_items}
 use Rattle.ow_floor.specs.Laws.{Stands}
-use Rattle.ow_http.specs.Parts.{Parts}
+use Rattle.ow_floor.specs.declared.activations.Open.{Open}
+use Rattle.ow_floor.specs.declared.activations.Plan.{Plan}
+use Rattle.ow_floor.specs.declared.answers.Answered.{Answered}
+use Rattle.ow_floor.specs.declared.runs.Run.{Run}
 use Rattle.ow_http.specs.Request.{parts_of}
-use Rattle.ow_http.specs.declared.request.Request.{Request}
-use Rattle.ow_hall.specs.declared.done.Done.{Done}
-use Rattle.ow_hall.specs.declared.done.Done.TheVariants.{Refused, Shown, Changed}
+use Rattle.ow_http.specs.declared.reason.Reason.{Reason}
+use Rattle.ow_tables.specs.Contents.{Change}
 use Rattle.ow_hall.specs.declared.entry.Event.{Event}
 use Rattle.ow_hall.specs.declared.entry.Event.TheVariants as events
 use Rattle.ow_hall.specs.declared.entry.Told.{Told}
-use Rattle.ow_hall.specs.Asks.{asked}
-use Rattle.ow_hall.specs.Book.{Keeps}
-use Rattle.ow_hall.specs.Decisions.{Seen, Decision, Asks, told_of, after}
-use Rattle.ow_hall.specs.History.{AreAnswered, History, IsLegal, answer, counted, decision, greatest_moment, is_skipped, last_moment, moment, opens_here, seen, with_entry}
-use Rattle.ow_hall.specs.Ledger.{Ledger, posted, tallied}
-use Rattle.ow_hall.specs.State.{StateView, IsAt, done_of, is_full_done}
-use Rattle.ow_hall.proofs.Bounds.{runs_small, last_small}
+use Rattle.ow_hall.specs.declared.entry.Told.TheVariants as told
+use Rattle.ow_hall.specs.declared.posting.Posting.{Posting}
+use Rattle.ow_hall.specs.declared.posting.Posting.TheVariants.{Booked, Quiet, Denied, Unbooked}
+use Rattle.ow_hall.specs.declared.replies.Called.TheVariants as called
+use Rattle.ow_hall.specs.declared.step.Now.{Now}
+use Rattle.ow_hall.specs.declared.step.Step.{Step}
+use Rattle.ow_hall.specs.declared.tenants.Tenants.{Tenants}
+use Rattle.ow_hall.specs.declared.waits.Wait.{Wait}
+use Rattle.ow_hall.specs.declared.waits.Waits.{Waits}
+use Rattle.ow_hall.specs.declared.waits.Waits.TheVariants.{Keep}
+use Rattle.ow_hall.specs.Sight.{Sight}
+use Rattle.ow_hall.specs.Decision.{Decision, adds, tells}
+use Rattle.ow_hall.specs.Asking.{Done, Shown as ShownDone, Changed, ask_decision, refusal_told, request_done}
+use Rattle.ow_hall.specs.Calling.{call_decision, call_plan}
+use Rattle.ow_hall.specs.Decisions.{decide, reply_told}
+use Rattle.ow_hall.specs.Posting.{posting_by}
+use Rattle.ow_hall.specs.History.{AreAnswered, History, IsLegal, Seen, after, all_changed, answer, counted, decision, greatest_moment, is_idle, is_opening, last_moment, moment, opens_here, posting, seen, sight, waits_after}
+use Rattle.ow_hall.specs.Ledger.{Ledger, no_entries, posted, posted_as}
+use Rattle.ow_hall.specs.State.{Carries, Does, IsAt, Keeps, StateView, changes_of}
 
--- ---- what is left out
+-- ---- what isn't booked changes nothing
 
-pub skips_done : (B : History) (d : Done) → is_skipped B (Asks (done_of d)) ≡ is_full_done d
-skips_done B (Refused reason) = refl
-skips_done B (Shown value) = refl
-skips_done B (Changed ready) = refl
+abbrev Leaves : Decision → Type 0
+Leaves d = (d.items ≡ []) × (d.changes ≡ []) × (d.waits ≡ Keep)
 
--- ---- numbers that fit
+abbrev Unless : Posting → Type 0 → Type 0
+Unless Booked X = Unit {0}
+Unless p X = X
 
-pub runs_fit : (w : StateView) (L : Ledger) → Keeps w L → length L.entries < 2 ^ 63 → w.floor.runs + 1 < 2 ^ 64
-runs_fit w L keeps small =
-    let most = runs_small L.entries in
-    rw keeps.stands.stands.runs (omega (arith, most, small))
+abbrev Unbooks : Bool → Decision → Type 0
+Unbooks idle d = Unless (posting_by idle d.told) (Leaves d)
 
-pub last_fit : (w : StateView) (L : Ledger) → Keeps w L → length L.entries < 2 ^ 63 → (n : ℕ) → last_of w.floor.drawn n + 1 < 2 ^ 64
-last_fit w L keeps small = λ n.
-    let most = last_small L.entries n in
-    rw (keeps.stands.stands.drawn n) (omega (arith, most, small))
+unless_any : (p : Posting) (X : Type 0) → X → Unless p X
+unless_any Booked X x = tt
+unless_any Quiet X x = x
+unless_any Denied X x = x
+unless_any Unbooked X x = x
 
--- ---- what was decided, by what the code has in hand
+tells_so : (idle : Bool) (t : Told) → Unbooks idle (tells t)
+tells_so idle t = unless_any (posting_by idle t) (Leaves (tells t)) (refl, refl, refl)
 
-pub decided_ask : (w : StateView) (L : Ledger) (at n : ℕ) (r : Request) (p : Parts) (d : Done) → Keeps w L
-    → done_of d ≡ asked w.rows n p → n ≡ counted L.entries → parts_of r ≡ p → decision L.entries at (events.Asked r) ≡ Asks (done_of d)
-decided_ask w L at n r p d keeps done count parts =
-    ap (λ rows. Asks (asked rows (counted L.entries) (parts_of r))) (sym keeps.stands.rows)
-    ∙ (ap (λ m. Asks (asked w.rows m (parts_of r))) (sym count)
-    ∙ (ap (λ q. Asks (asked w.rows n q)) parts ∙ ap Asks (sym done)))
+ask_so : (idle : Bool) (d : Result Done Reason) → Unbooks idle (ask_decision d)
+ask_so idle (Ok (ShownDone value)) = tt
+ask_so idle (Ok (Changed change)) = tt
+ask_so idle (Err reason) = tells_so idle (refusal_told reason)
 
--- floor and rows that stand as before
-pub stays_at : (old new : StateView) (S : Seen) → new.floor ≡ old.floor → new.rows ≡ old.rows → IsAt old S → IsAt new S
-stays_at old new S floor rows stands = record {
-  stands = subst (λ v. Stands v S.trace) (sym floor) stands.stands;
-  rows = rows ∙ stands.rows;
-}
+call_so : (idle : Bool) (S : Sight) (p : Result Plan Reason) → Unbooks idle (call_decision S p)
+call_so idle S (Ok plan) = tt
+call_so idle S (Err reason) = tells_so idle (told.Called (called.Refused reason))
 
--- ---- what a call does to the ledger
+order_so : (idle : Bool) (run at : ℕ) (o : Option Open) → Unbooks idle (adds (told.Next (order_of run o)) (order_items run at o))
+order_so idle run at None = tells_so idle (told.Next (order_of run None))
+order_so idle run at (Some o) = tt
 
--- with one more entry
-abbrev pub with : ℕ → Event → Told → Ledger → Ledger
-with at event t L = record L { entries = record { at = at; event = event; answer = t } ∷ L.entries }
+reply_so : (idle : Bool) (at run : ℕ) (reply : RunReply) (v : Shown) (r : Option Run)
+    → Unbooks idle (adds (reply_told run reply (answer_by at run reply v r)) (reply_items at run reply v r))
+reply_so idle at run reply v None = (refl, refl, refl)
+reply_so idle at run reply v (Some r) = tt
 
-abbrev posting : Ledger → ℕ → Event → Decision → Ledger
-posting L at event d = if is_skipped L.entries d then tallied d L else record L { entries = with_entry at event (told_of d) L.entries }
+pub unbooked : (idle : Bool) (S : Sight) (event : Event) → Unbooks idle (decide S event)
+unbooked idle S (events.Opened rows) = tt
+unbooked idle S (events.Asked r) = ask_so idle (request_done S (parts_of r))
+unbooked idle S (events.Called name params) = call_so idle S (call_plan S name params)
+unbooked idle S events.Next = order_so idle (run_count S.trace + 1) S.moment (head S.trace)
+unbooked idle S (events.Answered run reply) = reply_so idle S.moment run reply (shown S.trace) (live_run S.trace run)
+unbooked idle S events.Drain = tt
 
-put_in : (L : Ledger) (at : ℕ) (event : Event) (d : Decision) (t : Told) → is_skipped L.entries d ≡ false → told_of d ≡ Some t → with at event t L ≡ posting L at event d
-put_in L at event d t kept told = rw kept (rw told refl)
-
--- what isn't left out is booked with its answer
-pub posted_kept : (L : Ledger) (at : ℕ) (event : Event) (d : Decision) (t : Told) → decision L.entries at event ≡ d → is_skipped L.entries d ≡ false → told_of d ≡ Some t
-    → with at event t L ≡ posted L at event
-posted_kept L at event d t same kept told = put_in L at event d t kept told ∙ ap (posting L at event) (sym same)
-
--- the answer is that of what was decided
-pub told_as : (L : Ledger) (at : ℕ) (event : Event) (d : Decision) (t : Told) → decision L.entries at event ≡ d → told_of d ≡ Some t → Some t ≡ answer L.entries at event
-told_as L at event d t same told = sym told ∙ ap told_of (sym same)
-
--- ---- what a hall keeps
+-- ---- moments
 
 pub not_before : (B : History) (at : ℕ) → last_moment B ≤ moment B at
 not_before B at = le-max_left _ _
 
-newest_small : (B : History) → AreAnswered B → last_moment B ≤ greatest_moment
-newest_small [] answered = omega arith
-newest_small (e ∷ B) answered = answered.2
+newest_small : (t : Tenants) (B : History) → AreAnswered t B → last_moment B ≤ greatest_moment
+newest_small t [] answered = omega arith
+newest_small t (e ∷ B) answered = answered.3
 
-pub not_after : (B : History) (at : ℕ) → IsLegal B → moment B at ≤ greatest_moment
-not_after B at legal = max-le (newest_small B legal.answered) (min-le_right at greatest_moment)
+pub not_after : (t : Tenants) (B : History) (at : ℕ) → IsLegal t B → moment B at ≤ greatest_moment
+not_after t B at legal = max-le (newest_small t B legal.answered) (min-le_right at greatest_moment)
 
--- an entry that is booked as it was decided, and carried out so
-pub keeps_entry : (old new : StateView) (L : Ledger) (at : ℕ) (event : Event) (d : Decision) (t : Told) → Keeps old L
-    → last_moment L.entries ≤ at → at ≤ greatest_moment → ((b : Bool) → opens_here event L.entries b ≡ b)
-    → decision L.entries at event ≡ d → told_of d ≡ Some t → IsAt new (after at d (seen L.entries)) → Keeps new (with at event t L)
-keeps_entry old new L at event d t keeps later most opens same told stands = record {
-  stands = rw same stands;
-  legal = record {
-    answered = (told_as L at event d t same told, later, most, keeps.legal.answered);
-    opened = opens _ ∙ keeps.legal.opened;
-  };
+-- ---- what is posted keeps the hall
+
+opens_so : (event : Event) (B : History) (b : Bool) → is_opening event ≡ false → opens_here event B b ≡ b
+opens_so (events.Opened rows) B b later = cc
+opens_so (events.Asked r) B b later = refl
+opens_so (events.Called name params) B b later = refl
+opens_so events.Next B b later = refl
+opens_so (events.Answered run reply) B b later = refl
+opens_so events.Drain B b later = refl
+
+left : (t : Tenants) (L : Ledger) (new : StateView) (at : ℕ) (event : Event) → IsAt new (after (decision t L.entries at event) (seen t L.entries))
+    → Leaves (decision t L.entries at event) → IsAt new (seen t L.entries)
+left t L new at event stands leaves =
+    let s = seen t L.entries in
+    record {
+      stands = subst (λ (T : Trace). Stands new.floor.now (T ++ s.trace)) leaves.0 stands.stands;
+      rows = subst (λ (cs : List Change). new.rows ≡ all_changed cs s.rows) leaves.1 stands.rows;
+      waits = subst (λ (w : Waits). new.waits ≡ waits_after w s.waits) leaves.2 stands.waits;
+    }
+
+post_by : (p : Posting) (t : Tenants) (L : Ledger) (new : StateView) (at : ℕ) (event : Event) (told_is : Told) → posting L.entries told_is ≡ p → IsLegal t L.entries
+    → last_moment L.entries ≤ at → at ≤ greatest_moment → is_opening event ≡ false → told_is ≡ answer t L.entries at event → new.floor.before ≡ None
+    → IsAt new (after (decision t L.entries at event) (seen t L.entries)) → Unless p (Leaves (decision t L.entries at event))
+    → Keeps new t (posted_as p (record { at = at; event = event; answer = told_is }) L)
+post_by Booked t L new at event told_is booked legal late most later same free stands leaves = record {
+  stands = stands;
+  legal = record { answered = (same, booked, late, most, legal.answered); opened = opens_so event L.entries _ later ∙ legal.opened };
+  free = free;
+}
+post_by Quiet t L new at event told_is booked legal late most later same free stands leaves = record { stands = left t L new at event stands leaves; legal = legal; free = free }
+post_by Denied t L new at event told_is booked legal late most later same free stands leaves = record { stands = left t L new at event stands leaves; legal = legal; free = free }
+post_by Unbooked t L new at event told_is booked legal late most later same free stands leaves = record { stands = left t L new at event stands leaves; legal = legal; free = free }
+
+-- what a step has that was done, and what the floor has then
+pub step_at : (t : Tenants) (B : History) (old : StateView) (mid : Shown) (now : Now) (event : Event) (step : Step) → IsAt old (seen t B) → now.counted ≡ counted B
+    → Does old mid t now (λ S. decide S event) step
+    → Carries step (decision t B now.at event) × Stands mid ((decision t B now.at event).items ++ (seen t B).trace)
+step_at t B old mid now event step stands count does =
+    does (sight t (seen t B) (counted B) now.at)
+    (record { tenants = refl; rows = sym stands.rows; stands = stands.stands; counted = sym count; moment = refl }) (sym stands.waits)
+
+-- what a step has that was done, and how floor, rows and waits stand once its change is made
+pub done_at : (t : Tenants) (B : History) (old new : StateView) (mid : Shown) (now : Now) (event : Event) (step : Step) → IsAt old (seen t B) → now.counted ≡ counted B
+    → Does old mid t now (λ S. decide S event) step → new.floor.now ≡ mid → new.rows ≡ all_changed (changes_of step.change) old.rows → new.waits ≡ waits_after step.waits old.waits
+    → Carries step (decision t B now.at event) × IsAt new (after (decision t B now.at event) (seen t B))
+done_at t B old new mid now event step stands count does floor rows waits =
+    let s = seen t B in
+    let h = step_at t B old mid now event step stands count does in (
+      h.0,
+      record {
+        stands = rw floor h.1;
+        rows = rows ∙ (ap (λ (rs : _). all_changed (changes_of step.change) rs) stands.rows ∙ ap (λ (cs : List Change). all_changed cs s.rows) h.0.changes);
+        waits = waits ∙ (ap (waits_after step.waits) stands.waits ∙ ap (λ (w : Waits). waits_after w s.waits) h.0.waits);
+      },
+    )
+
+-- an answer that is posted
+pub answers : (t : Tenants) (L : Ledger) (old new : StateView) (mid : Shown) (now : Now) (event : Event) (step : Step) → Keeps old t L → now.counted ≡ counted L.entries
+    → last_moment L.entries ≤ now.at → now.at ≤ greatest_moment → is_opening event ≡ false → new.floor.before ≡ None
+    → Does old mid t now (λ S. decide S event) step → new.floor.now ≡ mid → new.rows ≡ all_changed (changes_of step.change) old.rows → new.waits ≡ waits_after step.waits old.waits
+    → (step.told ≡ answer t L.entries now.at event) × Keeps new t (posted L now.at event step.told)
+answers t L old new mid now event step keeps count late most later free does floor rows waits =
+    let h = done_at t L.entries old new mid now event step keeps.stands count does floor rows waits in
+    let un = unbooked (is_idle L.entries) (sight t (seen t L.entries) (counted L.entries) now.at) event in
+    let un' = subst (λ (x : Told). Unless (posting_by (is_idle L.entries) x) (Leaves (decision t L.entries now.at event))) (sym h.0.told) un in
+    (h.0.told, post_by (posting L.entries step.told) t L new now.at event step.told refl keeps.legal late most later h.0.told free h.1 un')
+
+-- what was taken back stands as before
+pub stays : (old new : StateView) (t : Tenants) (L : Ledger) → new.floor.now ≡ old.floor.now → new.floor.before ≡ None → new.rows ≡ old.rows → new.waits ≡ old.waits
+    → Keeps old t L → Keeps new t L
+stays old new t L floor free rows waits keeps = record {
+  stands = record { stands = rw floor keeps.stands.stands; rows = rows ∙ keeps.stands.rows; waits = waits ∙ keeps.stands.waits };
+  legal = keeps.legal;
+  free = free;
+}
+
+-- ---- an opening
+
+pub small_at : (at : ℕ) → moment [] at ≤ greatest_moment
+small_at at = max-le (omega arith) (min-le_right at greatest_moment)
+
+pub opened_keeps : (t : Tenants) (w : StateView) (at : ℕ) → IsAt w (seen t []) → w.floor.before ≡ None → at ≤ greatest_moment
+    → Keeps w t (posted no_entries at (events.Opened []) (told.Opened []))
+opened_keeps t w at stands free most = record {
+  stands = stands;
+  legal = record { answered = (refl, refl, omega arith, most, tt); opened = refl };
+  free = free;
 }

@@ -1,4 +1,5 @@
+pub mod Beginnings
 mod AskLaws
-mod Bounds
 mod HallLaws
-mod ReasonLaws
+mod Results
+mod RoomLaws

@@ -1,18 +1,29 @@
 -- The book: events with their moments and answers, the newest first. Every word about it is a recursion over that list.
-use Rattle.std.specs.Prelude.{◌≡◌, ◌+◌, ◌≤◌, ℕ, Bool, true, false, List, [], ◌∷◌, length, map, sum, min, max, Option, Some, None, Err}
+use Rattle.std.specs.Prelude.{◌≡◌, ◌+◌, ◌++◌, ◌≤◌, ℕ, Bool, true, false, List, [], ◌∷◌, length, map, sum, min, max}
 use Rattle.ow_traits.specs.declared.replies.RunReply.{RunReply}
 use Rattle.ow_traits.specs.declared.replies.RunReply.TheVariants as runs
-use Rattle.ow_floor.specs.declared.answers.Order.TheVariants as orders
-use Rattle.ow_hall.specs.Reasons.{tells_full}
+use Rattle.ow_entity.specs.declared.rows.Row.{Row}
+use Rattle.ow_tables.specs.Builtin.{builtin}
+use Rattle.ow_tables.specs.Contents.{Change}
+use Rattle.ow_tables.specs.Rows.{changed}
+use Rattle.ow_floor.specs.Trace.{Trace}
 use Rattle.ow_hall.specs.declared.entry.Entry.{Entry}
 use Rattle.ow_hall.specs.declared.entry.Event.{Event}
 use Rattle.ow_hall.specs.declared.entry.Event.TheVariants as events
 use Rattle.ow_hall.specs.declared.entry.Told.{Told}
 use Rattle.ow_hall.specs.declared.entry.Told.TheVariants as told
+use Rattle.ow_hall.specs.declared.posting.Posting.{Posting}
+use Rattle.ow_hall.specs.declared.posting.Posting.TheVariants.{Booked}
 use Rattle.ow_hall.specs.declared.replies.Reply.{Reply}
 use Rattle.ow_hall.specs.declared.replies.Reply.TheVariants as replies
-use Rattle.ow_hall.specs.Asks.{Refused}
-use Rattle.ow_hall.specs.Decisions.{Seen, Decision, Asks, Declines, Orders, Ends, nothing_seen, decide, told_of, after}
+use Rattle.ow_hall.specs.declared.tenants.Tenants.{Tenants}
+use Rattle.ow_hall.specs.declared.waits.Wait.{Wait}
+use Rattle.ow_hall.specs.declared.waits.Waits.{Waits}
+use Rattle.ow_hall.specs.declared.waits.Waits.TheVariants.{Keep, Add, Clear}
+use Rattle.ow_hall.specs.Sight.{Sight}
+use Rattle.ow_hall.specs.Decision.{Decision}
+use Rattle.ow_hall.specs.Decisions.{decide}
+use Rattle.ow_hall.specs.Posting.{is_idle_answer, posting_by}
 
 -- the entries, the newest first
 abbrev pub History : Type 0
@@ -65,56 +76,69 @@ moment B at = max (last_moment B) (min at greatest_moment)
 
 -- ---- what came of the entries
 
--- rows and happenings after them
-abbrev pub seen : History → Seen
-seen [] = nothing_seen
-seen (e ∷ B) = after e.at (decide (seen B) (counted B) e.at e.event) (seen B)
+-- the rows, what happened on the floor, and who waits for an end
+pub record Seen : Type 0 where
+  pub rows : List Row
+  pub trace : Trace
+  pub waits : List Wait
+
+-- the rows after these changes, of which the first is made first
+abbrev pub all_changed : List Change → List Row → List Row
+all_changed [] rs = rs
+all_changed (c ∷ cs) rs = all_changed cs (changed c rs)
+
+abbrev pub waits_after : Waits → List Wait → List Wait
+waits_after Keep ws = ws
+waits_after (Add w) ws = ws ++ w ∷ []
+waits_after Clear ws = []
+
+-- what is seen once a decision is carried out, of whatever event
+abbrev pub after : Decision → Seen → Seen
+after d s = record { rows = all_changed d.changes s.rows; trace = d.items ++ s.trace; waits = waits_after d.waits s.waits }
+
+-- with the office table, the counted bytes and the moment
+abbrev pub sight : Tenants → Seen → ℕ → ℕ → Sight
+sight t s n at = record { tenants = t; rows = s.rows; trace = s.trace; waits = s.waits; counted = n; moment = at }
+
+-- behind these entries; before the first the built-in rows stand
+abbrev pub seen : Tenants → History → Seen
+seen t [] = record { rows = builtin; trace = []; waits = [] }
+seen t (e ∷ B) = after (decide (sight t (seen t B) (counted B) e.at) e.event) (seen t B)
 
 -- what is done at an event behind these entries
-abbrev pub decision : History → ℕ → Event → Decision
-decision B at event = decide (seen B) (counted B) at event
+abbrev pub decision : Tenants → History → ℕ → Event → Decision
+decision t B at event = decide (sight t (seen t B) (counted B) at) event
 
--- the one answer to an event; none to a runner's reply to a run that isn't live
-abbrev pub answer : History → ℕ → Event → Option Told
-answer B at event = told_of (decision B at event)
+-- the one answer to an event
+abbrev pub answer : Tenants → History → ℕ → Event → Told
+answer t B at event = (decision t B at event).told
 
 -- ---- what is booked
-
--- nothing is to run
-abbrev pub is_idle_answer : Told → Bool
-is_idle_answer (told.Next (orders.Nothing idle)) = true
-is_idle_answer t = false
 
 -- the newest entry is a `next` that ordered nothing
 abbrev pub is_idle : History → Bool
 is_idle [] = false
 is_idle (e ∷ B) = is_idle_answer e.answer
 
--- what isn't booked: a `next` that orders nothing behind one that did; a runner's reply to a run that isn't live; an answer
--- that the book is full
-abbrev pub is_skipped : History → Decision → Bool
-is_skipped B (Orders (orders.Nothing idle)) = is_idle B
-is_skipped B (Ends run reply (Err refusal)) = true
-is_skipped B (Asks (Refused reason)) = tells_full reason
-is_skipped B (Declines reason) = tells_full reason
-is_skipped B d = false
-
--- with an entry more, where there is an answer
-abbrev pub with_entry : ℕ → Event → Option Told → History → History
-with_entry at event None B = B
-with_entry at event (Some t) B = record { at = at; event = event; answer = t } ∷ B
+-- how an answer is posted behind these entries
+abbrev pub posting : History → Told → Posting
+posting B t = posting_by (is_idle B) t
 
 -- ---- legal books
 
--- each answer is the answer of the entries before it, and the moments don't fall and are at most the greatest
-abbrev pub AreAnswered : History → Type 0
-AreAnswered [] = Unit {0}
-AreAnswered (e ∷ B) = (Some e.answer ≡ answer B e.at e.event) × (last_moment B ≤ e.at) × (e.at ≤ greatest_moment) × AreAnswered B
+-- each answer is the answer of the entries before it, and is booked behind them; the moments don't fall and are at most the greatest
+abbrev pub AreAnswered : Tenants → History → Type 0
+AreAnswered t [] = Unit {0}
+AreAnswered t (e ∷ B) = (e.answer ≡ answer t B e.at e.event) × (posting B e.answer ≡ Booked) × (last_moment B ≤ e.at) × (e.at ≤ greatest_moment) × AreAnswered t B
 
 -- there is no entry
 abbrev pub is_empty : History → Bool
 is_empty [] = true
 is_empty (e ∷ B) = false
+
+abbrev pub is_opening : Event → Bool
+is_opening (events.Opened rows) = true
+is_opening event = false
 
 -- an opening stands behind no entry; at another event it is as before
 abbrev pub opens_here : Event → History → Bool → Bool
@@ -127,6 +151,6 @@ is_opened [] = false
 is_opened (e ∷ B) = opens_here e.event B (is_opened B)
 
 -- each is answered so, and the service was opened first
-pub record IsLegal (B : History) : Type 0 where
-  pub answered : AreAnswered B
+pub record IsLegal (t : Tenants) (B : History) : Type 0 where
+  pub answered : AreAnswered t B
   pub opened : is_opened B ≡ true

@@ -1,9 +1,16 @@
 -- A book with its tallies of what isn't booked.
-use Rattle.std.specs.Prelude.{◌+◌, ◌-◌, ◌^◌, ◌==◌, ℕ, List, [], if◌then◌else◌}
+use Rattle.std.specs.Prelude.{◌≡◌, ◌+◌, ◌-◌, ◌*◌, ◌^◌, ◌<◌, ◌≤◌, ◌==◌, ℕ, List, [], ◌∷◌, if◌then◌else◌}
+use Rattle.ow_floor.specs.Trace.{Trace}
+use Rattle.ow_floor.specs.Owed.{owed}
 use Rattle.ow_hall.specs.declared.entry.Entry.{Entry}
 use Rattle.ow_hall.specs.declared.entry.Event.{Event}
-use Rattle.ow_hall.specs.Decisions.{Decision, Orders, Ends}
-use Rattle.ow_hall.specs.History.{History, decision, answer, is_skipped, with_entry}
+use Rattle.ow_hall.specs.declared.entry.Event.TheVariants as events
+use Rattle.ow_hall.specs.declared.entry.Told.{Told}
+use Rattle.ow_hall.specs.declared.entry.Told.TheVariants as told
+use Rattle.ow_hall.specs.declared.posting.Posting.{Posting}
+use Rattle.ow_hall.specs.declared.posting.Posting.TheVariants.{Booked, Quiet, Denied, Unbooked}
+use Rattle.ow_hall.specs.declared.tenants.Tenants.{Tenants}
+use Rattle.ow_hall.specs.History.{History, answer, counted, event_bytes, moment, posting, told_bytes}
 
 -- the entries, the newest first; how many calls met a fault of the store; how many calls of `next` and how many events of
 -- runners weren't booked
@@ -21,16 +28,40 @@ no_entries = record { entries = []; stored = 0; quiet = 0; denied = 0 }
 unfoldable pub one_more : ℕ → ℕ
 one_more n = if n == 2 ^ 64 - 1 then n else n + 1
 
--- what isn't booked is tallied, where it has a tally
-abbrev pub tallied : Decision → Ledger → Ledger
-tallied (Orders order) L = record L { quiet = one_more L.quiet }
-tallied (Ends run reply answer) L = record L { denied = one_more L.denied }
-tallied d L = L
+-- an entry is booked, tallied, or neither
+abbrev pub posted_as : Posting → Entry → Ledger → Ledger
+posted_as Booked e L = record L { entries = e ∷ L.entries }
+posted_as Quiet e L = record L { quiet = one_more L.quiet }
+posted_as Denied e L = record L { denied = one_more L.denied }
+posted_as Unbooked e L = L
 
--- the ledger after a call
-abbrev pub posted : Ledger → ℕ → Event → Ledger
-posted L at event = if is_skipped L.entries (decision L.entries at event) then tallied (decision L.entries at event) L
-    else record L { entries = with_entry at event (answer L.entries at event) L.entries }
+-- how many entries it takes
+abbrev pub cost : Posting → ℕ
+cost Booked = 1
+cost other = 0
+
+-- the ledger after an answer
+abbrev pub posted : Ledger → ℕ → Event → Told → Ledger
+posted L at event t = posted_as (posting L.entries t) (record { at = at; event = event; answer = t }) L
+
+-- the ledger of a service that was just opened, over no kept rows
+abbrev pub opened : Tenants → ℕ → Ledger
+opened t at = posted no_entries (moment [] at) (events.Opened []) (answer t [] (moment [] at) (events.Opened []))
+
+-- a call met a fault of the store
+abbrev pub faulted : Ledger → Ledger
+faulted L = record L { stored = one_more L.stored }
+
+-- an entry has its bytes, room, and a count, with so many more entries behind it that count 64 each
+pub record IsReady (B : History) (room owed : ℕ) (event : Event) (t : Told) (bytes : ℕ) : Type 0 where
+  pub bytes_are : bytes ≡ event_bytes event + told_bytes t
+  pub within : owed + 1 ≤ room
+  pub fits : (counted B + (64 + bytes)) + 64 * owed < 2 ^ 64
+
+-- there is room for each entry that a later beginning, reply or loss of a run, or going of a container, may need, and a count
+pub record HasRoom (T : Trace) (L : Ledger) (room : ℕ) : Type 0 where
+  pub within : owed T ≤ room
+  pub fits : counted L.entries + 64 * owed T < 2 ^ 64
 
 -- a list of entries of the code, the oldest first, and for how many more there is room
 pub record EntriesView : Type 0 where

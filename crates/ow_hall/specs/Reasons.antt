@@ -1,51 +1,46 @@
--- Refusals, by the numbers by which clients know them.
-use Rattle.std.specs.Prelude.{◌≢◌, ◌==◌, ℕ, Bool, Option, Some, None, IsSome, if◌then◌else◌}
-use Rattle.ow_value.specs.Refusal as values
-use Rattle.ow_entity.specs.FieldName.{field_name}
-use Rattle.ow_entity.specs.Refusal as entities
-use Rattle.ow_entity.specs.declared.refusal.EntityRefusal.{EntityRefusal}
-use Rattle.ow_entity.specs.declared.refusal.EntityRefusal.TheVariants.{MissingField, WrongType, OutOfRange}
-use Rattle.ow_tables.specs.Refusals.{table_refusal_number}
+-- What the hall refuses, and what it makes of the refusals of the crates below.
+use Rattle.std.specs.Prelude.{Bool, true, false}
+use Rattle.ow_entity.specs.declared.refusal.EntityRefusal.TheVariants.{TooLarge}
 use Rattle.ow_tables.specs.declared.refusal.TableRefusal.{TableRefusal}
-use Rattle.ow_tables.specs.declared.refusal.TableRefusal.TheVariants.{Entity}
-use Rattle.ow_http.specs.Reason.{plain, naming, name_reason, status_of, told}
-use Rattle.ow_http.specs.declared.call_refusal.CallRefusal.{CallRefusal}
+use Rattle.ow_tables.specs.declared.refusal.TableRefusal.TheVariants as tables
 use Rattle.ow_http.specs.declared.call_refusal.CallRefusal.TheVariants as calls
+use Rattle.ow_http.specs.declared.http_refusal.HttpRefusal.TheVariants as https
 use Rattle.ow_http.specs.declared.reason.Reason.{Reason}
+use Rattle.ow_http.specs.declared.reason.Reason.TheVariants.{Http, Call, Service}
+use Rattle.ow_http.specs.declared.service_refusal.ServiceRefusal.TheVariants as services
 
--- the refusal with this number, where it holds
-abbrev pub when : Bool → ℕ → Option Reason
-when holds number = if holds then Some (plain number) else None
+-- the parameters of a call have too many bytes
+abbrev pub too_large : Reason
+too_large = Call (calls.BadEntity TooLarge)
 
--- of a body
-abbrev pub entity_reason : EntityRefusal → Reason
-entity_reason (MissingField name) = naming 9 (field_name name)
-entity_reason (WrongType name) = naming 10 (field_name name)
-entity_reason (OutOfRange name) = naming 11 (field_name name)
-entity_reason e = plain (entities.refusal_number e)
+-- there is no such entity
+abbrev pub not_found : Reason
+not_found = Service services.NotFound
 
--- of query, path and body
-abbrev pub call_reason : CallRefusal → Reason
-call_reason (calls.BadQuery name) = naming 39 name
-call_reason (calls.BadName e) = name_reason e
-call_reason (calls.BadValue e) = plain (values.refusal_number e)
-call_reason (calls.BadEntity e) = entity_reason e
-call_reason calls.NoMemory = plain 0
+-- the namespace isn't granted
+abbrev pub not_granted : Reason
+not_granted = Service services.NotGranted
 
--- of the tables
-abbrev pub table_reason : TableRefusal → Reason
-table_reason (Entity e) = entity_reason e
-table_reason e = plain (table_refusal_number e)
+-- the floor drains
+abbrev pub draining : Reason
+draining = Service services.Draining
+
+-- the book is full
+abbrev pub book_full : Reason
+book_full = Service services.BookFull
+
+-- there is no such route
+abbrev pub no_route : Reason
+no_route = Http https.NoRoute
 
 -- that the book is full
 abbrev pub tells_full : Reason → Bool
-tells_full reason = reason.number == 33
+tells_full (Service services.BookFull) = true
+tells_full reason = false
 
--- clients can be answered so: the number has a status, and isn't 45, with which a result is told too
-pub record HasStatus (reason : Reason) : Type 0 where
-  pub status : IsSome (status_of reason)
-  pub alone : reason.number ≢ 45
-
--- people can be told the refusal: the number has a text
-abbrev pub HasText : Reason → Type 0
-HasText reason = IsSome (told reason)
+-- a refusal of the tables
+abbrev pub table_reason : TableRefusal → Reason
+table_reason tables.NotFound = not_found
+table_reason tables.Exists = Service services.Exists
+table_reason (tables.Entity e) = Call (calls.BadEntity e)
+table_reason tables.NoMemory = Call calls.NoMemory

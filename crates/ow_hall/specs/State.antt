@@ -1,92 +1,86 @@
 -- What stands behind the book, as the code has it.
-use Rattle.std.specs.Prelude.{◌≡◌, ◌≤◌, ◌+◌, ℕ, List, Bool, false, Result, Err}
+use Rattle.std.specs.Prelude.{◌≡◌, ◌≤◌, ◌+◌, ◌++◌, ℕ, List, [], ◌∷◌, Bool, false, Option, Some, None, Result, Ok, Err}
 use Rattle.ow_value.specs.View.{view}
 use Rattle.ow_entity.specs.declared.rows.Row.{Row}
 use Rattle.ow_floor.specs.Laws.{Stands}
-use Rattle.ow_floor.specs.View.{FloorLists, last_of}
-use Rattle.ow_floor.specs.Calls.{answer_to, happened_accepted}
-use Rattle.ow_floor.specs.declared.answers.Answered.{Answered}
-use Rattle.ow_floor.specs.declared.answers.AnswerRefusal.{AnswerRefusal}
-use Rattle.ow_floor.specs.declared.answers.AnswerRefusal.TheVariants as refusals
-use Rattle.ow_records.specs.declared.ids.Id.{Id}
-use Rattle.ow_traits.specs.declared.replies.RunReply.{RunReply}
-use Rattle.ow_hall.specs.Asks as asks
-use Rattle.ow_hall.specs.Reasons.{HasStatus, HasText, tells_full}
-use Rattle.ow_hall.specs.Decisions.{Seen, Decision, Accepts, Declines, after}
+use Rattle.ow_floor.specs.View.{FloorView, Shown}
+use Rattle.ow_http.specs.declared.reason.Reason.{Reason}
+use Rattle.ow_tables.specs.Contents.{Change}
 use Rattle.ow_hall.specs.declared.done.Done.{Done}
-use Rattle.ow_hall.specs.declared.done.Done.TheVariants.{Refused, Shown, Changed}
-use Rattle.ow_hall.specs.declared.replies.Called.{Called}
-use Rattle.ow_hall.specs.declared.replies.Called.TheVariants as called
-use Rattle.ow_hall.specs.declared.calls.Planned.{Planned}
-use Rattle.ow_hall.specs.declared.calls.Planned.TheVariants as planned
+use Rattle.ow_hall.specs.declared.done.Done.TheVariants as codes
+use Rattle.ow_hall.specs.declared.step.Now.{Now}
+use Rattle.ow_hall.specs.declared.step.Step.{Step}
+use Rattle.ow_hall.specs.declared.tenants.Tenants.{Tenants}
+use Rattle.ow_hall.specs.declared.waits.Wait.{Wait}
+use Rattle.ow_hall.specs.Asking as asking
+use Rattle.ow_hall.specs.Sight.{Sight}
+use Rattle.ow_hall.specs.Decision.{Decision}
+use Rattle.ow_hall.specs.History.{IsLegal, Seen, seen}
+use Rattle.ow_hall.specs.Ledger.{Ledger}
 
--- what comes of a request, of the code
-abbrev pub done_of : Done → asks.Done
-done_of (Refused reason) = asks.Refused reason
-done_of (Shown value) = asks.Shown (view value)
-done_of (Changed ready) = asks.Changed ready
+-- ---- what comes of a request, of the code
 
--- that the book is full
-abbrev pub is_full_done : Done → Bool
-is_full_done (Refused reason) = tells_full reason
-is_full_done done = false
+abbrev pub done_of : Done → Result asking.Done Reason
+done_of (codes.Refused reason) = Err reason
+done_of (codes.Shown value) = Ok (asking.Shown (view value))
+done_of (codes.Changed ready) = Ok (asking.Changed ready)
 
--- what comes of a request can be answered
-abbrev pub DoneHasStatus : Done → Type 0
-DoneHasStatus (Refused reason) = HasStatus reason
-DoneHasStatus done = Unit {0}
+-- there is room for a change
+abbrev pub HasPlace : Option Change → ℕ → Type 0
+HasPlace None room = Unit {0}
+HasPlace (Some change) room = change.removes ≡ false → 1 ≤ room
 
--- there is room for the change
-abbrev pub IsReady : Done → ℕ → Type 0
-IsReady (Changed ready) room = ready.removes ≡ false → 1 ≤ room
-IsReady done room = Unit {0}
+abbrev pub change_of : Done → Option Change
+change_of (codes.Changed ready) = Some ready
+change_of done = None
 
--- the floor and the rows
+-- ---- floor, rows and waits
+
+-- for how many more rows and waits there is room stands beside them
 pub record StateView : Type 0 where
-  pub floor : FloorLists
+  pub floor : FloorView
   pub rows : List Row
-  pub room : ℕ
+  pub row_room : ℕ
+  pub waits : List Wait
+  pub wait_room : ℕ
 
 -- they stand as was seen
-pub record IsAt (v : StateView) (S : Seen) : Type 0 where
-  pub stands : Stands v.floor S.trace
-  pub rows : v.rows ≡ S.rows
+pub record IsAt (v : StateView) (s : Seen) : Type 0 where
+  pub stands : Stands v.floor.now s.trace
+  pub rows : v.rows ≡ s.rows
+  pub waits : v.waits ≡ s.waits
 
--- a decision was carried out, whatever was seen
-abbrev pub Moves : StateView → StateView → ℕ → (Seen → Decision) → Type 0
-Moves old new at decide = (S : Seen) → IsAt old S → IsAt new (after at (decide S) S)
+-- the book is legal; floor, rows and waits stand as it says; and the floor isn't held
+pub record Keeps (w : StateView) (t : Tenants) (L : Ledger) : Type 0 where
+  pub stands : IsAt w (seen t L.entries)
+  pub legal : IsLegal t L.entries
+  pub free : w.floor.before ≡ None
 
--- what became of a runner's reply, unless memory was wanted
-abbrev pub AnswersSo : StateView → ℕ → ℕ → RunReply → Result Answered AnswerRefusal → Type 0
-AnswersSo old at run reply (Err (refusals.NoMemory back)) = Unit {0}
-AnswersSo old at run reply result = (S : Seen) → IsAt old S → result ≡ answer_to at run reply S.trace
+-- ---- a step: what is decided is done on the floor, and made ready beside it
 
--- what comes of a call, of the code
-abbrev pub planned_of : Planned → Decision
-planned_of (planned.Refused reason) = Declines reason
-planned_of (planned.Accepted plan) = Accepts plan
+-- what is seen is of these
+pub record IsSeen (S : Sight) (t : Tenants) (rs : List Row) (v : Shown) (now : Now) : Type 0 where
+  pub tenants : S.tenants ≡ t
+  pub rows : S.rows ≡ rs
+  pub stands : Stands v S.trace
+  pub counted : S.counted ≡ now.counted
+  pub moment : S.moment ≡ now.at
 
--- people can be told what comes of a call
-abbrev pub PlannedHasText : Planned → Type 0
-PlannedHasText (planned.Refused reason) = HasText reason
-PlannedHasText (planned.Accepted plan) = Unit {0}
+abbrev pub changes_of : Option Change → List Change
+changes_of None = []
+changes_of (Some change) = change ∷ []
 
--- that the book is full
-abbrev pub is_full_plan : Planned → Bool
-is_full_plan (planned.Refused reason) = tells_full reason
-is_full_plan (planned.Accepted plan) = false
+-- a step has what was decided
+pub record Carries (step : Step) (d : Decision) : Type 0 where
+  pub told : step.told ≡ d.told
+  pub changes : changes_of step.change ≡ d.changes
+  pub waits : step.waits ≡ d.waits
 
--- what is told of it
-abbrev pub called_by : Planned → Called
-called_by (planned.Refused reason) = called.Refused reason
-called_by (planned.Accepted plan) = called.Happened (happened_accepted plan.id)
+-- over a floor and rows: a step has what is decided of what is seen, and the floor has its items
+abbrev pub Makes : Tenants → List Row → Now → Shown → Shown → (Sight → Decision) → Step → Type 0
+Makes t rs now old new decided step = (S : Sight) → IsSeen S t rs old now → Carries step (decided S) × Stands new ((decided S).items ++ S.trace)
 
--- people can be told what became of a call
-abbrev pub CalledHasText : Called → Type 0
-CalledHasText (called.Refused reason) = HasText reason
-CalledHasText (called.Happened happened) = Unit {0}
-
--- what is planned has the next id of its namespace
-abbrev pub IsNextOf : List Id → Planned → Type 0
-IsNextOf drawn (planned.Refused reason) = Unit {0}
-IsNextOf drawn (planned.Accepted plan) = plan.id.count ≡ last_of drawn plan.id.namespace + 1
+-- over floor, rows and waits
+abbrev pub Does : StateView → Shown → Tenants → Now → (Sight → Decision) → Step → Type 0
+Does old new t now decided step = (S : Sight) → IsSeen S t old.rows old.floor.now now → S.waits ≡ old.waits
+    → Carries step (decided S) × Stands new ((decided S).items ++ S.trace)

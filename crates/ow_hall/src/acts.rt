@@ -1,106 +1,54 @@
-// What a request is to do to the rows, once it is read.
+// What a request is to do to the rows.
 ghost use Rattle.std.specs.Prelude.{◌≡◌};
-ghost use Rattle.ow_hall.specs.Acts.{act_of, entity_act, is_built, put_act};
+ghost use Rattle.ow_hall.specs.Asking.{act_in, act_of, is_inside};
 
-use ow_entity::{Draft, EntityKind};
-use ow_http::{Call, Route, Verb};
-use ow_names::FullName;
+use ow_entity::EntityKind;
+use ow_http::{CallKind, Route, Verb};
 
 /// A read or a change of the rows.
-#[derive(Drop)]
+#[derive(Clone, Copy, Debug, PartialEq, Eq)]
 pub(crate) enum Act {
-    Lists {
-        kind: EntityKind,
-        skip: u64,
-        limit: u64,
-    },
-    Gets {
-        kind: EntityKind,
-        name: FullName,
-    },
-    Puts {
-        draft: Draft,
-        overwrite: bool,
-    },
-    Removes {
-        kind: EntityKind,
-        name: FullName,
-    },
-    /// What isn't served yet.
-    Nothing,
+    /// The rows of this kind are listed.
+    Lists(EntityKind),
+    /// A row of this kind is shown.
+    Gets(EntityKind),
+    /// A draft is put.
+    Puts,
+    /// A row of this kind is taken out.
+    Removes(EntityKind),
 }
 
-/// Whether the route and the method are served yet.
-pub(crate) fn is_built(route: &Route, method: Verb) -> bool
-    ensures { result ≡ is_built route.now method }
+/// What a request of this route and method is to do, where that is served yet.
+pub(crate) fn act_of(route: &Route, method: Verb) -> Option<Act>
+    ensures { result ≡ act_of route.now method }
+{
+    if is_inside(route) {
+        return None;
+    }
+    act_in(CallKind::of(route, method))
+}
+
+// Whether what is named stands in a package.
+fn is_inside(route: &Route) -> bool
+    ensures { result ≡ is_inside route.now }
 {
     match route {
-        Route::List {
-            kind: EntityKind::Action,
+        Route::Entity {
+            package: Some(_),
             ..
         } => true,
-        Route::Entity {
-            kind: EntityKind::Action,
-            package: None,
-            ..
-        } => matches!(method, Verb::Get | Verb::Put | Verb::Delete),
         _ => false,
     }
 }
 
-/// What a call of this route and method is to do.
-pub(crate) fn act_of(route: &Route, method: Verb, call: Call) -> Act
-    ensures { result ≡ act_of route.now method call }
+fn act_in(kind: CallKind) -> Option<Act>
+    ensures { result ≡ act_in kind }
 {
-    match route {
-        Route::List { kind, .. } => Act::Lists {
-            kind: *kind,
-            skip: call.skip,
-            limit: call.limit,
-        },
-        Route::Entity { kind, .. } => entity_act(*kind, method, call),
-        _ => Act::Nothing,
-    }
-}
-
-fn entity_act(kind: EntityKind, method: Verb, call: Call) -> Act
-    ensures { result ≡ entity_act kind method call.name call }
-{
-    let Call {
-        name,
-        overwrite,
-        draft,
-        ..
-    } = call;
-    let Some(name) = name else {
-        drop(draft);
-        return Act::Nothing;
-    };
-    match method {
-        Verb::Get => {
-            drop(draft);
-            Act::Gets { kind, name }
-        }
-        Verb::Delete => {
-            drop(draft);
-            Act::Removes { kind, name }
-        }
-        Verb::Put => {
-            drop(name);
-            put_act(draft, overwrite)
-        }
-        _ => {
-            drop((draft, name));
-            Act::Nothing
-        }
-    }
-}
-
-fn put_act(draft: Option<Draft>, overwrite: bool) -> Act
-    ensures { result ≡ put_act draft overwrite }
-{
-    match draft {
-        Some(draft) => Act::Puts { draft, overwrite },
-        None => Act::Nothing,
+    match kind {
+        CallKind::ListEntities(EntityKind::Action) => Some(Act::Lists(EntityKind::Action)),
+        CallKind::GetEntity(EntityKind::Action) => Some(Act::Gets(EntityKind::Action)),
+        CallKind::PutEntity(EntityKind::Action) => Some(Act::Puts),
+        CallKind::DeleteEntity(EntityKind::Action) => Some(Act::Removes(EntityKind::Action)),
+        _ => None,
     }
 }

@@ -1,16 +1,15 @@
 // The book and what it counts.
-ghost use Rattle.std.specs.Prelude.{◌≡◌, ◌↔◌, ◌+◌, ◌^◌, ◌<◌, ◌≤◌, ◌∷◌, length, map, sum, reverse, Some, IsTrue, IfSome, IfOk, OnOk};
-ghost use Rattle.ow_hall.specs.Asks.{is_full};
-ghost use Rattle.ow_hall.specs.History.{counted, event_bytes, is_idle, moment, reply_body, reply_bytes, told_bytes};
-ghost use Rattle.ow_hall.specs.Ledger.{no_entries, one_more};
+ghost use Rattle.std.specs.Prelude.{◌≡◌, ◌↔◌, ◌+◌, ◌*◌, ◌^◌, ◌<◌, ◌≤◌, ◌∷◌, length, reverse, IsTrue, IfOk, OnOk};
+ghost use Rattle.ow_hall.specs.Sight.{is_full};
+ghost use Rattle.ow_hall.specs.History.{counted, event_bytes, is_idle, moment, posting, told_bytes};
+ghost use Rattle.ow_hall.specs.Ledger.{IsReady, cost, no_entries, one_more, posted, posted_as};
 
+use crate::bytes::entry_bytes;
 use crate::entries::Entries;
 use crate::entry::{Entry, Event, Told};
-use crate::replies::Reply;
+use crate::posting::{Posting, posting_of};
 use ow_floor::Order;
-use ow_http::Answer;
-use ow_traits::RunReply;
-use ow_value::{NoMemory, Str};
+use ow_value::NoMemory;
 use std::alloc::Global;
 use std::marker::Model;
 
@@ -111,10 +110,9 @@ impl Book {
         is_full(self.total, size)
     }
 
-    /// The moment that is booked for a given one. The entries lie in memory, so their number has a bound.
+    /// The moment that is booked for a given one.
     pub(crate) fn moment(&self, at: u64) -> u64
-        ensures value { result ≡ moment self.now.ledger.entries at }
-        ensures small { length self.now.ledger.entries < 2 ^ 63 }
+        ensures { result ≡ moment self.now.ledger.entries at }
     {
         let last = match self.entries.as_slice().last() {
             Some(entry) => entry.at,
@@ -123,8 +121,47 @@ impl Book {
         last.max(at.min(GREATEST_MOMENT))
     }
 
-    /// Whether the last entry is a `next` that ordered nothing.
-    pub(crate) fn is_idle(&self) -> bool
+    /// Makes room for an answer, where it is booked, and for so many entries that are owed behind it. It tells how many bytes the
+    /// entry counts beside its 64. A count that would pass its type is answered as want of memory.
+    pub(crate) fn reserve(
+        &mut self,
+        owed: usize,
+        event: &Event,
+        told: &Told,
+    ) -> Result<u64, NoMemory>
+        ensures ledger { self.new.ledger ≡ self.old.ledger }
+        ensures keeps { self.old.room ≤ self.new.room }
+        ensures ready { IfOk result (λ n. posting self.old.ledger.entries told.now ≡ Posting.Booked
+            → IsReady self.old.ledger.entries self.new.room owed event.now told.now n) }
+    {
+        if posting_of(self.is_idle(), told) != Posting::Booked {
+            return Ok(0);
+        }
+        let Some(bytes) = entry_bytes(event, told) else {
+            return Err(NoMemory);
+        };
+        if !fits(self.total, bytes, owed) {
+            return Err(NoMemory);
+        }
+        self.entries.reserve(owed + 1)?;
+        Ok(bytes)
+    }
+
+    /// Posts an answer. An entry counts so many bytes beside its 64. This takes no memory.
+    pub(crate) fn post(&mut self, at: u64, event: Event, told: Told, bytes: u64)
+        requires { posting self.old.ledger.entries told ≡ Posting.Booked
+            → IsReady self.old.ledger.entries self.old.room 0 event told bytes }
+        ensures ledger { self.new.ledger ≡ posted self.old.ledger at event told }
+        ensures room { self.old.room ≤ self.new.room + cost (posting self.old.ledger.entries told) }
+    {
+        let posting = posting_of(self.is_idle(), &told);
+        self.post_as(posting, at, event, told, bytes);
+    }
+}
+
+impl Book {
+    // Whether the last entry is a `next` that ordered nothing.
+    fn is_idle(&self) -> bool
         ensures { result ≡ is_idle self.now.ledger.entries }
     {
         match self.entries.as_slice().last() {
@@ -133,99 +170,56 @@ impl Book {
         }
     }
 
-    /// Makes room for an entry that has so many bytes beside its 64, if they can be told. A count that would pass its type is
-    /// answered as want of memory.
-    pub(crate) fn reserve(&mut self, bytes: Option<u64>) -> Result<u64, NoMemory>
-        ensures ledger { self.new.ledger ≡ self.old.ledger }
-        ensures room { OnOk result (1 ≤ self.new.room) }
-        ensures told { IfOk result (λ n. Some n ≡ bytes) }
-        ensures fits { IfOk result (λ n. counted self.old.ledger.entries + (64 + n) < 2 ^ 64) }
+    fn post_as(&mut self, posting: Posting, at: u64, event: Event, told: Told, bytes: u64)
+        requires { posting ≡ Posting.Booked → IsReady self.old.ledger.entries self.old.room 0 event told bytes }
+        ensures ledger { self.new.ledger ≡ posted_as posting (record { at = at; event = event; answer = told }) self.old.ledger }
+        ensures room { self.old.room ≤ self.new.room + cost posting }
     {
-        let Some(bytes) = bytes else {
-            return Err(NoMemory);
-        };
-        if !fits(self.total, bytes) {
-            return Err(NoMemory);
+        match posting {
+            Posting::Booked => self.add(at, event, told, bytes),
+            Posting::Quiet => self.note_quiet(),
+            Posting::Denied => self.note_denied(),
+            Posting::Unbooked => {}
         }
-        self.entries.reserve()?;
-        Ok(bytes)
     }
 
-    /// Adds an entry, where there is room. The bytes are those that it counts beside its 64.
-    pub(crate) fn add(&mut self, at: u64, event: Event, answer: Told, bytes: u64)
-        requires room { 1 ≤ self.old.room }
-        requires bytes { bytes ≡ event_bytes event + told_bytes answer }
-        requires fits { counted self.old.ledger.entries + (64 + bytes) < 2 ^ 64 }
-        ensures { self.new.ledger ≡ record self.old.ledger { entries = record { at = at; event = event; answer = answer } ∷ self.old.ledger.entries } }
+    fn add(&mut self, at: u64, event: Event, answer: Told, bytes: u64)
+        requires { IsReady self.old.ledger.entries self.old.room 0 event answer bytes }
+        ensures ledger { self.new.ledger ≡ posted_as Posting.Booked (record { at = at; event = event; answer = answer }) self.old.ledger }
+        ensures room { self.old.room ≤ self.new.room + 1 }
     {
         self.total += 64 + bytes;
         self.entries.push(Entry { at, event, answer });
     }
 
-    /// Tallies a `next` that isn't booked.
     #[tactic(auto, unfolding(crate::specs::Ledger::one_more))]
-    pub(crate) fn note_quiet(&mut self)
+    fn note_quiet(&mut self)
         ensures ledger { self.new.ledger ≡ record self.old.ledger { quiet = one_more self.old.ledger.quiet } }
+        ensures room { self.new.room ≡ self.old.room }
     {
         self.quiet = self.quiet.saturating_add(1);
     }
 
-    /// Tallies an event of a runner that was refused.
     #[tactic(auto, unfolding(crate::specs::Ledger::one_more))]
-    pub(crate) fn note_denied(&mut self)
+    fn note_denied(&mut self)
         ensures ledger { self.new.ledger ≡ record self.old.ledger { denied = one_more self.old.ledger.denied } }
+        ensures room { self.new.room ≡ self.old.room }
     {
         self.denied = self.denied.saturating_add(1);
     }
 }
 
 /// Whether a book that counts so many bytes has no room for an entry of so many beside its 64.
-#[tactic(auto, unfolding(crate::specs::Asks::is_full))]
+#[tactic(auto, unfolding(crate::specs::Sight::is_full))]
 pub(crate) fn is_full(counted: u64, size: u64) -> bool
     ensures { result ≡ is_full counted size }
 {
     counted as u128 + 64 + size as u128 > MOST_COUNTED
 }
 
-// Whether an entry with so many bytes beside its 64 can be counted.
-fn fits(total: u64, bytes: u64) -> bool
-    ensures { IsTrue result ↔ (total + (64 + bytes) < 2 ^ 64) }
+// Whether an entry with so many bytes beside its 64, and so many more of 64, can be counted.
+fn fits(total: u64, bytes: u64, owed: usize) -> bool
+    ensures { IsTrue result ↔ ((total + (64 + bytes)) + 64 * owed < 2 ^ 64) }
 {
-    match total.checked_add(64) {
-        Some(sum) => sum.checked_add(bytes).is_some(),
-        None => false,
-    }
-}
-
-/// How many bytes of a runner's reply are counted, unless they pass the type.
-pub(crate) fn reply_bytes(reply: &RunReply) -> Option<u64>
-    ensures { IfSome result (λ n. n ≡ reply_bytes reply.now) }
-{
-    match reply {
-        RunReply::Answer { text, logs } => {
-            let lines = lines_bytes(logs.as_slice())?;
-            lines.checked_add(text.len() as u64)
-        }
-        RunReply::Exit { logs, .. } => lines_bytes(logs.as_slice()),
-        RunReply::NoStart { text } => Some(text.len() as u64),
-        RunReply::Fault => Some(0),
-    }
-}
-
-fn lines_bytes(lines: &[Str]) -> Option<u64>
-    ensures { IfSome result (λ n. n ≡ sum (map length lines.now)) }
-{
-    let mut total: u64 = 0;
-    for line in lines {
-        total = total.checked_add(line.len() as u64)?;
-    }
-    Some(total)
-}
-
-/// How many bytes of an answer to a request are counted, where it is given at once.
-pub(crate) fn body_bytes(answer: &Answer) -> u64
-    ensures value { result ≡ reply_body (Reply.Now answer.now) }
-    ensures small { result < 2 ^ 63 }
-{
-    answer.body.as_slice().len() as u64
+    total as u128 + 64 + bytes as u128 + 64 * (owed as u128) <= u64::MAX as u128
 }

@@ -1,57 +1,67 @@
-// What comes of a request, before it is done.
+// What comes of a request, before it is told.
 ghost use Rattle.std.specs.Prelude.{◌≡◌, IfOk};
 ghost use Rattle.ow_value.specs.View.{view};
-ghost use Rattle.ow_hall.specs.Asks.{good, rows_done};
-ghost use Rattle.ow_hall.specs.Decisions.{answer_of};
-ghost use Rattle.ow_hall.specs.State.{DoneHasStatus, IsReady, done_of, is_full_done};
+ghost use Rattle.ow_hall.specs.Asking.{ask_decision, good, refusal_told};
+ghost use Rattle.ow_hall.specs.State.{Carries, change_of, done_of};
 
-use crate::reasons::FULL;
+use crate::entry::Told;
+use crate::reasons::tells_full;
+use crate::replies::Reply;
+use crate::step::Step;
+use crate::waits::Waits;
 use ow_entity::write_entity;
 use ow_http::{Answer, Reason, refusal};
-use ow_tables::{Ready, Tables};
+use ow_tables::Ready;
 use ow_value::{Bytes, NoMemory, Pairs, Val, write_val};
 use std::alloc::Global;
 
 /// A refusal, a value to be shown, or a change that was made ready.
 #[derive(Drop)]
 pub(crate) enum Done {
+    /// Why nothing comes of it.
     Refused(Reason),
+    /// This is shown.
     Shown(Val),
+    /// The row of the change is shown.
     Changed(Ready),
 }
 
 impl Done {
-    /// Whether it is that the book is full.
-    pub(crate) fn is_full(&self) -> bool
-        ensures { result ≡ is_full_done self.now }
+    /// What is told of it, and the change.
+    pub(crate) fn step(self, alloc: Global) -> Result<Step, NoMemory>
+        ensures ok { IfOk result (λ s. Carries s (ask_decision (done_of self))) }
+        ensures change { IfOk result (λ s. s.change ≡ change_of self) }
+    {
+        let Ok(told) = self.told(alloc) else {
+            drop(self);
+            return Err(NoMemory);
+        };
+        Ok(Step {
+            told,
+            change: self.change(),
+            waits: Waits::Keep,
+        })
+    }
+
+    fn told(&self, alloc: Global) -> Result<Told, NoMemory>
+        ensures { IfOk result (λ t. t ≡ (ask_decision (done_of self.now)).told) }
     {
         match self {
-            Done::Refused(reason) => reason.number == FULL,
-            _ => false,
+            Done::Refused(reason) => refusal_told(alloc, reason),
+            Done::Shown(value) => Ok(Told::Asked(Reply::Now(good(alloc, value)?))),
+            Done::Changed(ready) => {
+                let value = write_entity(alloc, ready.row())?;
+                Ok(Told::Asked(Reply::Now(good(alloc, &value)?)))
+            }
         }
     }
 
-    /// What is answered.
-    pub(crate) fn answer(&self, alloc: Global) -> Result<Answer, NoMemory>
-        requires { DoneHasStatus self.now }
-        ensures { IfOk result (λ a. a ≡ answer_of (done_of self.now)) }
+    fn change(self) -> Option<Ready>
+        ensures { result ≡ change_of self }
     {
         match self {
-            Done::Refused(reason) => refusal(alloc, reason),
-            Done::Shown(value) => good(alloc, value),
-            Done::Changed(ready) => good(alloc, &write_entity(alloc, ready.row())?),
-        }
-    }
-
-    /// Makes the change, if it is one. This takes no memory.
-    pub(crate) fn apply(self, tables: &mut Tables)
-        requires { IsReady self tables.old.room }
-        ensures { tables.new.rows ≡ rows_done (done_of self) tables.old.rows }
-    {
-        match self {
-            Done::Refused(reason) => drop(reason),
-            Done::Shown(value) => drop(value),
-            Done::Changed(ready) => tables.apply(ready),
+            Done::Changed(ready) => Some(ready),
+            _ => None,
         }
     }
 }
@@ -59,9 +69,21 @@ impl Done {
 fn good(alloc: Global, value: &Val) -> Result<Answer, NoMemory>
     ensures { IfOk result (λ a. a ≡ good (view value.now)) }
 {
+    let body = Bytes::from_vec(write_val(alloc, value)?)?;
     Ok(Answer {
         status: 200,
-        headers: Pairs::new(alloc),
-        body: Bytes::from_vec(write_val(alloc, value)?),
+        headers: Pairs::new(),
+        body,
     })
+}
+
+// A refusal is answered; of the full book it is told that it isn't booked.
+fn refusal_told(alloc: Global, reason: &Reason) -> Result<Told, NoMemory>
+    ensures { IfOk result (λ t. t ≡ refusal_told reason.now) }
+{
+    let answer = refusal(alloc, reason)?;
+    if tells_full(reason) {
+        return Ok(Told::Full(answer));
+    }
+    Ok(Told::Asked(Reply::Now(answer)))
 }

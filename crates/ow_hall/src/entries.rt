@@ -1,8 +1,8 @@
 // The entries of a book, as a list.
-ghost use Rattle.std.specs.Prelude.{◌≡◌, ◌+◌, ◌<◌, ◌≤◌, ◌++◌, ◌^◌, ◌↔◌, [], ◌∷◌, length, IsTrue, IfOk, OnOk};
+ghost use Rattle.std.specs.Prelude.{◌≡◌, ◌+◌, ◌<◌, ◌≤◌, ◌++◌, ◌^◌, ◌↔◌, [], ◌∷◌, length, IsTrue, OnOk};
 
 use crate::entry::Entry;
-use ow_value::NoMemory;
+use ow_value::{NoMemory, copy_slice, same_slices};
 use std::alloc::Global;
 use std::marker::Model;
 
@@ -58,47 +58,42 @@ impl Entries {
         self.items.is_empty()
     }
 
-    /// Makes room for one more.
-    pub(crate) fn reserve(&mut self) -> Result<(), NoMemory>
+    /// Makes room for so many more.
+    pub(crate) fn reserve(&mut self, count: usize) -> Result<(), NoMemory>
         ensures items { self.new.items ≡ self.old.items }
-        ensures room { OnOk result (1 ≤ self.new.room) }
+        ensures room { OnOk result (count ≤ self.new.room) }
+        ensures keeps { self.old.room ≤ self.new.room }
     {
-        self.items.reserve(1)?;
+        self.items.reserve(count)?;
         Ok(())
     }
 
     /// Puts an entry behind the others.
     pub(crate) fn push(&mut self, entry: Entry)
         requires { 1 ≤ self.old.room }
-        ensures { self.new.items ≡ self.old.items ++ entry ∷ [] }
+        ensures items { self.new.items ≡ self.old.items ++ entry ∷ [] }
+        ensures room { self.old.room ≤ self.new.room + 1 }
     {
         self.items.push_reserved(entry);
     }
+}
 
-    /// An equal list.
-    pub fn copy(&self, alloc: Global) -> Result<Entries, NoMemory>
-        ensures { IfOk result (λ e. e.items ≡ self.now.items) }
-    {
-        let mut items = Vec::with_capacity(alloc, self.items.len())?;
-        for entry in &self.items {
-            let copied = entry.copy(alloc)?;
-            items.push_reserved(copied);
-        }
-        Ok(Entries { items })
-    }
+impl Entries {
+    ghost use Rattle.std.specs.Prelude.{◌≡◌, ◌↔◌, IsTrue, IfOk};
 
-    /// Whether both are equal.
+    /// Whether both have the same entries.
     pub fn same(&self, other: &Entries) -> bool
         ensures { IsTrue result ↔ (self.now.items ≡ other.now.items) }
     {
-        if self.items.len() != other.items.len() {
-            return false;
-        }
-        for i in 0..self.items.len() {
-            if !self.items[i].same(&other.items[i]) {
-                return false;
-            }
-        }
-        true
+        same_slices(self.items.as_slice(), other.items.as_slice())
+    }
+
+    /// The same entries, with room of their own.
+    pub fn copy(&self, alloc: Global) -> Result<Entries, NoMemory>
+        ensures { IfOk result (λ e. e.items ≡ self.now.items) }
+    {
+        Ok(Entries {
+            items: copy_slice(alloc, self.items.as_slice())?,
+        })
     }
 }

@@ -1,12 +1,10 @@
 // What the book holds.
-ghost use Rattle.std.specs.Prelude.{◌≡◌, ◌↔◌, IsTrue, IfOk};
-
 use crate::replies::{Called, Reply};
 use ow_floor::{Answered, Drain, Happened, Order};
-use ow_http::Request;
+use ow_http::{Answer, Request};
 use ow_names::FullName;
 use ow_traits::{Rows, RunReply};
-use ow_value::{NoMemory, Params};
+use ow_value::{NoMemory, Params, PlainData, Shared};
 use std::alloc::Global;
 
 /// Something that comes to the service from outside.
@@ -15,7 +13,7 @@ pub enum Event {
     /// The service is opened over the kept rows.
     Opened(Rows),
     /// A request comes.
-    Asked(Request),
+    Asked(Shared<Request>),
     /// The office itself calls an action.
     Called { name: FullName, params: Params },
     /// A runner asks what to run.
@@ -26,19 +24,23 @@ pub enum Event {
     Drain,
 }
 
-/// What is answered to an event.
+/// What is told of an event, also where that isn't booked.
 #[derive(Drop)]
 pub enum Told {
     /// To an opening: what was recorded.
     Opened(Happened),
     /// To a request.
     Asked(Reply),
+    /// To a request that finds the book full. It isn't booked.
+    Full(Answer),
     /// To a call of the office.
     Called(Called),
     /// To a runner that asks.
     Next(Order),
     /// To the reply of a runner.
     Answered(Answered),
+    /// To the reply of a runner to a run that isn't live, which is handed back. It isn't booked.
+    NoRun { run: u64, reply: RunReply },
     /// To the office that drains.
     Drain(Drain),
 }
@@ -54,11 +56,8 @@ pub struct Entry {
     pub answer: Told,
 }
 
-impl Event {
-    /// Whether both are equal.
-    pub fn same(&self, other: &Event) -> bool
-        ensures { IsTrue result ↔ (self.now ≡ other.now) }
-    {
+impl PlainData for Event {
+    fn same(&self, other: &Event) -> bool {
         match (self, other) {
             (Event::Opened(a), Event::Opened(b)) => a.same(b),
             (Event::Asked(a), Event::Asked(b)) => a.same(b),
@@ -81,10 +80,7 @@ impl Event {
         }
     }
 
-    /// An equal one.
-    pub fn copy(&self, alloc: Global) -> Result<Event, NoMemory>
-        ensures { IfOk result (λ e. e ≡ self.now) }
-    {
+    fn copy(&self, alloc: Global) -> Result<Event, NoMemory> {
         match self {
             Event::Opened(rows) => Ok(Event::Opened(rows.copy(alloc)?)),
             Event::Asked(request) => Ok(Event::Asked(request.copy(alloc)?)),
@@ -103,49 +99,50 @@ impl Event {
     }
 }
 
-impl Told {
-    /// Whether both are equal.
-    pub fn same(&self, other: &Told) -> bool
-        ensures { IsTrue result ↔ (self.now ≡ other.now) }
-    {
+impl PlainData for Told {
+    fn same(&self, other: &Told) -> bool {
         match (self, other) {
             (Told::Opened(a), Told::Opened(b)) => a.same(b),
             (Told::Asked(a), Told::Asked(b)) => a.same(b),
+            (Told::Full(a), Told::Full(b)) => a.same(b),
             (Told::Called(a), Told::Called(b)) => a.same(b),
             (Told::Next(a), Told::Next(b)) => a.same(b),
             (Told::Answered(a), Told::Answered(b)) => a.same(b),
+            (
+                Told::NoRun { run, reply },
+                Told::NoRun {
+                    run: other_run,
+                    reply: other_reply,
+                },
+            ) => run == other_run && reply.same(other_reply),
             (Told::Drain(a), Told::Drain(b)) => a == b,
             _ => false,
         }
     }
 
-    /// An equal one.
-    pub fn copy(&self, alloc: Global) -> Result<Told, NoMemory>
-        ensures { IfOk result (λ t. t ≡ self.now) }
-    {
+    fn copy(&self, alloc: Global) -> Result<Told, NoMemory> {
         match self {
             Told::Opened(happened) => Ok(Told::Opened(happened.copy(alloc)?)),
             Told::Asked(reply) => Ok(Told::Asked(reply.copy(alloc)?)),
+            Told::Full(answer) => Ok(Told::Full(answer.copy(alloc)?)),
             Told::Called(called) => Ok(Told::Called(called.copy(alloc)?)),
             Told::Next(order) => Ok(Told::Next(order.copy(alloc)?)),
             Told::Answered(answered) => Ok(Told::Answered(answered.copy(alloc)?)),
+            Told::NoRun { run, reply } => Ok(Told::NoRun {
+                run: *run,
+                reply: reply.copy(alloc)?,
+            }),
             Told::Drain(drain) => Ok(Told::Drain(*drain)),
         }
     }
 }
 
-impl Entry {
-    /// Whether both are equal.
-    pub fn same(&self, other: &Entry) -> bool
-        ensures { IsTrue result ↔ (self.now ≡ other.now) }
-    {
+impl PlainData for Entry {
+    fn same(&self, other: &Entry) -> bool {
         self.at == other.at && self.event.same(&other.event) && self.answer.same(&other.answer)
     }
 
-    /// An equal one.
-    pub fn copy(&self, alloc: Global) -> Result<Entry, NoMemory>
-        ensures { IfOk result (λ e. e ≡ self.now) }
-    {
+    fn copy(&self, alloc: Global) -> Result<Entry, NoMemory> {
         let event = self.event.copy(alloc)?;
         let answer = self.answer.copy(alloc)?;
         Ok(Entry {

@@ -1,32 +1,44 @@
-// The hall and its calls: each answers, and is booked.
-ghost use Rattle.std.specs.Prelude.{◌≡◌, Some, IfOk, OnOk, OnErr};
-ghost use Rattle.ow_hall.specs.Book.{RepliesSo, opened};
-ghost use Rattle.ow_hall.specs.History.{IsLegal, answer, moment};
-ghost use Rattle.ow_hall.specs.Ledger.{posted};
-ghost use Rattle.ow_hall.specs.State.{CalledHasText};
+// The hall and its calls: each answers, and is posted.
+ghost use Rattle.std.specs.Prelude.{◌≡◌, ◌≤◌, [], true, false, Ok, Err, IfOk, IfErr};
+ghost use Rattle.ow_floor.specs.Laws.{Stands};
+ghost use Rattle.ow_floor.specs.Owed.{owed};
+ghost use Rattle.ow_floor.specs.Trace.{Trace};
+ghost use Rattle.ow_hall.specs.Comes.{Answers, Comes, HandsBack, Outcome, Replies, call_outcome, drain_outcome, next_outcome, outcome, reply_outcome};
+ghost use Rattle.ow_hall.specs.History.{IsLegal, is_opening, posting};
+ghost use Rattle.ow_hall.specs.Ledger.{IsReady, opened};
+ghost use Rattle.ow_hall.specs.Tenants.{standard};
+ghost use Rattle.ow_hall.specs.declared.entry.Event.TheVariants as events;
 
-use crate::book::{Book, body_bytes, reply_bytes};
+use crate::book::Book;
 use crate::entry::{Event, Told};
+use crate::fronts::{answered_in, called_in, drain_in, order_in, reply_in, reply_of};
+use crate::posting::Posting;
 use crate::replies::{Called, Reply};
 use crate::state::HallState;
-use ow_floor::{AnswerRefusal, Answered, AnsweredTwice, Drain, Happened, Order};
+use crate::step::{Now, Step};
+use crate::tenants::Tenants;
+use ow_floor::{AnswerRefusal, Answered, Drain, Happened, Order};
 use ow_http::Request;
 use ow_names::FullName;
 use ow_traits::{Keeper, Rows, RunReply};
-use ow_value::{NoMemory, Params};
+use ow_value::{NoMemory, Params, PlainData, Shared};
 use std::alloc::Global;
 use std::marker::Model;
 
 /// The service behind one book. Moments are milliseconds; one that is before the last booked one counts as that.
 #[derive(Drop)]
 pub struct Hall<P: Keeper + Drop> {
+    tenants: Tenants,
     state: HallState,
     book: Book,
     store: P,
 }
 
 impl<P: Keeper + Drop> Model for Hall<P> {
-    ghost use Rattle.ow_hall.specs.Book.{HallView, Keeps};
+    ghost use Rattle.ow_hall.specs.Comes.{HallView};
+    ghost use Rattle.ow_hall.specs.History.{seen};
+    ghost use Rattle.ow_hall.specs.Ledger.{HasRoom};
+    ghost use Rattle.ow_hall.specs.State.{Keeps};
     ghost use Rattle.std.specs.Coded.{codes};
     ghost use Rattle.ow_value.specs.Code.{value_code};
 
@@ -34,31 +46,45 @@ impl<P: Keeper + Drop> Model for Hall<P> {
 
     ghost coded = { Prim.hlevel (codes, value_code) };
 
-    ghost view = { λ h. record { ledger = h.book.ledger; store = h.store } };
+    ghost view = { λ h. record { tenants = h.tenants; ledger = h.book.ledger; store = h.store } };
 
-    ghost invariant = { λ h. Keeps h.state h.book.ledger };
+    ghost invariant = { λ h. Keeps h.state h.tenants h.book.ledger
+        × HasRoom (seen h.tenants h.book.ledger.entries).trace h.book.ledger h.book.room };
+}
+
+/// An event that came to nothing, since memory was wanted.
+#[derive(Drop)]
+struct Undone {
+    event: Event,
 }
 
 impl<P: Keeper + Drop> Hall<P> {
     /// Opens the service over a store, of which nothing is asked yet.
-    #[tactic(auto, using(crate::proofs::HallLaws::not_after))]
     pub fn start(alloc: Global, store: P, at: u64) -> Result<Hall<P>, NoMemory>
-        ensures ledger { IfOk result (λ h. h.ledger ≡ opened at) }
+        ensures tenants { IfOk result (λ h. h.tenants ≡ standard) }
+        ensures ledger { IfOk result (λ h. h.ledger ≡ opened standard at) }
         ensures store { IfOk result (λ h. h.store ≡ store) }
     {
+        let tenants = Tenants::standard(alloc)?;
         let state = HallState::new(alloc)?;
         let mut book = Book::new(alloc);
         let at = book.moment(at);
-        let bytes = book.reserve(Some(0))?;
         let event = Event::Opened(Rows::new(alloc));
-        book.add(at, event, Told::Opened(Happened::none(alloc)), bytes);
-        Ok(Hall { state, book, store })
+        let told = Told::Opened(Happened::none());
+        let bytes = book.reserve(0, &event, &told)?;
+        book.post(at, event, told, bytes);
+        Ok(Hall {
+            tenants,
+            state,
+            book,
+            store,
+        })
     }
 
     /// The book so far.
     pub fn book(&self) -> &Book
         ensures ledger { result.now.ledger ≡ self.now.ledger }
-        ensures legal { IsLegal self.now.ledger.entries }
+        ensures legal { IsLegal self.now.tenants self.now.ledger.entries }
     {
         &self.book
     }
@@ -67,7 +93,7 @@ impl<P: Keeper + Drop> Hall<P> {
     pub fn finish(self) -> (P, Book)
         ensures store { result.0 ≡ self.store }
         ensures ledger { result.1.ledger ≡ self.ledger }
-        ensures legal { IsLegal self.ledger.entries }
+        ensures legal { IsLegal self.tenants self.ledger.entries }
     {
         let Hall { book, store, .. } = self;
         (store, book)
@@ -75,34 +101,16 @@ impl<P: Keeper + Drop> Hall<P> {
 
     /// Answers a request.
     pub fn ask(&mut self, alloc: Global, at: u64, request: &Request) -> Result<Reply, NoMemory>
-        ensures told { IfOk result (λ reply. Some (Told.Asked reply)
-            ≡ answer self.old.ledger.entries (moment self.old.ledger.entries at) (Event.Asked request.now)) }
-        ensures ledger { OnOk result (self.new.ledger ≡ posted self.old.ledger (moment self.old.ledger.entries at) (Event.Asked request.now)) }
-        ensures err { OnErr result (self.new.ledger ≡ self.old.ledger) }
-        ensures store { self.new.store ≡ self.old.store }
+        ensures { (o : Outcome) × Replies result o × Comes P.rows P.faults self.old self.new at (events.Asked request.now) o }
     {
-        let at = self.book.moment(at);
-        let done = self.state.asked(alloc, self.book.counted(), request)?;
-        let answer = done.answer(alloc)?;
-        if done.is_full() {
-            return Ok(Reply::Now(answer));
+        let request = Shared::new(alloc, request.copy(alloc)?)?;
+        match self.perform(alloc, at, Event::Asked(request)) {
+            Ok(told) => Ok(reply_in(told)),
+            Err(_) => Err(NoMemory),
         }
-        let bytes = request.size.checked_add(body_bytes(&answer));
-        let bytes = self.book.reserve(bytes)?;
-        let copied = request.copy(alloc)?;
-        let kept = answer.copy(alloc)?;
-        self.state.apply(done);
-        self.book.add(
-            at,
-            Event::Asked(copied),
-            Told::Asked(Reply::Now(kept)),
-            bytes,
-        );
-        Ok(Reply::Now(answer))
     }
 
     /// The office's own invocation of an action: it is charged to the namespace of the action, in the name of the office.
-    #[tactic(auto, using(crate::proofs::HallLaws::not_after))]
     pub fn call(
         &mut self,
         alloc: Global,
@@ -110,77 +118,29 @@ impl<P: Keeper + Drop> Hall<P> {
         name: &FullName,
         params: Params,
     ) -> Result<Called, NoMemory>
-        ensures told { IfOk result (λ called. Some (Told.Called called)
-            ≡ answer self.old.ledger.entries (moment self.old.ledger.entries at) (Event.Called name.now params)) }
-        ensures ledger { OnOk result (self.new.ledger ≡ posted self.old.ledger (moment self.old.ledger.entries at) (Event.Called name.now params)) }
-        ensures err { OnErr result (self.new.ledger ≡ self.old.ledger) }
-        ensures store { self.new.store ≡ self.old.store }
-        ensures text { IfOk result CalledHasText }
+        ensures { Comes P.rows P.faults self.old self.new at (events.Called name.now params) (call_outcome result) }
     {
-        let at = self.book.moment(at);
-        let counted = self.book.counted();
-        let Ok(planned) = self.state.plan_call(alloc, counted, name, &params) else {
+        let Ok(name) = name.copy(alloc) else {
             drop(params);
             return Err(NoMemory);
         };
-        let Ok(booked) = planned.told(alloc) else {
-            drop((planned, params));
-            return Err(NoMemory);
-        };
-        if planned.is_full() {
-            drop((planned, params));
-            return Ok(booked);
+        match self.perform(alloc, at, Event::Called { name, params }) {
+            Ok(told) => Ok(called_in(told)),
+            Err(_) => Err(NoMemory),
         }
-        let Ok(bytes) = self.book.reserve(Some(0)) else {
-            drop((planned, params));
-            drop(booked);
-            return Err(NoMemory);
-        };
-        let Ok(copied) = name.copy(alloc) else {
-            drop((planned, params));
-            drop(booked);
-            return Err(NoMemory);
-        };
-        let Ok(called) = self.state.take(alloc, at, planned) else {
-            drop((copied, params));
-            drop(booked);
-            return Err(NoMemory);
-        };
-        self.book.add(
-            at,
-            Event::Called {
-                name: copied,
-                params,
-            },
-            Told::Called(booked),
-            bytes,
-        );
-        Ok(called)
     }
 
     /// Runs what has waited longest, if anything waits.
-    #[tactic(auto, using(crate::proofs::HallLaws::not_after))]
     pub fn next(&mut self, alloc: Global, at: u64) -> Result<Order, NoMemory>
-        ensures told { IfOk result (λ order. Some (Told.Next order)
-            ≡ answer self.old.ledger.entries (moment self.old.ledger.entries at) Event.Next) }
-        ensures ledger { OnOk result (self.new.ledger ≡ posted self.old.ledger (moment self.old.ledger.entries at) Event.Next) }
-        ensures err { OnErr result (self.new.ledger ≡ self.old.ledger) }
-        ensures store { self.new.store ≡ self.old.store }
+        ensures { Comes P.rows P.faults self.old self.new at events.Next (next_outcome result) }
     {
-        let at = self.book.moment(at);
-        let booked = self.state.coming(alloc)?;
-        if booked.is_nothing() && self.book.is_idle() {
-            self.book.note_quiet();
-            return Ok(booked);
+        match self.perform(alloc, at, Event::Next) {
+            Ok(told) => Ok(order_in(told)),
+            Err(_) => Err(NoMemory),
         }
-        let bytes = self.book.reserve(Some(0))?;
-        let order = self.state.next(alloc, at)?;
-        self.book.add(at, Event::Next, Told::Next(booked), bytes);
-        Ok(order)
     }
 
     /// Records the end of what the run carries. A refusal hands the reply back.
-    #[tactic(auto, using(crate::proofs::HallLaws::not_after))]
     pub fn answered(
         &mut self,
         alloc: Global,
@@ -188,43 +148,73 @@ impl<P: Keeper + Drop> Hall<P> {
         run: u64,
         reply: RunReply,
     ) -> Result<Answered, AnswerRefusal>
-        ensures told { RepliesSo self.old.ledger self.new.ledger (moment self.old.ledger.entries at) run reply result }
-        ensures store { self.new.store ≡ self.old.store }
+        ensures comes { Comes P.rows P.faults self.old self.new at (events.Answered run reply) (reply_outcome result) }
+        ensures back { HandsBack run reply result }
     {
-        let at = self.book.moment(at);
-        let Ok(copied) = reply.copy(alloc) else {
-            return Err(AnswerRefusal::NoMemory(reply));
-        };
-        let Ok(bytes) = self.book.reserve(reply_bytes(&reply)) else {
-            return Err(AnswerRefusal::NoMemory(reply));
-        };
-        match self.state.answered(alloc, at, run, reply) {
-            Ok(AnsweredTwice { given, kept }) => {
-                let event = Event::Answered { run, reply: copied };
-                self.book.add(at, event, Told::Answered(kept), bytes);
-                Ok(given)
-            }
-            Err(AnswerRefusal::NoRun { run, reply }) => {
-                self.book.note_denied();
-                Err(AnswerRefusal::NoRun { run, reply })
-            }
-            Err(refusal) => Err(refusal),
+        match self.perform(alloc, at, Event::Answered { run, reply }) {
+            Ok(told) => answered_in(told),
+            Err(Undone { event }) => Err(AnswerRefusal::NoMemory(reply_of(event))),
         }
     }
 
     /// Takes no more calls from now on. It tells whether all that was accepted has ended.
-    #[tactic(auto, using(crate::proofs::HallLaws::not_after))]
     pub fn drain(&mut self, alloc: Global, at: u64) -> Result<Drain, NoMemory>
-        ensures told { IfOk result (λ drain. Some (Told.Drain drain)
-            ≡ answer self.old.ledger.entries (moment self.old.ledger.entries at) Event.Drain) }
-        ensures ledger { OnOk result (self.new.ledger ≡ posted self.old.ledger (moment self.old.ledger.entries at) Event.Drain) }
-        ensures err { OnErr result (self.new.ledger ≡ self.old.ledger) }
-        ensures store { self.new.store ≡ self.old.store }
+        ensures { Comes P.rows P.faults self.old self.new at events.Drain (drain_outcome result) }
     {
-        let at = self.book.moment(at);
-        let bytes = self.book.reserve(Some(0))?;
-        let drain = self.state.drain(at);
-        self.book.add(at, Event::Drain, Told::Drain(drain), bytes);
-        Ok(drain)
+        match self.perform(alloc, at, Event::Drain) {
+            Ok(told) => Ok(drain_in(told)),
+            Err(_) => Err(NoMemory),
+        }
     }
+}
+
+impl<P: Keeper + Drop> Hall<P> {
+    // What comes of an event: the one way in which it is answered and posted.
+    fn perform(&mut self, alloc: Global, at: u64, event: Event) -> Result<Told, Undone>
+        requires { is_opening event ≡ false }
+        ensures comes { Comes P.rows P.faults self.old self.new at event (outcome result) }
+        ensures back { IfErr result (λ undone. undone.event ≡ event) }
+    {
+        let now = Now {
+            counted: self.book.counted(),
+            at: self.book.moment(at),
+        };
+        let Ok(step) = self.state.attempt(alloc, &self.tenants, now, &event) else {
+            return Err(Undone { event });
+        };
+        let Ok((copied, bytes)) = prepare(alloc, &self.state, &mut self.book, &event, &step.told)
+        else {
+            drop(step);
+            self.state.settle(false);
+            return Err(Undone { event });
+        };
+        self.state.settle(true);
+        let Step {
+            told,
+            change,
+            waits,
+        } = step;
+        self.state.apply(change, waits);
+        self.book.post(now.at, event, copied, bytes);
+        Ok(told)
+    }
+}
+
+// Makes room in the book for what is told, where it is booked, and for what is owed behind it. It gives what is told once more, and
+// how many bytes the entry counts beside its 64.
+fn prepare(
+    alloc: Global,
+    state: &HallState,
+    book: &mut Book,
+    event: &Event,
+    told: &Told,
+) -> Result<(Told, u64), NoMemory>
+    ensures ledger { book.new.ledger ≡ book.old.ledger }
+    ensures keeps { book.old.room ≤ book.new.room }
+    ensures told { IfOk result (λ r. r.0 ≡ told.now) }
+    ensures ready { IfOk result (λ r. (T : Trace) → Stands state.now.floor.now T → posting book.old.ledger.entries told.now ≡ Posting.Booked
+        → IsReady book.old.ledger.entries book.new.room (owed T) event.now told.now r.1) }
+{
+    let bytes = book.reserve(state.owed(), event, told)?;
+    Ok((told.copy(alloc)?, bytes))
 }

@@ -1,21 +1,30 @@
 #![tactic(auto)]
 
-// The controller: rows and floor behind one book of all that was asked and answered.
+//! The controller: rows and floor behind one book of all that was asked and answered.
 mod acts;
-mod asks;
+mod ask_steps;
 mod book;
-mod calls;
+mod bytes;
+mod call_steps;
 mod done;
 mod entries;
 mod entry;
+mod floor_steps;
+mod fronts;
 mod hall;
+mod laws;
+mod posting;
 mod reasons;
 mod replies;
-mod spaces;
 mod state;
+mod step;
+mod tenants;
+mod waits;
 
 pub use book::{Book, GREATEST_MOMENT};
 pub use entries::Entries;
 pub use entry::{Entry, Event, Told};
 pub use hall::Hall;
+pub use laws::legal_books_keep_activations;
 pub use replies::{Called, Reply};
+pub use tenants::{Namespace, Tenants};

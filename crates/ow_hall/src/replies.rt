@@ -1,10 +1,8 @@
 // What requests and calls are answered.
-ghost use Rattle.std.specs.Prelude.{◌≡◌, ◌↔◌, IsTrue, IfOk};
-
 use ow_floor::Happened;
 use ow_http::{Answer, Reason};
 use ow_records::Id;
-use ow_value::NoMemory;
+use ow_value::{NoMemory, PlainData};
 use std::alloc::Global;
 
 /// What a request is answered.
@@ -25,11 +23,8 @@ pub enum Called {
     Refused(Reason),
 }
 
-impl Reply {
-    /// Whether both are equal.
-    pub fn same(&self, other: &Reply) -> bool
-        ensures { IsTrue result ↔ (self.now ≡ other.now) }
-    {
+impl PlainData for Reply {
+    fn same(&self, other: &Reply) -> bool {
         match (self, other) {
             (Reply::Now(a), Reply::Now(b)) => a.same(b),
             (
@@ -43,10 +38,7 @@ impl Reply {
         }
     }
 
-    /// An equal one.
-    pub fn copy(&self, alloc: Global) -> Result<Reply, NoMemory>
-        ensures { IfOk result (λ r. r ≡ self.now) }
-    {
+    fn copy(&self, alloc: Global) -> Result<Reply, NoMemory> {
         match self {
             Reply::Now(answer) => Ok(Reply::Now(answer.copy(alloc)?)),
             Reply::Waiting { id, until } => Ok(Reply::Waiting {
@@ -57,11 +49,8 @@ impl Reply {
     }
 }
 
-impl Called {
-    /// Whether both are equal.
-    pub fn same(&self, other: &Called) -> bool
-        ensures { IsTrue result ↔ (self.now ≡ other.now) }
-    {
+impl PlainData for Called {
+    fn same(&self, other: &Called) -> bool {
         match (self, other) {
             (Called::Happened(a), Called::Happened(b)) => a.same(b),
             (Called::Refused(a), Called::Refused(b)) => a.same(b),
@@ -69,10 +58,7 @@ impl Called {
         }
     }
 
-    /// An equal one.
-    pub fn copy(&self, alloc: Global) -> Result<Called, NoMemory>
-        ensures { IfOk result (λ r. r ≡ self.now) }
-    {
+    fn copy(&self, alloc: Global) -> Result<Called, NoMemory> {
         match self {
             Called::Happened(happened) => Ok(Called::Happened(happened.copy(alloc)?)),
             Called::Refused(reason) => Ok(Called::Refused(reason.copy(alloc)?)),

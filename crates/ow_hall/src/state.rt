@@ -1,33 +1,34 @@
-// What stands behind the book: the floor and the rows.
-ghost use Rattle.std.specs.Prelude.{◌≡◌, ◌+◌, ◌<◌, ◌^◌, IfOk, IfErr, OnOk, OnErr, ℕ};
-ghost use Rattle.ow_floor.specs.View.{last_of};
-ghost use Rattle.ow_floor.specs.Calls.{HandsBack, answer_to, drain_answer, given_of, happened_accepted, next_order};
-ghost use Rattle.ow_http.specs.Request.{parts_of};
-ghost use Rattle.ow_hall.specs.Asks.{asked};
-ghost use Rattle.ow_hall.specs.Decisions.{Accepts, Asks, Drains, Ends, Opens, Orders, Seen, after, called_of, nothing_seen};
-ghost use Rattle.ow_hall.specs.State.{AnswersSo, CalledHasText, DoneHasStatus, IsAt, IsNextOf, IsReady, Moves, PlannedHasText, called_by, done_of, planned_of};
+// What stands behind the book: the floor, the rows, and who waits. What is done at an event is held on the floor, and made ready
+// beside it, until it is settled.
+ghost use Rattle.std.specs.Prelude.{◌≡◌, ◌≤◌, [], true, false, Some, None, IfOk, IfSome, OnOk, OnErr};
+ghost use Rattle.ow_floor.specs.Laws.{Stands};
+ghost use Rattle.ow_floor.specs.Owed.{owed};
+ghost use Rattle.ow_floor.specs.Trace.{Trace};
+ghost use Rattle.ow_hall.specs.Decisions.{decide};
+ghost use Rattle.ow_hall.specs.History.{all_changed, seen, waits_after};
+ghost use Rattle.ow_hall.specs.State.{Does, HasPlace, IsAt, changes_of};
+ghost use Rattle.ow_hall.specs.declared.tenants.Tenants.{Tenants};
 
-use crate::asks::asked;
-use crate::calls::{Planned, plan_call};
-use crate::done::Done;
-use crate::replies::Called;
-use ow_floor::{AnswerRefusal, AnsweredTwice, Drain, Floor, Happened, Order, Plan};
-use ow_http::Request;
-use ow_names::FullName;
-use ow_tables::Tables;
-use ow_traits::RunReply;
-use ow_value::{NoMemory, Params};
+use crate::entry::Event;
+use crate::step::{Now, Step, step_for};
+use crate::tenants::Tenants;
+use crate::waits::{Wait, Waits};
+use ow_floor::Floor;
+use ow_tables::{Ready, Tables};
+use ow_value::NoMemory;
 use std::alloc::Global;
 use std::marker::Model;
 
-/// What waits, runs and has ended, and the entities.
+/// What waits, runs and has ended, the entities, and who waits for an end.
 #[derive(Drop)]
 pub(crate) struct HallState {
-    pub(crate) floor: Floor,
-    pub(crate) tables: Tables,
+    floor: Floor,
+    tables: Tables,
+    waits: Vec<Wait>,
 }
 
 impl Model for HallState {
+    ghost use Rattle.std.specs.Prelude.{◌-◌, vec_len, vec_capacity};
     ghost use Rattle.ow_hall.specs.State.{StateView};
     ghost use Rattle.std.specs.Coded.{codes};
     ghost use Rattle.ow_value.specs.Code.{value_code};
@@ -36,136 +37,129 @@ impl Model for HallState {
 
     ghost coded = { Prim.hlevel (codes, value_code) };
 
-    ghost view = { λ w. record { floor = w.floor.lists; rows = w.tables.rows; room = w.tables.room } };
+    ghost view = { λ w. record {
+      floor = w.floor;
+      rows = w.tables.rows;
+      row_room = w.tables.room;
+      waits = w.waits.items;
+      wait_room = vec_capacity w.waits - vec_len w.waits;
+    } };
 }
 
 impl HallState {
     /// Nothing has happened, and the built-in rows stand.
     pub(crate) fn new(alloc: Global) -> Result<HallState, NoMemory>
-        ensures { IfOk result (λ w. IsAt w (after 0 Opens nothing_seen)) }
+        ensures stands { IfOk result (λ w. (t : Tenants) → IsAt w (seen t [])) }
+        ensures free { IfOk result (λ w. w.floor.before ≡ None) }
     {
         Ok(HallState {
             floor: Floor::new(alloc),
             tables: Tables::new(alloc)?,
+            waits: Vec::new(alloc),
         })
     }
 
-    /// What comes of a request. Nothing is done yet.
-    pub(crate) fn asked(
+    /// How many entries are owed to the book.
+    pub(crate) fn owed(&self) -> usize
+        ensures { (T : Trace) → Stands self.now.floor.now T → result ≡ owed T }
+    {
+        self.floor.owed()
+    }
+
+    /// Does what is decided at an event, and holds it. Without memory all is as before.
+    pub(crate) fn attempt(
         &mut self,
         alloc: Global,
-        counted: u64,
-        request: &Request,
-    ) -> Result<Done, NoMemory>
-        ensures done { IfOk result (λ d. done_of d ≡ asked self.old.rows counted (parts_of request.now)) }
-        ensures floor { self.new.floor ≡ self.old.floor }
-        ensures rows { self.new.rows ≡ self.old.rows }
-        ensures ready { IfOk result (λ d. IsReady d self.new.room) }
-        ensures status { IfOk result DoneHasStatus }
+        tenants: &Tenants,
+        now: Now,
+        event: &Event,
+    ) -> Result<Step, NoMemory>
+        ensures ok { IfOk result (Does self.old self.new.floor.now tenants.now now (λ S. decide S event.now)) }
+        ensures held { OnOk result (self.new.floor.before ≡ Some self.old.floor.now) }
+        ensures place { IfOk result (λ s. HasPlace s.change self.new.row_room) }
+        ensures room { OnOk result (1 ≤ self.new.wait_room) }
+        ensures rest { (self.new.rows ≡ self.old.rows) × (self.new.waits ≡ self.old.waits) }
+        ensures err { OnErr result (self.new.floor.now ≡ self.old.floor.now) }
+        ensures free { OnErr result (self.old.floor.before ≡ None → self.new.floor.before ≡ None) }
     {
-        asked(alloc, &mut self.tables, counted, request)
-    }
-
-    /// Does what came of a request.
-    pub(crate) fn apply(&mut self, done: Done)
-        requires { IsReady done self.old.room }
-        ensures { (at : ℕ) → Moves self.old self.new at (λ S. Asks (done_of done)) }
-    {
-        done.apply(&mut self.tables);
-    }
-
-    /// What comes of a call. Nothing is done yet.
-    pub(crate) fn plan_call(
-        &self,
-        alloc: Global,
-        counted: u64,
-        name: &FullName,
-        params: &Params,
-    ) -> Result<Planned, NoMemory>
-        requires { (n : ℕ) → last_of self.now.floor.drawn n + 1 < 2 ^ 64 }
-        ensures decision { IfOk result (λ p. (S : Seen) → IsAt self.now S
-            → planned_of p ≡ called_of S.rows S.trace counted name.now params.now) }
-        ensures text { IfOk result PlannedHasText }
-        ensures next { IfOk result (IsNextOf self.now.floor.drawn) }
-    {
-        plan_call(alloc, &self.floor, &self.tables, counted, name, params)
-    }
-
-    /// Accepts what was planned.
-    pub(crate) fn accept(
-        &mut self,
-        alloc: Global,
-        at: u64,
-        plan: Plan,
-    ) -> Result<Happened, NoMemory>
-        requires { plan.id.count ≡ last_of self.old.floor.drawn plan.id.namespace + 1 }
-        ensures told { IfOk result (λ h. h ≡ happened_accepted plan.id) }
-        ensures ok { OnOk result (Moves self.old self.new at (λ S. Accepts plan)) }
-        ensures err { OnErr result ((self.new.floor ≡ self.old.floor) × (self.new.rows ≡ self.old.rows)) }
-    {
-        self.floor.accept(alloc, at, plan)
-    }
-
-    /// Accepts what was planned, or refuses it.
-    pub(crate) fn take(
-        &mut self,
-        alloc: Global,
-        at: u64,
-        planned: Planned,
-    ) -> Result<Called, NoMemory>
-        requires text { PlannedHasText planned }
-        requires next { IsNextOf self.old.floor.drawn planned }
-        ensures told { IfOk result (λ c. c ≡ called_by planned) }
-        ensures text { IfOk result CalledHasText }
-        ensures ok { OnOk result (Moves self.old self.new at (λ S. planned_of planned)) }
-        ensures err { OnErr result ((self.new.floor ≡ self.old.floor) × (self.new.rows ≡ self.old.rows)) }
-    {
-        match planned {
-            Planned::Refused(reason) => Ok(Called::Refused(reason)),
-            Planned::Accepted(plan) => Ok(Called::Happened(self.accept(alloc, at, plan)?)),
+        self.reserve()?;
+        self.hold();
+        match self.step(alloc, tenants, now, event) {
+            Ok(step) => Ok(step),
+            Err(e) => {
+                self.settle(false);
+                Err(e)
+            }
         }
     }
 
-    /// What `next` would order now.
-    pub(crate) fn coming(&self, alloc: Global) -> Result<Order, NoMemory>
-        requires { self.now.floor.runs + 1 < 2 ^ 64 }
-        ensures { IfOk result (λ order. (S : Seen) → IsAt self.now S → order ≡ next_order S.trace) }
+    /// Ends the hold: what was done on the floor stays, or is taken back. This takes no memory.
+    pub(crate) fn settle(&mut self, keep: bool)
+        ensures kept { keep ≡ true → self.new.floor.now ≡ self.old.floor.now }
+        ensures back { keep ≡ false → IfSome self.old.floor.before (λ v. self.new.floor.now ≡ v) }
+        ensures free { self.new.floor.before ≡ None }
+        ensures rest { (self.new.rows ≡ self.old.rows) × (self.new.waits ≡ self.old.waits) }
+        ensures room { (self.new.row_room ≡ self.old.row_room) × (self.new.wait_room ≡ self.old.wait_room) }
     {
-        self.floor.coming(alloc)
+        self.floor.settle(keep);
     }
 
-    /// Runs what has waited longest, if anything waits.
-    pub(crate) fn next(&mut self, alloc: Global, at: u64) -> Result<Order, NoMemory>
-        requires { self.old.floor.runs + 1 < 2 ^ 64 }
-        ensures told { IfOk result (λ order. (S : Seen) → IsAt self.old S → order ≡ next_order S.trace) }
-        ensures ok { OnOk result (Moves self.old self.new at (λ S. Orders (next_order S.trace))) }
-        ensures err { OnErr result ((self.new.floor ≡ self.old.floor) × (self.new.rows ≡ self.old.rows)) }
+    /// Makes the changes that were made ready. This takes no memory.
+    pub(crate) fn apply(&mut self, change: Option<Ready>, waits: Waits)
+        requires place { HasPlace change self.old.row_room }
+        requires room { 1 ≤ self.old.wait_room }
+        ensures floor { self.new.floor ≡ self.old.floor }
+        ensures rows { self.new.rows ≡ all_changed (changes_of change) self.old.rows }
+        ensures waits { self.new.waits ≡ waits_after waits self.old.waits }
     {
-        self.floor.next(alloc, at)
+        if let Some(ready) = change {
+            self.tables.apply(ready);
+        }
+        match waits {
+            Waits::Keep => {}
+            Waits::Add(wait) => self.waits.push_reserved(wait),
+            Waits::Clear => self.waits.clear(),
+        }
+    }
+}
+
+impl HallState {
+    // Makes room for one who waits.
+    fn reserve(&mut self) -> Result<(), NoMemory>
+        ensures same { (self.new.floor ≡ self.old.floor) × (self.new.rows ≡ self.old.rows) × (self.new.waits ≡ self.old.waits) }
+        ensures room { OnOk result (1 ≤ self.new.wait_room) }
+    {
+        self.waits.reserve(1)?;
+        Ok(())
     }
 
-    /// Records the end of what the run carries.
-    pub(crate) fn answered(
+    fn hold(&mut self)
+        ensures now { self.new.floor.now ≡ self.old.floor.now }
+        ensures held { self.new.floor.before ≡ Some self.old.floor.now }
+        ensures rest { (self.new.rows ≡ self.old.rows) × (self.new.waits ≡ self.old.waits) × (self.new.wait_room ≡ self.old.wait_room) }
+    {
+        self.floor.hold();
+    }
+
+    fn step(
         &mut self,
         alloc: Global,
-        at: u64,
-        run: u64,
-        reply: RunReply,
-    ) -> Result<AnsweredTwice, AnswerRefusal>
-        ensures told { AnswersSo self.old at run reply (given_of result) }
-        ensures same { IfOk result (λ two. two.kept ≡ two.given) }
-        ensures moved { OnOk result (Moves self.old self.new at (λ S. Ends run reply (answer_to at run reply S.trace))) }
-        ensures refused { IfErr result (λ refusal. HandsBack run reply refusal) }
-        ensures err { OnErr result ((self.new.floor ≡ self.old.floor) × (self.new.rows ≡ self.old.rows)) }
+        tenants: &Tenants,
+        now: Now,
+        event: &Event,
+    ) -> Result<Step, NoMemory>
+        ensures ok { IfOk result (Does self.old self.new.floor.now tenants.now now (λ S. decide S event.now)) }
+        ensures place { IfOk result (λ s. HasPlace s.change self.new.row_room) }
+        ensures before { self.new.floor.before ≡ self.old.floor.before }
+        ensures rest { (self.new.rows ≡ self.old.rows) × (self.new.waits ≡ self.old.waits) × (self.new.wait_room ≡ self.old.wait_room) }
     {
-        self.floor.answered_twice(alloc, at, run, reply)
-    }
-
-    /// From now on the floor drains. It tells whether all have ended.
-    pub(crate) fn drain(&mut self, at: u64) -> Drain
-        ensures told { (S : Seen) → IsAt self.old S → result ≡ drain_answer S.trace }
-        ensures moved { Moves self.old self.new at (λ S. Drains (drain_answer S.trace)) }
-    {
-        self.floor.drain(at)
+        step_for(
+            alloc,
+            tenants,
+            &mut self.floor,
+            &mut self.tables,
+            now,
+            event,
+        )
     }
 }

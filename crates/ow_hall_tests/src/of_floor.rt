@@ -1,13 +1,13 @@
 // One activation on its way over a floor.
-ghost use Rattle.std.specs.Prelude.{◌≡◌, ◌+◌, ◌<◌, ◌^◌, IfOk};
+ghost use Rattle.std.specs.Prelude.{◌≡◌, ◌+◌, None, IfOk};
 ghost use Rattle.ow_floor.specs.View.{last_of};
 
-use ow_entity::{Action, Exec, Limits};
-use ow_floor::{Answered, AnsweredTwice, Drain, Floor, Happening, Order, Plan};
+use ow_entity::{Action, EntityParams, Exec, Limits, ProgramName};
+use ow_floor::{Answered, Drain, Floor, Happened, Happening, Order, Plan};
 use ow_names::{EntityName, read_name, resolve};
-use ow_records::Id;
+use ow_records::{Ending, Id};
 use ow_traits::{Kind, RunReply};
-use ow_value::{Lines, Params, Str};
+use ow_value::{Lines, NoMemory, Params, PlainData, Shared, Str};
 use std::alloc::Global;
 use std::test::Fail;
 
@@ -17,14 +17,14 @@ const ID: Id = Id {
 };
 
 fn action(alloc: Global, namespace: &EntityName) -> Result<Action, Fail> {
-    let code = Str::of(alloc, "greet")?;
+    let code = ProgramName::read(alloc, "greet")?;
     let name = resolve(alloc, "hello", namespace)?;
     Ok(Action {
         name,
         version: 1,
         publish: false,
-        params: Params::new(alloc),
-        notes: Params::new(alloc),
+        params: EntityParams::new(),
+        notes: EntityParams::new(),
         exec: Exec::Program { code },
         limits: Limits::DEFAULT,
     })
@@ -35,69 +35,48 @@ fn plan(alloc: Global, id: Id) -> Result<Plan, Fail>
 {
     let subject = Str::of(alloc, "anna")?;
     let namespace = read_name(alloc, b"guest")?;
-    let action = action(alloc, &namespace)?;
+    let action = Shared::new(alloc, action(alloc, &namespace)?)?;
     Ok(Plan {
         id,
         namespace,
         action,
-        params: Params::new(alloc),
+        params: Params::new(),
         subject,
         cause: None,
         until: None,
     })
 }
 
-// Whether an equal plan is made of it.
-fn copies_plan(alloc: Global, plan: &Plan) -> Result<bool, Fail> {
-    let copied = plan.copy(alloc)?;
-    Ok(copied.same(plan))
-}
-
-// Whether an equal order is made of it.
-fn copies_order(alloc: Global, order: &Order) -> Result<bool, Fail> {
-    let copied = order.copy(alloc)?;
-    Ok(copied.same(order))
-}
-
-// Whether an equal answer is made of it.
-fn copies_answer(alloc: Global, answered: &Answered) -> Result<bool, Fail> {
-    let copied = answered.copy(alloc)?;
-    Ok(copied.same(answered))
-}
-
-// Whether an equal one is made of the first that is open.
-fn copies_open(alloc: Global, floor: &Floor) -> Result<bool, Fail> {
-    let Some(open) = floor.open_items().first() else {
-        return Ok(false);
-    };
-    let copied = open.copy(alloc)?;
-    Ok(copied.same(open))
+// Whether an equal one is made of it.
+fn copies<T: PlainData + Drop>(alloc: Global, value: &T) -> Result<bool, NoMemory> {
+    let copied = value.copy(alloc)?;
+    Ok(copied.same(value))
 }
 
 // Whether an equal one is made of the first record.
-fn copies_record(alloc: Global, floor: &Floor) -> Result<bool, Fail> {
-    let Some(ended) = floor.records().first() else {
-        return Ok(false);
-    };
-    let copied = ended.copy(alloc)?;
-    Ok(copied.same(ended))
+fn copies_record(alloc: Global, floor: &Floor) -> Result<bool, NoMemory> {
+    match floor.records().first() {
+        Some(ended) => copies(alloc, ended),
+        None => Ok(false),
+    }
 }
 
 // Whether the plan is accepted.
 fn accepts(alloc: Global, floor: &mut Floor) -> Result<bool, Fail>
-    requires { last_of floor.old.lists.drawn 7 ≡ 0 }
-    ensures { floor.new.lists.runs ≡ floor.old.lists.runs }
+    requires { last_of floor.old.now.drawn 7 ≡ 0 }
+    ensures { floor.new.before ≡ floor.old.before }
 {
     let plan = plan(alloc, ID)?;
+    let copied = copies(alloc, &plan);
     let happened = floor.accept(alloc, 1000, plan)?;
-    Ok(happened.items() == [Happening::Accepted { id: ID }].as_slice())
+    Ok(copied? && happened.items() == [Happening::Accepted { id: ID }].as_slice())
 }
 
-// Whether the order is to run what was planned.
-fn is_run(order: &Order) -> bool {
+// Whether the order is to run what was planned, under this number.
+fn is_run(order: &Order, number: u64) -> bool {
     match order {
         Order::Run(order) => {
-            (order.run, order.id, order.timeout) == (1, ID, 60_000)
+            (order.run, order.id, order.timeout) == (number, ID, 60_000)
                 && (order.kind, order.memory) == (Kind::Program, 256)
                 && order.code.as_str() == "greet"
         }
@@ -105,45 +84,81 @@ fn is_run(order: &Order) -> bool {
     }
 }
 
-// Whether it is ordered to run, as was foretold.
-fn runs_as(alloc: Global, floor: &mut Floor, coming: &Order) -> Result<bool, Fail>
-    requires { floor.old.lists.runs + 1 < 2 ^ 64 }
+// Whether it is ordered to run, under this number.
+fn runs(alloc: Global, floor: &mut Floor, number: u64) -> Result<bool, NoMemory>
+    ensures { floor.new.before ≡ floor.old.before }
 {
-    let ordered = floor.next(alloc, 1001)?;
-    if ordered.same(coming) && is_run(&ordered) {
-        copies_order(alloc, &ordered)
-    } else {
-        Ok(false)
-    }
+    let order = floor.next(alloc, 1001)?;
+    Ok(is_run(&order, number) && copies(alloc, &order)?)
 }
 
-// Whether it is ordered to run.
-fn runs(alloc: Global, floor: &mut Floor) -> Result<bool, Fail>
-    requires { floor.old.lists.runs + 1 < 2 ^ 64 }
-{
-    let coming = floor.coming(alloc)?;
-    runs_as(alloc, floor, &coming)
+// Whether nothing is ordered.
+fn idles(alloc: Global, floor: &mut Floor) -> Result<bool, NoMemory> {
+    let order = floor.next(alloc, 1001)?;
+    Ok(order.is_nothing())
+}
+
+fn tells(happened: &Happened, code: u8) -> bool {
+    happened.items() == [Happening::Recorded { id: ID, code }].as_slice()
 }
 
 // Whether the end is told of the activation, with this code.
 fn is_recorded(answered: &Answered, code: u8) -> bool {
-    let Answered::Recorded(happened) = answered;
-    happened.items() == [Happening::Recorded { id: ID, code }].as_slice()
+    match answered {
+        Answered::Recorded(happened) => tells(happened, code),
+        Answered::Late { .. } => false,
+    }
 }
 
-// Whether the end is told, and can be told once more.
-fn tells_end(alloc: Global, two: &AnsweredTwice) -> Result<bool, Fail> {
-    Ok(is_recorded(&two.given, 0) && copies_answer(alloc, &two.kept)?)
-}
-
-// Whether its end is recorded.
-fn ends(alloc: Global, floor: &mut Floor) -> Result<bool, Fail> {
+// Whether its end by an answer is recorded.
+fn ends(alloc: Global, floor: &mut Floor, run: u64) -> Result<bool, Fail>
+    ensures { floor.new.before ≡ floor.old.before }
+{
     let text = Str::of(alloc, "{\"a\":1}")?;
-    let logs = Lines::new(alloc);
-    match floor.answered_twice(alloc, 1003, 1, RunReply::Answer { text, logs }) {
-        Ok(two) => tells_end(alloc, &two),
+    let logs = Lines::new();
+    match floor.answered(alloc, 1003, run, RunReply::Answer { text, logs }) {
+        Ok(answered) => Ok(is_recorded(&answered, 0) && copies(alloc, &answered)?),
         Err(_) => Ok(false),
     }
+}
+
+// Whether one activation is accepted by a new floor, and waits there.
+fn waits(alloc: Global, floor: &mut Floor) -> Result<bool, Fail>
+    requires { last_of floor.old.now.drawn 7 ≡ 0 }
+    ensures { floor.new.before ≡ floor.old.before }
+{
+    let before = floor.last(7);
+    let accepted = accepts(alloc, floor)?;
+    Ok((before, accepted, floor.last(7), floor.busy()) == (0, true, 1, 1))
+}
+
+// Whether what waits runs, and ends.
+fn runs_and_ends(alloc: Global, floor: &mut Floor) -> Result<bool, Fail> {
+    let ran = runs(alloc, floor, 1)?;
+    let open = floor.drain(1002) == Drain::StillOpen(1);
+    let ended = ends(alloc, floor, 1)?;
+    let drained = floor.drain(1004) == Drain::Drained(1);
+    let latest = floor.latest() == 1004 && floor.is_draining();
+    Ok(ran && open && ended && drained && latest && copies_record(alloc, floor)?)
+}
+
+// Whether one activation goes its whole way over this floor.
+fn goes_its_way(alloc: Global, floor: &mut Floor) -> Result<bool, Fail>
+    requires { last_of floor.old.now.drawn 7 ≡ 0 }
+{
+    let waited = waits(alloc, floor)?;
+    let ended = runs_and_ends(alloc, floor)?;
+    Ok(waited && ended)
+}
+
+#[test]
+fn one_activation_waits_runs_and_is_recorded(rt: HostRuntime) -> Result<(), Fail> {
+    let alloc = rt.alloc();
+    let mut floor = Floor::new(alloc);
+    let recorded = goes_its_way(alloc, &mut floor);
+    drop(floor);
+    assert!(rt; recorded?);
+    Ok(())
 }
 
 // Whether the end without a reply is told as that of an error inside the service.
@@ -154,64 +169,13 @@ fn fails(alloc: Global, floor: &mut Floor) -> bool {
     }
 }
 
-// Whether one activation is accepted by a new floor, and waits there.
-fn waits(alloc: Global, floor: &mut Floor) -> Result<bool, Fail>
-    requires { last_of floor.old.lists.drawn 7 ≡ 0 }
-    ensures { floor.new.lists.runs ≡ floor.old.lists.runs }
-{
-    let before = floor.last(7);
-    let accepted = accepts(alloc, floor)?;
-    let after = floor.last(7);
-    Ok((before, accepted, after) == (0, true, 1) && copies_open(alloc, floor)?)
-}
-
-// Whether what waits runs, and ends.
-fn runs_and_ends(alloc: Global, floor: &mut Floor) -> Result<bool, Fail>
-    requires { floor.old.lists.runs + 1 < 2 ^ 64 }
-{
-    let ran = runs(alloc, floor)?;
-    let open = floor.drain(1002) == Drain::StillOpen(1);
-    let ended = ends(alloc, floor)?;
-    let drained = floor.drain(1004) == Drain::Drained(1);
-    let latest = floor.latest() == 1004;
-    Ok(ran && open && ended && drained && latest && copies_record(alloc, floor)?)
-}
-
-// Whether a plan is copied.
-fn plans(alloc: Global) -> Result<bool, Fail> {
-    let plan = plan(alloc, ID)?;
-    copies_plan(alloc, &plan)
-}
-
-// Whether one activation goes its whole way over this floor.
-fn goes_its_way(alloc: Global, floor: &mut Floor) -> Result<bool, Fail>
-    requires drawn { last_of floor.old.lists.drawn 7 ≡ 0 }
-    requires runs { floor.old.lists.runs ≡ 0 }
-{
-    let waited = waits(alloc, floor)?;
-    let ended = runs_and_ends(alloc, floor)?;
-    Ok(waited && ended)
-}
-
 // Whether a run of this floor fails, and is recorded.
 fn fails_to_run(alloc: Global, floor: &mut Floor) -> Result<bool, Fail>
-    requires drawn { last_of floor.old.lists.drawn 7 ≡ 0 }
-    requires runs { floor.old.lists.runs ≡ 0 }
+    requires { last_of floor.old.now.drawn 7 ≡ 0 }
 {
     let accepted = accepts(alloc, floor)?;
-    let ran = runs(alloc, floor)?;
+    let ran = runs(alloc, floor, 1)?;
     Ok(accepted && ran && fails(alloc, floor))
-}
-
-#[test]
-fn one_activation_waits_runs_and_is_recorded(rt: HostRuntime) -> Result<(), Fail> {
-    let alloc = rt.alloc();
-    assert!(rt; plans(alloc)?);
-    let mut floor = Floor::new(alloc);
-    let recorded = goes_its_way(alloc, &mut floor);
-    drop(floor);
-    assert!(rt; recorded?);
-    Ok(())
 }
 
 #[test]
@@ -221,6 +185,109 @@ fn a_run_that_fails_is_recorded(rt: HostRuntime) -> Result<(), Fail> {
     let recorded = fails_to_run(alloc, &mut floor);
     drop(floor);
     assert!(rt; recorded?);
+    Ok(())
+}
+
+// Whether a run begins once, is lost once, and what it carried runs again; and whether the container is gone once.
+fn is_lost_and_runs(alloc: Global, floor: &mut Floor) -> Result<bool, Fail>
+    requires { floor.old.before ≡ None }
+{
+    let ran = runs(alloc, floor, 1)?;
+    let owed = floor.owed();
+    let begun = (floor.begun(1002, 1), floor.begun(1002, 1));
+    let lost = (floor.lost(1002, 1), floor.lost(1002, 1));
+    let gone = (floor.gone(1002, 1, 1), floor.gone(1002, 1, 1));
+    let again = runs(alloc, floor, 2)?;
+    let ended = ends(alloc, floor, 2)?;
+    Ok(
+        ran && owed == 3
+            && again
+            && ended
+            && (begun, lost, gone) == ((true, false), (true, false), (true, false)),
+    )
+}
+
+// Whether that holds of an activation of this floor.
+fn is_lost(alloc: Global, floor: &mut Floor) -> Result<bool, Fail>
+    requires drawn { last_of floor.old.now.drawn 7 ≡ 0 }
+    requires free { floor.old.before ≡ None }
+{
+    let accepted = accepts(alloc, floor)?;
+    Ok(accepted && is_lost_and_runs(alloc, floor)?)
+}
+
+#[test]
+fn what_a_lost_run_carried_runs_again(rt: HostRuntime) -> Result<(), Fail> {
+    let alloc = rt.alloc();
+    let mut floor = Floor::new(alloc);
+    let lost = is_lost(alloc, &mut floor);
+    drop(floor);
+    assert!(rt; lost?);
+    Ok(())
+}
+
+// How many ends a sweep at this moment makes.
+fn swept(alloc: Global, floor: &mut Floor, at: u64) -> Result<u64, NoMemory> {
+    let swept = floor.sweep(alloc, at)?;
+    Ok(swept.late)
+}
+
+// Whether a reply is late, since what its run carries ended at this moment.
+fn is_late(alloc: Global, floor: &mut Floor, since: u64) -> Result<bool, NoMemory> {
+    match floor.replied(alloc, 70_000, 1, &RunReply::Fault)? {
+        Some(Answered::Late { run, at }) => Ok((run, at) == (1, since)),
+        Some(Answered::Recorded(_)) | None => Ok(false),
+    }
+}
+
+// Whether a run of 60 seconds that was ordered at 1001 is swept one millisecond behind its limit, and its reply is late.
+fn overruns(alloc: Global, floor: &mut Floor) -> Result<bool, Fail>
+    requires { last_of floor.old.now.drawn 7 ≡ 0 }
+{
+    let accepted = accepts(alloc, floor)?;
+    let ran = runs(alloc, floor, 1)?;
+    let swept = (swept(alloc, floor, 61_001)?, swept(alloc, floor, 61_002)?);
+    Ok(accepted && ran && swept == (0, 1) && is_late(alloc, floor, 61_002)?)
+}
+
+#[test]
+fn a_reply_behind_a_sweep_is_late(rt: HostRuntime) -> Result<(), Fail> {
+    let alloc = rt.alloc();
+    let mut floor = Floor::new(alloc);
+    let late = overruns(alloc, &mut floor);
+    drop(floor);
+    assert!(rt; late?);
+    Ok(())
+}
+
+// Whether an end that is taken back leaves the activation open, and one that is kept doesn't.
+fn settles(alloc: Global, floor: &mut Floor) -> Result<bool, NoMemory> {
+    floor.hold();
+    let ended = floor.end(alloc, 1002, ID, &Ending::Overran);
+    floor.settle(false);
+    let open = floor.busy();
+    floor.hold();
+    let reopened = floor.reopen(alloc, 1002);
+    floor.settle(true);
+    Ok(tells(&ended?, 2) && open == 1 && tells(&reopened?, 3) && floor.busy() == 0)
+}
+
+// Whether that holds of an activation that waits on this floor.
+fn is_settled(alloc: Global, floor: &mut Floor) -> Result<bool, Fail>
+    requires { last_of floor.old.now.drawn 7 ≡ 0 }
+{
+    let accepted = accepts(alloc, floor)?;
+    let settled = settles(alloc, floor)?;
+    Ok(accepted && settled && idles(alloc, floor)?)
+}
+
+#[test]
+fn what_is_held_is_taken_back_or_kept(rt: HostRuntime) -> Result<(), Fail> {
+    let alloc = rt.alloc();
+    let mut floor = Floor::new(alloc);
+    let settled = is_settled(alloc, &mut floor);
+    drop(floor);
+    assert!(rt; settled?);
     Ok(())
 }
 

@@ -211,9 +211,9 @@ fn called_name(alloc: Global) -> Result<FullName, Fail> {
 
 // The number of the refusal of a call, or 0.
 fn refused(alloc: Global, hall: &mut Office, at: u64, name: &FullName) -> Result<u32, Fail> {
-    match hall.call(alloc, at, name, Params::new(alloc))? {
+    match hall.call(alloc, at, name, Params::new())? {
         Called::Happened(_) => Ok(0),
-        Called::Refused(reason) => Ok(reason.number),
+        Called::Refused(reason) => Ok(reason.number()),
     }
 }
 
@@ -233,7 +233,7 @@ fn ordered(alloc: Global, hall: &mut Office, at: u64) -> Result<u64, Fail> {
 // Whether an empty object as the answer of this run is recorded.
 fn ended(alloc: Global, hall: &mut Office, at: u64, run: u64) -> Result<bool, Fail> {
     let text = Str::of(alloc, "{}")?;
-    let logs = Lines::new(alloc);
+    let logs = Lines::new();
     Ok(
         hall.answered(alloc, at, run, RunReply::Answer { text, logs })
             .is_ok(),

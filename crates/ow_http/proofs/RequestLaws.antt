@@ -7,7 +7,8 @@ use Rattle.ow_value.specs.declared.memory.NoMemory.{NoMemory}
 use Rattle.ow_http.specs.declared.request.Read.{Read}
 use Rattle.ow_http.specs.declared.request.Request.{Request}
 use Rattle.ow_http.specs.Request.{parts_of}
-use Rattle.ow_http.specs.Route.{takes, is_whole}
+use Rattle.ow_http.specs.CallKind.{takes}
+use Rattle.ow_http.specs.Route.{is_whole}
 
 told_by_parts : (a b : Request) → parts_of a ≡ parts_of b → a ≡ b
 told_by_parts a b e = λ i. record {

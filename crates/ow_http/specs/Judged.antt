@@ -1,22 +1,23 @@
 -- What a whole head asks for, or why it is refused. Of several faults the one that is told first here counts.
-use Rattle.std.specs.Prelude.{ℕ, ◌+◌, ◌||◌, not, nat_lt, if◌then◌else◌, List, length, take, codes, map, Option, Some, None, Result, Ok, Err}
+use Rattle.std.specs.Prelude.{ℕ, ◌+◌, ◌||◌, not, nat_lt, if◌then◌else◌, List, length, take, codes, map, Result, Ok, Err, ok_or}
 use Rattle.std.specs.List.{list_all}
 use Rattle.std.specs.Str.{is_utf8}
 use Rattle.httparse.specs.Grammar.{RequestHead, print_request}
 use Rattle.httparse.specs.Spans.{name_and_value}
-use Rattle.ow_http.specs.declared.place.Place.{Place}
 use Rattle.ow_http.specs.declared.http_refusal.HttpRefusal.{HttpRefusal}
 use Rattle.ow_http.specs.declared.http_refusal.HttpRefusal.TheVariants.{BadHead, NoRoute, BadMethod, BodyTooLarge, CutShort}
 use Rattle.ow_http.specs.declared.read.Asked as code
+use Rattle.ow_http.specs.declared.read.TheConstants.{MAX_BODY}
 use Rattle.ow_http.specs.declared.route.Route.{Route}
 use Rattle.ow_http.specs.declared.verb.Verb.{Verb}
-use Rattle.ow_http.specs.Fields.{is_text, body_length, closes, last_named}
+use Rattle.ow_http.specs.Headers.{is_text, body_length, closes, last_named}
 use Rattle.ow_http.specs.Pair.{Pair}
 use Rattle.ow_http.specs.Parts.{Parts}
 use Rattle.ow_http.specs.PlaceOf.{place_of}
 use Rattle.ow_http.specs.Query.{path_of, query_of, pairs_of}
-use Rattle.ow_http.specs.Route.{takes}
+use Rattle.ow_http.specs.CallKind.{takes}
 use Rattle.ow_http.specs.RouteAt.{route_at}
+use Rattle.ow_http.specs.Steps.{◌>>=◌}
 use Rattle.ow_http.specs.Verb.{verb_of}
 
 -- a head's parts, how many bytes it has, and the bytes behind it
@@ -49,10 +50,10 @@ as_asked a = record {
   rest = a.rest.now;
 }
 
--- the body has at most 4,194,304 bytes, and is whole
+-- the body isn't too long, and is whole
 unfoldable pub judged_body : Verb → Route → ℕ → Asked → Result Parts HttpRefusal
 judged_body method route n a =
-    if nat_lt 4194304 n then Err BodyTooLarge
+    if nat_lt MAX_BODY n then Err BodyTooLarge
     else if nat_lt (length a.rest) n then Err CutShort
     else Ok (record {
       route = route;
@@ -67,24 +68,19 @@ judged_body method route n a =
     })
 
 -- the route takes the method
-abbrev pub judged_method : Option Verb → Route → ℕ → Asked → Result Parts HttpRefusal
-judged_method None route n a = Err BadMethod
-judged_method (Some method) route n a =
-    if takes route method then judged_body method route n a else Err BadMethod
+abbrev pub judged_method : Route → ℕ → Asked → Result Parts HttpRefusal
+judged_method route n a = do
+  method ← ok_or (verb_of a.method) BadMethod
+  if takes route method then judged_body method route n a else Err BadMethod
 
--- the path has a route
-abbrev pub judged_place : Option Place → ℕ → Asked → Result Parts HttpRefusal
-judged_place None n a = Err NoRoute
-judged_place (Some place) n a =
-    judged_method (verb_of a.method) (route_at place (path_of a.target)) n a
-
--- the headers tell a length and nothing that isn't served
-abbrev pub judged_length : Option ℕ → Asked → Result Parts HttpRefusal
-judged_length None a = Err BadHead
-judged_length (Some n) a = judged_place (place_of (path_of a.target)) n a
+-- the headers tell a length and nothing that isn't served, and the path has a route
+abbrev pub judged_head : Asked → Result Parts HttpRefusal
+judged_head a = do
+  n ← ok_or (body_length a.fields) BadHead
+  place ← ok_or (place_of (path_of a.target)) NoRoute
+  judged_method (route_at place (path_of a.target)) n a
 
 -- target and headers are text
 unfoldable pub judged : Asked → Result Parts HttpRefusal
 judged a =
-    if not (list_all is_text a.fields) || not (is_utf8 a.target) then Err BadHead
-    else judged_length (body_length a.fields) a
+    if not (list_all is_text a.fields) || not (is_utf8 a.target) then Err BadHead else judged_head a

@@ -1,97 +1,108 @@
--- What each number of a refusal tells.
-use Rattle.std.specs.Prelude.{ℕ, List, [], ◌++◌, ◌==◌, if◌then◌else◌, codes, decimal, Option, Some, None}
-use Rattle.ow_names.specs.Refusal as names
+-- What clients are told of each refusal: a status and a text.
+use Rattle.std.specs.Prelude.{ℕ, List, ◌++◌, codes, decimal}
+use Rattle.ow_value.specs.declared.reader.ValueRefusal.{ValueRefusal}
+use Rattle.ow_value.specs.declared.reader.ValueRefusal.TheVariants as values
 use Rattle.ow_names.specs.declared.refusal.NameRefusal.{NameRefusal}
-use Rattle.ow_names.specs.declared.refusal.NameRefusal.TheVariants.{BadChar}
+use Rattle.ow_names.specs.declared.refusal.NameRefusal.TheVariants as names
+use Rattle.ow_entity.specs.FieldName.{field_name}
+use Rattle.ow_entity.specs.declared.field_name.FieldName.{FieldName}
+use Rattle.ow_entity.specs.declared.refusal.EntityRefusal.{EntityRefusal}
+use Rattle.ow_entity.specs.declared.refusal.EntityRefusal.TheVariants as entities
+use Rattle.ow_http.specs.declared.call_refusal.CallRefusal.{CallRefusal}
+use Rattle.ow_http.specs.declared.call_refusal.CallRefusal.TheVariants as calls
+use Rattle.ow_http.specs.declared.http_refusal.HttpRefusal.{HttpRefusal}
+use Rattle.ow_http.specs.declared.http_refusal.HttpRefusal.TheVariants as https
 use Rattle.ow_http.specs.declared.reason.Reason.{Reason}
-use Rattle.ow_http.specs.declared.texts.Told.{Told}
+use Rattle.ow_http.specs.declared.reason.Reason.TheVariants as reasons
+use Rattle.ow_http.specs.declared.service_refusal.ServiceRefusal.{ServiceRefusal}
+use Rattle.ow_http.specs.declared.service_refusal.ServiceRefusal.TheVariants.{NotFound, BindsABinding, Exists, SequenceTooLong, SequenceLoops, NotEmpty, UnknownKey, NotGranted, MinuteLimit, ConcurrentLimit, FireLimit, StoreFault, Draining, BookFull, KeptFull, NotExported, BadExtension, NeedsAuth, OfficeBusy}
+use Rattle.ow_http.specs.declared.notice.Notice.{Notice}
 
--- a reason that names nothing
-abbrev pub plain : ℕ → Reason
-plain number = record { number = number; name = []; first = 0; second = 0 }
+abbrev pub row : ℕ → List ℕ → Notice
+row status words = record { status = status; text = words }
 
--- a reason that names a field, a parameter or a query value
-abbrev pub naming : ℕ → List ℕ → Reason
-naming number name = record { number = number; name = name; first = 0; second = 0 }
+abbrev pub no_memory : Notice
+no_memory = row 500 (codes "No memory.")
 
--- why a text is no name
-abbrev pub name_reason : NameRefusal → Reason
-name_reason (BadChar place) = record { number = 6; name = []; first = place; second = 0 }
-name_reason e = plain (names.refusal_number e)
+-- bytes that are no request
+unfoldable pub http_notice : HttpRefusal → Notice
+http_notice https.NoMemory = no_memory
+http_notice https.BadHead = row 400 (codes "The request head is malformed.")
+http_notice https.NoRoute = row 404 (codes "There is no such route.")
+http_notice https.BadMethod = row 405 (codes "The method is not allowed.")
+http_notice https.BodyTooLarge = row 413 (codes "The body has too many bytes.")
+http_notice https.CutShort = row 400 (codes "The request is cut short.")
 
-abbrev pub row : Option ℕ → List ℕ → Option Told
-row status words = Some (record { status = status; text = words })
+-- bytes that are no name
+unfoldable pub name_notice : NameRefusal → Notice
+name_notice names.NoMemory = no_memory
+name_notice names.Empty = row 400 (codes "A name is empty.")
+name_notice names.TooLong = row 400 (codes "A name has more than 256 bytes.")
+name_notice (names.BadChar place) = row 400 (codes "A name has a wrong byte at " ++ decimal place ++ codes ".")
+name_notice names.EndsInSpace = row 400 (codes "A name ends in a space.")
+name_notice names.BadPath = row 400 (codes "The path names no entity.")
 
--- clients are told this with a status
-abbrev pub sent : ℕ → List ℕ → Option Told
-sent status words = row (Some status) words
+-- a text that is no value
+unfoldable pub value_notice : ValueRefusal → Notice
+value_notice values.NoMemory = no_memory
+value_notice values.NotJson = row 400 (codes "The text is no JSON.")
+value_notice values.NotWhole = row 400 (codes "A number is not a whole number of 64 bits.")
+value_notice values.TooDeep = row 400 (codes "The value is nested deeper than 100.")
 
--- no client is told this
-abbrev pub unsent : List ℕ → Option Told
-unsent words = row None words
+abbrev pub field_row : FieldName → List ℕ → Notice
+field_row name words = row 400 (codes "The field " ++ field_name name ++ words)
 
--- 0 is want of memory. 22 and 30 tell no text
-unfoldable pub told : Reason → Option Told
-told r =
-    if r.number == 0 then sent 500 (codes "No memory.")
-    else if r.number == 1 then sent 400 (codes "The text is no JSON.")
-    else if r.number == 2 then sent 400 (codes "A number is not a whole number of 64 bits.")
-    else if r.number == 3 then sent 400 (codes "The value is nested deeper than 100.")
-    else if r.number == 4 then sent 400 (codes "A name is empty.")
-    else if r.number == 5 then sent 400 (codes "A name has more than 256 bytes.")
-    else if r.number == 6 then sent 400 (codes "A name has a wrong byte at " ++ decimal r.first ++ codes ".")
-    else if r.number == 7 then sent 400 (codes "A name ends in a space.")
-    else if r.number == 8 then sent 400 (codes "The path names no entity.")
-    else if r.number == 9 then sent 400 (codes "The field " ++ r.name ++ codes " is missing.")
-    else if r.number == 10 then sent 400 (codes "The field " ++ r.name ++ codes " has a wrong type.")
-    else if r.number == 11 then sent 400 (codes "The field " ++ r.name ++ codes " is out of range.")
-    else if r.number == 12 then sent 400 (codes "The kind is unknown.")
-    else if r.number == 13 then sent 413 (codes "The value has too many bytes.")
-    else if r.number == 14 then sent 404 (codes "The resource does not exist.")
-    else if r.number == 15 then sent 400 (codes "The package is a binding.")
-    else if r.number == 16 then sent 400 (codes "The parameter " ++ r.name ++ codes " is fixed.")
-    else if r.number == 17 then sent 409 (codes "The resource exists.")
-    else if r.number == 18 then sent 400 (codes "The version cannot be raised.")
-    else if r.number == 19 then sent 400 (codes "The sequence has more than 50 actions.")
-    else if r.number == 20 then sent 400 (codes "The sequence contains itself.")
-    else if r.number == 21 then sent 409 (codes "The package holds actions.")
-    else if r.number == 23 then sent 401 (codes "The key is unknown.")
-    else if r.number == 24 then sent 403 (codes "The namespace is not granted.")
-    else if r.number == 25 then sent 429 (codes "Too many invocations in the last minute: " ++ decimal r.first ++ codes " of " ++ decimal r.second ++ codes ".")
-    else if r.number == 26 then sent 429 (codes "Too many concurrent activations: " ++ decimal r.first ++ codes " of " ++ decimal r.second ++ codes ".")
-    else if r.number == 27 then sent 429 (codes "Too many fires in the last minute: " ++ decimal r.first ++ codes " of " ++ decimal r.second ++ codes ".")
-    else if r.number == 28 then unsent (codes "No slot " ++ decimal r.first ++ codes " of that generation: " ++ decimal r.second ++ codes " kept.")
-    else if r.number == 29 then unsent (codes "No run " ++ decimal r.first ++ codes ".")
-    else if r.number == 31 then sent 503 (codes "The store failed.")
-    else if r.number == 32 then sent 503 (codes "The office is draining.")
-    else if r.number == 33 then sent 503 (codes "The book is full.")
-    else if r.number == 34 then sent 503 (codes "The store is full.")
-    else if r.number == 35 then sent 400 (codes "The request head is malformed.")
-    else if r.number == 36 then sent 404 (codes "There is no such route.")
-    else if r.number == 37 then sent 405 (codes "The method is not allowed.")
-    else if r.number == 38 then sent 413 (codes "The body has too many bytes.")
-    else if r.number == 39 then sent 400 (codes "The query value " ++ r.name ++ codes " is wrong.")
-    else if r.number == 40 then sent 400 (codes "The request is cut short.")
-    else if r.number == 41 then sent 404 (codes "The resource does not exist.")
-    else if r.number == 42 then sent 400 (codes "The extension is unknown.")
-    else if r.number == 43 then sent 400 (codes "The parameter " ++ r.name ++ codes " is reserved.")
-    else if r.number == 44 then sent 401 (codes "Authentication is needed.")
-    else if r.number == 45 then sent 502 (codes "The result is no web response.")
-    else if r.number == 46 then sent 503 (codes "The office is busy.")
-    else None
+-- a body that gives no entity
+unfoldable pub entity_notice : EntityRefusal → Notice
+entity_notice entities.NoMemory = no_memory
+entity_notice (entities.MissingField name) = field_row name (codes " is missing.")
+entity_notice (entities.WrongType name) = field_row name (codes " has a wrong type.")
+entity_notice (entities.OutOfRange name) = field_row name (codes " is out of range.")
+entity_notice entities.UnknownKind = row 400 (codes "The kind is unknown.")
+entity_notice entities.TooLarge = row 413 (codes "The value has too many bytes.")
+entity_notice entities.LastVersion = row 400 (codes "The version cannot be raised.")
 
-abbrev pub text_in : Option Told → List ℕ
-text_in None = []
-text_in (Some t) = t.text
+-- a request that is no call
+unfoldable pub call_notice : CallRefusal → Notice
+call_notice calls.NoMemory = no_memory
+call_notice (calls.BadQuery name) = row 400 (codes "The query value " ++ name ++ codes " is wrong.")
+call_notice (calls.BadName e) = name_notice e
+call_notice (calls.BadValue e) = value_notice e
+call_notice (calls.BadEntity e) = entity_notice e
 
-abbrev pub status_in : Option Told → Option ℕ
-status_in None = None
-status_in (Some t) = t.status
+abbrev pub limit_row : List ℕ → ℕ → ℕ → Notice
+limit_row words count allowed = row 429 (words ++ decimal count ++ codes " of " ++ decimal allowed ++ codes ".")
+
+-- what the service refuses
+unfoldable pub service_notice : ServiceRefusal → Notice
+service_notice NotFound = row 404 (codes "The resource does not exist.")
+service_notice BindsABinding = row 400 (codes "The package is a binding.")
+service_notice Exists = row 409 (codes "The resource exists.")
+service_notice SequenceTooLong = row 400 (codes "The sequence has more than 50 actions.")
+service_notice SequenceLoops = row 400 (codes "The sequence contains itself.")
+service_notice NotEmpty = row 409 (codes "The package holds actions.")
+service_notice UnknownKey = row 401 (codes "The key is unknown.")
+service_notice NotGranted = row 403 (codes "The namespace is not granted.")
+service_notice (MinuteLimit count allowed) = limit_row (codes "Too many invocations in the last minute: ") count allowed
+service_notice (ConcurrentLimit count allowed) = limit_row (codes "Too many concurrent activations: ") count allowed
+service_notice (FireLimit count allowed) = limit_row (codes "Too many fires in the last minute: ") count allowed
+service_notice StoreFault = row 503 (codes "The store failed.")
+service_notice Draining = row 503 (codes "The office is draining.")
+service_notice BookFull = row 503 (codes "The book is full.")
+service_notice KeptFull = row 503 (codes "The store is full.")
+service_notice NotExported = row 404 (codes "The resource does not exist.")
+service_notice BadExtension = row 400 (codes "The extension is unknown.")
+service_notice NeedsAuth = row 401 (codes "Authentication is needed.")
+service_notice OfficeBusy = row 503 (codes "The office is busy.")
+
+-- what clients are told of a reason
+unfoldable pub notice_of : Reason → Notice
+notice_of (reasons.Http e) = http_notice e
+notice_of (reasons.Call e) = call_notice e
+notice_of (reasons.Service e) = service_notice e
+notice_of (reasons.Fixed name) = row 400 (codes "The parameter " ++ name ++ codes " is fixed.")
+notice_of (reasons.Reserved name) = row 400 (codes "The parameter " ++ name ++ codes " is reserved.")
 
 -- the text of a refusal
 abbrev pub text_of : Reason → List ℕ
-text_of r = text_in (told r)
-
--- the status with which clients are told a refusal
-abbrev pub status_of : Reason → Option ℕ
-status_of r = status_in (told r)
+text_of r = (notice_of r).text

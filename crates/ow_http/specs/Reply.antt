@@ -3,7 +3,7 @@ use Rattle.std.specs.Prelude.{ℕ, List, [], ◌∷◌, ◌++◌, Bool, ◌||◌
 use Rattle.std.specs.List.{flat_map}
 use Rattle.http.specs.StatusCode.{reason_phrase}
 use Rattle.ow_http.specs.declared.answer.Answer.{Answer}
-use Rattle.ow_http.specs.Fields.{is_named, last_named}
+use Rattle.ow_http.specs.Headers.{is_named, last_named}
 use Rattle.ow_http.specs.Pair.{Pair}
 
 -- CR LF

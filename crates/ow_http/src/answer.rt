@@ -1,7 +1,5 @@
 // Answers.
-ghost use Rattle.std.specs.Prelude.{◌≡◌, ◌↔◌, IsTrue, IfOk};
-
-use ow_value::{Bytes, NoMemory, Pairs};
+use ow_value::{Bytes, NoMemory, Pairs, PlainData};
 use std::alloc::Global;
 
 /// What is answered to a request.
@@ -16,20 +14,14 @@ pub struct Answer {
     pub body: Bytes,
 }
 
-impl Answer {
-    /// Whether both have the same parts.
-    pub fn same(&self, other: &Answer) -> bool
-        ensures { IsTrue result ↔ (self.now ≡ other.now) }
-    {
+impl PlainData for Answer {
+    fn same(&self, other: &Answer) -> bool {
         self.status == other.status
             && self.headers.same(&other.headers)
             && self.body.same(&other.body)
     }
 
-    /// An equal answer.
-    pub fn copy(&self, alloc: Global) -> Result<Answer, NoMemory>
-        ensures { IfOk result (λ a. a ≡ self.now) }
-    {
+    fn copy(&self, alloc: Global) -> Result<Answer, NoMemory> {
         Ok(Answer {
             status: self.status,
             headers: self.headers.copy(alloc)?,

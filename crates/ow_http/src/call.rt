@@ -1,14 +1,17 @@
 // Requests as what they want done.
-ghost use Rattle.std.specs.Prelude.{◌≡◌, ◌↔◌, IsTrue, IfOk};
+ghost use Rattle.std.specs.Prelude.{◌≡◌, ◌↔◌, IsTrue};
 
+use crate::call_kind::CallKind;
 use ow_entity::Draft;
 use ow_names::FullName;
-use ow_value::{NoMemory, Params};
+use ow_value::{NoMemory, Params, PlainData};
 use std::alloc::Global;
 
-/// What a request wants done. What its route doesn't have is none, false, 0 or empty.
+/// What a request wants done. What its kind doesn't have is none, false, 0 or empty.
 #[derive(Drop)]
 pub struct Call {
+    /// What is to be done.
+    pub kind: CallKind,
     /// The entity that the path names, in the namespace that `_` stands for.
     pub name: Option<FullName>,
     /// Whether a put may replace what stands.
@@ -23,36 +26,42 @@ pub struct Call {
     pub limit: u64,
     /// The entity that the body of a put gives.
     pub draft: Option<Draft>,
-    /// The parameters of an invocation. No route has them yet.
+    /// The parameters of an invocation. No kind has them yet.
     pub params: Params,
-    /// Whether a rule is to be active. No route has it yet.
+    /// Whether a rule is to be active. No kind has it yet.
     pub active: Option<bool>,
 }
 
 impl Call {
-    /// Whether both have the same parts.
-    pub fn same(&self, other: &Call) -> bool
-        ensures { IsTrue result ↔ (self.now ≡ other.now) }
+    fn has_options_of(&self, other: &Call) -> bool
+        ensures { IsTrue result ↔ ((self.now.kind ≡ other.now.kind) × (self.now.overwrite ≡ other.now.overwrite)
+            × (self.now.blocking ≡ other.now.blocking) × (self.now.result_only ≡ other.now.result_only)
+            × (self.now.skip ≡ other.now.skip) × (self.now.limit ≡ other.now.limit) × (self.now.active ≡ other.now.active)) }
     {
-        FullName::same_option(&self.name, &other.name)
+        self.kind == other.kind
             && self.overwrite == other.overwrite
             && self.blocking == other.blocking
             && self.result_only == other.result_only
             && self.skip == other.skip
             && self.limit == other.limit
-            && same_draft(&self.draft, &other.draft)
-            && self.params.same(&other.params)
             && self.active == other.active
     }
+}
 
-    /// An equal call.
-    pub fn copy(&self, alloc: Global) -> Result<Call, NoMemory>
-        ensures { IfOk result (λ c. c ≡ self.now) }
-    {
-        let name = FullName::copy_option(alloc, &self.name)?;
-        let draft = copy_draft(alloc, &self.draft)?;
+impl PlainData for Call {
+    fn same(&self, other: &Call) -> bool {
+        self.has_options_of(other)
+            && self.name.same(&other.name)
+            && self.draft.same(&other.draft)
+            && self.params.same(&other.params)
+    }
+
+    fn copy(&self, alloc: Global) -> Result<Call, NoMemory> {
+        let name = self.name.copy(alloc)?;
+        let draft = self.draft.copy(alloc)?;
         let params = self.params.copy(alloc)?;
         Ok(Call {
+            kind: self.kind,
             name,
             overwrite: self.overwrite,
             blocking: self.blocking,
@@ -63,24 +72,5 @@ impl Call {
             params,
             active: self.active,
         })
-    }
-}
-
-fn same_draft(a: &Option<Draft>, b: &Option<Draft>) -> bool
-    ensures { IsTrue result ↔ (a.now ≡ b.now) }
-{
-    match (a, b) {
-        (Some(x), Some(y)) => x.same(y),
-        (None, None) => true,
-        _ => false,
-    }
-}
-
-fn copy_draft(alloc: Global, draft: &Option<Draft>) -> Result<Option<Draft>, NoMemory>
-    ensures { IfOk result (λ d. d ≡ draft.now) }
-{
-    match draft {
-        Some(draft) => Ok(Some(draft.copy(alloc)?)),
-        None => Ok(None),
     }
 }

@@ -1,7 +1,7 @@
 // Why requests are no calls.
 use ow_entity::EntityRefusal;
 use ow_names::NameRefusal;
-use ow_value::{NoMemory, Str, ValueRefusal};
+use ow_value::{NoMemory, PlainData, Str, ValueRefusal};
 use std::alloc::Global;
 
 /// Why a request is no call. Of several faults the one that stands first here is told.
@@ -23,8 +23,8 @@ pub enum CallRefusal {
 }
 
 impl CallRefusal {
-    ghost use Rattle.std.specs.Prelude.{◌≡◌, ◌↔◌, IsTrue, IfOk};
-    ghost use Rattle.ow_http.specs.CallRefusal.{call_number};
+    ghost use Rattle.std.specs.Prelude.{◌≡◌};
+    ghost use Rattle.ow_http.specs.Number.{call_number};
 
     /// By which a client tells the refusals apart. Want of memory has 0.
     pub fn number(&self) -> u32
@@ -38,11 +38,10 @@ impl CallRefusal {
             CallRefusal::NoMemory => 0,
         }
     }
+}
 
-    /// Whether both are the same refusal, of the same.
-    pub fn same(&self, other: &CallRefusal) -> bool
-        ensures { IsTrue result ↔ (self.now ≡ other.now) }
-    {
+impl PlainData for CallRefusal {
+    fn same(&self, other: &CallRefusal) -> bool {
         match (self, other) {
             (CallRefusal::BadQuery { name }, CallRefusal::BadQuery { name: theirs }) => {
                 name.same(theirs)
@@ -55,10 +54,7 @@ impl CallRefusal {
         }
     }
 
-    /// An equal refusal.
-    pub fn copy(&self, alloc: Global) -> Result<CallRefusal, NoMemory>
-        ensures { IfOk result (λ e. e ≡ self.now) }
-    {
+    fn copy(&self, alloc: Global) -> Result<CallRefusal, NoMemory> {
         Ok(match self {
             CallRefusal::BadQuery { name } => CallRefusal::BadQuery {
                 name: name.copy(alloc)?,

@@ -2,23 +2,27 @@
 ghost use Rattle.std.specs.Prelude.{◌≡◌, ◌≤◌, ◌⊎◌, ℕ, List, length, IfOk, IfErr, IsOkAnd, Err};
 ghost use Rattle.httparse.specs.Grammar.{RequestHead, print_request};
 ghost use Rattle.httparse.specs.Spans.{IsRequestAt, IsRequestWithin};
-ghost use Rattle.ow_http.specs.Head.{HasHead, IsBadHead, IsCutHead, max_head, max_headers};
+ghost use Rattle.ow_http.specs.Head.{HasHead, IsBadHead, IsCutHead};
 ghost use Rattle.ow_http.specs.declared.http_refusal.HttpRefusal.TheVariants.{BadHead, CutShort};
 
 use crate::http_refusal::HttpRefusal;
 use httparse::Status;
 use httparse::spans::{HeaderSpan, RequestSpans, parse_request};
 
-const MAX_HEAD: usize = 65536;
+/// How many bytes a head has at most.
+pub(crate) const MAX_HEAD: usize = 65536;
+
+/// How many headers a head has at most.
+pub(crate) const MAX_HEADERS: usize = 100;
 
 /// The head at the front of the bytes.
 pub(crate) fn read_head(
     bytes: &[u8],
     headers: &mut [HeaderSpan],
 ) -> Result<RequestSpans, HttpRefusal>
-    requires { length headers.old ≡ 100 }
+    requires { length headers.old ≡ MAX_HEADERS }
     ensures within { IfOk result (IsRequestWithin bytes.now headers.new) }
-    ensures whole { IfOk result (λ r. (h : RequestHead) × IsRequestAt bytes.now headers.new r h × (length h.fields ≤ max_headers) × (length (print_request h) ≤ max_head)) }
+    ensures whole { IfOk result (λ r. (h : RequestHead) × IsRequestAt bytes.now headers.new r h × (length h.fields ≤ MAX_HEADERS) × (length (print_request h) ≤ MAX_HEAD)) }
     ensures found { (h : RequestHead) (rest : List ℕ) → HasHead bytes.now h rest → IsOkAnd result (λ r. IsRequestAt bytes.now headers.new r h) }
     ensures bad { result ≡ Err BadHead → IsBadHead bytes.now }
     ensures cut { result ≡ Err CutShort → IsCutHead bytes.now }

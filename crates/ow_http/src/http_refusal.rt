@@ -2,7 +2,6 @@
 ghost use Rattle.std.specs.Prelude.{◌≡◌};
 
 use ow_value::NoMemory;
-use std::alloc::AllocError;
 
 /// Why bytes are no request. Of several faults the one that stands first here is told.
 #[derive(Clone, Copy, PartialEq, Eq, Debug, Drop)]
@@ -22,11 +21,11 @@ pub enum HttpRefusal {
 }
 
 impl HttpRefusal {
-    ghost use Rattle.ow_http.specs.Refusal.{refusal_number};
+    ghost use Rattle.ow_http.specs.Number.{http_number};
 
     /// By which a client tells the refusals apart. Want of memory has 0.
     pub fn number(self) -> u32
-        ensures { result ≡ refusal_number self }
+        ensures { result ≡ http_number self }
     {
         match self {
             HttpRefusal::NoMemory => 0,
@@ -46,17 +45,6 @@ impl From<NoMemory> for HttpRefusal {
     ghost from_gives = { λ _ e. e ≡ NoMemory };
 
     fn from(_refused: NoMemory) -> HttpRefusal {
-        HttpRefusal::NoMemory
-    }
-}
-
-impl From<AllocError> for HttpRefusal {
-    ghost use Rattle.std.specs.Prelude.{◌≡◌};
-    ghost use Rattle.ow_http.specs.declared.http_refusal.HttpRefusal.TheVariants.{NoMemory};
-
-    ghost from_gives = { λ _ e. e ≡ NoMemory };
-
-    fn from(_refused: AllocError) -> HttpRefusal {
         HttpRefusal::NoMemory
     }
 }

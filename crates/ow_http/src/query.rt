@@ -9,14 +9,14 @@ use std::alloc::Global;
 pub fn read_pairs(alloc: Global, input: &[u8]) -> Result<Pairs, NoMemory>
     ensures { IfOk result (λ p. p ≡ pairs_of input.now) }
 {
-    let mut pairs = Pairs::new(alloc);
+    let mut pairs = Vec::new(alloc);
     for pair in form_urlencoded::parse(alloc, input) {
         let (name, value) = pair?;
         let name = Str::of(alloc, name.as_str())?;
         let value = Str::of(alloc, value.as_str())?;
-        pairs.push(name, value)?;
+        pairs.push((name, value))?;
     }
-    Ok(pairs)
+    Pairs::from_vec(pairs)
 }
 
 /// What stands before the first `?`.

@@ -4,28 +4,30 @@ ghost use Rattle.std.specs.List.{list_all};
 ghost use Rattle.std.specs.Str.{is_utf8};
 ghost use Rattle.httparse.specs.Grammar.{RequestHead};
 ghost use Rattle.httparse.specs.Spans.{IsRequestAt, IsRequestWithin, IsHeaderWithin, header_bytes};
-ghost use Rattle.ow_http.specs.Fields.{is_text, last_named};
+ghost use Rattle.ow_http.specs.Headers.{is_text, last_named};
 ghost use Rattle.ow_http.specs.Head.{HasHead, IsBadHead, IsCutHead};
 ghost use Rattle.ow_http.specs.Judged.{judged, judged_method, judged_body, asked_of, as_asked};
 ghost use Rattle.ow_http.specs.Gives.{Gives, GivesRead};
 ghost use Rattle.ow_http.specs.Read.{ReadsAs};
-ghost use Rattle.ow_http.specs.Route.{takes, is_whole};
-ghost use Rattle.ow_http.specs.Verb.{verb_of};
+ghost use Rattle.ow_http.specs.CallKind.{takes};
+ghost use Rattle.ow_http.specs.Route.{is_whole};
 ghost use Rattle.ow_http.specs.declared.http_refusal.HttpRefusal.TheVariants.{BadHead, CutShort, NoMemory as OutOfMemory};
 
-use crate::fields::{body_length, closes, last_named};
-use crate::head::read_head;
+use crate::call_kind::CallKind;
+use crate::head::{MAX_HEADERS, read_head};
+use crate::headers::{body_length, closes, last_named};
 use crate::http_refusal::HttpRefusal;
-use crate::parts::route_at;
 use crate::query::{path_of, query_of, read_pairs};
 use crate::request::{Read, Request};
 use crate::route::Route;
 use crate::routes::Routes;
+use crate::segments::route_at;
 use crate::verb::Verb;
 use httparse::spans::{EMPTY_HEADER_SPAN, HeaderSpan, RequestSpans};
-use ow_value::{Bytes, NoMemory, Pairs, Str};
+use ow_value::{NoMemory, Pairs, PlainData, Str, bytes_of};
 use std::alloc::Global;
 
+/// How many bytes a body has at most.
 const MAX_BODY: u64 = 4194304;
 
 // The parts of a head whose target is text, and the bytes behind it.
@@ -53,7 +55,7 @@ impl Routes {
         ensures headless { ((h : RequestHead) (rest : List ℕ) → ¬ (HasHead bytes.now h rest))
             → IfErr result (λ e. ((e ≡ BadHead) × IsBadHead bytes.now) ⊎ ((e ≡ CutShort) × IsCutHead bytes.now) ⊎ (e ≡ OutOfMemory)) }
     {
-        let mut headers = [EMPTY_HEADER_SPAN; 100];
+        let mut headers = [EMPTY_HEADER_SPAN; MAX_HEADERS];
         match read_head(bytes, &mut headers) {
             Ok(head) => read_whole(alloc, self, bytes, &headers, head),
             Err(e) => Err(e),
@@ -146,13 +148,13 @@ fn judge_method(
 ) -> Result<Request, HttpRefusal>
     requires whole { is_whole route ≡ true }
     requires fits { asked.head + length asked.rest.now < 2 ^ 64 }
-    ensures { Gives (judged_method (verb_of asked.entry.method.now) route size (as_asked asked.entry)) result }
+    ensures { Gives (judged_method route size (as_asked asked.entry)) result }
 {
     let method = match Verb::of(asked.method) {
         Some(method) => method,
         None => return Err(HttpRefusal::BadMethod),
     };
-    if !route.takes(method) {
+    if !CallKind::of(&route, method).is_taken() {
         return Err(HttpRefusal::BadMethod);
     }
     finish(alloc, method, route, size, asked)
@@ -188,7 +190,7 @@ fn finish(
         query: read_pairs(alloc, query.as_bytes())?,
         raw_query: Str::of(alloc, query)?,
         headers: asked.fields,
-        body: Bytes::of(alloc, &asked.rest[..size as usize])?,
+        body: bytes_of(alloc, &asked.rest[..size as usize])?,
         size: asked.head as u64 + size,
         close,
     })
@@ -214,7 +216,7 @@ fn read_fields(
         (list_all is_text (map (header_bytes bytes.now) headers.now) ≡ false)
         (λ p. (p ≡ map (header_bytes bytes.now) headers.now) × (list_all is_text p ≡ true))) }
 {
-    let mut fields = Pairs::new(alloc);
+    let mut fields = Vec::new(alloc);
     for header in headers {
         if !add_field(
             alloc,
@@ -225,13 +227,18 @@ fn read_fields(
             return Ok(None);
         }
     }
-    Ok(Some(fields))
+    Ok(Some(Pairs::from_vec(fields)?))
 }
 
 // Adds a header, if it is text.
-fn add_field(alloc: Global, fields: &mut Pairs, name: &[u8], value: &[u8]) -> Result<bool, NoMemory>
+fn add_field(
+    alloc: Global,
+    fields: &mut Vec<(Str, Str)>,
+    name: &[u8],
+    value: &[u8],
+) -> Result<bool, NoMemory>
     ensures text { IfOk result (λ b. b ≡ is_text (name.now, value.now)) }
-    ensures added { result ≡ Ok true → fields.new ≡ fields.old ++ (name.now, value.now) ∷ [] }
+    ensures added { result ≡ Ok true → fields.new.items ≡ fields.old.items ++ (name.now, value.now) ∷ [] }
 {
     let Some(name) = text_of(name) else {
         return Ok(false);
@@ -241,7 +248,7 @@ fn add_field(alloc: Global, fields: &mut Pairs, name: &[u8], value: &[u8]) -> Re
     };
     let name = Str::of(alloc, name)?;
     let value = Str::of(alloc, value)?;
-    fields.push(name, value)?;
+    fields.push((name, value))?;
     Ok(true)
 }
 

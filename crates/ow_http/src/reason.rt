@@ -1,79 +1,73 @@
-// Refusals of any kind, as they are told.
-use ow_names::NameRefusal;
-use ow_value::{NoMemory, Str};
+// Why something is refused, as clients are told it.
+ghost use Rattle.std.specs.Prelude.{◌≡◌};
+
+use crate::call_refusal::CallRefusal;
+use crate::http_refusal::HttpRefusal;
+use crate::service_refusal::ServiceRefusal;
+use ow_value::{NoMemory, PlainData, Str};
 use std::alloc::Global;
 
-/// Why something is refused: a number, and what its text names.
+/// Why a request, or a call of the service itself, is refused. Each reason has a number, a status and a text.
 #[derive(Drop)]
-pub struct Reason {
-    /// By which clients tell refusals apart. Want of memory has 0.
-    pub number: u32,
-    /// A field, a parameter or a query value.
-    pub name: Str,
-    /// A place, a slot, a run, or how many there are.
-    pub first: u64,
-    /// How many are allowed or kept.
-    pub second: u64,
+pub enum Reason {
+    /// Bytes are no request.
+    Http(HttpRefusal),
+    /// Query, path or body are no call.
+    Call(CallRefusal),
+    /// The service refuses what is asked for.
+    Service(ServiceRefusal),
+    /// A parameter that may not be given a value is given one.
+    Fixed {
+        /// That of the parameter.
+        name: Str,
+    },
+    /// A parameter is given that the service sets itself.
+    Reserved {
+        /// That of the parameter.
+        name: Str,
+    },
 }
 
 impl Reason {
-    ghost use Rattle.std.specs.Prelude.{◌≡◌, ◌↔◌, IsTrue, IfOk};
-    ghost use Rattle.ow_http.specs.Reason.{plain, naming, name_reason};
+    ghost use Rattle.ow_http.specs.Number.{number_of};
 
-    /// A reason that names nothing. This takes no memory.
-    pub fn plain(alloc: Global, number: u32) -> Reason
-        ensures { result ≡ plain number }
+    /// By which a client tells the refusals apart. Want of memory has 0.
+    pub fn number(&self) -> u32
+        ensures { result ≡ number_of self.now }
     {
-        Reason {
-            number,
-            name: Str::from_string(String::new(alloc)),
-            first: 0,
-            second: 0,
+        match self {
+            Reason::Http(refusal) => refusal.number(),
+            Reason::Call(refusal) => refusal.number(),
+            Reason::Service(refusal) => refusal.number(),
+            Reason::Fixed { .. } => 16,
+            Reason::Reserved { .. } => 43,
+        }
+    }
+}
+
+impl PlainData for Reason {
+    fn same(&self, other: &Reason) -> bool {
+        match (self, other) {
+            (Reason::Http(refusal), Reason::Http(theirs)) => refusal == theirs,
+            (Reason::Call(refusal), Reason::Call(theirs)) => refusal.same(theirs),
+            (Reason::Service(refusal), Reason::Service(theirs)) => refusal == theirs,
+            (Reason::Fixed { name }, Reason::Fixed { name: theirs }) => name.same(theirs),
+            (Reason::Reserved { name }, Reason::Reserved { name: theirs }) => name.same(theirs),
+            _ => false,
         }
     }
 
-    /// A reason that names a field, a parameter or a query value.
-    pub fn naming(alloc: Global, number: u32, name: &str) -> Result<Reason, NoMemory>
-        ensures { IfOk result (λ r. r ≡ naming number name.now) }
-    {
-        Ok(Reason {
-            number,
-            name: Str::of(alloc, name)?,
-            first: 0,
-            second: 0,
-        })
-    }
-
-    /// Why a text is no name. This takes no memory.
-    pub fn of_name(alloc: Global, refusal: NameRefusal) -> Reason
-        ensures { result ≡ name_reason refusal }
-    {
-        let mut reason = Reason::plain(alloc, refusal.number());
-        if let NameRefusal::BadChar { place } = refusal {
-            reason.first = place as u64;
-        }
-        reason
-    }
-
-    /// Whether both have the same parts.
-    pub fn same(&self, other: &Reason) -> bool
-        ensures { IsTrue result ↔ (self.now ≡ other.now) }
-    {
-        self.number == other.number
-            && self.name.same(&other.name)
-            && self.first == other.first
-            && self.second == other.second
-    }
-
-    /// An equal reason.
-    pub fn copy(&self, alloc: Global) -> Result<Reason, NoMemory>
-        ensures { IfOk result (λ r. r ≡ self.now) }
-    {
-        Ok(Reason {
-            number: self.number,
-            name: self.name.copy(alloc)?,
-            first: self.first,
-            second: self.second,
+    fn copy(&self, alloc: Global) -> Result<Reason, NoMemory> {
+        Ok(match self {
+            Reason::Http(refusal) => Reason::Http(*refusal),
+            Reason::Call(refusal) => Reason::Call(refusal.copy(alloc)?),
+            Reason::Service(refusal) => Reason::Service(*refusal),
+            Reason::Fixed { name } => Reason::Fixed {
+                name: name.copy(alloc)?,
+            },
+            Reason::Reserved { name } => Reason::Reserved {
+                name: name.copy(alloc)?,
+            },
         })
     }
 }

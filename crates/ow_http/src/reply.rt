@@ -4,7 +4,7 @@ ghost use Rattle.http.specs.StatusCode.{reason_phrase, IsStatusCode};
 ghost use Rattle.ow_http.specs.Reply.{phrase_of, header_line, status_line, is_bare, length_line, body_part, reply_bytes, own_lines, own_line, type_of};
 
 use crate::answer::Answer;
-use crate::fields::{is_named, last_named};
+use crate::headers::{is_named, last_named};
 use http::StatusCode;
 use ow_value::{NoMemory, Str};
 use std::alloc::Global;

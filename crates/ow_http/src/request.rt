@@ -1,10 +1,12 @@
 // Requests as they were read.
 ghost use Rattle.std.specs.Prelude.{◌≡◌, true};
-ghost use Rattle.ow_http.specs.Route.{takes, is_whole};
+ghost use Rattle.ow_http.specs.CallKind.{takes};
+ghost use Rattle.ow_http.specs.Route.{is_whole};
 
+use crate::call_kind::CallKind;
 use crate::route::Route;
 use crate::verb::Verb;
-use ow_value::{Bytes, NoMemory, Pairs, Str};
+use ow_value::{Bytes, NoMemory, Pairs, PlainData, Str};
 use std::alloc::Global;
 
 /// A request that was read. Its route takes its method.
@@ -35,20 +37,14 @@ pub struct Request {
 
 impl Request {
     ghost use Rattle.std.specs.Prelude.{◌↔◌, IsTrue, IfOk};
+    ghost use Rattle.ow_http.specs.CallKind.{kind_of};
     ghost use Rattle.ow_http.specs.Request.{parts_of};
 
-    /// Whether both are equal.
-    pub fn same(&self, other: &Request) -> bool
-        ensures { IsTrue result ↔ (self.now ≡ other.now) }
+    /// What it calls for.
+    pub fn kind(&self) -> CallKind
+        ensures { result ≡ kind_of self.now.route self.now.method }
     {
-        self.has_parts_of(other)
-    }
-
-    /// An equal request.
-    pub fn copy(&self, alloc: Global) -> Result<Request, NoMemory>
-        ensures { IfOk result (λ r. r ≡ self.now) }
-    {
-        self.made_of_parts(alloc)
+        CallKind::of(&self.route, self.method)
     }
 
     fn has_parts_of(&self, other: &Request) -> bool
@@ -56,7 +52,7 @@ impl Request {
     {
         self.route.same(&other.route)
             && self.method == other.method
-            && Str::same_option(&self.key, &other.key)
+            && self.key.same(&other.key)
             && self.query.same(&other.query)
             && self.raw_query.same(&other.raw_query)
             && self.headers.same(&other.headers)
@@ -71,7 +67,7 @@ impl Request {
         Ok(Request {
             route: self.route.copy(alloc)?,
             method: self.method,
-            key: Str::copy_option(alloc, &self.key)?,
+            key: self.key.copy(alloc)?,
             query: self.query.copy(alloc)?,
             raw_query: self.raw_query.copy(alloc)?,
             headers: self.headers.copy(alloc)?,
@@ -79,6 +75,16 @@ impl Request {
             size: self.size,
             close: self.close,
         })
+    }
+}
+
+impl PlainData for Request {
+    fn same(&self, other: &Request) -> bool {
+        self.has_parts_of(other)
+    }
+
+    fn copy(&self, alloc: Global) -> Result<Request, NoMemory> {
+        self.made_of_parts(alloc)
     }
 }
 
@@ -93,20 +99,12 @@ pub struct Read {
     pub ghost sized: { used ≡ request.size },
 }
 
-impl Read {
-    ghost use Rattle.std.specs.Prelude.{◌↔◌, IsTrue, IfOk};
-
-    /// Whether both are equal.
-    pub fn same(&self, other: &Read) -> bool
-        ensures { IsTrue result ↔ (self.now ≡ other.now) }
-    {
+impl PlainData for Read {
+    fn same(&self, other: &Read) -> bool {
         self.request.same(&other.request)
     }
 
-    /// An equal request, of as many bytes.
-    pub fn copy(&self, alloc: Global) -> Result<Read, NoMemory>
-        ensures { IfOk result (λ r. r ≡ self.now) }
-    {
+    fn copy(&self, alloc: Global) -> Result<Read, NoMemory> {
         Ok(Read {
             request: self.request.copy(alloc)?,
             used: self.used,

@@ -1,48 +1,24 @@
-// The values of a query that its route has.
+// The values of a query that count for what is called for.
 ghost use Rattle.std.specs.Prelude.{◌≡◌, codes, option_copied};
-ghost use Rattle.ow_http.specs.Values.{first_named, first_wrong, flag_of, is_flag, is_invocation, is_number_to, is_page, is_right, is_wrong, limit_of, number_or, wants_of};
+ghost use Rattle.ow_http.specs.Values.{first_named, first_wrong, flag_of, is_flag, is_invocation, is_number_to, is_page, is_right, is_wrong, limit_of, number_or};
 
-use crate::route::Route;
-use crate::verb::Verb;
-use ow_entity::EntityKind;
+use crate::call_kind::CallKind;
 use ow_value::{Str, decimal_of};
 
-/// Which values are looked at.
-#[derive(Clone, Copy, PartialEq, Eq, Debug, Drop)]
-pub(crate) enum Wants {
-    /// `limit` and `skip` of a list.
-    Pages,
-    /// `overwrite` of a put.
-    Overwrite,
-    /// `blocking` and `result` of an invocation.
-    Invocation,
-    /// None.
-    Nothing,
-}
+/// How many rows a list has at most, where the query tells nothing.
+const LISTED: u64 = 30;
 
-/// Which values of a query a request of this route and method has.
-pub(crate) fn wants_of(route: &Route, method: Verb) -> Wants
-    ensures { result ≡ wants_of route.now method }
-{
-    match (route, method) {
-        (Route::List { .. } | Route::Activations { .. }, _) => Wants::Pages,
-        (Route::Entity { .. }, Verb::Put) => Wants::Overwrite,
-        (
-            Route::Entity {
-                kind: EntityKind::Action,
-                ..
-            },
-            Verb::Post,
-        ) => Wants::Invocation,
-        _ => Wants::Nothing,
-    }
-}
+/// How many rows a list has at most.
+const MOST_LISTED: u64 = 200;
+
+/// How many rows of a list are passed over at most.
+const MOST_SKIPPED: u64 = 4294967295;
 
 /// The first pair whose value is wrong. The first pair of a name counts.
-pub(crate) fn first_wrong(wants: Wants, query: &[(Str, Str)]) -> Option<&(Str, Str)>
-    ensures { option_copied result ≡ first_wrong wants query.now }
+pub(crate) fn first_wrong(kind: CallKind, query: &[(Str, Str)]) -> Option<&(Str, Str)>
+    ensures { option_copied result ≡ first_wrong kind query.now }
 {
-    query.iter().find(|pair| is_wrong(wants, query, pair))
+    query.iter().find(|pair| is_wrong(kind, query, pair))
 }
 
 /// Whether the first value of the name is `true`.
@@ -67,8 +43,8 @@ pub(crate) fn skip_of(query: &[(Str, Str)]) -> u64
 pub(crate) fn limit_of(query: &[(Str, Str)]) -> u64
     ensures { result ≡ limit_of query.now }
 {
-    let limit = number_or(30, first_named(query, "limit"));
-    if limit == 0 { 200 } else { limit }
+    let limit = number_or(LISTED, first_named(query, "limit"));
+    if limit == 0 { MOST_LISTED } else { limit }
 }
 
 fn number_or(default: u64, value: Option<&Str>) -> u64
@@ -94,26 +70,26 @@ fn first_named<'a>(query: &'a [(Str, Str)], name: &str) -> Option<&'a Str>
 
 // Whether the value is wrong, and the one that counts for its name is too.
 #[tactic(auto, unfolding(crate::specs::Values::is_wrong))]
-fn is_wrong(wants: Wants, query: &[(Str, Str)], pair: &(Str, Str)) -> bool
-    ensures { result ≡ is_wrong wants query.now pair.now }
+fn is_wrong(kind: CallKind, query: &[(Str, Str)], pair: &(Str, Str)) -> bool
+    ensures { result ≡ is_wrong kind query.now pair.now }
 {
-    if is_right(wants, pair.0.as_str(), pair.1.as_str()) {
+    if is_right(kind, pair.0.as_str(), pair.1.as_str()) {
         return false;
     }
     match first_named(query, pair.0.as_str()) {
-        Some(value) => !is_right(wants, pair.0.as_str(), value.as_str()),
+        Some(value) => !is_right(kind, pair.0.as_str(), value.as_str()),
         None => false,
     }
 }
 
-fn is_right(wants: Wants, name: &str, value: &str) -> bool
-    ensures { result ≡ is_right wants name.now value.now }
+fn is_right(kind: CallKind, name: &str, value: &str) -> bool
+    ensures { result ≡ is_right kind name.now value.now }
 {
-    match wants {
-        Wants::Pages => is_page(name, value),
-        Wants::Overwrite => name != "overwrite" || is_flag(value),
-        Wants::Invocation => is_invocation(name, value),
-        Wants::Nothing => true,
+    match kind {
+        CallKind::ListEntities(_) | CallKind::ListActivations => is_page(name, value),
+        CallKind::PutEntity(_) => name != "overwrite" || is_flag(value),
+        CallKind::Invoke => is_invocation(name, value),
+        _ => true,
     }
 }
 
@@ -122,9 +98,9 @@ fn is_page(name: &str, value: &str) -> bool
     ensures { result ≡ is_page name.now value.now }
 {
     if name == "limit" {
-        is_number_to(200, value)
+        is_number_to(MOST_LISTED, value)
     } else if name == "skip" {
-        is_number_to(4294967295, value)
+        is_number_to(MOST_SKIPPED, value)
     } else {
         true
     }

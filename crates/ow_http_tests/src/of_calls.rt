@@ -1,6 +1,7 @@
 use ow_entity::EntityRefusal;
 use ow_http::{Call, CallRefusal, Request, Routes, read_call};
 use ow_names::{FullName, full_text, read_name};
+use ow_value::PlainData;
 use std::alloc::Global;
 use std::test::Fail;
 

@@ -1,8 +1,5 @@
-ghost use Rattle.std.specs.Prelude.{◌≡◌, ◌≢◌, IsSome};
-ghost use Rattle.ow_http.specs.Reason.{told, status_of};
-
-use ow_http::{Answer, Reason, reason_text, refusal, write_reply};
-use ow_value::{Bytes, Pairs, Str};
+use ow_http::{Answer, Reason, ServiceRefusal, reason_text, refusal, write_reply};
+use ow_value::{Bytes, Pairs, PlainData, Str};
 use std::alloc::Global;
 use std::test::Fail;
 
@@ -24,9 +21,7 @@ fn is_answer_copied(alloc: Global, answer: &Answer) -> Result<bool, Fail> {
 }
 
 // Whether it has this text.
-fn has_text(alloc: Global, reason: &Reason, expected: &str) -> Result<bool, Fail>
-    requires { IsSome (told reason.now) }
-{
+fn has_text(alloc: Global, reason: &Reason, expected: &str) -> Result<bool, Fail> {
     let text = reason_text(alloc, reason)?;
     Ok(text.as_str() == expected)
 }
@@ -37,28 +32,17 @@ fn is_written(alloc: Global, answer: &Answer, expected: &str) -> Result<bool, Fa
 }
 
 // Whether this reply tells it.
-fn is_refused(alloc: Global, reason: &Reason, expected: &str) -> Result<bool, Fail>
-    requires status { IsSome (status_of reason.now) }
-    requires plain { reason.now.number ≢ 45 }
-{
+fn is_refused(alloc: Global, reason: &Reason, expected: &str) -> Result<bool, Fail> {
     let answer = refusal(alloc, reason)?;
     is_written(alloc, &answer, expected)
 }
 
-// A reason with the number of a limit.
-fn limited(alloc: Global) -> Reason
-    ensures { result.number ≡ 25 }
-{
-    let mut reason = Reason::plain(alloc, 25);
-    reason.first = 119;
-    reason.second = 120;
-    reason
-}
+const OVER_THE_LIMIT: ServiceRefusal = ServiceRefusal::MinuteLimit {
+    count: 119,
+    allowed: 120,
+};
 
-#[tactic(auto, unfolding(ow_http::specs::Reason::told))]
-fn is_told(alloc: Global, reason: &Reason) -> Result<bool, Fail>
-    requires { reason.now.number ≡ 25 }
-{
+fn is_told(alloc: Global, reason: &Reason) -> Result<bool, Fail> {
     Ok(
         has_text(alloc, reason, LIMITED)?
             && is_refused(alloc, reason, LIMITED_REPLY)?
@@ -68,18 +52,18 @@ fn is_told(alloc: Global, reason: &Reason) -> Result<bool, Fail>
 
 #[test]
 fn refusals_are_told_and_written(rt: HostRuntime) -> Result<(), Fail> {
-    let reason = limited(rt.alloc());
+    let reason = Reason::Service(OVER_THE_LIMIT);
     assert!(rt; is_told(rt.alloc(), &reason)?);
     Ok(())
 }
 
 fn bare(alloc: Global) -> Result<Answer, Fail> {
-    let mut headers = Pairs::new(alloc);
-    headers.push(Str::of(alloc, "X-A")?, Str::of(alloc, "1")?)?;
+    let mut headers = Vec::new(alloc);
+    headers.push((Str::of(alloc, "X-A")?, Str::of(alloc, "1")?))?;
     Ok(Answer {
         status: 204,
-        headers,
-        body: Bytes::new(alloc),
+        headers: Pairs::from_vec(headers)?,
+        body: Bytes::new(),
     })
 }
 

@@ -1,4 +1,5 @@
 use ow_http::{Read, Request, read_request};
+use ow_value::PlainData;
 use std::alloc::Global;
 use std::test::Fail;
 

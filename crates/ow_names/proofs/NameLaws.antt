@@ -9,7 +9,7 @@ use Rattle.std.proofs.lemmas.List.FromFn.{length-enumerate_from, get_or-enumerat
 use Rattle.std.proofs.lemmas.List.Quantifiers.{position-Some}
 use Rattle.std.proofs.lemmas.List.Sums.{fails_before_first, position_or_len_is}
 use Rattle.std.proofs.lemmas.Str.{IsUtf8-from_ascii}
-use Rattle.ow_names.specs.Name.{is_later_byte, may_stand, IsName, AreGoodBelow, IsFirstFault, wrong_place, place_or_end, first_fault}
+use Rattle.ow_names.specs.Name.{is_later_byte, may_stand, IsName, AreGoodBelow, IsFirstFault, longest_name, wrong_place, place_or_end, first_fault}
 use Rattle.ow_names.specs.declared.refusal.NameRefusal.{NameRefusal}
 use Rattle.ow_names.specs.declared.refusal.NameRefusal.TheVariants.{Empty, TooLong, EndsInSpace}
 
@@ -20,7 +20,7 @@ wrong_at : (s : List ℕ) (k : ℕ) → k < length s → is_wrong (get_or (enume
 wrong_at s k lt = ap is_wrong (get_or-enumerate_from 0 s k (0, 0) lt) ∙ ap (λ n. not (may_stand n (get_or s k 0))) (zero-add k)
 
 -- what stands at the wrong place, and before it
-pub wrong_place-Some : (s : List ℕ) (i : ℕ) → wrong_place s ≡ Some i → (i < length s) × (may_stand i (slice_index s i) ≡ false) × AreGoodBelow i s
+wrong_place-Some : (s : List ℕ) (i : ℕ) → wrong_place s ≡ Some i → (i < length s) × (may_stand i (slice_index s i) ≡ false) × AreGoodBelow i s
 wrong_place-Some s i e =
     let h = position-Some is_wrong (enumerate_from 0 s) i (0, 0) e in
     let long : length (enumerate_from 0 s) ≡ length s = length-enumerate_from 0 s in
@@ -31,7 +31,7 @@ by_test : (n m : ℕ) (b : Bool) → nat_lt n m ≡ b → cond b (Some n) None �
 by_test n m true t e = cc
 by_test n m false t e = grind arith
 
-pub wrong_place-None : (s : List ℕ) → wrong_place s ≡ None → AreGoodBelow (length s) s
+wrong_place-None : (s : List ℕ) → wrong_place s ≡ None → AreGoodBelow (length s) s
 wrong_place-None s e k lt =
     let long : length (enumerate_from 0 s) ≡ length s = length-enumerate_from 0 s in
     let all : length (enumerate_from 0 s) ≤ position_or_len is_wrong (enumerate_from 0 s) = by_test _ _ _ refl e in
@@ -42,27 +42,27 @@ wrong_place-None s e k lt =
 abbrev Tells : List ℕ → Option NameRefusal → Type 0
 Tells s o = MatchOption o (IsName s) (IsFirstFault s)
 
-by_end : (s : List ℕ) (b : Bool) → 1 ≤ length s → length s ≤ 256 → AreGoodBelow (length s) s → (slice_index s (length s - 1) == 32) ≡ b
+by_end : (s : List ℕ) (b : Bool) → 1 ≤ length s → length s ≤ longest_name → AreGoodBelow (length s) s → (slice_index s (length s - 1) == 32) ≡ b
     → Tells s (cond b (Some EndsInSpace) None)
 by_end s true least most good e = (most, good, grind arith)
 by_end s false least most good e = record { least = least; most = most; bytes = good; end = λ q. grind arith }
 
-by_place : (s : List ℕ) (o : Option ℕ) → 1 ≤ length s → length s ≤ 256 → wrong_place s ≡ o → Tells s (place_or_end o (slice_index s (length s - 1)))
+by_place : (s : List ℕ) (o : Option ℕ) → 1 ≤ length s → length s ≤ longest_name → wrong_place s ≡ o → Tells s (place_or_end o (slice_index s (length s - 1)))
 by_place s (Some place) least most e = let h = wrong_place-Some s place e in (most, h.0, h.1, h.2)
 by_place s None least most e = by_end s _ least most (wrong_place-None s e) refl
 
-by_most : (s : List ℕ) (b : Bool) → 1 ≤ length s → nat_lt 256 (length s) ≡ b
+by_most : (s : List ℕ) (b : Bool) → 1 ≤ length s → nat_lt longest_name (length s) ≡ b
     → Tells s (cond b (Some TooLong) (place_or_end (wrong_place s) (slice_index s (length s - 1))))
 by_most s true least e = grind arith
 by_most s false least e = by_place s _ least (grind arith) refl
 
 by_least : (s : List ℕ) (b : Bool) → (length s == 0) ≡ b
-    → Tells s (cond b (Some Empty) (cond (nat_lt 256 (length s)) (Some TooLong) (place_or_end (wrong_place s) (slice_index s (length s - 1)))))
+    → Tells s (cond b (Some Empty) (cond (nat_lt longest_name (length s)) (Some TooLong) (place_or_end (wrong_place s) (slice_index s (length s - 1)))))
 by_least s true e = grind arith
 by_least s false e = by_most s _ (grind arith) refl
 
 -- it stands, and none before it does; where there is none, the text is a name
-pub first_fault-tells : (s : List ℕ) → MatchOption (first_fault s) (IsName s) (IsFirstFault s)
+first_fault-tells : (s : List ℕ) → MatchOption (first_fault s) (IsName s) (IsFirstFault s)
 first_fault-tells s = by_least s _ refl
 
 pub name_if_no_fault : (s : List ℕ) → first_fault s ≡ None → IsName s
@@ -78,14 +78,14 @@ told s (Err fault) e = subst (λ o. MatchOption o (IsName s) (IsFirstFault s)) (
 no_place : (n m : ℕ) → n ≡ m → cond (nat_lt n m) (Some n) None ≡ None
 no_place n m e = grind arith
 
-pub no_wrong_place : (s : List ℕ) → AreGoodBelow (length s) s → wrong_place s ≡ None
+no_wrong_place : (s : List ℕ) → AreGoodBelow (length s) s → wrong_place s ≡ None
 no_wrong_place s good =
     let long : length (enumerate_from 0 s) ≡ length s = length-enumerate_from 0 s in
     no_place _ _ (position_or_len_is is_wrong (enumerate_from 0 s) (length (enumerate_from 0 s)) (0, 0) (omega arith)
     (λ k lt. let here : k < length s = omega arith in wrong_at s k here ∙ not_from_true _ (good k here))
     (λ lt. absurd (omega arith)))
 
-by_cases : (n last : ℕ) (o : Option ℕ) → 1 ≤ n → n ≤ 256 → o ≡ None → last ≢ 32 → cond (n == 0) (Some Empty) (cond (nat_lt 256 n) (Some TooLong) (place_or_end o last)) ≡ None
+by_cases : (n last : ℕ) (o : Option ℕ) → 1 ≤ n → n ≤ longest_name → o ≡ None → last ≢ 32 → cond (n == 0) (Some Empty) (cond (nat_lt longest_name n) (Some TooLong) (place_or_end o last)) ≡ None
 by_cases n last None least most e end = grind arith
 by_cases n last (Some k) least most e end = cc
 

@@ -44,7 +44,7 @@ parts_then (x ∷ xs) (y ∷ ys) r s ha hb =
     ap (ordering_then (nat_cmp x y)) (parts_then xs ys r s (tail_whole x xs ha) (tail_whole y ys hb)) ∙ then_then (nat_cmp x y) _ _
 
 -- and so does such a part before a last one
-pub part_then_end : (p m r : List ℕ) → HasNoSlash m → text_cmp (p ++ 47 ∷ r) m ≡ text_cmp (p ++ 47 ∷ []) m
+part_then_end : (p m r : List ℕ) → HasNoSlash m → text_cmp (p ++ 47 ∷ r) m ≡ text_cmp (p ++ 47 ∷ []) m
 part_then_end [] [] r h = refl
 part_then_end [] (y ∷ ys) r h = let n = differ y ys h in unequal _ _ n ∙ sym (unequal _ _ n)
 part_then_end (x ∷ xs) [] r h = refl

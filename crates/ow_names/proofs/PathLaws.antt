@@ -1,5 +1,5 @@
 -- What a path gives: the parts of a text, and of a text that a full name was written as.
-use Rattle.std.proofs.Common.{◌≡◌, ℕ, ◌<◌, ◌≤◌, ◌+◌, ◌-◌, List, [], ◌∷◌, ◌++◌, Bool, true, false, length, take, drop, cond, codes, Option, Some, None, IfSome, Result, Ok, Err, refl, sym, ap, ◌∙◌, arith, ◌↔◌, Ordering, Equal}
+use Rattle.std.proofs.Common.{◌≡◌, ℕ, ◌<◌, ◌≤◌, ◌+◌, ◌-◌, List, [], ◌∷◌, ◌++◌, Bool, true, false, length, take, drop, cond, codes, Option, Some, None, IfSome, Result, Ok, refl, sym, ap, ◌∙◌, arith, ◌↔◌, Ordering, Equal}
 use Rattle.std.specs.List.{position, position_or_len}
 use Rattle.std.specs.Str.{bytes_eq}
 use Rattle.std.proofs.lemmas.Cmp.{nat_list_cmp_total, tied_itself}
@@ -12,7 +12,6 @@ use Rattle.ow_value.specs.Value.{text_cmp}
 use Rattle.ow_value.proofs.KeySearch.{equal_texts}
 use Rattle.ow_names.specs.declared.full.FullName.{FullName}
 use Rattle.ow_names.specs.declared.refusal.NameRefusal.{NameRefusal}
-use Rattle.ow_names.specs.declared.refusal.NameRefusal.TheVariants.{BadPath}
 use Rattle.ow_names.specs.FullName.{local_text, full_text, IsFullName}
 use Rattle.ow_names.specs.Name.{IsName, first_fault}
 use Rattle.ow_names.specs.Slash.{is_slash}
@@ -39,27 +38,17 @@ cuts_first s place e =
 pub four_cuts : (s r t u v a b c d : List ℕ) → parts s ≡ a ∷ parts r → parts r ≡ b ∷ parts t → parts t ≡ c ∷ parts u → parts u ≡ d ∷ parts v → 4 < length (parts s)
 four_cuts s r t u v a b c d e f g h = rw (e, f, g, h, length-slice_split) (omega arith)
 
--- five parts or more have no form
-pub of_parts_many : (here : List ℕ) (ps : List (List ℕ)) → 4 < length ps → of_parts here ps ≡ Err BadPath
-of_parts_many here [] h = absurd (omega arith)
-of_parts_many here (a ∷ []) h = absurd (omega arith)
-of_parts_many here (a ∷ b ∷ []) h = absurd (omega arith)
-of_parts_many here (a ∷ b ∷ c ∷ []) h = absurd (omega arith)
-of_parts_many here (a ∷ b ∷ c ∷ d ∷ []) h = absurd (omega arith)
-of_parts_many here ([] ∷ b ∷ c ∷ d ∷ e ∷ ps) h = refl
-of_parts_many here ((x ∷ a) ∷ b ∷ c ∷ d ∷ e ∷ ps) h = refl
-
 -- ---- reading back
 
-abbrev pub local_parts : (pack : Option (List ℕ)) (name : List ℕ) → List (List ℕ)
+abbrev local_parts : (pack : Option (List ℕ)) (name : List ℕ) → List (List ℕ)
 local_parts None name = name ∷ []
 local_parts (Some p) name = p ∷ name ∷ []
 
-pub parts-local : (pack : Option (List ℕ)) (name : List ℕ) → IfSome pack IsName → IsName name → parts (local_text pack name) ≡ local_parts pack name
+parts-local : (pack : Option (List ℕ)) (name : List ℕ) → IfSome pack IsName → IsName name → parts (local_text pack name) ≡ local_parts pack name
 parts-local None name hp hn = slice_split_none is_slash name (no_slash name hn)
 parts-local (Some p) name hp hn = slice_split_at is_slash p 47 name (no_slash p hp) refl ∙ ap (λ x. p ∷ x) (slice_split_none is_slash name (no_slash name hn))
 
-pub parts-full_text : (n : FullName) → IsFullName n → parts (full_text n) ≡ [] ∷ n.namespace ∷ local_parts n.package n.name
+parts-full_text : (n : FullName) → IsFullName n → parts (full_text n) ≡ [] ∷ n.namespace ∷ local_parts n.package n.name
 parts-full_text n h =
     slice_split-cons_yes is_slash 47 (n.namespace ++ 47 ∷ local_text n.package n.name) refl
     ∙ ap (λ x. [] ∷ x) (slice_split_at is_slash n.namespace 47 (local_text n.package n.name) (no_slash n.namespace h.namespace) refl)
@@ -74,7 +63,7 @@ of_local here ns None name hs hp hn = no_fault ns _ hs ∙ no_fault name _ hn
 of_local here ns (Some p) name hs hp hn = no_fault ns _ hs ∙ no_fault p _ hp ∙ no_fault name _ hn
 
 -- what is read of a full text, where `_` stands for the reader's namespace
-pub resolved-full_text : (here : List ℕ) (n : FullName) → IsFullName n → resolved here (full_text n) ≡ Ok (record n { namespace = home here n.namespace })
+resolved-full_text : (here : List ℕ) (n : FullName) → IsFullName n → resolved here (full_text n) ≡ Ok (record n { namespace = home here n.namespace })
 resolved-full_text here n h = ap (of_parts here) (parts-full_text n h) ∙ of_local here n.namespace n.package n.name h.namespace h.inside h.name
 
 pub reads_back : (here : List ℕ) (n : FullName) → IsFullName n → home here n.namespace ≡ n.namespace → resolved here (full_text n) ≡ Ok n
@@ -93,7 +82,7 @@ stays x = by_test (bytes_eq x (codes "_")) x (codes "_") refl
 abbrev ok : FullName → Result FullName NameRefusal
 ok n = Ok n
 
-pub full_text-inj : (a b : FullName) → IsFullName a → IsFullName b → full_text a ≡ full_text b → a ≡ b
+full_text-inj : (a b : FullName) → IsFullName a → IsFullName b → full_text a ≡ full_text b → a ≡ b
 full_text-inj a b ha hb e =
     let p : resolved (codes "_") (full_text a) ≡ Ok a = reads_back (codes "_") a ha (stays a.namespace) in
     let q : resolved (codes "_") (full_text b) ≡ Ok b = reads_back (codes "_") b hb (stays b.namespace) in

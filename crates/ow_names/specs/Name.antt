@@ -18,10 +18,14 @@ abbrev pub may_stand : ℕ → ℕ → Bool
 may_stand zero b = is_first_byte b
 may_stand (suc place) b = is_later_byte b
 
--- 1 to 256 bytes, each of which may stand at its place, the last of them no space
+-- the most bytes of a name
+abbrev pub longest_name : ℕ
+longest_name = 256
+
+-- some bytes, but not too many, each of which may stand at its place, the last of them no space
 pub record IsName (s : List ℕ) : Type 0 where
   pub least : 1 ≤ length s
-  pub most : length s ≤ 256
+  pub most : length s ≤ longest_name
   pub bytes : (place : ℕ) → place < length s → may_stand place (slice_index s place) ≡ true
   pub end : slice_index s (length s - 1) ≢ 32
 
@@ -32,9 +36,9 @@ AreGoodBelow n s = (place : ℕ) → place < n → may_stand place (slice_index 
 -- the fault stands, and none of those before it in the order empty, too long, a wrong byte, a space at the end
 abbrev pub IsFirstFault : List ℕ → NameRefusal → Type 0
 IsFirstFault s Empty = length s ≡ 0
-IsFirstFault s TooLong = 256 < length s
-IsFirstFault s (BadChar place) = (length s ≤ 256) × (place < length s) × (may_stand place (slice_index s place) ≡ false) × AreGoodBelow place s
-IsFirstFault s EndsInSpace = (length s ≤ 256) × AreGoodBelow (length s) s × (slice_index s (length s - 1) ≡ 32)
+IsFirstFault s TooLong = longest_name < length s
+IsFirstFault s (BadChar place) = (length s ≤ longest_name) × (place < length s) × (may_stand place (slice_index s place) ≡ false) × AreGoodBelow place s
+IsFirstFault s EndsInSpace = (length s ≤ longest_name) × AreGoodBelow (length s) s × (slice_index s (length s - 1) ≡ 32)
 IsFirstFault s BadPath = ⊥
 IsFirstFault s NoMemory = ⊥
 
@@ -50,4 +54,4 @@ place_or_end None last = if last == 32 then Some EndsInSpace else None
 
 -- the first fault, or none of a name
 abbrev pub first_fault : List ℕ → Option NameRefusal
-first_fault s = if length s == 0 then Some Empty else if nat_lt 256 (length s) then Some TooLong else place_or_end (wrong_place s) (slice_index s (length s - 1))
+first_fault s = if length s == 0 then Some Empty else if nat_lt longest_name (length s) then Some TooLong else place_or_end (wrong_place s) (slice_index s (length s - 1))

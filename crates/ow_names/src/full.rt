@@ -7,7 +7,7 @@ ghost use Rattle.ow_names.specs.Path.{home, resolved};
 
 use crate::name::EntityName;
 use crate::order::{order_of_parts, order_to_end};
-use ow_value::NoMemory;
+use ow_value::{NoMemory, PlainData};
 use std::alloc::Global;
 use std::cmp::Ordering;
 
@@ -23,50 +23,6 @@ pub struct FullName {
 }
 
 impl FullName {
-    /// Whether all parts are the same.
-    pub fn same(&self, other: &FullName) -> bool
-        ensures { IsTrue result ↔ (self.now ≡ other.now) }
-    {
-        self.namespace.same(&other.namespace)
-            && EntityName::same_option(&self.package, &other.package)
-            && self.name.same(&other.name)
-    }
-
-    /// An equal name with memory of its own.
-    pub fn copy(&self, alloc: Global) -> Result<FullName, NoMemory>
-        ensures { IfOk result (λ n. n ≡ self.now) }
-    {
-        let namespace = self.namespace.copy(alloc)?;
-        let package = EntityName::copy_option(alloc, &self.package)?;
-        let name = self.name.copy(alloc)?;
-        Ok(FullName {
-            namespace,
-            package,
-            name,
-        })
-    }
-
-    /// Whether both are none or the same name.
-    pub fn same_option(a: &Option<FullName>, b: &Option<FullName>) -> bool
-        ensures { IsTrue result ↔ (a.now ≡ b.now) }
-    {
-        match (a, b) {
-            (Some(x), Some(y)) => x.same(y),
-            (None, None) => true,
-            _ => false,
-        }
-    }
-
-    /// A copy of the name, where there is one.
-    pub fn copy_option(alloc: Global, name: &Option<FullName>) -> Result<Option<FullName>, NoMemory>
-        ensures { IfOk result (λ n. n ≡ name.now) }
-    {
-        match name {
-            Some(name) => Ok(Some(name.copy(alloc)?)),
-            None => Ok(None),
-        }
-    }
-
     /// The order of the bytes of the full texts.
     pub fn compare(&self, other: &FullName) -> Ordering
         ensures order { result ≡ text_cmp (full_text self.now) (full_text other.now) }
@@ -102,6 +58,25 @@ impl FullName {
             package.as_str();
         }
         self.name.as_str();
+    }
+}
+
+impl PlainData for FullName {
+    fn same(&self, other: &FullName) -> bool {
+        self.namespace.same(&other.namespace)
+            && self.package.same(&other.package)
+            && self.name.same(&other.name)
+    }
+
+    fn copy(&self, alloc: Global) -> Result<FullName, NoMemory> {
+        let namespace = self.namespace.copy(alloc)?;
+        let package = self.package.copy(alloc)?;
+        let name = self.name.copy(alloc)?;
+        Ok(FullName {
+            namespace,
+            package,
+            name,
+        })
     }
 }
 

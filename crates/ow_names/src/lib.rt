@@ -1,6 +1,6 @@
 #![tactic(auto)]
 
-// By what everything in the service is called: names of one part, and full names of two or three.
+//! The names of entities: entity names of one part, fully qualified names, and the paths that resolve to them.
 mod full;
 mod name;
 mod names;
@@ -9,7 +9,7 @@ mod paths;
 mod refusal;
 
 pub use full::{FullName, full_text};
-pub use name::{EntityName, check_name, read_name};
+pub use name::{EntityName, LONGEST_NAME, check_name, read_name};
 pub use names::Names;
 pub use paths::{named_in, read_full_text, resolve};
 pub use refusal::NameRefusal;

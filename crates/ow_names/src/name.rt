@@ -7,12 +7,15 @@ ghost use Rattle.ow_names.specs.Name.{IsName, IsFirstFault, first_fault, wrong_p
 
 use crate::order::order_of_parts;
 use crate::refusal::NameRefusal;
-use ow_value::{NoMemory, Str};
+use ow_value::{NoMemory, PlainData, Str};
 use std::alloc::Global;
 use std::cmp::Ordering;
 use std::marker::Model;
 
-/// A name of one part: what a namespace, a package or an entity in them is called. It owns its text.
+/// The most bytes of a name.
+pub const LONGEST_NAME: usize = 256;
+
+/// A name of one part: what a namespace, a package or an entity in them is called. Its copies share its text.
 #[derive(Drop)]
 pub struct EntityName {
     text: Str,
@@ -30,7 +33,7 @@ impl Model for EntityName {
 }
 
 /// Whether the bytes are a name, as the OpenWhisk documentation has it: a letter, a digit or `_`, then these, spaces, `@`,
-/// `.` and `-`, and no space at the end. Letters are ASCII, and 256 bytes are the most.
+/// `.` and `-`, and no space at the end. Letters are ASCII, and `LONGEST_NAME` bytes are the most.
 #[tactic(auto, using(crate::proofs::NameLaws::told))]
 pub fn check_name(bytes: &[u8]) -> Result<(), NameRefusal>
     ensures value { result_err result ≡ first_fault bytes.now }
@@ -80,45 +83,17 @@ impl EntityName {
     {
         self.as_str().as_bytes()
     }
+}
 
-    /// Whether the texts are the same.
-    pub fn same(&self, other: &EntityName) -> bool
-        ensures { IsTrue result ↔ (self.now ≡ other.now) }
-    {
+impl PlainData for EntityName {
+    fn same(&self, other: &EntityName) -> bool {
         self.text.same(&other.text)
     }
 
-    /// An equal name with memory of its own.
-    pub fn copy(&self, alloc: Global) -> Result<EntityName, NoMemory>
-        ensures { IfOk result (λ n. n ≡ self.now) }
-    {
+    fn copy(&self, alloc: Global) -> Result<EntityName, NoMemory> {
         Ok(EntityName {
             text: self.text.copy(alloc)?,
         })
-    }
-
-    /// Whether both are none or the same name.
-    pub fn same_option(a: &Option<EntityName>, b: &Option<EntityName>) -> bool
-        ensures { IsTrue result ↔ (a.now ≡ b.now) }
-    {
-        match (a, b) {
-            (Some(x), Some(y)) => x.same(y),
-            (None, None) => true,
-            _ => false,
-        }
-    }
-
-    /// A copy of the name, where there is one.
-    pub fn copy_option(
-        alloc: Global,
-        name: &Option<EntityName>,
-    ) -> Result<Option<EntityName>, NoMemory>
-        ensures { IfOk result (λ n. n ≡ name.now) }
-    {
-        match name {
-            Some(name) => Ok(Some(name.copy(alloc)?)),
-            None => Ok(None),
-        }
     }
 }
 
@@ -129,7 +104,7 @@ fn scan(bytes: &[u8]) -> Result<(), NameRefusal>
     if bytes.is_empty() {
         return Err(NameRefusal::Empty);
     }
-    if bytes.len() > 256 {
+    if bytes.len() > LONGEST_NAME {
         return Err(NameRefusal::TooLong);
     }
     if let Some(place) = wrong_place(bytes) {

@@ -10,6 +10,7 @@ ghost use Rattle.ow_names.specs.Slash.{is_slash};
 use crate::full::FullName;
 use crate::name::{EntityName, read_name};
 use crate::refusal::NameRefusal;
+use ow_value::PlainData;
 use std::alloc::Global;
 
 // What stands between the slashes of a text.

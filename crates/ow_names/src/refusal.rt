@@ -3,7 +3,6 @@ ghost use Rattle.std.specs.Prelude.{◌≡◌};
 ghost use Rattle.ow_names.specs.Refusal.{refusal_number};
 
 use ow_value::NoMemory;
-use std::alloc::{AllocError, AllocFailed};
 
 /// Why a text is no name, or names nothing. Of several faults the one that stands first here is told.
 #[derive(Clone, Copy, PartialEq, Eq, Debug, Drop)]
@@ -12,7 +11,7 @@ pub enum NameRefusal {
     BadPath,
     /// No byte at all.
     Empty,
-    /// Over 256 bytes.
+    /// More bytes than `LONGEST_NAME`.
     TooLong,
     /// The first byte that may not stand where it stands, counted from 0 in its name.
     BadChar { place: usize },
@@ -35,28 +34,6 @@ impl NameRefusal {
             NameRefusal::EndsInSpace => 7,
             NameRefusal::BadPath => 8,
         }
-    }
-}
-
-impl From<AllocError> for NameRefusal {
-    ghost use Rattle.std.specs.Prelude.{◌≡◌};
-    ghost use Rattle.ow_names.specs.declared.refusal.NameRefusal.TheVariants.{NoMemory};
-
-    ghost from_gives = { λ _ e. e ≡ NoMemory };
-
-    fn from(_refused: AllocError) -> NameRefusal {
-        NameRefusal::NoMemory
-    }
-}
-
-impl<T: Drop> From<AllocFailed<T>> for NameRefusal {
-    ghost use Rattle.std.specs.Prelude.{◌≡◌};
-    ghost use Rattle.ow_names.specs.declared.refusal.NameRefusal.TheVariants.{NoMemory};
-
-    ghost from_gives = { λ _ e. e ≡ NoMemory };
-
-    fn from(_refused: AllocFailed<T>) -> NameRefusal {
-        NameRefusal::NoMemory
     }
 }
 

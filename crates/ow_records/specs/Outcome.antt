@@ -1,6 +1,6 @@
 -- What an activation answers, by what ended it.
 use Rattle.std.specs.Prelude.{ℕ, ℤ, List, [], ◌∷◌, ◌++◌, length, nat_lt, if◌then◌else◌, is_some, codes, Result, Ok, Err}
-use Rattle.std.specs.Fmt.{signed_decimal}
+use Rattle.std.specs.Fmt.{decimal, signed_decimal}
 use Rattle.ow_traits.specs.declared.replies.RunReply.{RunReply}
 use Rattle.ow_traits.specs.declared.replies.RunReply.TheVariants.{Answer, Exit, NoStart, Fault}
 use Rattle.ow_value.specs.Value.{V, text, object}
@@ -11,7 +11,7 @@ use Rattle.ow_value.specs.Size.{megabyte}
 use Rattle.ow_value.specs.declared.reader.ValueRefusal.{ValueRefusal}
 use Rattle.ow_records.specs.Response.{ResponseView}
 use Rattle.ow_records.specs.declared.outcomes.Ending.{Ending}
-use Rattle.ow_records.specs.declared.outcomes.Ending.TheVariants.{Replied}
+use Rattle.ow_records.specs.declared.outcomes.Ending.TheVariants.{Replied, Overran, Abandoned}
 use Rattle.ow_entity.specs.declared.bounds.Limits.{Limits}
 
 -- an error with this text
@@ -47,6 +47,12 @@ of_reply (Exit status logs) = of_exit status
 of_reply (NoStart reason) = failure 3 (codes "The action did not start.")
 of_reply Fault = failure 3 (codes "The runner failed.")
 
+-- a run past its time limit, in milliseconds
+abbrev pub of_overrun : ℕ → ResponseView
+of_overrun timeout = failure 2 (codes "The action exceeded its time limit of " ++ (decimal timeout ++ codes " milliseconds."))
+
 -- what ended the activation
 unfoldable pub outcome : Ending → Limits → ResponseView
 outcome (Replied reply) limits = of_reply reply
+outcome Overran limits = of_overrun limits.timeout
+outcome Abandoned limits = failure 3 (codes "The activation was abandoned.")

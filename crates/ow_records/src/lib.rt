@@ -1,6 +1,6 @@
 #![tactic(auto)]
 
-// Activations' ids, endings and responses.
+//! Activation ids, what ends an activation, and the response that follows from it.
 mod digits;
 mod ids;
 mod outcomes;

@@ -1,12 +1,14 @@
 // What an activation answers, by what ended it.
 ghost use Rattle.std.specs.Prelude.{◌≡◌, ◌≤◌, ◌↔◌, IsTrue, IfOk};
 ghost use Rattle.ow_value.specs.View.{view};
-ghost use Rattle.ow_records.specs.Outcome.{failure, of_exit, of_object, of_reply, of_text, of_value, outcome};
+ghost use Rattle.ow_records.specs.Outcome.{failure, of_exit, of_object, of_overrun, of_reply, of_text, of_value, outcome};
 
 use crate::Response;
 use ow_entity::Limits;
 use ow_traits::RunReply;
-use ow_value::{MEGABYTE, NoMemory, Params, Scratch, Str, Val, ValueRefusal, read_val_in};
+use ow_value::{
+    Fields, MEGABYTE, NoMemory, Params, PlainData, Scratch, Str, Val, ValueRefusal, read_val_in,
+};
 use std::alloc::Global;
 
 /// What ended an activation.
@@ -14,23 +16,28 @@ use std::alloc::Global;
 pub enum Ending {
     /// A run ended with this reply.
     Replied(RunReply),
+    /// A run exceeded the time limit.
+    Overran,
+    /// The service was opened again.
+    Abandoned,
 }
 
-impl Ending {
-    /// Whether the activations ended alike.
-    pub fn same(&self, other: &Ending) -> bool
-        ensures { IsTrue result ↔ (self.now ≡ other.now) }
-    {
-        let (Ending::Replied(reply), Ending::Replied(other_reply)) = (self, other);
-        reply.same(other_reply)
+impl PlainData for Ending {
+    fn same(&self, other: &Ending) -> bool {
+        match (self, other) {
+            (Ending::Replied(reply), Ending::Replied(other_reply)) => reply.same(other_reply),
+            (Ending::Overran, Ending::Overran) => true,
+            (Ending::Abandoned, Ending::Abandoned) => true,
+            _ => false,
+        }
     }
 
-    /// An equal ending.
-    pub fn copy(&self, alloc: Global) -> Result<Ending, NoMemory>
-        ensures { IfOk result (λ e. e ≡ self.now) }
-    {
-        let Ending::Replied(reply) = self;
-        Ok(Ending::Replied(reply.copy(alloc)?))
+    fn copy(&self, alloc: Global) -> Result<Ending, NoMemory> {
+        match self {
+            Ending::Replied(reply) => Ok(Ending::Replied(reply.copy(alloc)?)),
+            Ending::Overran => Ok(Ending::Overran),
+            Ending::Abandoned => Ok(Ending::Abandoned),
+        }
     }
 }
 
@@ -51,8 +58,11 @@ pub fn outcome_in(
 ) -> Result<Response, NoMemory>
     ensures { IfOk result (λ r. r ≡ outcome ending.now limits.now) }
 {
-    let Ending::Replied(reply) = ending;
-    replied(alloc, scratch, reply)
+    match ending {
+        Ending::Replied(reply) => replied(alloc, scratch, reply),
+        Ending::Overran => overran(alloc, limits.timeout.get()),
+        Ending::Abandoned => failed(alloc, 3, "The activation was abandoned."),
+    }
 }
 
 fn replied(alloc: Global, scratch: &mut Scratch, reply: &RunReply) -> Result<Response, NoMemory>
@@ -101,7 +111,14 @@ fn ended(alloc: Global, code: i32) -> Result<Response, NoMemory>
     ensures { IfOk result (λ r. r ≡ of_exit code) }
 {
     let text = format!(in alloc; "The program ended with status {code}.")?;
-    failure_of(alloc, 2, Str::from_string(text))
+    failure_of(alloc, 2, Str::from_string(text)?)
+}
+
+fn overran(alloc: Global, timeout: u32) -> Result<Response, NoMemory>
+    ensures { IfOk result (λ r. r ≡ of_overrun timeout) }
+{
+    let text = format!(in alloc; "The action exceeded its time limit of {timeout} milliseconds.")?;
+    failure_of(alloc, 2, Str::from_string(text)?)
 }
 
 fn failed(alloc: Global, code: u8, text: &str) -> Result<Response, NoMemory>
@@ -115,7 +132,7 @@ fn failure_of(alloc: Global, code: u8, text: Str) -> Result<Response, NoMemory>
     requires { code ≤ 3 }
     ensures { IfOk result (λ r. r ≡ failure code text) }
 {
-    let mut object = Params::new(alloc);
+    let mut object = Fields::new(alloc);
     object.set(Str::of(alloc, "error")?, Val::Text(text))?;
-    Ok(Response::new(code, object))
+    Ok(Response::new(code, object.into_params()?))
 }

@@ -1,7 +1,7 @@
 // What an activation answers.
 ghost use Rattle.std.specs.Prelude.{◌≡◌, ◌≤◌, ◌↔◌, IsTrue, IfOk};
 
-use ow_value::{NoMemory, Params};
+use ow_value::{NoMemory, Params, PlainData};
 use std::alloc::Global;
 use std::marker::Model;
 
@@ -52,18 +52,14 @@ impl Response {
     {
         &self.result
     }
+}
 
-    /// Whether the codes and the objects are equal.
-    pub fn same(&self, other: &Response) -> bool
-        ensures { IsTrue result ↔ (self.now ≡ other.now) }
-    {
+impl PlainData for Response {
+    fn same(&self, other: &Response) -> bool {
         self.code == other.code && self.result.same(&other.result)
     }
 
-    /// An equal response.
-    pub fn copy(&self, alloc: Global) -> Result<Response, NoMemory>
-        ensures { IfOk result (λ r. r ≡ self.now) }
-    {
+    fn copy(&self, alloc: Global) -> Result<Response, NoMemory> {
         Ok(Response {
             code: self.code,
             result: self.result.copy(alloc)?,

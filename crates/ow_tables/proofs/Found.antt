@@ -9,7 +9,7 @@ use Rattle.ow_names.specs.declared.full.FullName.{FullName}
 use Rattle.ow_entity.specs.declared.kinds.EntityKind.{EntityKind}
 use Rattle.ow_entity.specs.declared.rows.Row.{Row}
 use Rattle.ow_tables.specs.Contents.{Change}
-use Rattle.ow_tables.specs.Rows.{key, key_of, found, found_after, put_row, changed}
+use Rattle.ow_tables.specs.Rows.{key, key_of, found, found_after, with_row, changed}
 
 abbrev finds : List ℕ → List Row → Option Row
 finds k rows = find (λ r. bytes_eq k (key_of r)) rows
@@ -17,7 +17,7 @@ finds k rows = find (λ r. bytes_eq k (key_of r)) rows
 -- ---- behind a put
 
 -- the row of the key is the one that was put, and any other is found as before
-put_finds : (k : List ℕ) (r : Row) (rows : List Row) → finds k (put_row r rows) ≡ cond (bytes_eq k (key_of r)) (Some r) (finds k rows)
+put_finds : (k : List ℕ) (r : Row) (rows : List Row) → finds k (with_row r rows) ≡ cond (bytes_eq k (key_of r)) (Some r) (finds k rows)
 put_finds k r [] = refl
 put_finds k r (x ∷ xs) = by_order (text_cmp (key_of r) (key_of x)) refl (put_finds k r xs)
   where
@@ -29,8 +29,8 @@ put_finds k r (x ∷ xs) = by_order (text_cmp (key_of r) (key_of x)) refl (put_f
     by_equal a true f e = refl
     by_equal a false f e = rw e refl
 
-    by_order : (o : Ordering) → text_cmp (key_of r) (key_of x) ≡ o → finds k (put_row r xs) ≡ cond (bytes_eq k (key_of r)) (Some r) (finds k xs)
-        → finds k (match_ordering o (r ∷ x ∷ xs) (r ∷ xs) (x ∷ put_row r xs)) ≡ cond (bytes_eq k (key_of r)) (Some r) (finds k (x ∷ xs))
+    by_order : (o : Ordering) → text_cmp (key_of r) (key_of x) ≡ o → finds k (with_row r xs) ≡ cond (bytes_eq k (key_of r)) (Some r) (finds k xs)
+        → finds k (match_ordering o (r ∷ x ∷ xs) (r ∷ xs) (x ∷ with_row r xs)) ≡ cond (bytes_eq k (key_of r)) (Some r) (finds k (x ∷ xs))
     by_order Less e more = refl
     by_order Equal e more = by_equal (bytes_eq k (key_of x)) (bytes_eq k (key_of r)) (finds k xs) (ap (bytes_eq k) (sym (equal_texts (key_of r) (key_of x) e)))
     by_order Greater e more =

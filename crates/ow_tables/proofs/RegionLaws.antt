@@ -1,15 +1,15 @@
 -- Rows of one kind in one namespace stand together, from where a search finds the first to where it finds the last.
-use Rattle.std.proofs.Common.{◌≡◌, ◌≢◌, ℕ, zero, suc, ◌<◌, ◌≤◌, ◌&&◌, ◌==◌, Bool, true, false, cond, min, List, [], ◌∷◌, ◌++◌, length, map, filter, get_or, take, drop, Ordering, Less, Equal, Greater, is_eq, refl, sym, ap, ◌∙◌, subst, inl, inr, arith}
+use Rattle.std.proofs.Common.{◌≡◌, ◌≢◌, ℕ, zero, suc, ◌<◌, ◌≤◌, ◌&&◌, ◌==◌, Bool, true, false, cond, min, List, [], ◌∷◌, ◌++◌, length, filter, get_or, take, drop, Ordering, Less, Equal, Greater, is_eq, refl, sym, ap, ◌∙◌, subst, inl, inr, arith}
 use Rattle.std.specs.List.Sorted.{IsStrictlySortedBy, IsPartitionedBy, IsPartitionPoint}
 use Rattle.std.specs.Ordering.{nat_cmp, ordering_index, ordering_then, ordering_reverse, is_lt, is_le}
 use Rattle.std.specs.Str.{bytes_eq}
 use Rattle.std.proofs.lemmas.Bool.{cases_lt}
 use Rattle.std.proofs.lemmas.Cmp.{nat_list_cmp_total}
-use Rattle.std.proofs.lemmas.List.{append_cancel_right, drop-map, take-map}
+use Rattle.std.proofs.lemmas.List.{append_cancel_right}
 use Rattle.std.proofs.lemmas.Slice.Eq.{bytes_eq-Decides}
 use Rattle.std.proofs.Math.Seq.{take-nil, drop-nil}
 use Rattle.ow_value.specs.Value.{text_cmp}
-use Rattle.ow_value.proofs.KeySearch.{test_of, turned, rises_at, key_through}
+use Rattle.ow_value.proofs.KeySearch.{test_of, turned, rises_at, key_at}
 use Rattle.ow_names.specs.Slash.{HasNoSlash}
 use Rattle.ow_names.specs.FullName.{local_text}
 use Rattle.ow_names.specs.declared.full.FullName.{FullName}
@@ -17,9 +17,9 @@ use Rattle.ow_names.proofs.OrderLaws.{parts_then, then_then}
 use Rattle.ow_entity.specs.declared.kinds.EntityKind.{EntityKind}
 use Rattle.ow_entity.specs.declared.rows.Row.{Row}
 use Rattle.ow_entity.specs.Row.{kind_of, name_of}
-use Rattle.ow_tables.specs.Rows.{kind_place, key_of, AreRows, put_row, stands_in}
+use Rattle.ow_tables.specs.Rows.{kind_place, key_of, AreRows, with_row, stands_in}
 use Rattle.ow_tables.specs.Region.{region, region_of, namespace_of, IsPart, AreKept}
-use Rattle.ow_tables.proofs.RowLaws.{all_put, all_filter, AreRows-put_row, AreRows-filter}
+use Rattle.ow_tables.proofs.RowLaws.{all_put, all_filter, AreRows-with_row, AreRows-filter}
 
 -- ---- regions and keys
 
@@ -29,7 +29,7 @@ below_or_same Equal p e q = cc
 below_or_same Greater p e q = cc
 
 -- of two rows in order the first one's region doesn't come behind the second one's
-pub regions_rise : (a b : Row) → IsPart a → IsPart b → text_cmp (key_of a) (key_of b) ≡ Less → text_cmp (region_of a) (region_of b) ≢ Greater
+regions_rise : (a b : Row) → IsPart a → IsPart b → text_cmp (key_of a) (key_of b) ≡ Less → text_cmp (region_of a) (region_of b) ≢ Greater
 regions_rise a b ha hb lt =
     let na = (name_of a).namespace in
     let nb = (name_of b).namespace in
@@ -39,12 +39,12 @@ regions_rise a b ha hb lt =
 
 -- ---- where the regions part
 
-pub sorted_at : {B : Type 0} (row : B → Row) (bs : List B) (i j : ℕ) (d : B) → AreRows (map row bs) → i < j → j < length bs → text_cmp (key_of (row (get_or bs i d))) (key_of (row (get_or bs j d))) ≡ Less
+sorted_at : (bs : List Row) (i j : ℕ) (d : Row) → AreRows bs → i < j → j < length bs → text_cmp (key_of (get_or bs i d)) (key_of (get_or bs j d)) ≡ Less
 unfolding IsStrictlySortedBy
-sorted_at row [] i j d h lt le = absurd (omega arith)
-sorted_at row (b ∷ bs) i zero d h lt le = absurd (omega arith)
-sorted_at row (b ∷ bs) zero (suc j) d h lt le = key_through key_of row (λ a. text_cmp (key_of (row b)) a ≡ Less) bs j d h.0 (omega arith)
-sorted_at row (b ∷ bs) (suc i) (suc j) d h lt le = sorted_at row bs i j d h.1 (omega arith) (omega arith)
+sorted_at [] i j d h lt le = absurd (omega arith)
+sorted_at (b ∷ bs) i zero d h lt le = absurd (omega arith)
+sorted_at (b ∷ bs) zero (suc j) d h lt le = key_at key_of (λ a. text_cmp (key_of b) a ≡ Less) bs j d h.0 (omega arith)
+sorted_at (b ∷ bs) (suc i) (suc j) d h lt le = sorted_at bs i j d h.1 (omega arith) (omega arith)
 
 -- texts in order stand in that order to a third
 ranks : (a b k : List ℕ) (o : Ordering) → text_cmp a b ≡ o → o ≢ Greater → ordering_index (text_cmp a k) ≤ ordering_index (text_cmp b k)
@@ -52,12 +52,12 @@ ranks a b k Less e n = rises_at a b k _ e refl
 ranks a b k Equal e n = omega (arith, ap ordering_index (nat_list_cmp_total.congr a b k e))
 ranks a b k Greater e n = absurd (n refl)
 
-pub ranks_at : {B : Type 0} (row : B → Row) (k : List ℕ) (bs : List B) (i j : ℕ) (d : B) → AreKept (map row bs) → i ≤ j → j < length bs
-    → ordering_index (text_cmp (region_of (row (get_or bs i d))) k) ≤ ordering_index (text_cmp (region_of (row (get_or bs j d))) k)
-ranks_at {B} row k bs i j d h le lt = elim (cases_lt i j) [
-  | inl less ↦ ranks (region_of (row (get_or bs i d))) (region_of (row (get_or bs j d))) k _ refl
-      (regions_rise (row (get_or bs i d)) (row (get_or bs j d)) (key_through namespace_of row HasNoSlash bs i d h.parts (omega arith)) (key_through namespace_of row HasNoSlash bs j d h.parts lt) (sorted_at row bs i j d h.rise less lt))
-  | inr more ↦ omega (arith, ap (λ n. ordering_index (text_cmp (region_of (row (get_or bs n d))) k)) (same i j le more))
+ranks_at : (k : List ℕ) (bs : List Row) (i j : ℕ) (d : Row) → AreKept bs → i ≤ j → j < length bs
+    → ordering_index (text_cmp (region_of (get_or bs i d)) k) ≤ ordering_index (text_cmp (region_of (get_or bs j d)) k)
+ranks_at k bs i j d h le lt = elim (cases_lt i j) [
+  | inl less ↦ ranks (region_of (get_or bs i d)) (region_of (get_or bs j d)) k _ refl
+      (regions_rise (get_or bs i d) (get_or bs j d) (key_at namespace_of HasNoSlash bs i d h.parts (omega arith)) (key_at namespace_of HasNoSlash bs j d h.parts lt) (sorted_at bs i j d h.rise less lt))
+  | inr more ↦ omega (arith, ap (λ n. ordering_index (text_cmp (region_of (get_or bs n d)) k)) (same i j le more))
 ]
   where
     same : (i j : ℕ) → i ≤ j → j ≤ i → i ≡ j
@@ -79,11 +79,11 @@ le_down Greater Less le e = absurd (omega arith)
 le_down Greater Equal le e = absurd (omega arith)
 le_down Greater Greater le e = cc
 
-pub parts_before : {B : Type 0} (row : B → Row) (k : List ℕ) (bs : List B) → AreKept (map row bs) → IsPartitionedBy (λ b. is_lt (text_cmp (region_of (row b)) k)) bs
-parts_before row k bs h i j d le lt e = lt_down _ _ (ranks_at row k bs i j d h le lt) e
+pub parts_before : (k : List ℕ) (bs : List Row) → AreKept bs → IsPartitionedBy (λ b. is_lt (text_cmp (region_of b) k)) bs
+parts_before k bs h i j d le lt e = lt_down _ _ (ranks_at k bs i j d h le lt) e
 
-pub parts_through : {B : Type 0} (row : B → Row) (k : List ℕ) (bs : List B) → AreKept (map row bs) → IsPartitionedBy (λ b. is_le (text_cmp (region_of (row b)) k)) bs
-parts_through row k bs h i j d le lt e = le_down _ _ (ranks_at row k bs i j d h le lt) e
+pub parts_through : (k : List ℕ) (bs : List Row) → AreKept bs → IsPartitionedBy (λ b. is_le (text_cmp (region_of b) k)) bs
+parts_through k bs h i j d le lt e = le_down _ _ (ranks_at k bs i j d h le lt) e
 
 -- ---- what stands between
 
@@ -124,33 +124,33 @@ between Equal e f = refl
 between Greater e f = cc
 
 -- of rows that all come from the region on, those in it stand first
-stands_first : {B : Type 0} (row : B → Row) (kind : EntityKind) (namespace : List ℕ) (bs : List B) (j : ℕ)
-    → ((k : ℕ) (d : B) → k < length bs → is_lt (text_cmp (region_of (row (get_or bs k d))) (region kind namespace)) ≡ false)
-    → IsPartitionPoint (λ b. is_le (text_cmp (region_of (row b)) (region kind namespace)) ≡ true) (λ b. is_le (text_cmp (region_of (row b)) (region kind namespace)) ≡ false) bs j
-    → filter (stands_in kind namespace) (map row bs) ≡ map row (take j bs)
-stands_first row kind namespace [] j f g = sym (ap (map row) (take-nil j))
-stands_first row kind namespace (b ∷ bs) zero f g =
-    let out = stands_by kind namespace (row b) _ refl ∙ behind _ (g.1 0 b (omega arith) (omega arith)) in
-    let rest = stands_first row kind namespace bs zero (λ k d x. f (suc k) d (omega arith)) (λ k d x y. absurd (omega arith), λ k d x y. g.1 (suc k) d (omega arith) (omega arith)) in
-    ap (λ t. cond t (row b ∷ filter (stands_in kind namespace) (map row bs)) (filter (stands_in kind namespace) (map row bs))) out ∙ rest
-stands_first row kind namespace (b ∷ bs) (suc j) f g =
-    let here = stands_by kind namespace (row b) _ refl ∙ between _ (f 0 b (omega arith)) (g.0 0 b (omega arith) (omega arith)) in
-    let rest = stands_first row kind namespace bs j (λ k d x. f (suc k) d (omega arith)) (λ k d x y. g.0 (suc k) d (omega arith) (omega arith), λ k d x y. g.1 (suc k) d (omega arith) (omega arith)) in
-    ap (λ t. cond t (row b ∷ filter (stands_in kind namespace) (map row bs)) (filter (stands_in kind namespace) (map row bs))) here ∙ ap (λ xs. row b ∷ xs) rest
+stands_first : (kind : EntityKind) (namespace : List ℕ) (bs : List Row) (j : ℕ)
+    → ((k : ℕ) (d : Row) → k < length bs → is_lt (text_cmp (region_of (get_or bs k d)) (region kind namespace)) ≡ false)
+    → IsPartitionPoint (λ b. is_le (text_cmp (region_of b) (region kind namespace)) ≡ true) (λ b. is_le (text_cmp (region_of b) (region kind namespace)) ≡ false) bs j
+    → filter (stands_in kind namespace) bs ≡ take j bs
+stands_first kind namespace [] j f g = sym (take-nil j)
+stands_first kind namespace (b ∷ bs) zero f g =
+    let out = stands_by kind namespace b _ refl ∙ behind _ (g.1 0 b (omega arith) (omega arith)) in
+    let rest = stands_first kind namespace bs zero (λ k d x. f (suc k) d (omega arith)) (λ k d x y. absurd (omega arith), λ k d x y. g.1 (suc k) d (omega arith) (omega arith)) in
+    ap (λ t. cond t (b ∷ filter (stands_in kind namespace) bs) (filter (stands_in kind namespace) bs)) out ∙ rest
+stands_first kind namespace (b ∷ bs) (suc j) f g =
+    let here = stands_by kind namespace b _ refl ∙ between _ (f 0 b (omega arith)) (g.0 0 b (omega arith) (omega arith)) in
+    let rest = stands_first kind namespace bs j (λ k d x. f (suc k) d (omega arith)) (λ k d x y. g.0 (suc k) d (omega arith) (omega arith), λ k d x y. g.1 (suc k) d (omega arith) (omega arith)) in
+    ap (λ t. cond t (b ∷ filter (stands_in kind namespace) bs) (filter (stands_in kind namespace) bs)) here ∙ ap (λ xs. b ∷ xs) rest
 
-pub stands_together : {B : Type 0} (row : B → Row) (kind : EntityKind) (namespace : List ℕ) (bs rest : List B) (i j : ℕ) → rest ≡ drop i bs
-    → IsPartitionPoint (λ b. is_lt (text_cmp (region_of (row b)) (region kind namespace)) ≡ true) (λ b. is_lt (text_cmp (region_of (row b)) (region kind namespace)) ≡ false) bs i
-    → IsPartitionPoint (λ b. is_le (text_cmp (region_of (row b)) (region kind namespace)) ≡ true) (λ b. is_le (text_cmp (region_of (row b)) (region kind namespace)) ≡ false) rest j
-    → filter (stands_in kind namespace) (map row bs) ≡ map row (take j rest)
-stands_together row kind namespace bs rest zero j e f g =
-    stands_first row kind namespace bs j (λ k d x. f.1 k d (omega arith) x)
-    (subst (λ zs. IsPartitionPoint (λ b. is_le (text_cmp (region_of (row b)) (region kind namespace)) ≡ true) (λ b. is_le (text_cmp (region_of (row b)) (region kind namespace)) ≡ false) zs j) e g)
-    ∙ ap (λ zs. map row (take j zs)) (sym e)
-stands_together row kind namespace [] rest (suc i) j e f g = sym (ap (λ zs. map row (take j zs)) e ∙ ap (map row) (take-nil j))
-stands_together row kind namespace (b ∷ bs) rest (suc i) j e f g =
-    let out = stands_by kind namespace (row b) _ refl ∙ before _ (f.0 0 b (omega arith) (omega arith)) in
-    let more = stands_together row kind namespace bs rest i j e (λ k d x y. f.0 (suc k) d (omega arith) (omega arith), λ k d x y. f.1 (suc k) d (omega arith) (omega arith)) g in
-    ap (λ t. cond t (row b ∷ filter (stands_in kind namespace) (map row bs)) (filter (stands_in kind namespace) (map row bs))) out ∙ more
+pub stands_together : (kind : EntityKind) (namespace : List ℕ) (bs rest : List Row) (i j : ℕ) → rest ≡ drop i bs
+    → IsPartitionPoint (λ b. is_lt (text_cmp (region_of b) (region kind namespace)) ≡ true) (λ b. is_lt (text_cmp (region_of b) (region kind namespace)) ≡ false) bs i
+    → IsPartitionPoint (λ b. is_le (text_cmp (region_of b) (region kind namespace)) ≡ true) (λ b. is_le (text_cmp (region_of b) (region kind namespace)) ≡ false) rest j
+    → filter (stands_in kind namespace) bs ≡ take j rest
+stands_together kind namespace bs rest zero j e f g =
+    stands_first kind namespace bs j (λ k d x. f.1 k d (omega arith) x)
+    (subst (λ zs. IsPartitionPoint (λ b. is_le (text_cmp (region_of b) (region kind namespace)) ≡ true) (λ b. is_le (text_cmp (region_of b) (region kind namespace)) ≡ false) zs j) e g)
+    ∙ ap (take j) (sym e)
+stands_together kind namespace [] rest (suc i) j e f g = sym (ap (take j) e ∙ take-nil j)
+stands_together kind namespace (b ∷ bs) rest (suc i) j e f g =
+    let out = stands_by kind namespace b _ refl ∙ before _ (f.0 0 b (omega arith) (omega arith)) in
+    let more = stands_together kind namespace bs rest i j e (λ k d x y. f.0 (suc k) d (omega arith) (omega arith), λ k d x y. f.1 (suc k) d (omega arith) (omega arith)) g in
+    ap (λ t. cond t (b ∷ filter (stands_in kind namespace) bs) (filter (stands_in kind namespace) bs)) out ∙ more
 
 -- ---- what of it is shown
 
@@ -168,26 +168,25 @@ take_upto (x ∷ xs) zero (suc s) e = absurd (omega arith)
 take_upto (x ∷ xs) (suc n) zero e = absurd (omega arith)
 take_upto (x ∷ xs) (suc n) (suc s) e = ap (λ ys. x ∷ ys) (take_upto xs n s (omega arith))
 
-pub cut : {A C : Type 0} (f : A → C) (xs rest : List A) (ys : List C) (n m skip limit : ℕ) → map f xs ≡ ys → rest ≡ drop n xs → n ≡ min skip (length xs) → m ≡ min limit (length rest)
-    → map f (take m rest) ≡ take limit (drop skip ys)
-cut f xs rest ys n m skip limit e r is_n is_m =
-    ap (map f) (take_upto rest m limit is_m) ∙ ap (λ zs. map f (take limit zs)) (r ∙ drop_upto xs n skip is_n)
-    ∙ sym (take-map f limit (drop skip xs)) ∙ ap (take limit) (sym (drop-map f skip xs)) ∙ ap (λ zs. take limit (drop skip zs)) e
+pub cut : {A : Type 0} (xs rest ys : List A) (n m skip limit : ℕ) → xs ≡ ys → rest ≡ drop n xs → n ≡ min skip (length xs) → m ≡ min limit (length rest)
+    → take m rest ≡ take limit (drop skip ys)
+cut xs rest ys n m skip limit e r is_n is_m =
+    take_upto rest m limit is_m ∙ ap (take limit) (r ∙ drop_upto xs n skip is_n) ∙ ap (λ zs. take limit (drop skip zs)) e
 
 -- ---- what is kept
 
-pub AreKept-put_row : (r : Row) (xs : List Row) → IsPart r → AreKept xs → AreKept (put_row r xs)
-AreKept-put_row r xs p h = record { rise = AreRows-put_row r xs h.rise; parts = all_put namespace_of HasNoSlash r xs p h.parts }
+pub AreKept-with_row : (r : Row) (xs : List Row) → IsPart r → AreKept xs → AreKept (with_row r xs)
+AreKept-with_row r xs p h = record { rise = AreRows-with_row r xs h.rise; parts = all_put namespace_of HasNoSlash r xs p h.parts }
 
 pub AreKept-filter : (test : Row → Bool) (xs : List Row) → AreKept xs → AreKept (filter test xs)
 AreKept-filter test xs h = record { rise = AreRows-filter test xs h.rise; parts = all_filter namespace_of HasNoSlash test xs h.parts }
 
-pub AreKept-drop : {B : Type 0} (row : B → Row) (bs : List B) (n : ℕ) → AreKept (map row bs) → AreKept (map row (drop n bs))
+pub AreKept-drop : (bs : List Row) (n : ℕ) → AreKept bs → AreKept (drop n bs)
 unfolding IsStrictlySortedBy
-AreKept-drop row bs zero h = h
-AreKept-drop row [] (suc n) h = h
-AreKept-drop row (b ∷ bs) (suc n) h = AreKept-drop row bs n (record { rise = h.rise.1; parts = h.parts.1 })
+AreKept-drop bs zero h = h
+AreKept-drop [] (suc n) h = h
+AreKept-drop (b ∷ bs) (suc n) h = AreKept-drop bs n (record { rise = h.rise.1; parts = h.parts.1 })
 
 -- the namespace that a comparison made known is the row's
-pub named : (r r' : Row) (name : FullName) → r' ≡ r → name ≡ name_of r' → HasNoSlash name.namespace → IsPart r
-named r r' name e f h = subst (λ (n : FullName). HasNoSlash n.namespace) (f ∙ ap name_of e) h
+pub named : (r : Row) (name : FullName) → name ≡ name_of r → HasNoSlash name.namespace → IsPart r
+named r name e h = subst (λ (n : FullName). HasNoSlash n.namespace) e h

@@ -1,7 +1,9 @@
 -- The rows that are there from the start.
 use Rattle.std.specs.Prelude.{List, [], ◌∷◌, codes, true, false, Some, None}
 use Rattle.ow_entity.specs.declared.actions.Action.{Action}
-use Rattle.ow_entity.specs.declared.code.Exec.TheVariants.{Plain}
+use Rattle.ow_entity.specs.declared.exec.Exec.TheVariants.{Plain}
+use Rattle.ow_entity.specs.declared.finishing.TheConstants.{FIRST_VERSION}
+use Rattle.ow_entity.specs.Finish.{default_limits}
 use Rattle.ow_entity.specs.declared.packages.Package.{Package}
 use Rattle.ow_entity.specs.declared.rows.Row.{Row}
 use Rattle.ow_entity.specs.declared.rows.Row.TheVariants as rows
@@ -10,19 +12,19 @@ use Rattle.ow_entity.specs.declared.rows.Row.TheVariants as rows
 abbrev pub echo : Action
 echo = record {
   name = record { namespace = codes "whisk.system"; «package» = Some (codes "utils"); name = codes "echo" };
-  version = 1;
+  version = FIRST_VERSION;
   publish = false;
   params = [];
   notes = [];
   exec = Plain (codes "{\"cases\":[{\"give\":{\"$all\":true},\"when\":{}}]}");
-  limits = record { timeout = 60000; memory = 256; logs = 10 };
+  limits = default_limits;
 }
 
 -- /whisk.system/utils, in which it lies, and which is shared
 abbrev pub utils : Package
 utils = record {
   name = record { namespace = codes "whisk.system"; «package» = None; name = codes "utils" };
-  version = 1;
+  version = FIRST_VERSION;
   publish = true;
   params = [];
   notes = [];

@@ -1,6 +1,5 @@
 pub mod Contents
 pub mod Rows
 pub mod Builtin
-pub mod Refusals
-pub mod Boxed
+pub mod Refusal
 pub mod Region

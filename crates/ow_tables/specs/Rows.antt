@@ -44,9 +44,9 @@ found kind name rows = find (is_row kind name) rows
 -- ---- changes
 
 -- the rows with this one in the place of the one of its kind and name, or else before the first that comes behind it
-abbrev pub put_row : Row → List Row → List Row
-put_row r [] = r ∷ []
-put_row r (x ∷ xs) = match_ordering (text_cmp (key_of r) (key_of x)) (r ∷ x ∷ xs) (r ∷ xs) (x ∷ put_row r xs)
+abbrev pub with_row : Row → List Row → List Row
+with_row r [] = r ∷ []
+with_row r (x ∷ xs) = match_ordering (text_cmp (key_of r) (key_of x)) (r ∷ x ∷ xs) (r ∷ xs) (x ∷ with_row r xs)
 
 -- the rows but the one of the kind and the name
 abbrev pub without : EntityKind → FullName → List Row → List Row
@@ -54,7 +54,7 @@ without kind name rows = filter (λ r. not (is_row kind name r)) rows
 
 -- the rows after a change that was made ready
 abbrev pub changed : Change → List Row → List Row
-changed c rows = if c.removes then without (kind_of c.row) (name_of c.row) rows else put_row c.row rows
+changed c rows = if c.removes then without (kind_of c.row) (name_of c.row) rows else with_row c.row rows
 
 -- what is found after a change: of its kind and name the row that was put, or none, and of any other what was found before
 abbrev pub found_after : Change → EntityKind → FullName → Option Row → Option Row

@@ -2,9 +2,9 @@
 ghost use Rattle.std.specs.Prelude.{◌≡◌, IfOk};
 ghost use Rattle.ow_tables.specs.Builtin.{echo, utils};
 
-use ow_entity::{Action, Exec, Limits, Package};
+use ow_entity::{Action, EntityParams, Exec, FIRST_VERSION, Limits, Package, PlainCode};
 use ow_names::{EntityName, FullName, read_name};
-use ow_value::{NoMemory, Params, Str};
+use ow_value::NoMemory;
 use std::alloc::Global;
 
 /// The action that answers what it is given.
@@ -20,12 +20,12 @@ pub(crate) fn echo(alloc: Global) -> Result<Action, NoMemory>
             package: Some(package),
             name,
         },
-        version: 1,
+        version: FIRST_VERSION,
         publish: false,
-        params: Params::new(alloc),
-        notes: Params::new(alloc),
+        params: EntityParams::new(),
+        notes: EntityParams::new(),
         exec: Exec::Plain {
-            code: Str::of(
+            code: plain_code(
                 alloc,
                 "{\"cases\":[{\"give\":{\"$all\":true},\"when\":{}}]}",
             )?,
@@ -46,10 +46,10 @@ pub(crate) fn utils(alloc: Global) -> Result<Package, NoMemory>
             package: None,
             name,
         },
-        version: 1,
+        version: FIRST_VERSION,
         publish: true,
-        params: Params::new(alloc),
-        notes: Params::new(alloc),
+        params: EntityParams::new(),
+        notes: EntityParams::new(),
         binding: None,
     })
 }
@@ -59,4 +59,11 @@ fn name(alloc: Global, text: &str) -> Result<EntityName, NoMemory>
     ensures { IfOk result (λ n. n ≡ text.now) }
 {
     read_name(alloc, text.as_bytes()).map_err(|_| NoMemory)
+}
+
+// The text is plain code, so only memory can be wanting.
+fn plain_code(alloc: Global, text: &str) -> Result<PlainCode, NoMemory>
+    ensures { IfOk result (λ c. c ≡ text.now) }
+{
+    PlainCode::read(alloc, text).map_err(|_| NoMemory)
 }

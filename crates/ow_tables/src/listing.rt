@@ -2,10 +2,9 @@
 ghost use Rattle.std.specs.Prelude.{◌≡◌, filter, map, IfOk};
 ghost use Rattle.ow_entity.specs.Written.{summary_value};
 ghost use Rattle.ow_tables.specs.Rows.{stands_in, listing};
-ghost use Rattle.ow_tables.specs.Boxed.{rows_in};
 ghost use Rattle.ow_tables.specs.Region.{AreKept};
 
-use crate::place::region_order;
+use crate::row_order::region_order;
 use ow_entity::{EntityKind, Row, summary};
 use ow_names::EntityName;
 use ow_value::{NoMemory, Vals};
@@ -14,14 +13,14 @@ use std::alloc::Global;
 /// The summaries of the rows of the kind in the namespace, but for the first `skip`, and at most `limit`.
 pub(crate) fn listing(
     alloc: Global,
-    rows: &[Box<Row>],
+    rows: &[Row],
     kind: EntityKind,
     namespace: &EntityName,
     skip: u64,
     limit: u64,
 ) -> Result<Vals, NoMemory>
-    requires { AreKept (rows_in rows.now) }
-    ensures { IfOk result (λ vs. vs ≡ listing kind namespace.now skip limit (rows_in rows.now)) }
+    requires { AreKept rows.now }
+    ensures { IfOk result (λ vs. vs ≡ listing kind namespace.now skip limit rows.now) }
 {
     let part = part(rows, kind, namespace);
     let first = skip.min(part.len() as u64) as usize;
@@ -31,9 +30,9 @@ pub(crate) fn listing(
 }
 
 // The rows of the kind in the namespace, which stand together.
-fn part<'a>(rows: &'a [Box<Row>], kind: EntityKind, namespace: &EntityName) -> &'a [Box<Row>]
-    requires { AreKept (rows_in rows.now) }
-    ensures { rows_in result.now ≡ filter (stands_in kind namespace.now) (rows_in rows.now) }
+fn part<'a>(rows: &'a [Row], kind: EntityKind, namespace: &EntityName) -> &'a [Row]
+    requires { AreKept rows.now }
+    ensures { result.now ≡ filter (stands_in kind namespace.now) rows.now }
 {
     let start = rows.partition_point(|row| region_order(row, kind, namespace).is_lt());
     let rest = &rows[start..];
@@ -41,12 +40,12 @@ fn part<'a>(rows: &'a [Box<Row>], kind: EntityKind, namespace: &EntityName) -> &
     &rest[..count]
 }
 
-fn summaries(alloc: Global, rows: &[Box<Row>]) -> Result<Vals, NoMemory>
-    ensures { IfOk result (λ vs. vs ≡ map summary_value (rows_in rows.now)) }
+fn summaries(alloc: Global, rows: &[Row]) -> Result<Vals, NoMemory>
+    ensures { IfOk result (λ vs. vs ≡ map summary_value rows.now) }
 {
-    let mut shown = Vals::new(alloc);
+    let mut shown = Vec::new(alloc);
     for row in rows {
         shown.push(summary(alloc, row)?)?;
     }
-    Ok(shown)
+    Vals::from_vec(shown)
 }

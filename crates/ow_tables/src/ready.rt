@@ -7,7 +7,7 @@ use std::marker::Model;
 /// A change that was found right and has its memory, to be made by `Tables::apply`.
 #[derive(Drop)]
 pub struct Ready {
-    pub(crate) row: Box<Row>,
+    pub(crate) row: Row,
     pub(crate) removes: bool,
 }
 
@@ -20,7 +20,7 @@ impl Model for Ready {
 
     ghost coded = { Prim.hlevel (codes, value_code) };
 
-    ghost view = { λ a. record { row = a.row.value; removes = a.removes } };
+    ghost view = { λ a. record { row = a.row; removes = a.removes } };
 }
 
 impl Ready {

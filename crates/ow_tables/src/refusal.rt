@@ -1,10 +1,9 @@
 // Why tables don't change.
 ghost use Rattle.std.specs.Prelude.{◌≡◌};
-ghost use Rattle.ow_tables.specs.Refusals.{table_refusal_number};
+ghost use Rattle.ow_tables.specs.Refusal.{table_refusal_number};
 
 use ow_entity::EntityRefusal;
 use ow_value::NoMemory;
-use std::alloc::{AllocError, AllocFailed};
 
 /// Why tables don't change, or have no such row.
 #[derive(Clone, Copy, PartialEq, Eq, Debug, Drop)]
@@ -35,37 +34,15 @@ impl TableRefusal {
 
 impl From<EntityRefusal> for TableRefusal {
     ghost use Rattle.std.specs.Prelude.{◌≡◌};
-    ghost use Rattle.ow_tables.specs.Refusals.{of_entity};
+    ghost use Rattle.ow_tables.specs.Refusal.{table_refusal};
 
-    ghost from_gives = { λ r e. e ≡ of_entity r };
+    ghost from_gives = { λ r e. e ≡ table_refusal r };
 
     fn from(refusal: EntityRefusal) -> TableRefusal {
         match refusal {
             EntityRefusal::NoMemory => TableRefusal::NoMemory,
             _ => TableRefusal::Entity(refusal),
         }
-    }
-}
-
-impl From<AllocError> for TableRefusal {
-    ghost use Rattle.std.specs.Prelude.{◌≡◌};
-    ghost use Rattle.ow_tables.specs.declared.refusal.TableRefusal.TheVariants.{NoMemory};
-
-    ghost from_gives = { λ _ e. e ≡ NoMemory };
-
-    fn from(_refused: AllocError) -> TableRefusal {
-        TableRefusal::NoMemory
-    }
-}
-
-impl<T: Drop> From<AllocFailed<T>> for TableRefusal {
-    ghost use Rattle.std.specs.Prelude.{◌≡◌};
-    ghost use Rattle.ow_tables.specs.declared.refusal.TableRefusal.TheVariants.{NoMemory};
-
-    ghost from_gives = { λ _ e. e ≡ NoMemory };
-
-    fn from(_refused: AllocFailed<T>) -> TableRefusal {
-        TableRefusal::NoMemory
     }
 }
 

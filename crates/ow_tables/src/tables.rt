@@ -3,26 +3,27 @@ ghost use Rattle.std.specs.Prelude.{◌≡◌, ◌≢◌, ◌≤◌, [], ◌∷�
 ghost use Rattle.ow_names.specs.declared.full.FullName.{FullName};
 ghost use Rattle.ow_entity.specs.Chain.{first_some};
 ghost use Rattle.ow_entity.specs.declared.kinds.EntityKind.{EntityKind};
-ghost use Rattle.ow_entity.specs.Finish.{finished};
+ghost use Rattle.ow_entity.specs.Finish.{finished_row};
 ghost use Rattle.ow_tables.specs.Builtin.{builtin};
-ghost use Rattle.ow_tables.specs.Rows.{AreRows, found, found_after, put_row, changed, listing};
-ghost use Rattle.ow_tables.specs.Refusals.{package_of, package_missing, in_the_way, unfinished, old_row, put_refusal, remove_refusal};
+ghost use Rattle.ow_tables.specs.Rows.{AreRows, found, found_after, with_row, changed, listing};
+ghost use Rattle.ow_tables.specs.Refusal.{package_of, package_refusal, exists_refusal, finish_refusal, old_row, put_refusal, remove_refusal};
 
 use crate::builtin::{echo, utils};
 use crate::listing::listing;
-use crate::place::{order, place};
 use crate::ready::Ready;
 use crate::refusal::TableRefusal;
+use crate::row_order::{order, place};
 use ow_entity::{Draft, EntityKind, Lookup, Row, finish};
 use ow_names::{EntityName, FullName};
-use ow_value::{NoMemory, Vals};
+use ow_value::{NoMemory, PlainData, Shared, Vals, copy_slice};
 use std::alloc::Global;
 use std::marker::Model;
+use std::mem::replace;
 
 /// The entities that stand, in the order of their kinds and the bytes of their full texts.
 #[derive(Drop)]
 pub struct Tables {
-    rows: Vec<Box<Row>>,
+    rows: Vec<Row>,
 }
 
 impl Model for Tables {
@@ -31,16 +32,15 @@ impl Model for Tables {
     ghost use Rattle.std.specs.Coded.{codes};
     ghost use Rattle.ow_value.specs.Code.{value_code};
     ghost use Rattle.ow_tables.specs.Contents.{Contents};
-    ghost use Rattle.ow_tables.specs.Boxed.{rows_in};
     ghost use Rattle.ow_tables.specs.Region.{AreKept};
 
     ghost Value = { Contents };
 
     ghost coded = { Prim.hlevel (codes, value_code) };
 
-    ghost view = { λ a. record { rows = rows_in a.rows.items; room = vec_capacity a.rows - vec_len a.rows } };
+    ghost view = { λ a. record { rows = a.rows.items; room = vec_capacity a.rows - vec_len a.rows } };
 
-    ghost invariant = { λ a. AreKept (rows_in a.rows.items) };
+    ghost invariant = { λ a. AreKept a.rows.items };
 }
 
 impl Tables {
@@ -49,8 +49,8 @@ impl Tables {
         ensures { IfOk result (λ t. t.rows ≡ builtin) }
     {
         let mut rows = Vec::with_capacity(alloc, 2)?;
-        rows.push(Box::new(alloc, Row::Action(echo(alloc)?))?)?;
-        rows.push(Box::new(alloc, Row::Package(utils(alloc)?))?)?;
+        rows.push(Row::Action(Shared::new(alloc, echo(alloc)?)?))?;
+        rows.push(Row::Package(Shared::new(alloc, utils(alloc)?)?))?;
         Ok(Tables { rows })
     }
 
@@ -63,14 +63,14 @@ impl Tables {
     ) -> Result<Ready, TableRefusal>
         ensures unrefused { OnOk result (put_refusal draft overwrite self.old.rows ≡ None) }
         ensures refused { IfErr result (λ e. e ≢ TableRefusal.NoMemory → put_refusal draft overwrite self.old.rows ≡ Some e) }
-        ensures row { IfOk result (λ r. finished draft (old_row draft self.old.rows) ≡ Ok r.row) }
+        ensures row { IfOk result (λ r. finished_row draft (old_row draft self.old.rows) ≡ Ok r.row) }
         ensures puts { IfOk result (λ r. r.removes ≡ false) }
         ensures rows { self.new.rows ≡ self.old.rows }
         ensures room { OnOk result (1 ≤ self.new.room) }
         ensures unchanged { OnErr result (self.new ≡ self.old) }
     {
         let row = self.made(alloc, draft, overwrite)?;
-        self.rows.reserve(1)?;
+        self.make_room()?;
         Ok(Ready {
             row,
             removes: false,
@@ -90,10 +90,7 @@ impl Tables {
         ensures unchanged { self.new ≡ self.old }
     {
         let row = self.get(kind, name)?.copy(alloc)?;
-        Ok(Ready {
-            row: Box::new(alloc, row)?,
-            removes: true,
-        })
+        Ok(Ready { row, removes: true })
     }
 
     /// Makes the change. This takes no memory.
@@ -130,21 +127,29 @@ impl Tables {
         listing(alloc, &self.rows, kind, namespace, skip, limit)
     }
 
-    /// Equal tables, with memory of their own.
+    /// Equal tables. Both share their entities.
     pub fn copy(&self, alloc: Global) -> Result<Tables, NoMemory>
         ensures { IfOk result (λ t. t.rows ≡ self.now.rows) }
     {
-        let mut rows = Vec::with_capacity(alloc, self.rows.len())?;
-        for row in &self.rows {
-            rows.push(Box::new(alloc, row.copy(alloc)?)?)?;
-        }
-        Ok(Tables { rows })
+        Ok(Tables {
+            rows: copy_slice(alloc, &self.rows)?,
+        })
+    }
+
+    // Memory for one more row.
+    fn make_room(&mut self) -> Result<(), NoMemory>
+        ensures rows { self.new.rows ≡ self.old.rows }
+        ensures room { OnOk result (1 ≤ self.new.room) }
+        ensures unchanged { OnErr result (self.new ≡ self.old) }
+    {
+        self.rows.reserve(1)?;
+        Ok(())
     }
 
     // That the package in which the name lies stands.
     fn check_package(&self, alloc: Global, name: &FullName) -> Result<(), TableRefusal>
-        ensures { MatchResult result (λ _. package_missing (package_of name.now) self.now.rows ≡ None)
-            (λ e. e ≢ TableRefusal.NoMemory → package_missing (package_of name.now) self.now.rows ≡ Some e) }
+        ensures { MatchResult result (λ _. package_refusal (package_of name.now) self.now.rows ≡ None)
+            (λ e. e ≢ TableRefusal.NoMemory → package_refusal (package_of name.now) self.now.rows ≡ Some e) }
     {
         let Some(package) = &name.package else {
             return Ok(());
@@ -159,25 +164,25 @@ impl Tables {
     }
 
     // The row of the draft, where the package in which it is to lie stands.
-    fn made(&self, alloc: Global, draft: Draft, overwrite: bool) -> Result<Box<Row>, TableRefusal>
+    fn made(&self, alloc: Global, draft: Draft, overwrite: bool) -> Result<Row, TableRefusal>
         ensures unrefused { OnOk result (put_refusal draft overwrite self.now.rows ≡ None) }
         ensures refused { IfErr result (λ e. e ≢ TableRefusal.NoMemory → put_refusal draft overwrite self.now.rows ≡ Some e) }
-        ensures row { IfOk result (λ b. finished draft (old_row draft self.now.rows) ≡ Ok b.value) }
+        ensures row { IfOk result (λ r. finished_row draft (old_row draft self.now.rows) ≡ Ok r) }
     {
         self.check_package(alloc, draft.name())?;
-        let row = self.finished(alloc, draft, overwrite)?;
-        Ok(Box::new(alloc, row)?)
+        self.finished(alloc, draft, overwrite)
     }
 
     // The row of the draft, over the one that stands, if any.
     fn finished(&self, alloc: Global, draft: Draft, overwrite: bool) -> Result<Row, TableRefusal>
-        ensures way { OnOk result (in_the_way overwrite (old_row draft self.now.rows) ≡ None) }
-        ensures row { IfOk result (λ r. finished draft (old_row draft self.now.rows) ≡ Ok r) }
+        ensures way { OnOk result (exists_refusal overwrite (old_row draft self.now.rows) ≡ None) }
+        ensures row { IfOk result (λ r. finished_row draft (old_row draft self.now.rows) ≡ Ok r) }
         ensures refused { IfErr result (λ e. e ≢ TableRefusal.NoMemory
-            → first_some (in_the_way overwrite (old_row draft self.now.rows) ∷ unfinished draft (old_row draft self.now.rows) ∷ []) ≡ Some e) }
+            → first_some (exists_refusal overwrite (old_row draft self.now.rows) ∷ finish_refusal draft (old_row draft self.now.rows) ∷ []) ≡ Some e) }
     {
         let old = self.row(draft.kind(), draft.name());
         if old.is_some() && !overwrite {
+            drop(draft);
             return Err(TableRefusal::Exists);
         }
         Ok(finish(alloc, draft, old)?)
@@ -195,14 +200,14 @@ impl Tables {
         }
     }
 
-    fn put_in(&mut self, row: Box<Row>)
+    fn put_in(&mut self, row: Row)
         requires { 1 ≤ self.old.room }
-        ensures { self.new.rows ≡ put_row row.value self.old.rows }
+        ensures { self.new.rows ≡ with_row row self.old.rows }
     {
         let namespace = &row.name().namespace;
         namespace.compare_as_part(namespace);
         match place(&self.rows, row.kind(), row.name()) {
-            Ok(i) => self.rows[i] = row,
+            Ok(i) => drop(replace(&mut self.rows[i], row)),
             Err(i) => {
                 let Ok(()) = self.rows.insert(i, row) else {
                     unreachable!()
@@ -215,7 +220,7 @@ impl Tables {
         ensures { self.new.rows ≡ changed (record { row = row.now; removes = true }) self.old.rows }
     {
         if let Ok(i) = place(&self.rows, row.kind(), row.name()) {
-            self.rows.remove(i);
+            drop(self.rows.remove(i));
         }
     }
 }
@@ -228,7 +233,7 @@ impl Lookup for Tables {
     fn row(&self, kind: EntityKind, name: &FullName) -> Option<&Row> {
         match place(&self.rows, kind, name) {
             Ok(i) => {
-                let row = &*self.rows[i];
+                let row = &self.rows[i];
                 order(row, kind, name);
                 Some(row)
             }

@@ -1,6 +1,6 @@
 #![tactic(auto)]
 
-// What lies outside the service, as traits whose meaning contracts can name.
+//! The outside of the service: byte sources and sinks, key-value stores, and what runners reply.
 mod adapters;
 mod calls;
 mod change_list;

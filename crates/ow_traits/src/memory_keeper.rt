@@ -3,6 +3,7 @@ ghost use Rattle.std.specs.Prelude.{◌≡◌, Some};
 
 use crate::calls::Calls;
 use crate::{Changes, Keeper, KeeperError, Rows};
+use ow_value::PlainData;
 use std::alloc::Global;
 
 /// Keeps rows in memory. The calls of `load` and `commit` whose numbers stand in `failing` fail; both count, and the first has the number 0.
@@ -69,8 +70,7 @@ impl Keeper for MemoryKeeper {
         if self.calls.fails_next() {
             return Err(KeeperError::Failed);
         }
-        let changes = changes.copy(alloc)?;
-        self.rows.apply(changes)?;
+        self.rows.apply(alloc, changes)?;
         Ok(())
     }
 }

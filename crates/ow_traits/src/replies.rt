@@ -1,7 +1,5 @@
 // How a run of an action ends.
-ghost use Rattle.std.specs.Prelude.{◌≡◌, ◌↔◌, IsTrue, IfOk};
-
-use ow_value::{Lines, NoMemory, Str};
+use ow_value::{Lines, NoMemory, PlainData, Str};
 use std::alloc::Global;
 
 /// What an action's code is.
@@ -26,11 +24,8 @@ pub enum RunReply {
     Fault,
 }
 
-impl RunReply {
-    /// Whether the runs ended alike, with equal texts and logs.
-    pub fn same(&self, other: &RunReply) -> bool
-        ensures { IsTrue result ↔ (self.now ≡ other.now) }
-    {
+impl PlainData for RunReply {
+    fn same(&self, other: &RunReply) -> bool {
         match (self, other) {
             (
                 RunReply::Answer { text, logs },
@@ -54,10 +49,7 @@ impl RunReply {
         }
     }
 
-    /// An equal reply.
-    pub fn copy(&self, alloc: Global) -> Result<RunReply, NoMemory>
-        ensures { IfOk result (λ r. r ≡ self.now) }
-    {
+    fn copy(&self, alloc: Global) -> Result<RunReply, NoMemory> {
         match self {
             RunReply::Answer { text, logs } => Ok(RunReply::Answer {
                 text: text.copy(alloc)?,

@@ -5,7 +5,7 @@ ghost use Rattle.ow_traits.specs.Rows.{AreRows, text_of, with_row};
 
 use crate::Changes;
 use crate::row_edits::{change_rows, place, put_row};
-use ow_value::{NoMemory, Pairs, Str};
+use ow_value::{NoMemory, PlainData, Str, copy_slice, same_slices};
 use std::alloc::Global;
 use std::marker::Model;
 
@@ -69,22 +69,6 @@ impl Rows {
         }
     }
 
-    /// Whether the keys are the same, with equal texts.
-    pub fn same(&self, other: &Rows) -> bool
-        ensures { IsTrue result ↔ (self.now ≡ other.now) }
-    {
-        Pairs::same_slices(&self.rows, &other.rows)
-    }
-
-    /// The same keys, with equal texts.
-    pub fn copy(&self, alloc: Global) -> Result<Rows, NoMemory>
-        ensures { IfOk result (λ r. r ≡ self.now) }
-    {
-        Ok(Rows {
-            rows: Pairs::copy_slice(alloc, &self.rows)?,
-        })
-    }
-
     /// Puts the text at the key, in place of one that is there.
     pub fn put(&mut self, key: Str, text: Str) -> Result<(), NoMemory>
         ensures ok { OnOk result (self.new ≡ with_row self.old key text) }
@@ -94,13 +78,25 @@ impl Rows {
     }
 
     /// Makes the changes in their order: all of them, or none for want of memory.
-    pub fn apply(&mut self, changes: Changes) -> Result<(), NoMemory>
-        ensures ok { OnOk result (self.new ≡ changed changes self.old) }
+    pub fn apply(&mut self, alloc: Global, changes: &Changes) -> Result<(), NoMemory>
+        ensures ok { OnOk result (self.new ≡ changed changes.now self.old) }
         ensures err { OnErr result (self.new ≡ self.old) }
     {
-        let changes = changes.into_vec();
+        let changes = copy_slice(alloc, changes.as_slice())?;
         self.rows.reserve(changes.len())?;
         change_rows(&mut self.rows, changes);
         Ok(())
+    }
+}
+
+impl PlainData for Rows {
+    fn same(&self, other: &Rows) -> bool {
+        same_slices(&self.rows, &other.rows)
+    }
+
+    fn copy(&self, alloc: Global) -> Result<Rows, NoMemory> {
+        Ok(Rows {
+            rows: copy_slice(alloc, &self.rows)?,
+        })
     }
 }

@@ -69,7 +69,7 @@ follows_next found k d (member l v ps) h above = below_next found k l d h above.
 mutual
   unfolding IsStrictlySortedBy
 
-  pub of_json-outline : (v : V) → IsValue v → of_json (outline (data_of v)) ≡ Some (data_of v)
+  of_json-outline : (v : V) → IsValue v → of_json (outline (data_of v)) ≡ Some (data_of v)
   of_json-outline null h = refl
   of_json-outline (boolean b) h = refl
   of_json-outline (whole (pos n)) h = ap (option_map json.number) (number_of-decimal n h)
@@ -133,10 +133,10 @@ mutual
   members_same_depth no_members = refl
   members_same_depth (member k v ps) = ap₂ max (same_depth v) (members_same_depth ps)
 
-pub tokens-compact : (v : V) → IsValue v → tokens (compact v) ≡ value_tokens v
+tokens-compact : (v : V) → IsValue v → tokens (compact v) ≡ value_tokens v
 tokens-compact v h = ap tokens (sym (print-outline (data_of v))) ∙ tokens-print (value_tokens v) (ArePrintable-json_tokens (outline (data_of v)) (numbers v h))
 
-pub read-compact : (v : V) → IsValue v → depth v ≤ max_depth → read (compact v) ≡ Some (data_of v)
+read-compact : (v : V) → IsValue v → depth v ≤ max_depth → read (compact v) ≡ Some (data_of v)
 read-compact v h shallow =
     let j = outline (data_of v) in
     let all : doc.value max_depth (tokens (compact v)) ≡ Some (j, []) =

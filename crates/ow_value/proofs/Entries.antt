@@ -1,5 +1,5 @@
 -- Entries whose keys rise, of any value: what stands at a place, and what a put makes of them.
-use Rattle.std.proofs.Common.{◌≡◌, ◌≢◌, ℕ, zero, suc, ◌<◌, List, [], ◌∷◌, ◌++◌, length, get_or, set, take, drop, Some, None, Ordering, Less, Equal, Greater, refl, ap, arith}
+use Rattle.std.proofs.Common.{◌≡◌, ◌≢◌, ℕ, zero, suc, ◌<◌, List, [], ◌∷◌, ◌++◌, length, map, get_or, set, take, drop, Some, None, Ordering, Less, Equal, Greater, refl, ap, arith}
 use Rattle.std.specs.BTreeMap.{is_at, insert_entry}
 use Rattle.std.specs.List.{AllByRecursion}
 use Rattle.std.specs.List.Sorted.{IsStrictlySortedBy}
@@ -17,7 +17,7 @@ module _ {W : Type 0} where
   abbrev pub Above : List ℕ → Entries W → Type 0
   Above k es = AllByRecursion (λ y. text_cmp k y ≡ Less) (keys_of es)
 
-  abbrev pub Rise : Entries W → Type 0
+  abbrev Rise : Entries W → Type 0
   Rise es = IsStrictlySortedBy text_cmp (keys_of es)
 
   abbrev key_of : List ℕ × W → List ℕ
@@ -82,3 +82,19 @@ module _ {W : Type 0} where
   unfolding IsStrictlySortedBy
   rises_with [] k w h = (tt, tt)
   rises_with (e ∷ es) k w h = sorted_by k w e es (text_cmp k e.0) refl h (rises_with es k w h.1)
+
+-- ---- entries whose values are read by `f`
+
+module _ {U W : Type 0} (f : U → W) where
+  abbrev read_entries : Entries U → Entries W
+  read_entries = map (λ e. (e.0, f e.1))
+
+  read_by : (k : List ℕ) (u : U) (e : List ℕ × U) (es rest : Entries U) (new : Entries W) (o : Ordering) → new ≡ read_entries rest
+      → match_ordering o ((k, f u) ∷ read_entries (e ∷ es)) ((e.0, f u) ∷ read_entries es) ((e.0, f e.1) ∷ new) ≡ read_entries (match_ordering o ((k, u) ∷ e ∷ es) ((e.0, u) ∷ es) (e ∷ rest))
+  read_by k u e es rest new Less h = refl
+  read_by k u e es rest new Equal h = refl
+  read_by k u e es rest new Greater h = ap (λ m. (e.0, f e.1) ∷ m) h
+
+  pub insert_read : (k : List ℕ) (u : U) (es : Entries U) → insert_entry text_cmp (read_entries es) k (f u) ≡ read_entries (insert_entry text_cmp es k u)
+  insert_read k u [] = refl
+  insert_read k u (e ∷ es) = read_by k u e es (insert_entry text_cmp es k u) (insert_entry text_cmp (read_entries es) k (f u)) (text_cmp k e.0) (insert_read k u es)

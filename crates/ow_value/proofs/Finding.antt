@@ -1,16 +1,14 @@
 -- What a search among the names of members finds, and a write at that place.
-use Rattle.std.proofs.Common.{◌≡◌, ℕ, ◌<◌, ◌≤◌, List, ◌∷◌, ◌++◌, length, get_or, set, take, drop, Some, None, Equal, sym, ap, ap₂, ◌∙◌, subst, arith}
-use Rattle.std.proofs.lemmas.List.{get_or-map, map-set, map-append, take-map, drop-map, length-map}
+use Rattle.std.proofs.Common.{◌≡◌, ℕ, zero, suc, ◌+◌, ◌<◌, ◌≤◌, List, [], ◌∷◌, ◌++◌, length, get_or, set, take, drop, Some, None, Less, Equal, refl, sym, ap, ap₂, ◌∙◌, subst, arith}
+use Rattle.std.specs.List.Sorted.{IsStrictlySortedBy}
+use Rattle.std.proofs.lemmas.List.{get_or-map, map_more, map-set, map-append, take-map, drop-map, length-map}
 use Rattle.ow_value.specs.Value.{V, Pairs, text_cmp, AreParams}
 use Rattle.ow_value.specs.Find.{find, with_pair}
-use Rattle.ow_value.specs.View.{view, pair_views}
+use Rattle.ow_value.specs.View.{view, pair_view, pair_views}
 use Rattle.ow_value.specs.declared.val.Pair.{Pair}
 use Rattle.ow_value.specs.declared.val.Val.{Val}
 use Rattle.ow_value.proofs.Entries.{lookup_at, lookup_nowhere, insert_at_equal, insert_between}
-use Rattle.ow_value.proofs.KeySearch.{StandsAt, PartsAt, parted, parts_through}
-
-abbrev pair_view : Pair → List ℕ × V
-pair_view p = (p.name, view p.value)
+use Rattle.ow_value.proofs.KeySearch.{key_through, turned, StandsAt, PartsAt, parted, parts_through}
 
 abbrev name_of : Pair → List ℕ
 name_of p = p.name
@@ -40,6 +38,18 @@ with_at_gap : (p : Pair) (ps : List Pair) (i : ℕ) → i ≤ length ps → Part
 with_at_gap p ps i le h =
     insert_between p.name (view p.value) (pair_views ps) i (parts_through (λ p. p.0) pair_view p.name ps i le h)
     ∙ ap₂ (λ a b. a ++ pair_view p ∷ b) (take-map pair_view i ps) (drop-map pair_view i ps) ∙ sym (map-append pair_view (take i ps) (p ∷ drop i ps))
+
+-- where each name comes behind the last
+appended : (ps : List Pair) (i : ℕ) (p : Pair) → AreParams (pair_views ps) → i < length ps → p ≡ get_or ps i p → with_pair (pair_views (take i ps)) p.name (view p.value) ≡ pair_views (take i ps) ++ pair_view p ∷ []
+unfolding IsStrictlySortedBy
+appended [] i p h lt at = absurd (omega (arith, lt))
+appended (q ∷ ps) zero p h lt at = refl
+appended (q ∷ ps) (suc i) p h lt at =
+    let above = key_through (λ e. e.0) pair_view (λ k. text_cmp q.name k ≡ Less) ps i p h.0 (omega (arith, lt)) in
+    rw (turned q.name p.name Less (subst (λ (z : Pair). text_cmp q.name z.name ≡ Less) (sym at) above)) (ap (λ m. pair_view q ∷ m) (appended ps i p h.1 (omega (arith, lt)) at))
+
+pub with_next : (ps : List Pair) (i : ℕ) (p : Pair) → AreParams (pair_views ps) → i < length ps → p ≡ get_or ps i p → with_pair (pair_views (take i ps)) p.name (view p.value) ≡ pair_views (take (i + 1) ps)
+with_next ps i p h lt at = appended ps i p h lt at ∙ ap (λ q. pair_views (take i ps) ++ pair_view q ∷ []) at ∙ sym (map_more pair_view ps i p lt)
 
 pub set_at : (xs ys : List Pair) (k name : List ℕ) (w : Val) (i : ℕ) (d : Pair) (old : Pairs) → ys ≡ xs → k ≡ name → AreParams (pair_views xs) → StandsAt name_of k ys i → d ≡ get_or xs i d → pair_views xs ≡ old
     → pair_views (set xs i (record { name = d.name; value = w })) ≡ with_pair old name (view w)

@@ -1,12 +1,13 @@
 -- What a search by key finds in a list, where `key` tells the key of each.
-use Rattle.std.proofs.Common.{◌≡◌, ◌≢◌, ℕ, zero, suc, ◌<◌, ◌≤◌, false, List, [], ◌∷◌, length, map, get_or, Result, Ok, Err, IfOk, IfErr, Ordering, Less, Equal, Greater, is_eq, refl, sym, ap, ◌∙◌, subst, inl, inr, arith}
+use Rattle.std.proofs.Common.{◌≡◌, ◌≢◌, ℕ, zero, suc, ◌-◌, ◌<◌, ◌≤◌, false, List, [], ◌∷◌, length, map, get_or, Result, Ok, Err, IfOk, IfErr, Ordering, Less, Equal, Greater, is_eq, is_lt, refl, sym, ap, ◌∙◌, subst, inl, inr, arith}
+use Rattle.std.specs.Bool.{IsTrue}
 use Rattle.std.specs.List.{AllByRecursion, HoldsAt}
 use Rattle.std.specs.List.Sorted.{IsStrictlySortedBy, IsNonDecreasingBy, IsPartitionPoint, IsSearchInRange, IsBinarySearchResult}
 use Rattle.std.specs.Ordering.{ordering_index, ordering_reverse}
 use Rattle.std.specs.Str.{bytes_eq}
 use Rattle.std.proofs.lemmas.Bool.{cases_lt}
 use Rattle.std.proofs.lemmas.Cmp.{nat_list_cmp_total}
-use Rattle.std.proofs.lemmas.List.{get_or-map, length-map}
+use Rattle.std.proofs.lemmas.List.{get_or-map, get_or_default, length-map}
 use Rattle.std.proofs.lemmas.Map.Text.{is_eq-slice_cmp}
 use Rattle.std.proofs.lemmas.Slice.Eq.{bytes_eq-Decides}
 use Rattle.ow_value.specs.Value.{text_cmp}
@@ -46,6 +47,11 @@ not_equal Greater h = refl
 pub other : (a k : List ℕ) → text_cmp a k ≢ Equal → is_eq (text_cmp k a) ≡ false
 other a k h = not_equal _ (λ e. h (nat_list_cmp_total.antisymm a k ∙ e))
 
+pub is_less : (o : Ordering) → IsTrue (is_lt o) → o ≡ Less
+is_less Less h = refl
+is_less Equal h = cc
+is_less Greater h = cc
+
 -- ---- a list whose keys rise
 
 module _ {B : Type 0} (key : B → List ℕ) where
@@ -79,6 +85,21 @@ module _ {B : Type 0} (key : B → List ℕ) where
   searched k bs up (Ok i) range found = record { ok = (range, found); err = tt }
   searched k bs up (Err i) range found = record { ok = tt; err = (range, found (rises k bs up)) }
 
+  -- where the last key is below k, all are
+  all_below : (k : List ℕ) (bs : List B) (b : B) → IsStrictlySortedBy text_cmp (map key bs) → b ≡ get_or bs (length bs - 1) b → text_cmp (key b) k ≡ Less → PartsAt k bs (length bs)
+  all_below k bs b up at lt = (below, λ j d le up. absurd (omega (arith, le, up)))
+    where
+      is_least : (o : Ordering) → ordering_index o ≤ 0 → o ≡ Less
+      is_least Less h = refl
+      is_least Equal h = absurd (omega (arith, h))
+      is_least Greater h = absurd (omega (arith, h))
+
+      below : (j : ℕ) (d : B) → 0 ≤ j → j < length bs → text_cmp (key (get_or bs j d)) k ≡ Less
+      below j d le in_range =
+          let last : text_cmp (key (get_or bs (length bs - 1) b)) k ≡ Less = ap (λ x. text_cmp (key x) k) (sym at) ∙ lt in
+          let low = rises k bs up j (length bs - 1) b (omega (arith, in_range)) (omega (arith, in_range)) in
+          is_least _ (subst (λ x. ordering_index (text_cmp (key x) k) ≤ 0) (get_or_default bs j b d in_range) (subst (λ o. ordering_index (text_cmp (key (get_or bs j b)) k) ≤ ordering_index o) last low))
+
   -- where the keys part, none is k
   pub parted : (k : List ℕ) (bs : List B) (i : ℕ) → PartsAt k bs i → (j : ℕ) (d : B) → j < length bs → text_cmp (key (get_or bs j d)) k ≢ Equal
   parted k bs i h j d lt e = elim (cases_lt j i) [
@@ -105,6 +126,9 @@ module _ {A B : Type 0} (key : B → List ℕ) (row : A → B) where
         err : IfErr r (λ i. (i ≤ length xs) × PartsAt (λ x. key (row x)) k xs i);
       }
   searched_through k xs up = searched (λ x. key (row x)) k xs (subst (IsStrictlySortedBy text_cmp) (through key row xs) up)
+
+  pub all_below_through : (k : List ℕ) (xs : List A) (x : A) → IsStrictlySortedBy text_cmp (map key (map row xs)) → x ≡ get_or xs (length xs - 1) x → text_cmp (key (row x)) k ≡ Less → PartsAt (λ y. key (row y)) k xs (length xs)
+  all_below_through k xs x up = all_below (λ y. key (row y)) k xs x (subst (IsStrictlySortedBy text_cmp) (through key row xs) up)
 
   pub parts_through : (k : List ℕ) (xs : List A) (i : ℕ) → i ≤ length xs → PartsAt (λ x. key (row x)) k xs i → PartsAt key k (map row xs) i
   parts_through k [] i le h = (λ j d a b. absurd (omega (arith, a, b)), λ j d a b. absurd (omega (arith, a, b)))

@@ -13,7 +13,7 @@ by_order_same k v p ps rest Less e h = rw (tied_itself nat_list_cmp_total k)
 by_order_same k v p ps rest Equal e h = rw e
 by_order_same k v p ps rest Greater e h = rw e h
 
-pub find-with_pair : (k : List ℕ) (v : V) (ps : Pairs) → find k (with_pair ps k v) ≡ Some v
+find-with_pair : (k : List ℕ) (v : V) (ps : Pairs) → find k (with_pair ps k v) ≡ Some v
 find-with_pair k v [] = rw (tied_itself nat_list_cmp_total k)
 find-with_pair k v (p ∷ ps) = by_order_same k v p ps (with_pair ps k v) (text_cmp k p.0) refl (find-with_pair k v ps)
 
@@ -22,7 +22,7 @@ by_order_other q k v p ps rest Less e other h = rw other
 by_order_other q k v p ps rest Equal e other h = let same = subst (λ j. is_eq (text_cmp q j) ≡ false) (equal_texts k p.0 e) other in rw same
 by_order_other q k v p ps rest Greater e other h = ap (λ r. cond (is_eq (text_cmp q p.0)) (Some p.1) r) h
 
-pub find-with_pair_other : (q k : List ℕ) (v : V) (ps : Pairs) → is_eq (text_cmp q k) ≡ false → find q (with_pair ps k v) ≡ find q ps
+find-with_pair_other : (q k : List ℕ) (v : V) (ps : Pairs) → is_eq (text_cmp q k) ≡ false → find q (with_pair ps k v) ≡ find q ps
 find-with_pair_other q k v [] other = rw other
 find-with_pair_other q k v (p ∷ ps) other = by_order_other q k v p ps (with_pair ps k v) (text_cmp k p.0) refl other (find-with_pair_other q k v ps other)
 

@@ -2,18 +2,18 @@
 use Rattle.std.proofs.Common.{◌≡◌, ◌≢◌, ℕ, zero, suc, ◌+◌, ◌<◌, ◌≤◌, ◌⊎◌, inl, inr, List, [], ◌∷◌, ◌++◌, length, get_or, drop, Less, Equal, Greater, refl, sym, ap, ap₂, ◌∙◌, subst, append-nil, arith}
 use Rattle.std.specs.List.Sorted.{IsStrictlySortedBy}
 use Rattle.std.proofs.lemmas.Bool.{cases_lt}
-use Rattle.std.proofs.lemmas.List.{drop_more, drop_all}
+use Rattle.std.proofs.lemmas.List.{append_assoc, drop_more, drop_all}
 use Rattle.ow_value.specs.Value.{V, Pairs, text_cmp, AreParams}
 use Rattle.ow_value.specs.Find.{with_pair, merge}
 use Rattle.ow_value.specs.Merge.{head_order}
-use Rattle.ow_value.specs.View.{view, pair_views}
+use Rattle.ow_value.specs.View.{pair_view, pair_views}
 use Rattle.ow_value.specs.declared.val.Pair.{Pair}
 use Rattle.ow_value.specs.declared.val.Val.TheVariants.{Null}
 use Rattle.ow_value.proofs.Entries.{Above, above_more, above_with, rises_with}
 use Rattle.ow_value.proofs.KeySearch.{equal_texts, turned}
 use Rattle.ow_value.proofs.Taking.{pair_views-snoc}
 
-pub above_merge : (k : List ℕ) (a b : Pairs) → Above k a → Above k b → Above k (merge a b)
+above_merge : (k : List ℕ) (a b : Pairs) → Above k a → Above k b → Above k (merge a b)
 above_merge k a [] g h = g
 above_merge k a (q ∷ b) g h = above_with k q.0 q.1 (merge a b) h.0 (above_merge k a b g h.1)
 
@@ -23,7 +23,7 @@ AreParams-merge a (q ∷ b) h = rises_with (merge a b) q.0 q.1 (AreParams-merge 
 
 -- ---- the first of a merge
 
-pub merge_less : (p : List ℕ × V) (a b : Pairs) → Above p.0 b → merge (p ∷ a) b ≡ p ∷ merge a b
+merge_less : (p : List ℕ × V) (a b : Pairs) → Above p.0 b → merge (p ∷ a) b ≡ p ∷ merge a b
 merge_less p a [] h = refl
 merge_less p a (q ∷ b) h = ap (λ m. with_pair m q.0 q.1) (merge_less p a b h.1) ∙ rw (turned p.0 q.0 Less h.0)
 
@@ -31,29 +31,26 @@ with_first : (k : List ℕ) (v : V) (ps : Pairs) → Above k ps → with_pair ps
 with_first k v [] h = refl
 with_first k v (p ∷ ps) h = rw h.0
 
-pub merge_greater : (q : List ℕ × V) (a b : Pairs) → Above q.0 a → Above q.0 b → merge a (q ∷ b) ≡ q ∷ merge a b
+merge_greater : (q : List ℕ × V) (a b : Pairs) → Above q.0 a → Above q.0 b → merge a (q ∷ b) ≡ q ∷ merge a b
 merge_greater q a b g h = with_first q.0 q.1 (merge a b) (above_merge q.0 a b g h)
 
-pub merge_equal : (p q : List ℕ × V) (a b : Pairs) → text_cmp p.0 q.0 ≡ Equal → Above q.0 b → merge (p ∷ a) (q ∷ b) ≡ q ∷ merge a b
+merge_equal : (p q : List ℕ × V) (a b : Pairs) → text_cmp p.0 q.0 ≡ Equal → Above q.0 b → merge (p ∷ a) (q ∷ b) ≡ q ∷ merge a b
 merge_equal p q a b e h =
     let same = equal_texts p.0 q.0 e in
     ap (λ m. with_pair m q.0 q.1) (merge_less p a b (subst (λ k. Above k b) (sym same) h))
     ∙ rw (turned p.0 q.0 Equal e) (ap (λ k. (k, q.1) ∷ merge a b) same)
 
 -- a member whose name comes again may be passed over
-pub merge_again : (p q : List ℕ × V) (a b : Pairs) → text_cmp p.0 q.0 ≡ Equal → Above p.0 a → Above q.0 b → merge a (q ∷ b) ≡ merge (p ∷ a) (q ∷ b)
+merge_again : (p q : List ℕ × V) (a b : Pairs) → text_cmp p.0 q.0 ≡ Equal → Above p.0 a → Above q.0 b → merge a (q ∷ b) ≡ merge (p ∷ a) (q ∷ b)
 merge_again p q a b e g h = merge_greater q a b (subst (λ k. Above k a) (equal_texts p.0 q.0 e) g) h ∙ sym (merge_equal p q a b e h)
 
 -- ---- over the pairs in memory
-
-abbrev pair_view : Pair → List ℕ × V
-pair_view p = (p.name, view p.value)
 
 first_above : (p : Pair) (ps : List Pair) → AreParams (pair_views (p ∷ ps)) → Above p.name (pair_views ps)
 unfolding IsStrictlySortedBy
 first_above p ps h = h.0
 
-pub AreParams-drop : (i : ℕ) (ps : List Pair) → AreParams (pair_views ps) → AreParams (pair_views (drop i ps))
+AreParams-drop : (i : ℕ) (ps : List Pair) → AreParams (pair_views ps) → AreParams (pair_views (drop i ps))
 unfolding IsStrictlySortedBy
 AreParams-drop zero ps h = h
 AreParams-drop (suc i) [] h = h
@@ -73,11 +70,7 @@ again_first : (p q : Pair) (ps qs : List Pair) → AreParams (pair_views (p ∷ 
 again_first p q ps qs g h e = merge_again (pair_view p) (pair_view q) (pair_views ps) (pair_views qs) e (first_above p ps g) (first_above q qs h)
 
 pushed : (done new : List Pair) (p : Pair) (rest all : Pairs) → new ≡ done ++ p ∷ [] → pair_views done ++ pair_view p ∷ rest ≡ all → pair_views new ++ rest ≡ all
-pushed done new p rest all e h = ap (λ ps. pair_views ps ++ rest) e ∙ ap (λ ps. ps ++ rest) (pair_views-snoc done p) ∙ middle (pair_views done) ∙ h
-  where
-    middle : (xs : Pairs) → (xs ++ pair_view p ∷ []) ++ rest ≡ xs ++ pair_view p ∷ rest
-    middle [] = refl
-    middle (x ∷ xs) = ap (λ zs. x ∷ zs) (middle xs)
+pushed done new p rest all e h = ap (λ ps. pair_views ps ++ rest) e ∙ ap (λ ps. ps ++ rest) (pair_views-snoc done p) ∙ append_assoc (pair_views done) (pair_view p ∷ []) rest ∙ h
 
 here : (xs : List Pair) (i : ℕ) (p : Pair) → i < length xs → p ≡ get_or xs i p → drop i xs ≡ p ∷ drop (i + 1) xs
 here xs i p lt e = drop_more xs i p lt ∙ ap (λ x. x ∷ drop (i + 1) xs) (sym e)

@@ -16,11 +16,11 @@ use Rattle.ow_value.proofs.Taking.{views-snoc, pair_views-snoc}
 pub IsValue-object : (ps : Pairs) → IsObject ps → IsValue (object (members_of ps))
 IsValue-object ps h = (subst AreParams (sym (pairs_in-members_of ps)) h.rises, h.values)
 
-pub AreValues-snoc : (vs : List V) (v : V) → AreValues (items_of vs) → IsValue v → AreValues (items_of (vs ++ v ∷ []))
+AreValues-snoc : (vs : List V) (v : V) → AreValues (items_of vs) → IsValue v → AreValues (items_of (vs ++ v ∷ []))
 AreValues-snoc [] v h is_v = (is_v, tt)
 AreValues-snoc (w ∷ vs) v h is_v = (h.0, AreValues-snoc vs v h.1 is_v)
 
-pub AreMembers-snoc : (ps : Pairs) (k : List ℕ) (v : V) → AreMembers (members_of ps) → IsUtf8 k → IsValue v → AreMembers (members_of (ps ++ (k, v) ∷ []))
+AreMembers-snoc : (ps : Pairs) (k : List ℕ) (v : V) → AreMembers (members_of ps) → IsUtf8 k → IsValue v → AreMembers (members_of (ps ++ (k, v) ∷ []))
 AreMembers-snoc [] k v h utf8 is_v = (utf8, is_v, tt)
 AreMembers-snoc (p ∷ ps) k v h utf8 is_v = (h.0, h.1, AreMembers-snoc ps k v h.2 utf8 is_v)
 

@@ -25,7 +25,7 @@ no_text s false e h = rw e
 pub reads_no_json : (limit : ℕ) (s : List ℕ) → (IsUtf8 s → read s ≡ None) → reading limit s ≡ Err NotJson
 reads_no_json limit s h = rw (no_text s _ refl h)
 
-pub reads_not_whole : (limit : ℕ) (s : List ℕ) (d : json.Data) → IsUtf8 s → read s ≡ Some d → whole_of d ≡ None → reading limit s ≡ Err NotWhole
+reads_not_whole : (limit : ℕ) (s : List ℕ) (d : json.Data) → IsUtf8 s → read s ≡ Some d → whole_of d ≡ None → reading limit s ≡ Err NotWhole
 reads_not_whole limit s d u e h = rw (of_text s u, e, h)
 
 le_test : (m n : ℕ) → m ≤ n → nat_le m n ≡ true
@@ -34,7 +34,7 @@ le_test m n h = grind (arith, nat_tests)
 gt_test : (m n : ℕ) → n < m → nat_le m n ≡ false
 gt_test m n h = grind (arith, nat_tests)
 
-pub reads_too_deep : (limit : ℕ) (s : List ℕ) (d : json.Data) (v : V) → IsUtf8 s → read s ≡ Some d → whole_of d ≡ Some v → limit < depth v → reading limit s ≡ Err TooDeep
+reads_too_deep : (limit : ℕ) (s : List ℕ) (d : json.Data) (v : V) → IsUtf8 s → read s ≡ Some d → whole_of d ≡ Some v → limit < depth v → reading limit s ≡ Err TooDeep
 reads_too_deep limit s d v u e h lt = rw (of_text s u, e, h, gt_test (depth v) limit lt)
 
 pub reads_value : (limit : ℕ) (s : List ℕ) (d : json.Data) (v : V) → IsUtf8 s → read s ≡ Some d → whole_of d ≡ Some v → depth v ≤ limit → reading limit s ≡ Ok v

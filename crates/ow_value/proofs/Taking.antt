@@ -4,12 +4,13 @@ use Rattle.std.specs.List.{AllByRecursion}
 use Rattle.std.specs.List.Sorted.{IsStrictlySortedBy}
 use Rattle.std.specs.Map.{keys_of}
 use Rattle.std.specs.String.{string_cmp}
+use Rattle.std.proofs.lemmas.List.{append_assoc, map-append}
 use Rattle.serde_json.specs.View.{view as data_view, items_view, members_view}
 use Rattle.serde_json.specs.declared.value.Value.{Value}
 use Rattle.ow_value.specs.Value.{V, Pairs, Items, no_items, item, Members, no_members, member, items_of, members_of, text_cmp, AreParams}
 use Rattle.ow_value.specs.Onto.{onto, members_onto}
 use Rattle.ow_value.specs.Read.{whole_of, whole_items, whole_members}
-use Rattle.ow_value.specs.View.{view, views, pair_views}
+use Rattle.ow_value.specs.View.{view, views, pair_view, pair_views}
 use Rattle.ow_value.specs.declared.val.Pair.{Pair}
 use Rattle.ow_value.specs.declared.val.Val.{Val}
 
@@ -18,16 +19,13 @@ none_left [] e = refl
 none_left (x ∷ xs) e = absurd (omega arith)
 
 pub views-snoc : (xs : List Val) (x : Val) → views (xs ++ x ∷ []) ≡ views xs ++ view x ∷ []
-views-snoc [] x = refl
-views-snoc (y ∷ xs) x = ap (λ vs. view y ∷ vs) (views-snoc xs x)
+views-snoc xs x = map-append view xs (x ∷ [])
 
 pub pair_views-snoc : (ps : List Pair) (p : Pair) → pair_views (ps ++ p ∷ []) ≡ pair_views ps ++ (p.name, view p.value) ∷ []
-pair_views-snoc [] p = refl
-pair_views-snoc (q ∷ ps) p = ap (λ rs. (q.name, view q.value) ∷ rs) (pair_views-snoc ps p)
+pair_views-snoc ps p = map-append pair_view ps (p ∷ [])
 
-pub keys_of-snoc : (ps : Pairs) (k : List ℕ) (v : V) → keys_of (ps ++ (k, v) ∷ []) ≡ keys_of ps ++ k ∷ []
-keys_of-snoc [] k v = refl
-keys_of-snoc (p ∷ ps) k v = ap (λ ks. p.0 ∷ ks) (keys_of-snoc ps k v)
+keys_of-snoc : (ps : Pairs) (k : List ℕ) (v : V) → keys_of (ps ++ (k, v) ∷ []) ≡ keys_of ps ++ k ∷ []
+keys_of-snoc ps k v = map-append (λ p. p.0) ps ((k, v) ∷ [])
 
 onto-snoc : (vs : List V) (v : V) (r : Items) → onto (vs ++ v ∷ []) r ≡ onto vs (item v r)
 onto-snoc [] v r = refl
@@ -85,17 +83,13 @@ members_taken done rest all e h = sym h ∙ ap (λ ys. option_map (members_onto 
 
 -- ---- the names
 
-middle : (xs ys : List (List ℕ)) (x : List ℕ) → (xs ++ x ∷ []) ++ ys ≡ xs ++ x ∷ ys
-middle [] ys x = refl
-middle (z ∷ xs) ys x = ap (λ zs. z ∷ zs) (middle xs ys x)
-
 pub name_taken : (done new : List Pair) (p : Pair) (old rest : List Entry) (e : Entry) (all : List (List ℕ)) → new ≡ done ++ p ∷ [] → old ≡ e ∷ rest → p.name ≡ string_bytes e.0
     → keys_of (pair_views done) ++ map string_bytes (keys_of old) ≡ all → keys_of (pair_views new) ++ map string_bytes (keys_of rest) ≡ all
 name_taken done new p old rest e all is_new is_old is_k h =
     ap (λ ys. keys_of (pair_views ys) ++ map string_bytes (keys_of rest)) is_new
     ∙ ap (λ vs. keys_of vs ++ map string_bytes (keys_of rest)) (pair_views-snoc done p)
     ∙ ap (λ ks. ks ++ map string_bytes (keys_of rest)) (keys_of-snoc (pair_views done) p.name (view p.value))
-    ∙ middle (keys_of (pair_views done)) (map string_bytes (keys_of rest)) p.name
+    ∙ append_assoc (keys_of (pair_views done)) (p.name ∷ []) (map string_bytes (keys_of rest))
     ∙ ap (λ k. keys_of (pair_views done) ++ k ∷ map string_bytes (keys_of rest)) is_k
     ∙ sym (ap (λ ys. keys_of (pair_views done) ++ map string_bytes (keys_of ys)) is_old)
     ∙ h

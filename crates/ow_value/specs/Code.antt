@@ -102,7 +102,7 @@ mutual
   same (list vs) = ap list (items_same vs)
   same (object ps) = ap object (members_same ps)
 
-  pub items_same : (vs : Items) → (back (code_items vs)).1 ≡ vs
+  items_same : (vs : Items) → (back (code_items vs)).1 ≡ vs
   items_same no_items = refl
   items_same (item v vs) = λ i. item (same v i) (items_same vs i)
 

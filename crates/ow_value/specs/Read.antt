@@ -33,13 +33,13 @@ json_of s = if is_utf8 s then read s else None
 abbrev within : ℕ → V → Result V ValueRefusal
 within limit v = if nat_le (depth v) limit then Ok v else Err TooDeep
 
-abbrev integers : ℕ → Option V → Result V ValueRefusal
-integers limit None = Err NotWhole
-integers limit (Some v) = within limit v
+abbrev whole_within : ℕ → Option V → Result V ValueRefusal
+whole_within limit None = Err NotWhole
+whole_within limit (Some v) = within limit v
 
 abbrev of_data : ℕ → Option json.Data → Result V ValueRefusal
 of_data limit None = Err NotJson
-of_data limit (Some d) = integers limit (whole_of d)
+of_data limit (Some d) = whole_within limit (whole_of d)
 
 -- the value of a text, nested no deeper than the limit, or the first thing wrong with it
 abbrev pub reading : ℕ → List ℕ → Result V ValueRefusal

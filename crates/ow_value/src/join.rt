@@ -3,8 +3,11 @@ ghost use Rattle.std.specs.Prelude.{◌≡◌, ℕ, List, ◌≤◌, ◌+◌, If
 ghost use Rattle.std.specs.declared.cmp.Ordering.TheVariants.{Less, Equal, Greater};
 ghost use Rattle.ow_value.specs.Find.{find, merge, or_else};
 ghost use Rattle.ow_value.specs.Merge.{head_order};
+ghost use Rattle.ow_value.specs.Value.{AreParams};
+ghost use Rattle.ow_value.specs.View.{pair_views};
 
 use crate::memory::NoMemory;
+use crate::shared::held;
 use crate::val::{Pair, Params};
 use std::alloc::Global;
 use std::cmp::Ordering;
@@ -14,25 +17,32 @@ pub fn merge(alloc: Global, a: &Params, b: &Params) -> Result<Params, NoMemory>
     ensures value { IfOk result (λ r. r ≡ merge a.now b.now) }
     ensures finds { IfOk result (λ r. (q : List ℕ) → find q r ≡ or_else (find q b.now) (find q a.now)) }
 {
-    let xs = a.pairs.as_slice();
-    let ys = b.pairs.as_slice();
+    let pairs = merged(alloc, held(&a.pairs), held(&b.pairs))?;
+    Ok(Params::of_pairs(pairs)?)
+}
+
+fn merged(alloc: Global, xs: &[Pair], ys: &[Pair]) -> Result<Vec<Pair>, NoMemory>
+    requires xs_rise { AreParams (pair_views xs.now) }
+    requires ys_rise { AreParams (pair_views ys.now) }
+    ensures { IfOk result (λ r. pair_views r.items ≡ merge (pair_views xs.now) (pair_views ys.now)) }
+{
     let mut pairs = Vec::new(alloc);
     let mut i = 0;
     let mut j = 0;
     'merging: while i < xs.len() || j < ys.len() {
         match order_at(xs, i, ys, j) {
             Ordering::Less => {
-                pairs.push(xs[i].copy(alloc)?)?;
+                pairs.push(xs[i].again()?)?;
                 i += 1;
             }
             Ordering::Equal => i += 1,
             Ordering::Greater => {
-                pairs.push(ys[j].copy(alloc)?)?;
+                pairs.push(ys[j].again()?)?;
                 j += 1;
             }
         }
     }
-    Ok(Params { pairs })
+    Ok(pairs)
 }
 
 // How the next names stand to each other. A list that is at its end comes last.

@@ -1,14 +1,18 @@
 #![tactic(auto)]
 
-// JSON values whose numbers are integers of 64 bits, and the texts and lists that all crates above pass about.
+//! JSON values whose numbers are integers of 64 bits, and the texts and lists that all crates above pass about. Texts,
+//! lists and objects never change and are shared by count.
 mod decimal;
+mod fields;
 mod join;
 mod lists;
 mod measure;
 mod members;
 mod memory;
+mod plain;
 mod quick;
 mod reader;
+mod shared;
 mod text;
 mod val;
 mod walk;
@@ -16,12 +20,15 @@ mod whole;
 mod writer;
 
 pub use decimal::{decimal_of, digits_of};
+pub use fields::Fields;
 pub use join::merge;
 pub use json::Scratch;
-pub use lists::{Bytes, Lines, Pairs};
+pub use lists::{Bytes, Lines, Pairs, bytes_of};
 pub use measure::{MEGABYTE, size};
 pub use memory::NoMemory;
-pub use reader::{ValueRefusal, read_deep, read_val, read_val_in};
+pub use plain::PlainData;
+pub use reader::{MOST_NESTED, MOST_NESTED_RECORD, ValueRefusal, read_deep, read_val, read_val_in};
+pub use shared::{Items, Shared, copy_slice, same_slices};
 pub use text::Str;
 pub use val::{Pair, Params, Val, Vals};
 pub use walk::{copy, depth, known, same};

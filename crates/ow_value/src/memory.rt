@@ -1,5 +1,7 @@
 // Want of memory.
-use std::alloc::{AllocError, AllocFailed};
+ghost use Rattle.std.specs.Prelude.{◌≡◌, [], ◌∷◌, ◌++◌, IfOk, OnOk};
+
+use std::alloc::{AllocError, AllocFailed, Global};
 
 /// No memory was left for what the call had to make.
 #[derive(Clone, Copy, PartialEq, Eq, Debug, Drop)]
@@ -23,4 +25,19 @@ impl<T: Drop> From<AllocFailed<T>> for NoMemory {
     fn from(_refused: AllocFailed<T>) -> NoMemory {
         NoMemory
     }
+}
+
+// An empty list with room for that many.
+pub(crate) fn list_for<T>(alloc: Global, count: usize) -> Result<Vec<T>, NoMemory>
+    ensures items { IfOk result (λ r. r.items ≡ []) }
+{
+    Ok(Vec::with_capacity(alloc, count)?)
+}
+
+// Puts the item behind the others.
+pub(crate) fn push<T: Drop>(list: &mut Vec<T>, item: T) -> Result<(), NoMemory>
+    ensures items { OnOk result (list.new.items ≡ list.old.items ++ item ∷ []) }
+{
+    list.push(item)?;
+    Ok(())
 }

@@ -9,30 +9,22 @@ ghost use Rattle.ow_value.specs.Text.{data_of, items_data, members_data};
 ghost use Rattle.ow_value.specs.Value.{items_of, members_of};
 ghost use Rattle.ow_value.specs.View.{view};
 
-use crate::memory::NoMemory;
+use crate::fields::Fields;
+use crate::memory::{NoMemory, push};
 use crate::text::Str;
 use crate::val::{Params, Val, Vals};
 use crate::whole::Whole;
 use fast_float::Numeral;
 use json::{Invalid, Reader, Scratch, Token};
-use std::alloc::{AllocError, Global};
+use std::alloc::Global;
 use std::str;
 
 // As deep as `serde_json` reads.
 const MAX_DEPTH: usize = 127;
 
-// An object with more members is left to `serde_json`, whose map takes names in any order at one cost.
-const MOST_MEMBERS: usize = 64;
-
 // No value was read, for whatever reason.
 #[derive(Clone, Copy, Drop)]
 pub(crate) struct Unread;
-
-impl From<AllocError> for Unread {
-    fn from(_refused: AllocError) -> Unread {
-        Unread
-    }
-}
 
 impl From<NoMemory> for Unread {
     fn from(_refused: NoMemory) -> Unread {
@@ -52,7 +44,9 @@ pub(crate) fn quick_read(alloc: Global, scratch: &mut Scratch, bytes: &[u8]) -> 
     let Ok(text) = str::from_utf8(bytes) else {
         return Err(Unread);
     };
-    let mut reader = Reader::new(text, scratch)?;
+    let Ok(mut reader) = Reader::new(text, scratch) else {
+        return Err(Unread);
+    };
     let v = read_value(alloc, &mut reader, MAX_DEPTH)?;
     if reader.next().is_some() {
         return Err(Unread);
@@ -96,12 +90,12 @@ fn read_items(alloc: Global, reader: &mut Reader<'_>, depth: usize) -> Result<Va
         ≡ Some (items_data (items_of vs), reader.new)) }
     ensures shorter { OnOk result (length reader.new < length reader.old) }
 {
-    let mut found = Vals::new(alloc);
+    let mut found = Vec::new(alloc);
     'items: while !reader.take_end_array() {
         let item = read_value(alloc, reader, depth)?;
-        found.push(item)?;
+        push(&mut found, item)?;
     }
-    Ok(found)
+    Ok(Vals::from_vec(found)?)
 }
 
 #[cycle(quick)]
@@ -110,17 +104,13 @@ fn read_members(alloc: Global, reader: &mut Reader<'_>, depth: usize) -> Result<
         ≡ Some (members_data (members_of ps), reader.new)) }
     ensures shorter { OnOk result (length reader.new < length reader.old) }
 {
-    let mut found = Params::new(alloc);
+    let mut found = Fields::new(alloc);
     'members: while let Some(name) = reader.next_key()? {
-        if found.len() == MOST_MEMBERS {
-            return Err(Unread);
-        }
         let key = Str::of(alloc, name)?;
         let member = read_value(alloc, reader, depth)?;
         found.set(key, member)?;
     }
-    found.fit();
-    Ok(found)
+    Ok(found.into_params()?)
 }
 
 // The number of a token, where it is one of 64 bits.

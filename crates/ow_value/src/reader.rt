@@ -4,10 +4,12 @@ ghost use Rattle.serde_json.specs.View.{number_view, view as data_view, items_vi
 ghost use Rattle.serde_json.specs.Find.{as_integer};
 ghost use Rattle.ow_value.specs.Value.{depth, items_of, members_of};
 ghost use Rattle.ow_value.specs.Json.{IsValue, AreValues, IsObject};
+ghost use Rattle.ow_value.specs.Nesting.{most_nested, most_nested_record};
+ghost use Rattle.serde_json.specs.Read.{max_depth};
 ghost use Rattle.ow_value.specs.Read.{whole_of, whole_items, whole_members, reading, IsReadAs};
 ghost use Rattle.ow_value.specs.View.{view};
 
-use crate::memory::NoMemory;
+use crate::memory::{NoMemory, list_for, push};
 use crate::quick::quick_read;
 use crate::text::Str;
 use crate::val::{Pair, Params, Val, Vals};
@@ -16,7 +18,13 @@ use crate::whole::Whole;
 use json::Scratch;
 use serde_json::error::Category;
 use serde_json::{Map, Number, Value};
-use std::alloc::{AllocError, AllocFailed, Global};
+use std::alloc::Global;
+
+/// How deep the lists and objects of a value may nest.
+pub const MOST_NESTED: u32 = 100;
+
+/// How deep those of a kept record may nest, which holds a value two deep.
+pub const MOST_NESTED_RECORD: u32 = 102;
 
 /// Why a text is no value. `NotJson` is looked for first, then `NotWhole`, then `TooDeep`.
 #[derive(Clone, Copy, PartialEq, Eq, Debug, Drop)]
@@ -47,28 +55,6 @@ impl ValueRefusal {
     }
 }
 
-impl From<AllocError> for ValueRefusal {
-    ghost use Rattle.std.specs.Prelude.{◌≡◌};
-    ghost use Rattle.ow_value.specs.declared.reader.ValueRefusal.TheVariants.{NoMemory};
-
-    ghost from_gives = { λ _ e. e ≡ NoMemory };
-
-    fn from(_refused: AllocError) -> ValueRefusal {
-        ValueRefusal::NoMemory
-    }
-}
-
-impl<T: Drop> From<AllocFailed<T>> for ValueRefusal {
-    ghost use Rattle.std.specs.Prelude.{◌≡◌};
-    ghost use Rattle.ow_value.specs.declared.reader.ValueRefusal.TheVariants.{NoMemory};
-
-    ghost from_gives = { λ _ e. e ≡ NoMemory };
-
-    fn from(_refused: AllocFailed<T>) -> ValueRefusal {
-        ValueRefusal::NoMemory
-    }
-}
-
 impl From<NoMemory> for ValueRefusal {
     ghost use Rattle.std.specs.Prelude.{◌≡◌};
     ghost use Rattle.ow_value.specs.declared.reader.ValueRefusal.TheVariants.{NoMemory};
@@ -80,11 +66,11 @@ impl From<NoMemory> for ValueRefusal {
     }
 }
 
-/// The value of a JSON text, nested at most 100 deep. Of two members of one name the last counts.
+/// The value of a JSON text, nested at most `MOST_NESTED` deep. Of two members of one name the last counts.
 pub fn read_val(alloc: Global, text: &[u8]) -> Result<Val, ValueRefusal>
-    ensures value { MatchResult result (λ v. reading 100 text.now ≡ Ok (view v))
-        (λ e. e ≢ ValueRefusal.NoMemory → reading 100 text.now ≡ Err e) }
-    ensures nests { IfOk result (λ v. depth (view v) ≤ 100) }
+    ensures value { MatchResult result (λ v. reading most_nested text.now ≡ Ok (view v))
+        (λ e. e ≢ ValueRefusal.NoMemory → reading most_nested text.now ≡ Err e) }
+    ensures nests { IfOk result (λ v. depth (view v) ≤ most_nested) }
 {
     read_val_in(alloc, &mut Scratch::new(alloc), text)
 }
@@ -92,20 +78,20 @@ pub fn read_val(alloc: Global, text: &[u8]) -> Result<Val, ValueRefusal>
 /// As `read_val`, in a scratch that is kept from text to text: to make one costs more than to read a short
 /// text. What a text leaves in it means nothing to the next.
 pub fn read_val_in(alloc: Global, scratch: &mut Scratch, text: &[u8]) -> Result<Val, ValueRefusal>
-    ensures value { MatchResult result (λ v. reading 100 text.now ≡ Ok (view v))
-        (λ e. e ≢ ValueRefusal.NoMemory → reading 100 text.now ≡ Err e) }
-    ensures nests { IfOk result (λ v. depth (view v) ≤ 100) }
+    ensures value { MatchResult result (λ v. reading most_nested text.now ≡ Ok (view v))
+        (λ e. e ≢ ValueRefusal.NoMemory → reading most_nested text.now ≡ Err e) }
+    ensures nests { IfOk result (λ v. depth (view v) ≤ most_nested) }
 {
-    read_within(alloc, scratch, text, 100)
+    read_within(alloc, scratch, text, MOST_NESTED)
 }
 
-/// As `read_val`, for a value nested at most 102 deep.
+/// As `read_val`, for a value nested at most `MOST_NESTED_RECORD` deep.
 pub fn read_deep(alloc: Global, text: &[u8]) -> Result<Val, ValueRefusal>
-    ensures value { MatchResult result (λ v. reading 102 text.now ≡ Ok (view v))
-        (λ e. e ≢ ValueRefusal.NoMemory → reading 102 text.now ≡ Err e) }
-    ensures nests { IfOk result (λ v. depth (view v) ≤ 102) }
+    ensures value { MatchResult result (λ v. reading most_nested_record text.now ≡ Ok (view v))
+        (λ e. e ≢ ValueRefusal.NoMemory → reading most_nested_record text.now ≡ Err e) }
+    ensures nests { IfOk result (λ v. depth (view v) ≤ most_nested_record) }
 {
-    read_within(alloc, &mut Scratch::new(alloc), text, 102)
+    read_within(alloc, &mut Scratch::new(alloc), text, MOST_NESTED_RECORD)
 }
 
 fn read_within(
@@ -114,7 +100,7 @@ fn read_within(
     text: &[u8],
     limit: u32,
 ) -> Result<Val, ValueRefusal>
-    requires { limit ≤ 127 }
+    requires { limit ≤ max_depth }
     ensures value { MatchResult result (λ v. reading limit text.now ≡ Ok (view v))
         (λ e. e ≢ ValueRefusal.NoMemory → reading limit text.now ≡ Err e) }
     ensures nests { IfOk result (λ v. depth (view v) ≤ limit) }
@@ -167,7 +153,7 @@ fn taken(alloc: Global, value: Value) -> Result<Val, ValueRefusal>
             Some(z) => Ok(Val::Int(z)),
             None => Err(ValueRefusal::NotWhole),
         },
-        Value::String(text) => Ok(Val::Text(Str::from_string(text))),
+        Value::String(text) => Ok(Val::Text(Str::from_string(text)?)),
         Value::Array(items) => Ok(Val::List(taken_items(alloc, items)?)),
         Value::Object(members) => Ok(Val::Object(taken_members(alloc, members)?)),
     }
@@ -179,12 +165,12 @@ fn taken_items(alloc: Global, values: Vec<Value>) -> Result<Vals, ValueRefusal>
         (λ e. e ≢ ValueRefusal.NoMemory → (e ≡ ValueRefusal.NotWhole) × (whole_items (items_view values.items) ≡ None)) }
     ensures known { IfOk result (λ vs. AreValues (items_of vs)) }
 {
-    let mut items = Vec::with_capacity(alloc, values.len())?;
+    let mut items = list_for(alloc, values.len())?;
     for value in values {
         let item = taken(alloc, value)?;
-        items.push(item)?;
+        push(&mut items, item)?;
     }
-    Ok(Vals { items })
+    Ok(Vals::of_values(items)?)
 }
 
 #[cycle(taken)]
@@ -193,15 +179,13 @@ fn taken_members(alloc: Global, members: Map<String, Value>) -> Result<Params, V
         (λ e. e ≢ ValueRefusal.NoMemory → (e ≡ ValueRefusal.NotWhole) × (whole_members (members_view members.entries) ≡ None)) }
     ensures known { IfOk result (λ ps. IsObject ps) }
 {
-    let mut pairs = Vec::with_capacity(alloc, members.len())?;
+    let mut pairs = list_for(alloc, members.len())?;
     for (key, member) in members {
         let value = taken(alloc, member)?;
-        pairs.push(Pair {
-            name: Str::from_string(key),
-            value,
-        })?;
+        let name = Str::from_string(key)?;
+        push(&mut pairs, Pair { name, value })?;
     }
-    Ok(Params { pairs })
+    Ok(Params::of_pairs(pairs)?)
 }
 
 fn whole_number(n: Number) -> Option<Whole>

@@ -5,6 +5,8 @@ ghost use Rattle.ow_value.specs.Json.{IsValue};
 ghost use Rattle.ow_value.specs.View.{view};
 
 use crate::memory::NoMemory;
+use crate::plain::PlainData;
+use crate::shared::{self, held};
 use crate::val::{Pair, Params, Val, Vals};
 use std::alloc::Global;
 
@@ -48,7 +50,7 @@ fn deepest_item(vs: &Vals) -> u32
     ensures { result ≡ min (items_depth (items_of vs.now)) (2 ^ 32 - 1) }
 {
     let mut deepest = 0;
-    for v in &vs.items {
+    for v in held(&vs.items) {
         deepest = depth(v).max(deepest);
     }
     deepest
@@ -59,7 +61,7 @@ fn deepest_member(ps: &Params) -> u32
     ensures { result ≡ min (members_depth (members_of ps.now)) (2 ^ 32 - 1) }
 {
     let mut deepest = 0;
-    for p in &ps.pairs {
+    for p in held(&ps.pairs) {
         deepest = depth(&p.value).max(deepest);
     }
     deepest
@@ -75,109 +77,105 @@ pub fn same(a: &Val, b: &Val) -> bool
         (Val::Bool(x), Val::Bool(y)) => *x == *y,
         (Val::Int(x), Val::Int(y)) => *x == *y,
         (Val::Text(x), Val::Text(y)) => x.same(y),
-        (Val::List(xs), Val::List(ys)) => xs.same(ys),
-        (Val::Object(ps), Val::Object(qs)) => ps.same(qs),
+        (Val::List(xs), Val::List(ys)) => xs.is_same(ys),
+        (Val::Object(ps), Val::Object(qs)) => ps.is_same(qs),
         _ => false,
     }
 }
 
 impl Vals {
-    /// Whether the items are equal, in their order.
+    // Whether the items are equal, in their order.
     #[cycle(alike)]
-    pub fn same(&self, other: &Vals) -> bool
+    pub(crate) fn is_same(&self, other: &Vals) -> bool
         ensures { IsTrue result ↔ (self.now ≡ other.now) }
     {
-        if self.items.len() != other.items.len() {
+        let xs = held(&self.items);
+        let ys = held(&other.items);
+        if xs.len() != ys.len() {
             return false;
         }
-        for i in 0..self.items.len() {
-            if !same(&self.items[i], &other.items[i]) {
+        for i in 0..xs.len() {
+            if !same(&xs[i], &ys[i]) {
                 return false;
             }
         }
         true
+    }
+
+    // The same items, which both share.
+    pub(crate) fn again(&self) -> Result<Vals, NoMemory>
+        ensures { IfOk result (λ ws. ws ≡ self.now) }
+    {
+        Ok(Vals {
+            items: shared::again(&self.items)?,
+        })
     }
 }
 
 impl Params {
-    /// Whether the names are the same, with equal values.
+    // Whether the names are the same, with equal values.
     #[cycle(alike)]
-    pub fn same(&self, other: &Params) -> bool
+    pub(crate) fn is_same(&self, other: &Params) -> bool
         ensures { IsTrue result ↔ (self.now ≡ other.now) }
     {
-        if self.pairs.len() != other.pairs.len() {
+        let xs = held(&self.pairs);
+        let ys = held(&other.pairs);
+        if xs.len() != ys.len() {
             return false;
         }
-        for i in 0..self.pairs.len() {
-            if !self.pairs[i].same(&other.pairs[i]) {
+        for i in 0..xs.len() {
+            if !xs[i].is_same(&ys[i]) {
                 return false;
             }
         }
         true
     }
+
+    // The same members, which both share.
+    pub(crate) fn again(&self) -> Result<Params, NoMemory>
+        ensures { IfOk result (λ qs. qs ≡ self.now) }
+    {
+        Ok(Params {
+            pairs: shared::again(&self.pairs)?,
+        })
+    }
 }
 
 impl Pair {
-    /// Whether the names and the values are equal.
+    // Whether the names and the values are equal.
     #[cycle(alike)]
-    pub fn same(&self, other: &Pair) -> bool
+    fn is_same(&self, other: &Pair) -> bool
         ensures { IsTrue result ↔ (self.now ≡ other.now) }
     {
         self.name.same(&other.name) && same(&self.value, &other.value)
     }
+
+    // The same name, with an equal value.
+    pub(crate) fn again(&self) -> Result<Pair, NoMemory>
+        ensures { IfOk result (λ q. q ≡ self.now) }
+    {
+        let name = self.name.again()?;
+        let value = again(&self.value)?;
+        Ok(Pair { name, value })
+    }
 }
 
-/// An equal value.
-#[cycle(copied)]
-pub fn copy(alloc: Global, v: &Val) -> Result<Val, NoMemory>
+/// An equal value, which shares its texts, lists and objects.
+pub fn copy(_alloc: Global, v: &Val) -> Result<Val, NoMemory>
+    ensures { IfOk result (λ w. w ≡ v.now) }
+{
+    again(v)
+}
+
+fn again(v: &Val) -> Result<Val, NoMemory>
     ensures { IfOk result (λ w. w ≡ v.now) }
 {
     match v {
         Val::Null => Ok(Val::Null),
         Val::Bool(b) => Ok(Val::Bool(*b)),
         Val::Int(n) => Ok(Val::Int(*n)),
-        Val::Text(s) => Ok(Val::Text(s.copy(alloc)?)),
-        Val::List(vs) => Ok(Val::List(vs.copy(alloc)?)),
-        Val::Object(ps) => Ok(Val::Object(ps.copy(alloc)?)),
-    }
-}
-
-impl Vals {
-    /// Equal items, in the same order.
-    #[cycle(copied)]
-    pub fn copy(&self, alloc: Global) -> Result<Vals, NoMemory>
-        ensures { IfOk result (λ ws. ws ≡ self.now) }
-    {
-        let mut items = Vec::with_capacity(alloc, self.items.len())?;
-        for v in &self.items {
-            items.push(copy(alloc, v)?)?;
-        }
-        Ok(Vals { items })
-    }
-}
-
-impl Params {
-    /// The same names, with equal values.
-    #[cycle(copied)]
-    pub fn copy(&self, alloc: Global) -> Result<Params, NoMemory>
-        ensures { IfOk result (λ qs. qs ≡ self.now) }
-    {
-        let mut pairs = Vec::with_capacity(alloc, self.pairs.len())?;
-        for p in &self.pairs {
-            pairs.push(p.copy(alloc)?)?;
-        }
-        Ok(Params { pairs })
-    }
-}
-
-impl Pair {
-    /// The same name, with an equal value.
-    #[cycle(copied)]
-    pub fn copy(&self, alloc: Global) -> Result<Pair, NoMemory>
-        ensures { IfOk result (λ q. q ≡ self.now) }
-    {
-        let name = self.name.copy(alloc)?;
-        let value = copy(alloc, &self.value)?;
-        Ok(Pair { name, value })
+        Val::Text(s) => Ok(Val::Text(s.again()?)),
+        Val::List(vs) => Ok(Val::List(vs.again()?)),
+        Val::Object(ps) => Ok(Val::Object(ps.again()?)),
     }
 }

@@ -1,11 +1,13 @@
 // Writes the text of a value.
 ghost use Rattle.std.specs.Prelude.{◌≡◌, ◌≤◌, ◌++◌, ℕ, Ok, IfOk, OnOk};
 ghost use Rattle.ow_value.specs.Value.{depth, items_of, members_of};
+ghost use Rattle.serde_json.specs.Read.{max_depth};
 ghost use Rattle.ow_value.specs.Read.{reading};
 ghost use Rattle.ow_value.specs.Text.{compact, value_tokens, items_tokens, members_tokens};
 ghost use Rattle.ow_value.specs.View.{view};
 
 use crate::memory::NoMemory;
+use crate::shared::held;
 use crate::val::{Params, Val, Vals};
 use crate::walk::known;
 use json::Writer;
@@ -14,7 +16,7 @@ use std::alloc::{AllocError, Global};
 /// The text with no space between its tokens, and the names of each object in order.
 pub fn write_val(alloc: Global, v: &Val) -> Result<Vec<u8>, NoMemory>
     ensures text { IfOk result (λ b. b.items ≡ compact (view v.now)) }
-    ensures reads_back { IfOk result (λ b. (limit : ℕ) → depth (view v.now) ≤ limit → limit ≤ 127
+    ensures reads_back { IfOk result (λ b. (limit : ℕ) → depth (view v.now) ≤ limit → limit ≤ max_depth
         → reading limit b.items ≡ Ok (view v.now)) }
 {
     known(v);
@@ -49,7 +51,7 @@ fn write_items(vs: &Vals, out: &mut Writer) -> Result<(), AllocError>
     ensures ok { OnOk result (out.new.tokens ≡ out.old.tokens ++ items_tokens (items_of vs.now)) }
     ensures before { out.new.before ≡ out.old.before }
 {
-    for v in &vs.items {
+    for v in held(&vs.items) {
         write(v, out)?;
     }
     out.end_array()
@@ -60,7 +62,7 @@ fn write_members(ps: &Params, out: &mut Writer) -> Result<(), AllocError>
     ensures ok { OnOk result (out.new.tokens ≡ out.old.tokens ++ members_tokens (members_of ps.now)) }
     ensures before { out.new.before ≡ out.old.before }
 {
-    for p in &ps.pairs {
+    for p in held(&ps.pairs) {
         out.key(p.name.as_str())?;
         write(&p.value, out)?;
     }

@@ -1,26 +1,16 @@
-// The function service: the command line.
 #![tactic(auto)]
 
-mod calls;
-mod first;
-mod input;
-mod line;
-mod office;
-mod run;
-mod session;
-mod status;
+//! The program: the words of the command line, standard input, output and error, and the exit status.
+
 #[cfg(test)]
 mod tests;
-mod texts;
-mod words;
 
 ghost use Rattle.std.specs.Prelude.{◌≡◌};
 ghost use Rattle.std.specs.Process.{exit_status};
-ghost use Rattle.ow_whisk.specs.Status.{status_number};
+ghost use Rattle.ow_day.specs.Status.{status_number};
 
-use office::office;
+use ow_day::{Status, office, report};
 use ow_traits::{MemoryKeeper, ReaderSource, WriterSink};
-use status::{Status, report};
 use std::process::ExitCode;
 use std::{env, io};
 

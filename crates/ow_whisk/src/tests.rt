@@ -1,6 +1,5 @@
 // Days and words, with what the office answers and writes for them.
-use crate::office::office;
-use crate::status::Status;
+use ow_day::{Status, office};
 use ow_traits::{MemoryKeeper, MemorySink, MemorySource};
 use std::alloc::Global;
 use std::test::Fail;
@@ -512,6 +511,19 @@ fn a_longer_answer_is_none(rt: HostRuntime) -> Result<(), Fail> {
 fn a_long_request_is_read_in_pieces(rt: HostRuntime) -> Result<(), Fail> {
     let day = long_day(rt.alloc(), b"ask 200000\n", 200_000, b"")?;
     assert!(rt; ends_in(rt.alloc(), &day, MALFORMED)?);
+    Ok(())
+}
+
+// A reply to no bytes has 138 bytes with its line, and 8,000 such statements are one piece of a day.
+#[test]
+fn a_megabyte_of_answers_is_written_before_the_piece_ends(rt: HostRuntime) -> Result<(), Fail> {
+    let mut day = Vec::new(rt.alloc());
+    for _ in 0..8_000 {
+        day.extend_from_slice(b"ask 0\n\n")?;
+    }
+    let told = office_over(rt.alloc(), "day", &day, &[], &[1])?;
+    assert!(rt; told.status == Status::WriteFault);
+    assert!(rt; told.out.bytes().len() == 7_599 * 138);
     Ok(())
 }
 

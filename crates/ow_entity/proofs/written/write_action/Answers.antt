@@ -2,5 +2,5 @@ use Rattle.ow_entity.proofs.BackLaws.{reads_back_as}
 use Rattle.ow_entity.proofs.written.write_action.Goals as goal
 
 pub returns-clause-reads_back : goal.returns-clause-reads_back
-returns-clause-reads_back c = λ fits.
-    reads_back_as c.args.action.now _ c.in_ok-shown.ensures c.pairs.ensures.object.rises c.pairs-2.ensures.object.rises fits
+returns-clause-reads_back c =
+    reads_back_as c.args.action.now _ c.in_ok-shown.ensures c.known.ensures.notes c.known.ensures.params c.known.ensures.fits

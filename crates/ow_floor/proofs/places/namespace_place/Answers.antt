@@ -1,5 +1,5 @@
 use Rattle.ow_floor.specs.View.{is_in}
-use Rattle.ow_floor.proofs.Firsts.{place_of}
+use Rattle.ow_floor.proofs.Finding.{place_of}
 use Rattle.ow_floor.proofs.places.namespace_place.Goals as goal
 
 pub returns : goal.returns

@@ -3,7 +3,7 @@ use Rattle.std.proofs.lemmas.List.Folds.{list_all_at}
 use Rattle.std.proofs.lemmas.List.{get_or-map, length-map}
 use Rattle.httparse.specs.Spans.{header_bytes}
 use Rattle.httparse.specs.declared.spans.HeaderSpan.{HeaderSpan}
-use Rattle.ow_http.specs.Fields.{is_text}
+use Rattle.ow_http.specs.Headers.{is_text}
 use Rattle.ow_http.proofs.read.read_fields.Goals as goal
 
 pub returns-then-not-branch : goal.returns-then-not-branch

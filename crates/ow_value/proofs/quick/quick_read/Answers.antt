@@ -14,6 +14,6 @@ returns c =
     record {
       parsed = data_of v;
       utf8 = c.in-Ok.ensures.cases.1;
-      reads = whole_read (value 127 (tokens c.args.bytes.now)) (data_of v) (rw (c.in_ok-reader.ensures.ok, c.in-Ok.ensures.cases.0, none) at c.in_ok-v.ensures.ok);
+      reads = whole_read (value 127 (tokens c.args.bytes.now)) (data_of v) (rw (c.in-Ok-new.ensures.ok, c.in-Ok.ensures.cases.0, none) at c.in_ok-v.ensures.ok);
       whole = whole_of-data_of v;
     }

@@ -3,7 +3,6 @@ use Rattle.std.specs.List.{list_all}
 use Rattle.std.specs.List.Sorted.{IsStrictlySortedBy}
 use Rattle.std.proofs.lemmas.List.Sums.{AllPass-from_list_all}
 use Rattle.ow_names.specs.Slash.{is_slash, HasNoSlash}
-use Rattle.ow_tables.specs.Boxed.{rows_in}
 use Rattle.ow_tables.specs.Builtin.{builtin}
 use Rattle.ow_tables.specs.Region.{AreKept}
 use Rattle.ow_tables.proofs.tables.Tables.new.Goals as goal
@@ -24,5 +23,5 @@ kept = record {
 
 pub invariant_of-result : goal.invariant_of-result
 invariant_of-result c =
-    let same : rows_in c.push-2.new.self.items ≡ builtin = search rules in
+    let same : c.push-2.new.self.items ≡ builtin = search rules in
     subst AreKept (sym same) kept

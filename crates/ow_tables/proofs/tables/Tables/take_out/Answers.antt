@@ -1,6 +1,4 @@
-use Rattle.std.proofs.Common.{Global, refl, sym, ap, subst}
-use Rattle.std.specs.Box.{box_value}
-use Rattle.ow_entity.specs.declared.rows.Row.{Row}
+use Rattle.std.proofs.Common.{refl, sym, ap, subst}
 use Rattle.ow_tables.specs.Contents.{Contents}
 use Rattle.ow_tables.specs.Region.{AreKept}
 use Rattle.ow_tables.specs.Rows.{key}
@@ -10,16 +8,16 @@ use Rattle.ow_tables.proofs.tables.Tables.take_out.Goals as goal
 
 pub invariant_of-self : goal.invariant_of-self
 invariant_of-self c =
-    let same = taken_out (box_value {X = Row} {Z = Global}) (key c.kind.result c.name.result.now) c.self.inside.rows.items c.deref.result.now c.remove.new.self.items c.args.row.now c.in-Ok.i c.remove.result _ c.deref.ensures.value
-    (same_key c.args.row.now _ _ _ _ c.kind.ensures c.name.ensures refl refl) c.remove.ensures.items c.self.invariant.rise c.in-Ok.ensures.ok refl in
+    let same = taken_out (key c.kind.result c.name.result.now) c.self.inside.rows.items c.deref.result.now c.remove.new.self.items c.args.row.now c.in-Ok.i c.remove.result _ c.deref.ensures.value
+    (same_key c.args.row.now _ _ c.kind.ensures c.name.ensures) c.remove.ensures.items c.self.invariant.rise c.in-Ok.ensures.ok refl in
     subst AreKept (sym same) (AreKept-filter _ _ c.self.invariant)
 
 pub returns-in-Ok : goal.returns-in-Ok
 returns-in-Ok c =
-    taken_out (box_value {X = Row} {Z = Global}) (key c.kind.result c.name.result.now) c.self.inside.rows.items c.deref.result.now c.remove.new.self.items c.args.row.now c.in-Ok.i c.remove.result _ c.deref.ensures.value
-    (same_key c.args.row.now _ _ _ _ c.kind.ensures c.name.ensures refl refl) c.remove.ensures.items c.self.invariant.rise c.in-Ok.ensures.ok (ap (λ (t : Contents). t.rows) c.self.view_is)
+    taken_out (key c.kind.result c.name.result.now) c.self.inside.rows.items c.deref.result.now c.remove.new.self.items c.args.row.now c.in-Ok.i c.remove.result _ c.deref.ensures.value
+    (same_key c.args.row.now _ _ c.kind.ensures c.name.ensures) c.remove.ensures.items c.self.invariant.rise c.in-Ok.ensures.ok (ap (λ (t : Contents). t.rows) c.self.view_is)
 
 pub returns-in_default : goal.returns-in_default
 returns-in_default c =
-    not_there (box_value {X = Row} {Z = Global}) (key c.kind.result c.name.result.now) c.self.inside.rows.items c.deref.result.now c.args.row.now _ _ c.deref.ensures.value
-    (same_key c.args.row.now _ _ _ _ c.kind.ensures c.name.ensures refl refl) c.in_default.ensures.err.1 (ap (λ (t : Contents). t.rows) c.self.view_is)
+    not_there (key c.kind.result c.name.result.now) c.self.inside.rows.items c.deref.result.now c.args.row.now _ _ c.deref.ensures.value
+    (same_key c.args.row.now _ _ c.kind.ensures c.name.ensures) c.in_default.ensures.err.1 (ap (λ (t : Contents). t.rows) c.self.view_is)

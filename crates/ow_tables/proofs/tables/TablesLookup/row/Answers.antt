@@ -1,6 +1,4 @@
-use Rattle.std.proofs.Common.{Global, ap}
-use Rattle.std.specs.Box.{box_value}
-use Rattle.ow_entity.specs.declared.rows.Row.{Row}
+use Rattle.std.proofs.Common.{ap}
 use Rattle.ow_tables.specs.Contents.{Contents}
 use Rattle.ow_tables.specs.Rows.{key}
 use Rattle.ow_tables.proofs.RowLaws.{is_found, none_found}
@@ -8,10 +6,10 @@ use Rattle.ow_tables.proofs.tables.TablesLookup.row.Goals as goal
 
 pub returns-in-Ok-clause-value : goal.returns-in-Ok-clause-value
 returns-in-Ok-clause-value c =
-    is_found (box_value {X = Row} {Z = Global}) (key c.args.kind c.args.name.now) c.self.inside.rows.items c.deref.result.now c.in-Ok.i c.index.result.now c.deref-row.result.now _ c.deref.ensures.value
-    c.self.invariant.rise c.in-Ok.ensures.ok c.index.ensures c.deref-row.ensures (ap (λ (t : Contents). t.rows) c.self.view_is)
+    is_found (key c.args.kind c.args.name.now) c.self.inside.rows.items c.deref.result.now c.in-Ok.i c.index-row.result.now _ c.deref.ensures.value
+    c.self.invariant.rise c.in-Ok.ensures.ok c.index-row.ensures (ap (λ (t : Contents). t.rows) c.self.view_is)
 
 pub returns-in-Err-clause-value : goal.returns-in-Err-clause-value
 returns-in-Err-clause-value c =
-    none_found (box_value {X = Row} {Z = Global}) (key c.args.kind c.args.name.now) c.self.inside.rows.items c.deref.result.now _ _ c.deref.ensures.value
+    none_found (key c.args.kind c.args.name.now) c.self.inside.rows.items c.deref.result.now _ _ c.deref.ensures.value
     c.in-Err.ensures.err.1 (ap (λ (t : Contents). t.rows) c.self.view_is)

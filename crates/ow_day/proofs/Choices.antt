@@ -1,0 +1,13 @@
+-- What a choice between two values tells of its test.
+use Rattle.std.proofs.Common.{◌≡◌, Bool, true, false, Option, Some, None, if◌then◌else◌, refl}
+use Rattle.std.proofs.lemmas.Option.{none-some}
+
+-- where there is a value, the second was chosen
+pub if_later : {A : Type 0} (b : Bool) (x : Option A) (y : A) → (if b then None else x) ≡ Some y → (b ≡ false) × (x ≡ Some y)
+if_later true x y e = absurd (none-some y e)
+if_later false x y e = (refl, e)
+
+-- the first was chosen, or the second
+pub either : {A P : Type 0} (b : Bool) (x y z : A) → (if b then x else y) ≡ z → (b ≡ true → x ≡ z → P) → (b ≡ false → y ≡ z → P) → P
+either true x y z e first second = first refl e
+either false x y z e first second = second refl e

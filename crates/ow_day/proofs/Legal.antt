@@ -1,0 +1,117 @@
+-- The book of a day is legal.
+use Rattle.std.proofs.Common.{◌≡◌, ◌≤◌, ℕ, Bool, true, false, List, [], ◌∷◌, Result, Ok, Err, refl, ◌∙◌, arith, take}
+use Rattle.std.proofs.Math.Nat.{le-max_left, max-le, min-le_right}
+use Rattle.ow_floor.specs.declared.answers.Idle.{Idle}
+use Rattle.ow_floor.specs.declared.answers.Order.TheVariants as orders
+use Rattle.ow_http.specs.declared.http_refusal.HttpRefusal.{HttpRefusal}
+use Rattle.ow_http.specs.declared.reason.Reason.{Reason}
+use Rattle.ow_http.specs.declared.request.Request.{Request}
+use Rattle.ow_traits.specs.declared.replies.RunReply.TheVariants as runs
+use Rattle.ow_hall.specs.History.{AreAnswered, History, IsLegal, answer, counted, greatest_moment, is_idle, is_opening, last_moment, moment, opens_here}
+use Rattle.ow_hall.specs.Ledger.{Ledger, posted}
+use Rattle.ow_hall.specs.Reasons.{tells_full}
+use Rattle.ow_hall.specs.Sight.{is_full}
+use Rattle.ow_hall.specs.declared.entry.Event.{Event}
+use Rattle.ow_hall.specs.declared.entry.Event.TheVariants as events
+use Rattle.ow_hall.specs.declared.entry.Told.{Told}
+use Rattle.ow_hall.specs.declared.entry.Entry.{Entry}
+use Rattle.ow_hall.specs.declared.entry.Told.TheVariants as told
+use Rattle.ow_hall.specs.declared.replies.Called.TheVariants as called
+use Rattle.ow_hall.specs.declared.tenants.Tenants.{Tenants}
+use Rattle.ow_day.specs.declared.call_words.CallWords.{CallWords}
+use Rattle.ow_day.specs.declared.call_words.CallWords.TheVariants as calls
+use Rattle.ow_day.specs.declared.done.Done.{Done}
+use Rattle.ow_day.specs.CallWords.{called as words_of}
+use Rattle.ow_day.specs.Statement.{Statement, At, Call, Ask, Next, Answer, Drain, End}
+use Rattle.ow_day.specs.Machine.{Machine, Asks, Calls, CarriesOut, Does, Meets, start}
+use Rattle.ow_day.specs.Day.{day_of}
+use Rattle.ow_day.specs.Office.{HasLegalBooks}
+
+abbrev HasLegalBook : Machine → Type 0
+HasLegalBook M = IsLegal M.tenants M.ledger.entries
+
+newest_small : (t : Tenants) (B : History) → AreAnswered t B → last_moment B ≤ greatest_moment
+newest_small t [] answered = omega arith
+newest_small t (e ∷ B) answered = answered.3
+
+opens_so : (event : Event) (B : History) (b : Bool) → is_opening event ≡ false → opens_here event B b ≡ b
+opens_so (events.Opened rows) B b later = cc
+opens_so (events.Asked r) B b later = refl
+opens_so (events.Called name params) B b later = refl
+opens_so events.Next B b later = refl
+opens_so (events.Answered run reply) B b later = refl
+opens_so events.Drain B b later = refl
+
+-- ---- an answer that is posted behind a legal book
+
+record IsNext (t : Tenants) (B : History) (e : Entry) : Type 0 where
+  is : e.answer ≡ answer t B e.at e.event
+  late : last_moment B ≤ e.at
+  most : e.at ≤ greatest_moment
+  later : is_opening e.event ≡ false
+  legal : IsLegal t B
+
+booked : (t : Tenants) (B : History) (e : Entry) → IsNext t B e → AreAnswered t (e ∷ B) → IsLegal t (e ∷ B)
+booked t B e n answered = record { answered = answered; opened = opens_so e.event B _ n.later ∙ n.legal.opened }
+
+abbrev entry : ℕ → Event → Told → Entry
+entry at event a = record { at = at; event = event; answer = a }
+
+abbrev GoesOn : Tenants → Ledger → ℕ → Event → Told → Type 0
+GoesOn t L at event a = IsNext t L.entries (entry at event a) → IsLegal t (posted L at event a).entries
+
+idle_so : (t : Tenants) (L : Ledger) (at : ℕ) (event : Event) (idle : Idle) (b : Bool) → is_idle L.entries ≡ b → GoesOn t L at event (told.Next (orders.Nothing idle))
+idle_so t L at event idle true is n = rw is n.legal
+idle_so t L at event idle false is n = rw is (booked t L.entries (entry at event (told.Next (orders.Nothing idle))) n (n.is, rw is refl, n.late, n.most, n.legal.answered))
+
+refused_so : (t : Tenants) (L : Ledger) (at : ℕ) (event : Event) (reason : Reason) (b : Bool) → tells_full reason ≡ b → GoesOn t L at event (told.Called (called.Refused reason))
+refused_so t L at event reason true is n = rw is n.legal
+refused_so t L at event reason false is n = rw is (booked t L.entries (entry at event (told.Called (called.Refused reason))) n (n.is, rw is refl, n.late, n.most, n.legal.answered))
+
+posted_so : (t : Tenants) (L : Ledger) (at : ℕ) (event : Event) (a : Told) → GoesOn t L at event a
+posted_so t L at event (told.Opened happened) n = booked t L.entries _ n (n.is, refl, n.late, n.most, n.legal.answered)
+posted_so t L at event (told.Asked reply) n = booked t L.entries _ n (n.is, refl, n.late, n.most, n.legal.answered)
+posted_so t L at event (told.Full reply) n = n.legal
+posted_so t L at event (told.Called (called.Happened happened)) n = booked t L.entries _ n (n.is, refl, n.late, n.most, n.legal.answered)
+posted_so t L at event (told.Called (called.Refused reason)) n = refused_so t L at event reason (tells_full reason) refl n
+posted_so t L at event (told.Next (orders.Run order)) n = booked t L.entries _ n (n.is, refl, n.late, n.most, n.legal.answered)
+posted_so t L at event (told.Next (orders.Nothing idle)) n = idle_so t L at event idle (is_idle L.entries) refl n
+posted_so t L at event (told.Answered answered) n = booked t L.entries _ n (n.is, refl, n.late, n.most, n.legal.answered)
+posted_so t L at event (told.NoRun run reply) n = n.legal
+posted_so t L at event (told.Drain drain) n = booked t L.entries _ n (n.is, refl, n.late, n.most, n.legal.answered)
+
+-- ---- the book behind a statement
+
+met : (M N : Machine) (event : Event) (done : Done) → is_opening event ≡ false → Meets M event done N → HasLegalBook M → HasLegalBook N
+met M N event done later (t, before, after, is, given, (told_is, ledger, tenants, holds)) legal =
+    let L = M.ledger in
+    let most : moment L.entries M.given ≤ greatest_moment = max-le (newest_small M.tenants L.entries legal.answered) (min-le_right M.given greatest_moment) in
+    rw (tenants, ledger) (posted_so M.tenants L (moment L.entries M.given) event t
+    (record { is = told_is; late = le-max_left _ _; most = most; later = later; legal = legal }))
+
+called_so : (M N : Machine) (words : CallWords) (done : Done) → Calls M words done N → HasLegalBook M → HasLegalBook N
+called_so M N (calls.Refused reason) done (is, same) legal = rw same legal
+called_so M N (calls.Calls name params) done meets legal = met M N (events.Called name params) done refl meets legal
+
+asked_so : (M N : Machine) (read : Result Request HttpRefusal) (done : Done) → Asks M read done N → HasLegalBook M → HasLegalBook N
+asked_so M N (Ok request) done meets legal = met M N (events.Asked request) done refl meets legal
+asked_so M N (Err e) done (is, same) legal = rw same legal
+
+done_so : (M N : Machine) (s : Statement) (done : Done) → Does M s done N → HasLegalBook M → HasLegalBook N
+done_so M N (At moment) done (is, same) legal = rw same legal
+done_so M N (Call name text) done does legal = called_so M N (words_of (is_full (counted M.ledger.entries) 0) name text) done does legal
+done_so M N (Ask bytes) done (read, is, asks) legal = asked_so M N read done asks legal
+done_so M N Next done meets legal = met M N events.Next done refl meets legal
+done_so M N (Answer run text) done meets legal = met M N (events.Answered run (runs.Answer text [])) done refl meets legal
+done_so M N Drain done meets legal = met M N events.Drain done refl meets legal
+done_so M N End done (is, same) legal = rw same legal
+
+all_so : (M : Machine) (ss : List Statement) (lines : List ℕ) (N : Machine) → CarriesOut M ss lines N → HasLegalBook M → HasLegalBook N
+all_so M [] lines N (none, same) legal = rw same legal
+all_so M (s ∷ ss) lines N (done, K, later, does, is, rest) legal = all_so K ss later N rest (done_so M K s done does legal)
+
+begins_legal : HasLegalBook start
+begins_legal = record { answered = (refl, refl, omega arith, omega arith, tt); opened = refl }
+
+pub legal_books : (bytes : List ℕ) → HasLegalBooks bytes
+legal_books bytes = λ count lines N carried. all_so start (take count (day_of bytes).statements) lines N carried begins_legal

@@ -1,0 +1,144 @@
+-- What is printed of a statement is read as the statement.
+use Rattle.std.proofs.Common.{◌≡◌, ℕ, ◌==◌, ◌<◌, ◌≤◌, ◌^◌, Bool, false, List, [], ◌∷◌, ◌++◌, length, codes, position, slice_index, Some, None, refl, ap, ◌∙◌, arith, append_assoc, length-append}
+use Rattle.std.specs.Fmt.{decimal}
+use Rattle.std.specs.Str.{IsUtf8}
+use Rattle.std.proofs.lemmas.Bool.Decides.{nat_tests}
+use Rattle.std.proofs.lemmas.Fmt.{length-decimal-le}
+use Rattle.std.proofs.lemmas.List.{get_or_at}
+use Rattle.std.proofs.lemmas.Str.{is_utf8-from_IsUtf8}
+use Rattle.ow_hall.specs.History.{greatest_moment}
+use Rattle.ow_day.specs.Limits.{most_line}
+use Rattle.ow_day.specs.Statement.{Statement, At, Call, Ask, Next, Answer, Drain, End, Whole, Asks, answer_of, ask_of, at_of, call_of, line_of, utf8_text, worded}
+use Rattle.ow_day.specs.Day.{Found, asked, behind_line, first_statement}
+use Rattle.ow_day.specs.Printed.{IsLineText, IsPrintable, IsReadBack, IsWord, printed}
+use Rattle.ow_day.proofs.Days.{is_apart, is_short}
+use Rattle.ow_day.proofs.Numbers.{decimal_of-decimal}
+use Rattle.ow_day.proofs.Parting.{back_of, first_behind, front_of, is_itself, none_in_both, none_in_decimal, none_there, parted_word}
+
+text_read : (text : List ℕ) → IsUtf8 text → utf8_text text ≡ Some text
+text_read text u = rw (is_utf8-from_IsUtf8 text u) refl
+
+not_none : (n : ℕ) → 0 < n → (n == 0) ≡ false
+not_none n some = grind (arith, nat_tests)
+
+-- ---- what follows the first word
+
+call_back : (name text : List ℕ) → IsWord name → IsLineText text → call_of (name ++ 32 ∷ text) ≡ Some (Whole (Call name text))
+unfolding call_of
+call_back name text word line =
+    rw (parted_word name text (none_there 32 name word.space), not_none (length name) word.some, text_read name word.text.utf8, text_read text line.utf8) refl
+
+answer_back : (run : ℕ) (text : List ℕ) → run < 2 ^ 64 → position (λ c. c == 32) (decimal run) ≡ None → IsUtf8 text → answer_of (decimal run ++ 32 ∷ text) ≡ Some (Whole (Answer run text))
+unfolding answer_of
+answer_back run text small none u = rw (parted_word (decimal run) text none, decimal_of-decimal run small, text_read text u) refl
+
+at_back : (moment : ℕ) → moment ≤ greatest_moment → at_of (decimal moment) ≡ Some (Whole (At moment))
+unfolding at_of
+at_back moment most = rw (decimal_of-decimal moment (omega arith), is_short greatest_moment moment most) refl
+
+ask_back : (count : ℕ) → count ≤ most_line → ask_of (decimal count) ≡ Some (Asks count)
+unfolding ask_of
+ask_back count most = rw (decimal_of-decimal count (omega arith), is_short most_line count most) refl
+
+-- ---- lines
+
+call_line : (rest : List ℕ) → length (codes "call " ++ rest) ≤ most_line → line_of (codes "call " ++ rest) ≡ call_of rest
+unfolding line_of worded
+call_line rest fits = rw (is_short most_line (length (codes "call " ++ rest)) fits, parted_word (codes "call") rest refl) refl
+
+answer_line : (rest : List ℕ) → length (codes "answer " ++ rest) ≤ most_line → line_of (codes "answer " ++ rest) ≡ answer_of rest
+unfolding line_of worded
+answer_line rest fits = rw (is_short most_line (length (codes "answer " ++ rest)) fits, parted_word (codes "answer") rest refl) refl
+
+at_line : (rest : List ℕ) → length (codes "at " ++ rest) ≤ most_line → line_of (codes "at " ++ rest) ≡ at_of rest
+unfolding line_of worded
+at_line rest fits = rw (is_short most_line (length (codes "at " ++ rest)) fits, parted_word (codes "at") rest refl) refl
+
+ask_line : (rest : List ℕ) → length (codes "ask " ++ rest) ≤ most_line → line_of (codes "ask " ++ rest) ≡ ask_of rest
+unfolding line_of worded
+ask_line rest fits = rw (is_short most_line (length (codes "ask " ++ rest)) fits, parted_word (codes "ask") rest refl) refl
+
+-- ---- a line and the bytes behind it
+
+behind_newline : (more : Bool) (line later : List ℕ) → position (λ c. c == 10) line ≡ None → first_statement more (line ++ 10 ∷ later) ≡ behind_line more (line_of line) later
+unfolding first_statement
+behind_newline more line later none = rw (first_behind 10 line later none, front_of line later 10, back_of line later 10) refl
+
+alone : (line : List ℕ) → position (λ c. c == 10) line ≡ None → length line ≤ most_line → first_statement false line ≡ behind_line false (line_of line) []
+unfolding first_statement
+alone line none fits = rw (none, is_short most_line (length line) fits) refl
+
+-- a statement of one line
+whole_back : (s : Statement) → position (λ c. c == 10) (printed s) ≡ None → length (printed s) ≤ most_line → line_of (printed s) ≡ Some (Whole s) → IsReadBack s
+whole_back s none fits read = record {
+  first = λ more later. behind_newline more (printed s) later none ∙ ap (λ o. behind_line more o later) read;
+  last = alone (printed s) none fits ∙ ap (λ o. behind_line false o []) read;
+}
+
+asked_before : (more : Bool) (request later : List ℕ) → asked more (length request) (request ++ 10 ∷ later) ≡ Found (Ask request) later
+unfolding asked
+asked_before more request later =
+    let longer : length request < length (request ++ 10 ∷ later) = omega (arith, length-append request (10 ∷ later)) in
+    let at : slice_index (request ++ 10 ∷ later) (length request) ≡ 10 = get_or_at request 10 later 0 (length request) refl in
+    rw (is_short (length (request ++ 10 ∷ later)) (length request) (omega arith), is_apart (length (request ++ 10 ∷ later)) (length request) longer, at, front_of request later 10, back_of request later 10) refl
+
+asked_last : (request : List ℕ) → asked false (length request) request ≡ Found (Ask request) []
+unfolding asked
+asked_last request = rw (is_short (length request) (length request) (omega arith), is_itself (length request)) refl
+
+abbrev asking : List ℕ → List ℕ
+asking request = codes "ask " ++ decimal (length request)
+
+-- a request behind its line
+request_back : (request : List ℕ) → length request ≤ most_line → IsReadBack (Ask request)
+unfolding printed
+request_back request most =
+    let none : position (λ c. c == 10) (asking request) ≡ None = none_in_both 10 (codes "ask ") (decimal (length request)) refl (none_in_decimal 10 (length request) (omega arith) (omega arith)) in
+    let short : length (decimal (length request)) ≤ 7 = length-decimal-le 7 (length request) (omega arith) (omega arith) (omega arith) in
+    let read : line_of (asking request) ≡ Some (Asks (length request)) = ask_line (decimal (length request)) (omega arith) ∙ ask_back (length request) most in
+    record {
+      first = λ more later.
+          ap (first_statement more) (append_assoc (asking request) (10 ∷ request) (10 ∷ later))
+          ∙ behind_newline more (asking request) (request ++ 10 ∷ later) none
+          ∙ ap (λ o. behind_line more o (request ++ 10 ∷ later)) read
+          ∙ asked_before more request later;
+      last = behind_newline false (asking request) request none ∙ ap (λ o. behind_line false o request) read ∙ asked_last request;
+    }
+
+-- ---- each statement
+
+none_in_text : (text : List ℕ) → IsLineText text → position (λ c. c == 10) (32 ∷ text) ≡ None
+none_in_text text line = none_in_both 10 (codes " ") text refl (none_there 10 text line.newline)
+
+moment_back : (moment : ℕ) → moment ≤ greatest_moment → IsReadBack (At moment)
+unfolding printed
+moment_back moment most =
+    let short : length (decimal moment) ≤ 15 = length-decimal-le 15 moment (omega arith) (omega arith) (omega arith) in
+    whole_back (At moment)
+    (none_in_both 10 (codes "at ") (decimal moment) refl (none_in_decimal 10 moment (omega arith) (omega arith)))
+    (omega arith)
+    (at_line (decimal moment) (omega arith) ∙ at_back moment most)
+
+words_back : (name text : List ℕ) → IsPrintable (Call name text) → IsReadBack (Call name text)
+unfolding printed
+words_back name text can = whole_back (Call name text)
+    (none_in_both 10 (codes "call ") (name ++ 32 ∷ text) refl (none_in_both 10 name (32 ∷ text) (none_there 10 name can.0.text.newline) (none_in_text text can.1)))
+    can.2
+    (call_line (name ++ 32 ∷ text) can.2 ∙ call_back name text can.0 can.1)
+
+reply_back : (run : ℕ) (text : List ℕ) → IsPrintable (Answer run text) → IsReadBack (Answer run text)
+unfolding printed
+reply_back run text can = whole_back (Answer run text)
+    (none_in_both 10 (codes "answer ") (decimal run ++ 32 ∷ text) refl (none_in_both 10 (decimal run) (32 ∷ text) (none_in_decimal 10 run (omega arith) can.0) (none_in_text text can.1)))
+    can.2
+    (answer_line (decimal run ++ 32 ∷ text) can.2 ∙ answer_back run text can.0 (none_in_decimal 32 run (omega arith) can.0) can.1.utf8)
+
+pub read_back : (s : Statement) → IsPrintable s → IsReadBack s
+unfolding printed line_of
+read_back (At moment) can = moment_back moment can
+read_back (Call name text) can = words_back name text can
+read_back (Ask request) can = request_back request can
+read_back Next can = whole_back Next refl (omega arith) refl
+read_back (Answer run text) can = reply_back run text can
+read_back Drain can = whole_back Drain refl (omega arith) refl
+read_back End can = whole_back End refl (omega arith) refl

@@ -1,0 +1,42 @@
+use Rattle.std.proofs.Common.{◌<◌, length, ap, sym, refl, ◌∙◌, arith}
+use Rattle.ow_day.specs.Input.{InputView}
+use Rattle.ow_day.specs.Line.{statement}
+use Rattle.ow_day.proofs.Runs.{cut_steps, found_steps, idle_steps, wrong_ends}
+use Rattle.ow_day.proofs.run.Run.step.Goals as goal
+
+pub returns-then-len-eq0-clause-steps : goal.returns-then-len-eq0-clause-steps
+returns-then-len-eq0-clause-steps g c = idle_steps c.args.self.now c.without_bytes.result c.requires (sym c.len.ensures ∙ c.if-len-eq0.true) c.without_bytes.ensures
+
+pub returns-in-Done-clause-steps : goal.returns-in-Done-clause-steps
+returns-in-Done-clause-steps g c =
+    let same = c.newline-newline.ensures.same in
+    let within = rw (c.pending.ensures, same) at c.in-Found.ensures.within in
+    let some : 0 < length c.args.self.now.input.pending = omega (arith, c.len.ensures, c.if-len-eq0.false) in
+    found_steps c.args.self.now _ (statement c.in-Found.statement) c.in-Found.used c.carry_out-step.result c.requires some
+    (rw (c.pending.ensures, same) at c.in-Found.ensures.first) within.0 (within.1 some) c.carry_out-step.ensures.step
+    (λ done. (rw same at c.skip.ensures.pending, refl)) (c.skip.ensures.taken ∙ ap (λ (i : InputView). i.taken) same) refl
+
+pub returns-in_default : goal.returns-in_default
+returns-in_default g c =
+    let same = c.newline-newline.ensures.same in
+    let within = rw (c.pending.ensures, same) at c.in-Found.ensures.within in
+    let some : 0 < length c.args.self.now.input.pending = omega (arith, c.len.ensures, c.if-len-eq0.false) in
+    record {
+      steps = found_steps c.args.self.now _ (statement c.in-Found.statement) c.in-Found.used c.carry_out-step.result c.requires some
+          (rw (c.pending.ensures, same) at c.in-Found.ensures.first) within.0 (within.1 some) c.carry_out-step.ensures.step
+          (λ done. absurd (c.in_default.not-Done done)) (ap (λ (i : InputView). i.taken) same) refl;
+      bounded = λ done. absurd (c.in_default.not-Done done);
+      falls = λ done. absurd (c.in_default.not-Done done);
+      store = c.carry_out-step.ensures.store;
+    }
+
+pub returns-in-Wrong-clause-steps : goal.returns-in-Wrong-clause-steps
+returns-in-Wrong-clause-steps g c =
+    let some : 0 < length c.args.self.now.input.pending = omega (arith, c.len.ensures, c.if-len-eq0.false) in
+    wrong_ends c.args.self.now _ c.requires.most some (rw (c.pending.ensures, c.newline-newline.ensures.same) at c.in-Wrong.ensures.first) refl refl refl
+
+pub returns-in-Cut-clause-steps : goal.returns-in-Cut-clause-steps
+returns-in-Cut-clause-steps g c =
+    let r = c.args.self.now in
+    cut_steps c.args.self.now _ (rw (c.pending.ensures, c.newline-newline.ensures.same) at c.in-Cut.ensures.first)
+    (ap (λ (i : InputView). record { session = r.session; input = i; ended = r.ended; answers = r.answers; number = r.number }) c.newline-newline.ensures.same)

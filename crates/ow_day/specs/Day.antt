@@ -1,0 +1,90 @@
+-- The day file: its statements, and how it ends.
+use Rattle.std.specs.Prelude.{◌+◌, ◌++◌, ◌==◌, ◌&&◌, ℕ, Bool, true, false, not, nat_lt, List, [], ◌∷◌, Option, Some, None, if◌then◌else◌, length, take, drop, position, slice_index}
+use Rattle.std.proofs.Common.{zero, suc}
+use Rattle.ow_day.specs.Limits.{most_bytes, most_line}
+use Rattle.ow_day.specs.Input.{is_newline}
+use Rattle.ow_day.specs.Statement.{Statement, Ask, End, Reading, Whole, Asks, line_of}
+
+pub data DayEnd : Type 0 where
+  Finished : DayEnd
+  Bad : (statement : ℕ) → DayEnd
+  TooLong : DayEnd
+
+-- the statements of a day up to its `end`, to the first that is none, or to its last, and how it ends
+pub record Day : Type 0 where
+  pub statements : List Statement
+  pub ending : DayEnd
+
+-- a day that ends here
+abbrev pub ended : DayEnd → Day
+ended ending = record { statements = []; ending = ending }
+
+-- the day with these statements before its own
+abbrev pub with_statements : List Statement → Day → Day
+with_statements done day = record { statements = done ++ day.statements; ending = day.ending }
+
+-- what stands at the front of bytes: a statement and the bytes behind it, no statement, or one that is cut, since more
+-- bytes come that aren't looked at
+pub data First : Type 0 where
+  Found : (statement : Statement) (rest : List ℕ) → First
+  Wrong : First
+  Cut : First
+
+-- the line up to a newline, and what follows it. Without one all is the line; but where more bytes come that aren't
+-- looked at, a line that may still be short enough has no end
+abbrev pub line_at : Bool → List ℕ → Option ℕ → Option (List ℕ × List ℕ)
+line_at more bytes (Some k) = Some (take k bytes, drop (k + 1) bytes)
+line_at more bytes None = if not (nat_lt most_line (length bytes)) && more then None else Some (bytes, [])
+
+-- what is so only at the end of the day
+abbrev pub at_end : Bool → First → First
+at_end true first = Cut
+at_end false first = first
+
+-- so many bytes are asked by, of these: a newline follows them, or the end of the day
+unfoldable pub asked : Bool → ℕ → List ℕ → First
+asked more count bytes = if nat_lt (length bytes) count then at_end more Wrong
+    else (if length bytes == count then at_end more (Found (Ask bytes) [])
+    else (if slice_index bytes count == 10 then Found (Ask (take count bytes)) (drop (count + 1) bytes) else Wrong))
+
+-- what a line and the bytes behind it begin with
+abbrev pub behind_line : Bool → Option Reading → List ℕ → First
+behind_line more None rest = Wrong
+behind_line more (Some (Whole statement)) rest = Found statement rest
+behind_line more (Some (Asks count)) rest = asked more count rest
+
+abbrev pub first_in : Bool → Option (List ℕ × List ℕ) → First
+first_in more None = Cut
+first_in more (Some parts) = behind_line more (line_of parts.0) parts.1
+
+-- the first statement of bytes
+unfoldable pub first_statement : Bool → List ℕ → First
+first_statement more bytes = first_in more (line_at more bytes (position is_newline bytes))
+
+-- `end` ends the day, and the statements of the rest follow any other
+abbrev pub going_on : Statement → Day → Day
+going_on End day = ended Finished
+going_on s day = with_statements (s ∷ []) day
+
+abbrev pub day_step : ℕ → First → (List ℕ → Day) → Day
+day_step n Cut then' = ended TooLong
+day_step n Wrong then' = ended (Bad n)
+day_step n (Found s rest) then' = going_on s (then' rest)
+
+-- the statements from the nth on, and at most as many as the first number says
+unfoldable pub day_from : ℕ → Bool → ℕ → List ℕ → Day
+day_from zero more n bytes = ended Finished
+day_from (suc count) more n [] = ended (if more then TooLong else Finished)
+day_from (suc count) more n (c ∷ cs) = day_step n (first_statement more (c ∷ cs)) (λ rest. day_from count more (n + 1) rest)
+
+-- the bytes of a day that are looked at
+unfoldable pub window : List ℕ → List ℕ
+window bytes = take most_bytes bytes
+
+-- whether more bytes follow those
+unfoldable pub has_more : List ℕ → Bool
+has_more bytes = nat_lt most_bytes (length bytes)
+
+-- the day of these bytes: they have fewer statements than one more than there are bytes
+abbrev pub day_of : List ℕ → Day
+day_of bytes = day_from (length (window bytes) + 1) (has_more bytes) 1 (window bytes)

@@ -1,0 +1,48 @@
+-- What was read of a day and isn't carried out yet.
+use Rattle.std.specs.Prelude.{◌≡◌, ◌==◌, ◌≤◌, ◌<◌, ◌+◌, ◌-◌, ◌++◌, ℕ, Bool, List, [], Option, Some, None, Result, Ok, Err, IfSome, length, take, drop, position}
+use Rattle.std.specs.Option.{option_map}
+use Rattle.ow_day.specs.Limits.{most_bytes, most_piece}
+use Rattle.ow_day.specs.declared.input.Filled.{Filled}
+use Rattle.ow_day.specs.declared.input.Filled.TheVariants.{More, End, Past}
+use Rattle.ow_day.specs.declared.input.FillError.{FillError}
+
+-- the bytes that wait, and how many were read in all
+pub record InputView : Type 0 where
+  pub pending : List ℕ
+  pub taken : ℕ
+
+abbrev pub is_newline : ℕ → Bool
+is_newline c = c == 10
+
+-- the bytes from `start` on wait, and up to `searched` no newline stands among them
+pub record IsInput (bytes : List ℕ) (start searched taken : ℕ) (room : List ℕ) : Type 0 where
+  pub begins : start ≤ searched
+  pub within : searched ≤ length bytes
+  pub none : position is_newline (take (searched - start) (drop start bytes)) ≡ None
+  pub read : length bytes - start ≤ taken
+  pub most : taken ≤ most_bytes
+  pub piece : length room ≡ most_piece
+
+-- these bytes were read from what was left, where that is told
+abbrev pub Gives : Option (List ℕ) → Option (List ℕ) → List ℕ → Type 0
+Gives None new piece = Unit {0}
+Gives (Some bytes) new piece = (rest : List ℕ) × (new ≡ Some rest) × (bytes ≡ piece ++ rest)
+
+-- what a read does: more bytes come behind those that wait, or they stay as they are, and one byte was taken or none
+abbrev pub Fills : Option (List ℕ) → Option (List ℕ) → InputView → InputView → Result Filled FillError → Type 0
+Fills left left' old new (Ok More) = (piece : List ℕ) × (0 < length piece) × (length piece ≤ most_piece) × (new.pending ≡ old.pending ++ piece) × (new.taken ≡ old.taken + length piece) × (new.taken ≤ most_bytes) × Gives left left' piece
+Fills left left' old new (Ok End) = (new ≡ old) × (left' ≡ left) × IfSome left (λ bytes. bytes ≡ [])
+Fills left left' old new (Ok Past) = (new ≡ old) × (left' ≡ option_map (drop 1) left) × (old.taken ≡ most_bytes) × IfSome left (λ bytes. 0 < length bytes)
+Fills left left' old new (Err e) = (new ≡ old) × (left' ≡ left)
+
+-- the bytes that a read puts behind others
+abbrev pub ReadsBehind : Option (List ℕ) → Option (List ℕ) → List ℕ → List ℕ → ℕ → Result ℕ FillError → Type 0
+ReadsBehind left left' old new space (Ok n) = (piece : List ℕ) × (length piece ≡ n) × (n ≤ space) × (new ≡ old ++ piece) × Gives left left' piece × (n ≡ 0 → (left' ≡ left) × IfSome left (λ bytes. bytes ≡ []))
+ReadsBehind left left' old new space (Err e) = (new ≡ old) × (left' ≡ left)
+
+-- whether a byte was left, which was taken
+abbrev pub IsPast : Option (List ℕ) → Option (List ℕ) → Result Filled FillError → Type 0
+IsPast left left' (Ok More) = ⊥
+IsPast left left' (Ok End) = (left' ≡ left) × IfSome left (λ bytes. bytes ≡ [])
+IsPast left left' (Ok Past) = (left' ≡ option_map (drop 1) left) × IfSome left (λ bytes. 0 < length bytes)
+IsPast left left' (Err e) = left' ≡ left

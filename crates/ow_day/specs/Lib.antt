@@ -1,0 +1,16 @@
+pub mod Limits
+pub mod Statement
+pub mod Line
+pub mod Input
+pub mod Status
+pub mod Words
+pub mod Texts
+pub mod CallWords
+pub mod Machine
+pub mod Session
+pub mod Day
+pub mod Printed
+pub mod First
+pub mod Office
+pub mod Reads
+pub mod Run

@@ -1,0 +1,35 @@
+-- How much of a day is read: no more than its statements need, and the rest of one piece.
+use Rattle.std.specs.Prelude.{◌≡◌, ◌≤◌, ◌+◌, ◌++◌, true, ℕ, List, Option, Some, length}
+use Rattle.ow_day.specs.Limits.{most_bytes, most_piece}
+use Rattle.ow_day.specs.Day.{Day, TooLong, day_from}
+use Rattle.ow_day.specs.Office.{Wrote}
+
+-- the statements that stand whole in these bytes, behind which more may follow
+abbrev pub day_so_far : List ℕ → Day
+day_so_far bytes = day_from (length bytes + 1) true 1 bytes
+
+-- the day isn't over in these bytes: no `end` is among their statements, and none of these is bad
+abbrev pub IsUnfinished : List ℕ → Type 0
+IsUnfinished bytes = (day_so_far bytes).ending ≡ TooLong
+
+-- of the bytes of a day the rest is left: read were a front, in which the day isn't over, and the last piece behind it
+pub record IsLeft (bytes rest : List ℕ) : Type 0 where
+  pub front : List ℕ
+  pub last : List ℕ
+  pub whole : bytes ≡ front ++ (last ++ rest)
+  pub unfinished : IsUnfinished front
+  pub piece : length last ≤ most_piece
+  pub most : length front + length last ≤ most_bytes + 1
+
+-- the source tells what is left of the bytes of a day
+abbrev pub LeavesRest : List ℕ → Option (List ℕ) → Type 0
+LeavesRest bytes left = (rest : List ℕ) × (left ≡ Some rest) × IsLeft bytes rest
+
+-- all that was read of the bytes of a day is answered: the lines of each statement that stands whole in it were written
+pub record IsAnswered (bytes : List ℕ) (left old new : Option (List ℕ)) : Type 0 where
+  pub read : List ℕ
+  pub rest : List ℕ
+  pub whole : bytes ≡ read ++ rest
+  pub leaves : left ≡ Some rest
+  pub unfinished : IsUnfinished read
+  pub wrote : Wrote old new (day_so_far read).statements

@@ -1,0 +1,106 @@
+-- A day that is under way: what was read of it, carried out and written, for private clauses.
+use Rattle.std.specs.Prelude.{◌≡◌, ◌≢◌, ◌<◌, ◌≤◌, ◌+◌, ◌-◌, ◌*◌, ◌++◌, ◌⊎◌, ℕ, true, false, List, [], Option, Some, None, length, take, if◌then◌else◌}
+use Rattle.ow_traits.specs.Streams.{Takes, TakesFront}
+use Rattle.ow_day.specs.declared.status.Status.{Status}
+use Rattle.ow_day.specs.declared.status.Status.TheVariants as statuses
+use Rattle.ow_day.specs.declared.session.Step.{Step}
+use Rattle.ow_day.specs.declared.session.Step.TheVariants as steps
+use Rattle.ow_day.specs.declared.run.Run.{Run}
+use Rattle.ow_day.specs.Statement.{Statement}
+use Rattle.ow_day.specs.Machine.{CarriesOut, start}
+use Rattle.ow_day.specs.Session.{machine_of}
+use Rattle.ow_day.specs.Limits.{most_bytes, most_piece}
+use Rattle.ow_day.specs.Day.{DayEnd, Finished, Bad, Cut, day_from, day_of, first_statement, has_more, with_statements}
+use Rattle.ow_day.specs.Office.{Tells}
+use Rattle.ow_day.specs.Reads.{IsAnswered, IsUnfinished, LeavesRest}
+
+-- what is left of a day inside its greatest length, where so much was read
+unfoldable pub in_window : ℕ → List ℕ → List ℕ
+in_window taken rest = take (most_bytes - taken) rest
+
+-- whatever follows what was read, its statements are those that are done, and then those of what waits
+abbrev pub GoesOn : List ℕ → List Statement → ℕ → List ℕ → Type 0
+GoesOn read done number pending = (later : List ℕ) → (count : ℕ) × (length (pending ++ later) < count)
+    × (day_from (length (read ++ later) + 1) true 1 (read ++ later) ≡ with_statements done (day_from count true number (pending ++ later)))
+
+-- what was read of a day: a front, in which the day isn't over, and the last piece behind it
+pub record HasRead {P : Type 0} (bytes rest : List ℕ) (done : List Statement) (r : Run P) : Type 0 where
+  pub front : List ℕ
+  pub last : List ℕ
+  pub whole : bytes ≡ front ++ (last ++ rest)
+  pub unfinished : IsUnfinished front
+  pub piece : length last ≤ most_piece
+  pub taken : r.input.taken ≡ length (front ++ last)
+  pub goes_on : r.ended ≡ false → GoesOn (front ++ last) done r.number r.input.pending
+
+-- some statements are done, and their lines written or ready: the rest of the day gives the rest of the statements
+pub record IsUnderWay {P : Type 0} (bytes : List ℕ) (before left taken : Option (List ℕ)) (r : Run P) : Type 0 where
+  pub rest : List ℕ
+  pub done : List Statement
+  pub count : ℕ
+  pub written : List ℕ
+  pub told : left ≡ Some rest
+  pub read : HasRead bytes rest done r
+  pub all : length bytes ≡ r.input.taken + length rest
+  pub none : r.ended ≡ true → rest ≡ []
+  pub enough : length (r.input.pending ++ in_window r.input.taken rest) < count
+  pub took : Takes before taken written
+  pub carried : CarriesOut start done (written ++ r.answers.items) (machine_of r.session)
+  pub whole : day_of bytes ≡ with_statements done (day_from count (has_more bytes) r.number (r.input.pending ++ in_window r.input.taken rest))
+
+-- the day ends here: what was written and what is ready are its lines
+pub record IsAtEnd {P : Type 0} (bytes : List ℕ) (before taken : Option (List ℕ)) (r : Run P) (ending : DayEnd) : Type 0 where
+  pub written : List ℕ
+  pub took : Takes before taken written
+  pub carried : CarriesOut start (day_of bytes).statements (written ++ r.answers.items) (machine_of r.session)
+  pub ends : (day_of bytes).ending ≡ ending
+
+abbrev pub EndsSo : {P : Type 0} → Run P → Run P → DayEnd → Type 0
+EndsSo old new ending = (bytes : List ℕ) (before left taken : Option (List ℕ)) → IsUnderWay bytes before left taken old → IsAtEnd bytes before taken new ending
+
+-- the first statement was carried out or ends the day, or waits for more bytes
+abbrev pub StepsOn : {P : Type 0} → Run P → Run P → Step → Type 0
+StepsOn old new steps.Done = (bytes : List ℕ) (before left taken : Option (List ℕ)) → IsUnderWay bytes before left taken old → IsUnderWay bytes before left taken new
+StepsOn old new steps.End = EndsSo old new Finished
+StepsOn old new steps.Bad = EndsSo old new (Bad new.number)
+StepsOn old new steps.Cut = (new ≡ old) × (old.ended ≡ false) × (first_statement true old.input.pending ≡ Cut)
+StepsOn old new steps.NoMemory = Unit {0}
+
+-- the lines were written, or a fault cut them
+abbrev pub ClosesSo : Option (List ℕ) → Option (List ℕ) → List ℕ → Status → Status → Type 0
+ClosesSo old new lines status result = ((result ≡ status) × Takes old new lines) ⊎ ((result ≡ statuses.WriteFault) × TakesFront old new lines)
+
+-- the status after a step that ends the day
+abbrev pub Closes : {P : Type 0} → Option (List ℕ) → Option (List ℕ) → Run P → Step → Status → Type 0
+Closes old new r steps.End result = ClosesSo old new r.answers.items statuses.Ok result
+Closes old new r steps.Bad result = ClosesSo old new r.answers.items (statuses.BadDay r.number) result
+Closes old new r step result = (result ≡ statuses.NoMemory) × (new ≡ old)
+
+-- the day ended with this status: what was written for it, what is left of it, and that all that was read is answered where
+-- it could not be read on
+pub record HasEnded (bytes : List ℕ) (before left taken : Option (List ℕ)) (status : Status) : Type 0 where
+  pub tells : Tells before taken status (day_of bytes)
+  pub leaves : LeavesRest bytes left
+  pub answered : status ≡ statuses.ReadFault → IsAnswered bytes left before taken
+
+-- one turn: the day goes on, or ends with this status
+abbrev pub Turns : {P : Type 0} → Option (List ℕ) → Option (List ℕ) → Option (List ℕ) → Option (List ℕ) → Run P → Run P → Option Status → Type 0
+Turns left left' taken taken' old new None = (bytes : List ℕ) (before : Option (List ℕ)) → IsUnderWay bytes before left taken old → IsUnderWay bytes before left' taken' new
+Turns left left' taken taken' old new (Some status) = (bytes : List ℕ) (before : Option (List ℕ)) → IsUnderWay bytes before left taken old → HasEnded bytes before left' taken' status
+
+-- a turn that reads nothing
+abbrev pub WritesOn : {P : Type 0} → Option (List ℕ) → Option (List ℕ) → Run P → Run P → Option Status → Type 0
+WritesOn taken taken' old new result = (left : Option (List ℕ)) → Turns left left taken taken' old new result
+
+-- no number can pass its type: each statement has a byte of the day
+pub record IsBounded {P : Type 0} (r : Run P) : Type 0 where
+  pub bytes : r.number + length r.input.pending ≤ r.input.taken + 1
+  pub most : r.input.taken ≤ most_bytes
+
+-- the work that is left: bytes to be read, the end to be seen, and bytes to be carried out
+abbrev pub work : {P : Type 0} → Run P → ℕ
+work r = 2 * (most_bytes - r.input.taken) + (if r.ended then 0 else 1) + length r.input.pending
+
+-- a status that a day can end with
+abbrev pub IsOfDay : Status → Type 0
+IsOfDay status = status ≢ statuses.BadWords

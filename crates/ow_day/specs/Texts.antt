@@ -1,0 +1,88 @@
+-- The lines that answer statements.
+use Rattle.std.specs.Prelude.{◌++◌, ℕ, List, [], ◌∷◌, codes, length}
+use Rattle.std.specs.Fmt.{decimal}
+use Rattle.ow_records.specs.Id.{id_text}
+use Rattle.ow_floor.specs.declared.answers.RunOrder.{RunOrder}
+use Rattle.ow_floor.specs.declared.answers.Order.{Order}
+use Rattle.ow_floor.specs.declared.answers.Order.TheVariants.{Run, Nothing}
+use Rattle.ow_floor.specs.declared.answers.Happening.{Happening}
+use Rattle.ow_floor.specs.declared.answers.Happening.TheVariants.{Accepted, Recorded}
+use Rattle.ow_floor.specs.declared.answers.Answered.{Answered}
+use Rattle.ow_floor.specs.declared.answers.Answered.TheVariants as answers
+use Rattle.ow_floor.specs.declared.answers.Drain.{Drain}
+use Rattle.ow_floor.specs.declared.answers.Drain.TheVariants.{Drained, StillOpen}
+use Rattle.ow_http.specs.Number.{number_of}
+use Rattle.ow_http.specs.Reason.{text_of}
+use Rattle.ow_http.specs.Reply.{reply_bytes}
+use Rattle.ow_http.specs.declared.answer.Answer.{Answer}
+use Rattle.ow_http.specs.declared.reason.Reason.{Reason}
+use Rattle.ow_hall.specs.declared.replies.Reply.{Reply}
+use Rattle.ow_hall.specs.declared.replies.Reply.TheVariants.{Now, Waiting}
+use Rattle.ow_hall.specs.declared.replies.Called.{Called}
+use Rattle.ow_hall.specs.declared.replies.Called.TheVariants.{Happened, Refused}
+use Rattle.ow_day.specs.declared.done.Done.{Done}
+use Rattle.ow_day.specs.declared.done.Done.TheVariants as done
+
+-- one line for each thing that happened
+abbrev pub happening_text : Happening → List ℕ
+happening_text (Accepted id) = codes "accepted " ++ (id_text id ++ codes "\n")
+happening_text (Recorded id code) = codes "recorded " ++ (id_text id ++ (codes " " ++ (decimal code ++ codes "\n")))
+
+abbrev pub happenings_text : List Happening → List ℕ
+happenings_text [] = []
+happenings_text (h ∷ hs) = happening_text h ++ happenings_text hs
+
+abbrev pub run_text : RunOrder → List ℕ
+run_text order = codes "run " ++ (decimal order.run ++ (codes " " ++ (id_text order.id ++ codes "\n")))
+
+-- what is to run
+abbrev pub order_text : Order → List ℕ
+order_text (Run order) = run_text order
+order_text (Nothing idle) = codes "nothing empty\n"
+
+-- a refusal
+abbrev pub refused_text : Reason → List ℕ
+refused_text reason = codes "refused " ++ (decimal (number_of reason) ++ (codes " " ++ (text_of reason ++ codes "\n")))
+
+-- a runner's reply to a number that no live run has
+abbrev pub no_run_text : ℕ → List ℕ
+no_run_text run = codes "refused 29 No run " ++ (decimal run ++ codes ".\n")
+
+-- what a run carried had ended before, at this moment
+abbrev pub late_text : ℕ → ℕ → List ℕ
+late_text run at = codes "late " ++ (decimal run ++ (codes " " ++ (decimal at ++ codes "\n")))
+
+-- what became of a runner's reply
+abbrev pub answered_text : Answered → List ℕ
+answered_text (answers.Recorded happened) = happenings_text happened
+answered_text (answers.Late run at) = late_text run at
+
+-- whether all have ended
+abbrev pub drain_text : Drain → List ℕ
+drain_text (Drained n) = codes "drained " ++ (decimal n ++ codes "\n")
+drain_text (StillOpen n) = codes "open " ++ (decimal n ++ codes "\n")
+
+-- what became of a call
+abbrev pub called_text : Called → List ℕ
+called_text (Happened happened) = happenings_text happened
+called_text (Refused reason) = refused_text reason
+
+-- the bytes of a reply, with how many they are
+abbrev pub reply_text : Answer → List ℕ
+reply_text answer = codes "reply " ++ (decimal (length (reply_bytes answer)) ++ (codes "\n" ++ (reply_bytes answer ++ codes "\n")))
+
+-- the answer to a request, or the id for which it waits
+abbrev pub asked_text : Reply → List ℕ
+asked_text (Now answer) = reply_text answer
+asked_text (Waiting id until) = codes "waiting " ++ (id_text id ++ codes "\n")
+
+-- the lines of what comes of a statement
+abbrev pub lines_of : Done → List ℕ
+lines_of done.Silent = []
+lines_of (done.Refused reason) = refused_text reason
+lines_of (done.Asked reply) = asked_text reply
+lines_of (done.Called called) = called_text called
+lines_of (done.Ordered order) = order_text order
+lines_of (done.Answered answered) = answered_text answered
+lines_of (done.NoRun run) = no_run_text run
+lines_of (done.Drained drain) = drain_text drain

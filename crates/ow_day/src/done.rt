@@ -1,0 +1,25 @@
+// What comes of statements.
+use ow_floor::{Answered, Drain, Order};
+use ow_hall::{Called, Reply};
+use ow_http::Reason;
+
+/// What comes of a statement. Its lines are a function of this.
+#[derive(Drop)]
+pub enum Done {
+    /// It has no answer.
+    Silent,
+    /// Why the words of a call come to no event.
+    Refused(Reason),
+    /// What is answered to the bytes of an `ask`.
+    Asked(Reply),
+    /// What became of a call.
+    Called(Called),
+    /// What is to run.
+    Ordered(Order),
+    /// What became of a runner's reply.
+    Answered(Answered),
+    /// No live run has the number to which a runner replies.
+    NoRun(u64),
+    /// Whether all that was accepted has ended.
+    Drained(Drain),
+}

@@ -1,0 +1,109 @@
+// The first statement of bytes that were read of a day.
+ghost use Rattle.std.specs.Prelude.{◌≡◌, ◌≤◌, ◌<◌, ◌&&◌, if◌then◌else◌, None, length, drop, nat_lt, not, option_map, position};
+ghost use Rattle.ow_day.specs.Input.{is_newline};
+ghost use Rattle.ow_day.specs.Limits.{most_line};
+ghost use Rattle.ow_day.specs.Line.{reading};
+ghost use Rattle.ow_day.specs.Day.{asked, behind_line, first_statement};
+ghost use Rattle.ow_day.specs.First.{IsWithin, first_of};
+
+use crate::line::{LONGEST_LINE, Line, Statement, line_of};
+
+/// What stands at the front of bytes.
+#[derive(Clone, Copy)]
+pub enum First<'a> {
+    /// A statement, which has so many bytes with what ends it.
+    Found {
+        statement: Statement<'a>,
+        used: usize,
+    },
+    /// No statement.
+    Wrong,
+    /// One whose end isn't among them.
+    Cut,
+}
+
+/// The first statement of the bytes, whose first newline stands at this place. `more` says that more bytes may come.
+#[tactic(auto, unfolding(crate::specs::Day::first_statement))]
+pub fn first_statement(more: bool, bytes: &[u8], newline: Option<usize>) -> First<'_>
+    requires { newline ≡ position is_newline bytes.now }
+    ensures first { first_of bytes.now result ≡ first_statement more bytes.now }
+    ensures within { IsWithin bytes.now result }
+{
+    match newline {
+        Some(place) => behind_line(more, line_of(&bytes[..place]), bytes, place + 1),
+        None => without_newline(more, bytes),
+    }
+}
+
+#[tactic(auto, unfolding(crate::specs::Day::first_statement))]
+fn without_newline(more: bool, bytes: &[u8]) -> First<'_>
+    requires { position is_newline bytes.now ≡ None }
+    ensures first { first_of bytes.now result ≡ first_statement more bytes.now }
+    ensures within { IsWithin bytes.now result }
+{
+    if is_cut(more, bytes) {
+        return First::Cut;
+    }
+    behind_line(more, line_of(bytes), bytes, bytes.len())
+}
+
+fn is_cut(more: bool, bytes: &[u8]) -> bool
+    ensures { result ≡ not (nat_lt most_line (length bytes.now)) && more }
+{
+    bytes.len() <= LONGEST_LINE && more
+}
+
+// What begins with this line, behind which so many bytes of all are gone.
+fn behind_line<'a>(more: bool, line: Option<Line<'a>>, bytes: &'a [u8], behind: usize) -> First<'a>
+    requires within { behind ≤ length bytes.now }
+    requires some { 0 < length bytes.now → 0 < behind }
+    ensures first { first_of bytes.now result ≡ behind_line more (option_map reading line.entry) (drop behind bytes.now) }
+    ensures within { IsWithin bytes.now result }
+{
+    match line {
+        Some(Line::Whole(statement)) => First::Found {
+            statement,
+            used: behind,
+        },
+        Some(Line::Asks(count)) => asked(more, count, bytes, behind),
+        None => First::Wrong,
+    }
+}
+
+// The request of so many bytes behind these.
+#[tactic(auto, unfolding(crate::specs::Day::asked))]
+fn asked(more: bool, count: usize, bytes: &[u8], behind: usize) -> First<'_>
+    requires within { behind ≤ length bytes.now }
+    requires some { 0 < length bytes.now → 0 < behind }
+    ensures first { first_of bytes.now result ≡ asked more count (drop behind bytes.now) }
+    ensures within { IsWithin bytes.now result }
+{
+    let rest = &bytes[behind..];
+    if rest.len() < count {
+        return at_end(more, First::Wrong);
+    }
+    if rest.len() == count {
+        let statement = Statement::Ask(rest);
+        return at_end(
+            more,
+            First::Found {
+                statement,
+                used: bytes.len(),
+            },
+        );
+    }
+    if rest[count] != b'\n' {
+        return First::Wrong;
+    }
+    First::Found {
+        statement: Statement::Ask(&rest[..count]),
+        used: behind + count + 1,
+    }
+}
+
+// What is so only where no more bytes come.
+fn at_end(more: bool, first: First<'_>) -> First<'_>
+    ensures { result ≡ (if more then First.Cut else first.entry) }
+{
+    if more { First::Cut } else { first }
+}

@@ -1,0 +1,153 @@
+// The lines of a day, and the statements that they are.
+ghost use Rattle.std.specs.Prelude.{◌≡◌, ◌==◌, position};
+ghost use Rattle.std.specs.Option.{option_map};
+ghost use Rattle.ow_day.specs.Statement.{answer_of, ask_of, at_of, call_of, line_of, parted, utf8_text, worded};
+ghost use Rattle.ow_day.specs.Line.{reading};
+
+use ow_hall::GREATEST_MOMENT;
+use ow_value::decimal_of;
+
+/// The most bytes of a line, without its newline.
+pub const LONGEST_LINE: usize = 8_388_608;
+
+/// The most bytes of a request.
+const MOST_ASKED: u64 = 8_388_608;
+
+/// A statement, its words and its request lent from the day.
+#[derive(Clone, Copy)]
+pub enum Statement<'a> {
+    /// The moment is this, in milliseconds.
+    At(u64),
+    /// A call of the action whose full name this is, percent-encoded, with the object that the text is as JSON.
+    Call(&'a str, &'a str),
+    /// A request of these bytes.
+    Ask(&'a [u8]),
+    /// What has waited longest is ordered to run.
+    Next,
+    /// A runner's answer to the run of this number.
+    Answer(u64, &'a str),
+    /// No more calls are taken from now on.
+    Drain,
+    /// The day ends.
+    End,
+}
+
+/// What a line is.
+#[derive(Clone, Copy)]
+pub enum Line<'a> {
+    /// A whole statement.
+    Whole(Statement<'a>),
+    /// A request of so many bytes stands behind it.
+    Asks(usize),
+}
+
+/// What a line is, which has no newline.
+#[tactic(auto, unfolding(crate::specs::Statement::line_of))]
+pub fn line_of(line: &[u8]) -> Option<Line<'_>>
+    ensures { option_map reading result ≡ line_of line.now }
+{
+    if line.len() > LONGEST_LINE {
+        return None;
+    }
+    if line == b"next".as_slice() {
+        return Some(Line::Whole(Statement::Next));
+    }
+    if line == b"drain".as_slice() {
+        return Some(Line::Whole(Statement::Drain));
+    }
+    if line == b"end".as_slice() {
+        return Some(Line::Whole(Statement::End));
+    }
+    let (word, rest) = parted(line)?;
+    worded(word, rest)
+}
+
+// The line that begins with this word.
+#[tactic(auto, unfolding(crate::specs::Statement::worded))]
+fn worded<'a>(word: &[u8], rest: &'a [u8]) -> Option<Line<'a>>
+    ensures { option_map reading result ≡ worded word.now rest.now }
+{
+    if word == b"call".as_slice() {
+        return call_of(rest);
+    }
+    if word == b"answer".as_slice() {
+        return answer_of(rest);
+    }
+    if word == b"at".as_slice() {
+        return at_of(rest);
+    }
+    if word == b"ask".as_slice() {
+        return ask_of(rest);
+    }
+    None
+}
+
+#[tactic(auto, unfolding(crate::specs::Statement::call_of))]
+fn call_of(rest: &[u8]) -> Option<Line<'_>>
+    ensures { option_map reading result ≡ call_of rest.now }
+{
+    let (name, text) = parted(rest)?;
+    if name.is_empty() {
+        return None;
+    }
+    let name = text_of(name)?;
+    let text = text_of(text)?;
+    Some(Line::Whole(Statement::Call(name, text)))
+}
+
+#[tactic(auto, unfolding(crate::specs::Statement::answer_of))]
+fn answer_of(rest: &[u8]) -> Option<Line<'_>>
+    ensures { option_map reading result ≡ answer_of rest.now }
+{
+    let (number, text) = parted(rest)?;
+    let run = decimal_of(number)?;
+    let text = text_of(text)?;
+    Some(Line::Whole(Statement::Answer(run, text)))
+}
+
+#[tactic(auto, unfolding(crate::specs::Statement::at_of))]
+fn at_of(rest: &[u8]) -> Option<Line<'_>>
+    ensures { option_map reading result ≡ at_of rest.now }
+{
+    let moment = decimal_of(rest)?;
+    if moment > GREATEST_MOMENT {
+        return None;
+    }
+    Some(Line::Whole(Statement::At(moment)))
+}
+
+#[tactic(auto, unfolding(crate::specs::Statement::ask_of))]
+fn ask_of(rest: &[u8]) -> Option<Line<'_>>
+    ensures { option_map reading result ≡ ask_of rest.now }
+{
+    let count = decimal_of(rest)?;
+    if count > MOST_ASKED {
+        return None;
+    }
+    Some(Line::Asks(count as usize))
+}
+
+// The bytes as text, where they are UTF-8.
+fn text_of(bytes: &[u8]) -> Option<&str>
+    ensures { option_map (λ s. s.now) result ≡ utf8_text bytes.now }
+{
+    match std::str::from_utf8(bytes) {
+        Ok(text) => Some(text),
+        Err(_) => None,
+    }
+}
+
+// The word up to the first space, and what follows the space.
+#[tactic(auto, unfolding(crate::specs::Statement::parted))]
+fn parted(line: &[u8]) -> Option<(&[u8], &[u8])>
+    ensures { option_map (λ p. (p.0.now, p.1.now)) result ≡ parted line.now }
+{
+    let k = space_in(line)?;
+    Some((&line[..k], &line[k + 1..]))
+}
+
+fn space_in(text: &[u8]) -> Option<usize>
+    ensures { result ≡ position (λ c. c == 32) text.now }
+{
+    text.iter().position(|c| *c == b' ')
+}

@@ -1,0 +1,234 @@
+// A day read as a stream: each statement is carried out as soon as its bytes are there, and the answers are written before
+// more of the day is asked for, and as soon as a megabyte of them is ready.
+ghost use Rattle.std.specs.Prelude.{◌≡◌, ◌≢◌, ◌<◌, ◌≤◌, if◌then◌else◌, length, false, true, [], Some, None, OnOk, OnErr, IfSome, IfNone};
+ghost use Rattle.ow_traits.specs.Streams.{HasCause, Rose, Takes, TakesFront};
+ghost use Rattle.ow_day.specs.Day.{Cut as CutFirst, day_of, first_statement};
+ghost use Rattle.ow_day.specs.Limits.{most_ready};
+ghost use Rattle.ow_day.specs.Office.{Tells};
+ghost use Rattle.ow_day.specs.Reads.{IsAnswered, LeavesRest};
+ghost use Rattle.ow_day.specs.Run.{Closes, IsBounded, IsOfDay, StepsOn, Turns, WritesOn, work};
+
+use crate::first::{First, first_statement};
+use crate::input::{FillError, Filled, Input};
+use crate::session::{Session, Step};
+use crate::status::Status;
+use ow_traits::{Failed, Keeper, Sink, Source, write_all};
+use std::alloc::Global;
+
+/// Where so many bytes of answers are ready, they are written.
+const MOST_READY: usize = 1_048_576;
+
+/// A day under way: what was read of it, and the answers that aren't written yet. `number` is that of the
+/// next statement, counted from 1.
+#[derive(Drop)]
+pub struct Run<P: Keeper + Drop> {
+    pub session: Session<P>,
+    pub input: Input,
+    /// The end of the day was read.
+    pub ended: bool,
+    pub answers: Vec<u8>,
+    pub number: u64,
+}
+
+impl<P: Keeper + Drop> Run<P> {
+    // Nothing is read of the day yet.
+    fn new(alloc: Global, session: Session<P>, input: Input) -> Self
+        ensures session { result.session ≡ session }
+        ensures input { result.input ≡ input }
+        ensures ended { result.ended ≡ false }
+        ensures answers { result.answers.items ≡ [] }
+        ensures number { result.number ≡ 1 }
+    {
+        Run {
+            session,
+            input,
+            ended: false,
+            answers: Vec::new(alloc),
+            number: 1,
+        }
+    }
+
+    // Carries out the first statement of what waits.
+    fn step(&mut self, alloc: Global) -> Step
+        requires { IsBounded self.old }
+        ensures steps { StepsOn self.old self.new result }
+        ensures bounded { result ≡ Step.Done → IsBounded self.new }
+        ensures falls { result ≡ Step.Done → work self.new < work self.old }
+        ensures store { self.new.session.hall.store ≡ self.old.session.hall.store }
+    {
+        if self.input.len() == 0 {
+            return self.without_bytes();
+        }
+        let newline = self.input.newline();
+        match first_statement(!self.ended, self.input.pending(), newline) {
+            First::Found { statement, used } => {
+                let step = self.session.carry_out(alloc, statement, &mut self.answers);
+                if let Step::Done = step {
+                    self.input.skip(used);
+                    self.number += 1;
+                }
+                step
+            }
+            First::Wrong => Step::Bad,
+            First::Cut => Step::Cut,
+        }
+    }
+
+    // No byte waits.
+    fn without_bytes(&self) -> Step
+        ensures { result ≡ (if self.now.ended then Step.End else Step.Cut) }
+    {
+        if self.ended { Step::End } else { Step::Cut }
+    }
+
+    // Writes the answers, and ends as the step does.
+    fn close<O: Sink>(&self, out: &mut O, step: Step) -> Status
+        ensures told { Closes (O.taken out.old) (O.taken out.new) self.now step result }
+        ensures own { IsOfDay result }
+        ensures read { result ≢ Status.ReadFault }
+        ensures write { result ≡ Status.WriteFault → Rose (O.faults out.old) (O.faults out.new) }
+        ensures later { O.faults out.old ≤ O.faults out.new }
+    {
+        let status = match step {
+            Step::End => Status::Ok,
+            Step::Bad => Status::BadDay {
+                statement: self.number,
+            },
+            Step::Done | Step::Cut | Step::NoMemory => return Status::NoMemory,
+        };
+        match write_all(out, &self.answers) {
+            Ok(()) => status,
+            Err(_) => Status::WriteFault,
+        }
+    }
+
+    // Reads on, where the first statement is cut. The answers are written before.
+    fn read_on<S: Source, O: Sink>(&mut self, day: &mut S, out: &mut O) -> Option<Status>
+        requires bounded { IsBounded self.old }
+        requires unended { self.old.ended ≡ false }
+        requires cut { first_statement true self.old.input.pending ≡ CutFirst }
+        ensures told { Turns (S.left day.old) (S.left day.new) (O.taken out.old) (O.taken out.new) self.old self.new result }
+        ensures bounded { IfNone result (IsBounded self.new) }
+        ensures falls { IfNone result (work self.new < work self.old) }
+        ensures ready { IfNone result (length self.new.answers.items < most_ready) }
+        ensures own { IfSome result IsOfDay }
+        ensures store { self.new.session.hall.store ≡ self.old.session.hall.store }
+        ensures read { result ≡ Some Status.ReadFault → Rose (S.faults day.old) (S.faults day.new) }
+        ensures write { result ≡ Some Status.WriteFault → Rose (O.faults out.old) (O.faults out.new) }
+        ensures day_later { S.faults day.old ≤ S.faults day.new }
+        ensures out_later { O.faults out.old ≤ O.faults out.new }
+    {
+        if flush(&mut self.answers, out).is_err() {
+            return Some(Status::WriteFault);
+        }
+        match self.input.fill(day) {
+            Ok(Filled::More) => None,
+            Ok(Filled::End) => {
+                self.ended = true;
+                None
+            }
+            Ok(Filled::Past) => Some(Status::DayTooLong),
+            Err(FillError::Failed) => Some(Status::ReadFault),
+            Err(FillError::NoMemory) => Some(Status::NoMemory),
+        }
+    }
+
+    // Writes the answers, where enough of them are ready.
+    fn write_ready<O: Sink>(&mut self, out: &mut O) -> Option<Status>
+        requires { IsBounded self.old }
+        ensures told { WritesOn (O.taken out.old) (O.taken out.new) self.old self.new result }
+        ensures bounded { IsBounded self.new }
+        ensures work { work self.new ≡ work self.old }
+        ensures ready { IfNone result (length self.new.answers.items < most_ready) }
+        ensures fault { IfSome result (λ status. status ≡ Status.WriteFault) }
+        ensures store { self.new.session.hall.store ≡ self.old.session.hall.store }
+        ensures write { IfSome result (λ status. Rose (O.faults out.old) (O.faults out.new)) }
+        ensures later { O.faults out.old ≤ O.faults out.new }
+    {
+        if self.answers.len() < MOST_READY {
+            return None;
+        }
+        match flush(&mut self.answers, out) {
+            Ok(()) => None,
+            Err(_) => Some(Status::WriteFault),
+        }
+    }
+
+    // Carries out one statement, and writes the answers where enough of them are ready; or reads on.
+    fn turn<S: Source, O: Sink>(
+        &mut self,
+        alloc: Global,
+        day: &mut S,
+        out: &mut O,
+    ) -> Option<Status>
+        requires { IsBounded self.old }
+        ensures told { Turns (S.left day.old) (S.left day.new) (O.taken out.old) (O.taken out.new) self.old self.new result }
+        ensures bounded { IfNone result (IsBounded self.new) }
+        ensures falls { IfNone result (work self.new < work self.old) }
+        ensures ready { IfNone result (length self.new.answers.items < most_ready) }
+        ensures own { IfSome result IsOfDay }
+        ensures store { self.new.session.hall.store ≡ self.old.session.hall.store }
+        ensures read { result ≡ Some Status.ReadFault → Rose (S.faults day.old) (S.faults day.new) }
+        ensures write { result ≡ Some Status.WriteFault → Rose (O.faults out.old) (O.faults out.new) }
+        ensures day_later { S.faults day.old ≤ S.faults day.new }
+        ensures out_later { O.faults out.old ≤ O.faults out.new }
+    {
+        match self.step(alloc) {
+            Step::Done => self.write_ready(out),
+            Step::Cut => self.read_on(day, out),
+            step => Some(self.close(out, step)),
+        }
+    }
+
+    // The store.
+    fn finish(self) -> P
+        ensures { result ≡ self.session.hall.store }
+    {
+        let Run { session, .. } = self;
+        session.finish()
+    }
+}
+
+/// Carries out the statements of a day as they come, and writes their answers. The store is lost where memory is wanted
+/// before the first of them.
+pub fn run_day<S: Source, O: Sink, P: Keeper + Drop>(
+    alloc: Global,
+    store: P,
+    day: &mut S,
+    out: &mut O,
+) -> (Status, Option<P>)
+    ensures told { IfSome (S.left day.old) (λ bytes. Tells (O.taken out.old) (O.taken out.new) result.0 (day_of bytes)) }
+    ensures reads { IfSome (S.left day.old) (λ bytes. LeavesRest bytes (S.left day.new)) }
+    ensures answered { result.0 ≡ Status.ReadFault → IfSome (S.left day.old) (λ bytes. IsAnswered bytes (S.left day.new) (O.taken out.old) (O.taken out.new)) }
+    ensures own { IsOfDay result.0 }
+    ensures read { result.0 ≡ Status.ReadFault → Rose (S.faults day.old) (S.faults day.new) }
+    ensures write { result.0 ≡ Status.WriteFault → Rose (O.faults out.old) (O.faults out.new) }
+    ensures store { IfSome result.1 (λ back. back ≡ store) }
+    ensures lost { result.1 ≡ None → result.0 ≡ Status.NoMemory }
+    ensures unbegun { result.1 ≡ None → (day.new ≡ day.old) × (out.new ≡ out.old) }
+{
+    let Ok(input) = Input::new(alloc) else {
+        return (Status::NoMemory, Some(store));
+    };
+    let Ok(session) = Session::new(alloc, store) else {
+        return (Status::NoMemory, None);
+    };
+    let mut run = Run::new(alloc, session, input);
+    'turns: loop {
+        if let Some(status) = run.turn(alloc, day, out) {
+            return (status, Some(run.finish()));
+        }
+    }
+}
+
+// Writes the answers, and lets go of them.
+fn flush<O: Sink>(answers: &mut Vec<u8>, out: &mut O) -> Result<(), Failed>
+    ensures ok { OnOk result (Takes (O.taken out.old) (O.taken out.new) answers.old.items) }
+    ensures none { OnOk result (answers.new.items ≡ []) }
+    ensures err { OnErr result (TakesFront (O.taken out.old) (O.taken out.new) answers.old.items) }
+    ensures cause { HasCause (O.faults out.old) (O.faults out.new) result }
+{
+    write_all(out, answers)?;
+    answers.clear();
+    Ok(())
+}

@@ -1,0 +1,229 @@
+// A day under way: statements carried out over the hall.
+ghost use Rattle.std.specs.Prelude.{◌≡◌, [], IfOk};
+ghost use Rattle.ow_hall.specs.declared.entry.Event.TheVariants as events;
+ghost use Rattle.ow_http.specs.Read.{IsRead};
+ghost use Rattle.ow_traits.specs.declared.replies.RunReply.TheVariants as replies;
+ghost use Rattle.ow_day.specs.Line.{statement};
+ghost use Rattle.ow_day.specs.Machine.{Calls, Does, Meets, start, unread};
+ghost use Rattle.ow_day.specs.Session.{CarriesOut, Denies, machine_of};
+ghost use Rattle.ow_day.specs.Statement.{Answer, Ask, At, Call};
+
+use crate::call_words::{CallWords, call_words};
+use crate::done::Done;
+use crate::line::Statement;
+use crate::texts::push_done;
+use ow_floor::AnswerRefusal;
+use ow_hall::{Hall, Reply};
+use ow_http::{HttpRefusal, Reason, Request, Routes, refusal};
+use ow_names::FullName;
+use ow_traits::{Keeper, RunReply};
+use ow_value::{Lines, NoMemory, Params, Scratch, Str};
+use std::alloc::Global;
+
+/// The hall, and the moment in milliseconds that the day gave last.
+#[derive(Drop)]
+pub struct Session<P: Keeper + Drop> {
+    pub hall: Hall<P>,
+    pub given: u64,
+    /// In which the texts of calls are read.
+    pub scratch: Scratch,
+    /// By which requests are read.
+    pub routes: Routes,
+}
+
+/// What became of the first statement of a day.
+#[derive(Clone, Copy, Debug, PartialEq, Eq)]
+pub enum Step {
+    /// It was carried out.
+    Done,
+    /// It ends the day, or the day has no more.
+    End,
+    /// It is none.
+    Bad,
+    /// More of it is to be read.
+    Cut,
+    /// There is no memory.
+    NoMemory,
+}
+
+impl<P: Keeper + Drop> Session<P> {
+    /// A service that was just opened, at moment 0. Without memory the store is lost.
+    pub fn new(alloc: Global, store: P) -> Result<Self, NoMemory>
+        ensures machine { IfOk result (λ s. machine_of s ≡ start) }
+        ensures store { IfOk result (λ s. s.hall.store ≡ store) }
+    {
+        Ok(Session {
+            hall: Hall::start(alloc, store, 0)?,
+            given: 0,
+            scratch: Scratch::new(alloc),
+            routes: Routes::new(alloc)?,
+        })
+    }
+
+    /// The store.
+    pub fn finish(self) -> P
+        ensures { result ≡ self.hall.store }
+    {
+        let Session { hall, .. } = self;
+        let (store, _) = hall.finish();
+        store
+    }
+
+    /// Carries out a statement, unless it ends the day, and puts its lines behind the answers.
+    pub fn carry_out(&mut self, alloc: Global, said: Statement<'_>, answers: &mut Vec<u8>) -> Step
+        ensures step { CarriesOut self.old self.new (statement said.entry) answers.old.items answers.new.items result }
+        ensures store { self.new.hall.store ≡ self.old.hall.store }
+    {
+        if let Statement::End = said {
+            return Step::End;
+        }
+        let Ok(done) = self.perform(alloc, said) else {
+            return Step::NoMemory;
+        };
+        match push_done(alloc, answers, &done) {
+            Ok(()) => Step::Done,
+            Err(NoMemory) => Step::NoMemory,
+        }
+    }
+
+    // What comes of a statement.
+    fn perform(&mut self, alloc: Global, said: Statement<'_>) -> Result<Done, NoMemory>
+        ensures does { IfOk result (λ done. Does (machine_of self.old) (statement said.entry) done (machine_of self.new)) }
+        ensures store { self.new.hall.store ≡ self.old.hall.store }
+    {
+        match said {
+            Statement::At(moment) => Ok(self.set_moment(moment)),
+            Statement::Call(name, text) => self.call(alloc, name, text),
+            Statement::Ask(request) => self.ask(alloc, request),
+            Statement::Next => self.next(alloc),
+            Statement::Answer(run, text) => self.answer(alloc, run, text),
+            Statement::Drain => self.drain(alloc),
+            Statement::End => Ok(Done::Silent),
+        }
+    }
+
+    fn set_moment(&mut self, moment: u64) -> Done
+        ensures does { Does (machine_of self.old) (At moment) result (machine_of self.new) }
+        ensures store { self.new.hall.store ≡ self.old.hall.store }
+    {
+        self.given = moment;
+        Done::Silent
+    }
+
+    fn call(&mut self, alloc: Global, name: &str, text: &str) -> Result<Done, NoMemory>
+        ensures does { IfOk result (λ done. Does (machine_of self.old) (Call name.now text.now) done (machine_of self.new)) }
+        ensures store { self.new.hall.store ≡ self.old.hall.store }
+    {
+        let full = self.hall.book().is_full(0);
+        let words = call_words(alloc, &mut self.scratch, full, name, text)?;
+        self.call_with(alloc, words)
+    }
+
+    fn call_with(&mut self, alloc: Global, words: CallWords) -> Result<Done, NoMemory>
+        ensures calls { IfOk result (λ done. Calls (machine_of self.old) words done (machine_of self.new)) }
+        ensures store { self.new.hall.store ≡ self.old.hall.store }
+    {
+        match words {
+            CallWords::Refused(reason) => Ok(Done::Refused(reason)),
+            CallWords::Calls { name, params } => self.invoke(alloc, &name, params),
+        }
+    }
+
+    fn invoke(&mut self, alloc: Global, name: &FullName, params: Params) -> Result<Done, NoMemory>
+        ensures meets { IfOk result (λ done. Meets (machine_of self.old) (events.Called name.now params) done (machine_of self.new)) }
+        ensures store { self.new.hall.store ≡ self.old.hall.store }
+    {
+        let called = self.hall.call(alloc, self.given, name, params)?;
+        Ok(Done::Called(called))
+    }
+
+    fn ask(&mut self, alloc: Global, bytes: &[u8]) -> Result<Done, NoMemory>
+        ensures does { IfOk result (λ done. Does (machine_of self.old) (Ask bytes.now) done (machine_of self.new)) }
+        ensures store { self.new.hall.store ≡ self.old.hall.store }
+    {
+        match read(alloc, &self.routes, bytes)? {
+            Ok(request) => self.request(alloc, &request),
+            Err(refused) => unread(alloc, refused),
+        }
+    }
+
+    fn request(&mut self, alloc: Global, request: &Request) -> Result<Done, NoMemory>
+        ensures meets { IfOk result (λ done. Meets (machine_of self.old) (events.Asked request.now) done (machine_of self.new)) }
+        ensures store { self.new.hall.store ≡ self.old.hall.store }
+    {
+        let reply = self.hall.ask(alloc, self.given, request)?;
+        Ok(Done::Asked(reply))
+    }
+
+    fn next(&mut self, alloc: Global) -> Result<Done, NoMemory>
+        ensures meets { IfOk result (λ done. Meets (machine_of self.old) events.Next done (machine_of self.new)) }
+        ensures store { self.new.hall.store ≡ self.old.hall.store }
+    {
+        let order = self.hall.next(alloc, self.given)?;
+        Ok(Done::Ordered(order))
+    }
+
+    fn answer(&mut self, alloc: Global, run: u64, text: &str) -> Result<Done, NoMemory>
+        ensures does { IfOk result (λ done. Does (machine_of self.old) (Answer run text.now) done (machine_of self.new)) }
+        ensures store { self.new.hall.store ≡ self.old.hall.store }
+    {
+        let text = Str::of(alloc, text)?;
+        let logs = Lines::new();
+        self.reply(alloc, run, RunReply::Answer { text, logs })
+    }
+
+    fn reply(&mut self, alloc: Global, run: u64, reply: RunReply) -> Result<Done, NoMemory>
+        ensures meets { IfOk result (λ done. Meets (machine_of self.old) (events.Answered run reply) done (machine_of self.new)) }
+        ensures store { self.new.hall.store ≡ self.old.hall.store }
+    {
+        match self.hall.answered(alloc, self.given, run, reply) {
+            Ok(answered) => Ok(Done::Answered(answered)),
+            Err(refused) => unanswered(refused),
+        }
+    }
+
+    fn drain(&mut self, alloc: Global) -> Result<Done, NoMemory>
+        ensures meets { IfOk result (λ done. Meets (machine_of self.old) events.Drain done (machine_of self.new)) }
+        ensures store { self.new.hall.store ≡ self.old.hall.store }
+    {
+        let drain = self.hall.drain(alloc, self.given)?;
+        Ok(Done::Drained(drain))
+    }
+}
+
+// The request that the bytes begin with, or why they begin with none.
+fn read(
+    alloc: Global,
+    routes: &Routes,
+    bytes: &[u8],
+) -> Result<Result<Request, HttpRefusal>, NoMemory>
+    ensures { IfOk result (λ read. IsRead bytes.now read) }
+{
+    match routes.read(alloc, bytes) {
+        Ok(read) => Ok(Ok(read.request)),
+        Err(refusal) => {
+            if refusal == HttpRefusal::NoMemory {
+                return Err(NoMemory);
+            }
+            Ok(Err(refusal))
+        }
+    }
+}
+
+// The reply to bytes that are no request.
+fn unread(alloc: Global, refused: HttpRefusal) -> Result<Done, NoMemory>
+    ensures { IfOk result (λ done. done ≡ unread refused) }
+{
+    let answer = refusal(alloc, &Reason::Http(refused))?;
+    Ok(Done::Asked(Reply::Now(answer)))
+}
+
+// Why a runner's reply isn't taken.
+fn unanswered(refused: AnswerRefusal) -> Result<Done, NoMemory>
+    ensures { Denies refused result }
+{
+    match refused {
+        AnswerRefusal::NoRun { run, .. } => Ok(Done::NoRun(run)),
+        AnswerRefusal::NoMemory(_) => Err(NoMemory),
+    }
+}

@@ -1,0 +1,92 @@
+// How the office ends, and what it says of that.
+ghost use Rattle.std.specs.Prelude.{◌≡◌, ◌++◌, OnOk, OnErr};
+ghost use Rattle.ow_traits.specs.Streams.{HasCause, Takes, TakesFront};
+ghost use Rattle.ow_day.specs.Status.{err_text, status_number};
+
+use itoa::Buffer;
+use ow_traits::{Failed, Sink, write_all};
+
+/// How the office ended.
+#[derive(Clone, Copy, Debug, PartialEq, Eq)]
+pub enum Status {
+    /// The day was read to `end` or its end, and all was written.
+    Ok,
+    /// The statement of this number, counted from 1, is none.
+    BadDay { statement: u64 },
+    /// The words of the command line aren't in the command set.
+    BadWords,
+    /// The day could not be read on.
+    ReadFault,
+    /// An answer could not be written.
+    WriteFault,
+    /// There is no memory.
+    NoMemory,
+    /// The day has more bytes than are allowed.
+    DayTooLong,
+}
+
+impl Status {
+    /// The exit status of the program.
+    pub fn number(self) -> u8
+        ensures { result ≡ status_number self }
+    {
+        match self {
+            Status::Ok => 0,
+            Status::BadDay { statement: _ } => 1,
+            Status::BadWords => 2,
+            Status::ReadFault => 3,
+            Status::WriteFault => 4,
+            Status::NoMemory => 7,
+            Status::DayTooLong => 8,
+        }
+    }
+}
+
+/// Writes the line of the status, where it has one. That takes no memory. After a fault a front of it was taken.
+#[tactic(auto, using(crate::proofs::Results::takes_none))]
+pub fn report<E: Sink>(status: Status, err: &mut E) -> Result<(), Failed>
+    ensures ok { OnOk result (Takes (E.taken err.old) (E.taken err.new) (err_text status)) }
+    ensures err { OnErr result (TakesFront (E.taken err.old) (E.taken err.new) (err_text status)) }
+    ensures cause { HasCause (E.faults err.old) (E.faults err.new) result }
+    ensures quiet { status ≡ Status.Ok → err.new ≡ err.old }
+{
+    match status {
+        Status::Ok => Ok(()),
+        Status::BadDay { statement } => report_place(statement, err),
+        Status::BadWords => write_all(err, b"bad words\n"),
+        Status::ReadFault => write_all(err, b"read fault\n"),
+        Status::WriteFault => write_all(err, b"write fault\n"),
+        Status::NoMemory => write_all(err, b"no memory\n"),
+        Status::DayTooLong => write_all(err, b"day too long\n"),
+    }
+}
+
+fn report_place<E: Sink>(statement: u64, err: &mut E) -> Result<(), Failed>
+    ensures ok { OnOk result (Takes (E.taken err.old) (E.taken err.new) (err_text (Status.BadDay statement))) }
+    ensures err { OnErr result (TakesFront (E.taken err.old) (E.taken err.new) (err_text (Status.BadDay statement))) }
+    ensures cause { HasCause (E.faults err.old) (E.faults err.new) result }
+{
+    let mut digits = Buffer::new();
+    let number = digits.format(statement).as_bytes();
+    write_pieces(err, b"bad day at ", number, b"\n")
+}
+
+// Writes the three pieces, one behind the other.
+fn write_pieces<O: Sink>(
+    out: &mut O,
+    first: &[u8],
+    second: &[u8],
+    third: &[u8],
+) -> Result<(), Failed>
+    ensures ok { OnOk result (Takes (O.taken out.old) (O.taken out.new) (first.now ++ (second.now ++ third.now))) }
+    ensures err { OnErr result (TakesFront (O.taken out.old) (O.taken out.new) (first.now ++ (second.now ++ third.now))) }
+    ensures cause { HasCause (O.faults out.old) (O.faults out.new) result }
+{
+    if let Err(failed) = write_all(out, first) {
+        return Err(failed);
+    }
+    if let Err(failed) = write_all(out, second) {
+        return Err(failed);
+    }
+    write_all(out, third)
+}

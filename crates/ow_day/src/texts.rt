@@ -1,0 +1,193 @@
+// The lines that answer statements. Without memory a front of a line may stand behind those that are there.
+ghost use Rattle.std.specs.Prelude.{◌≡◌, ◌++◌, OnOk, codes};
+ghost use Rattle.std.specs.Fmt.{decimal};
+ghost use Rattle.ow_records.specs.Id.{id_text};
+ghost use Rattle.ow_day.specs.Texts.{answered_text, asked_text, called_text, drain_text, happening_text, happenings_text, late_text, lines_of, no_run_text, order_text, refused_text, reply_text, run_text};
+
+use crate::done::Done;
+use itoa::Buffer;
+use ow_floor::{Answered, Drain, Happened, Happening, Order, RunOrder};
+use ow_hall::{Called, Reply};
+use ow_http::{Answer, Reason, reason_text, write_reply};
+use ow_records::Id;
+use ow_value::NoMemory;
+use std::alloc::Global;
+
+/// Puts the lines of what comes of a statement.
+pub fn push_done(alloc: Global, answers: &mut Vec<u8>, done: &Done) -> Result<(), NoMemory>
+    ensures ok { OnOk result (answers.new.items ≡ answers.old.items ++ lines_of done.now) }
+{
+    match done {
+        Done::Silent => Ok(()),
+        Done::Refused(reason) => push_refused(alloc, answers, reason),
+        Done::Asked(reply) => push_asked(alloc, answers, reply),
+        Done::Called(called) => push_called(alloc, answers, called),
+        Done::Ordered(order) => push_order(answers, order),
+        Done::Answered(answered) => push_answered(answers, answered),
+        Done::NoRun(run) => push_no_run(answers, *run),
+        Done::Drained(drain) => push_drain(answers, *drain),
+    }
+}
+
+// Puts the bytes behind those that are there.
+fn push(answers: &mut Vec<u8>, bytes: &[u8]) -> Result<(), NoMemory>
+    ensures ok { OnOk result (answers.new.items ≡ answers.old.items ++ bytes.now) }
+{
+    Ok(answers.extend_from_slice(bytes)?)
+}
+
+fn push_number(answers: &mut Vec<u8>, number: u64) -> Result<(), NoMemory>
+    ensures ok { OnOk result (answers.new.items ≡ answers.old.items ++ decimal number) }
+{
+    let mut digits = Buffer::new();
+    push(answers, digits.format(number).as_bytes())
+}
+
+fn push_happening(answers: &mut Vec<u8>, happening: Happening) -> Result<(), NoMemory>
+    ensures ok { OnOk result (answers.new.items ≡ answers.old.items ++ happening_text happening) }
+{
+    match happening {
+        Happening::Accepted { id } => {
+            push(answers, b"accepted ")?;
+            id.push_text(answers)?;
+            push(answers, b"\n")
+        }
+        Happening::Recorded { id, code } => {
+            push(answers, b"recorded ")?;
+            id.push_text(answers)?;
+            push(answers, b" ")?;
+            push_number(answers, u64::from(code))?;
+            push(answers, b"\n")
+        }
+    }
+}
+
+// Puts a line for each thing that happened.
+fn push_happened(answers: &mut Vec<u8>, happened: &Happened) -> Result<(), NoMemory>
+    ensures ok { OnOk result (answers.new.items ≡ answers.old.items ++ happenings_text happened.now) }
+{
+    for happening in happened.items() {
+        push_happening(answers, *happening)?;
+    }
+    Ok(())
+}
+
+// Puts the line of an order.
+fn push_order(answers: &mut Vec<u8>, order: &Order) -> Result<(), NoMemory>
+    ensures ok { OnOk result (answers.new.items ≡ answers.old.items ++ order_text order.now) }
+{
+    match order {
+        Order::Run(order) => push_run(answers, order),
+        Order::Nothing(_) => push(answers, b"nothing empty\n"),
+    }
+}
+
+fn push_run(answers: &mut Vec<u8>, order: &RunOrder) -> Result<(), NoMemory>
+    ensures ok { OnOk result (answers.new.items ≡ answers.old.items ++ run_text order.now) }
+{
+    push(answers, b"run ")?;
+    push_number(answers, order.run)?;
+    push(answers, b" ")?;
+    order.id.push_text(answers)?;
+    push(answers, b"\n")
+}
+
+// Puts what became of a runner's reply.
+fn push_answered(answers: &mut Vec<u8>, answered: &Answered) -> Result<(), NoMemory>
+    ensures ok { OnOk result (answers.new.items ≡ answers.old.items ++ answered_text answered.now) }
+{
+    match answered {
+        Answered::Recorded(happened) => push_happened(answers, happened),
+        Answered::Late { run, at } => push_late(answers, *run, *at),
+    }
+}
+
+// Puts the line of a reply that comes behind the end of what its run carried.
+fn push_late(answers: &mut Vec<u8>, run: u64, at: u64) -> Result<(), NoMemory>
+    ensures ok { OnOk result (answers.new.items ≡ answers.old.items ++ late_text run at) }
+{
+    push(answers, b"late ")?;
+    push_number(answers, run)?;
+    push(answers, b" ")?;
+    push_number(answers, at)?;
+    push(answers, b"\n")
+}
+
+// Puts the line of a reply to a number that no live run has.
+fn push_no_run(answers: &mut Vec<u8>, run: u64) -> Result<(), NoMemory>
+    ensures ok { OnOk result (answers.new.items ≡ answers.old.items ++ no_run_text run) }
+{
+    push(answers, b"refused 29 No run ")?;
+    push_number(answers, run)?;
+    push(answers, b".\n")
+}
+
+// Puts the line of a drain.
+fn push_drain(answers: &mut Vec<u8>, drain: Drain) -> Result<(), NoMemory>
+    ensures ok { OnOk result (answers.new.items ≡ answers.old.items ++ drain_text drain) }
+{
+    match drain {
+        Drain::Drained(n) => push_counted(answers, b"drained ", n),
+        Drain::StillOpen(n) => push_counted(answers, b"open ", n),
+    }
+}
+
+fn push_counted(answers: &mut Vec<u8>, word: &[u8], n: u64) -> Result<(), NoMemory>
+    ensures ok { OnOk result (answers.new.items ≡ answers.old.items ++ (word.now ++ (decimal n ++ codes "\n"))) }
+{
+    push(answers, word)?;
+    push_number(answers, n)?;
+    push(answers, b"\n")
+}
+
+// Puts the line of a refusal.
+fn push_refused(alloc: Global, answers: &mut Vec<u8>, reason: &Reason) -> Result<(), NoMemory>
+    ensures ok { OnOk result (answers.new.items ≡ answers.old.items ++ refused_text reason.now) }
+{
+    let text = reason_text(alloc, reason)?;
+    push(answers, b"refused ")?;
+    push_number(answers, u64::from(reason.number()))?;
+    push(answers, b" ")?;
+    push(answers, text.as_str().as_bytes())?;
+    push(answers, b"\n")
+}
+
+// Puts what became of a call.
+fn push_called(alloc: Global, answers: &mut Vec<u8>, called: &Called) -> Result<(), NoMemory>
+    ensures ok { OnOk result (answers.new.items ≡ answers.old.items ++ called_text called.now) }
+{
+    match called {
+        Called::Happened(happened) => push_happened(answers, happened),
+        Called::Refused(reason) => push_refused(alloc, answers, reason),
+    }
+}
+
+// Puts the bytes of a reply, with how many they are.
+fn push_reply(alloc: Global, answers: &mut Vec<u8>, answer: &Answer) -> Result<(), NoMemory>
+    ensures ok { OnOk result (answers.new.items ≡ answers.old.items ++ reply_text answer.now) }
+{
+    let reply = write_reply(alloc, answer)?;
+    push(answers, b"reply ")?;
+    push_number(answers, reply.len() as u64)?;
+    push(answers, b"\n")?;
+    push(answers, &reply)?;
+    push(answers, b"\n")
+}
+
+fn push_waiting(answers: &mut Vec<u8>, id: Id) -> Result<(), NoMemory>
+    ensures ok { OnOk result (answers.new.items ≡ answers.old.items ++ (codes "waiting " ++ (id_text id ++ codes "\n"))) }
+{
+    push(answers, b"waiting ")?;
+    id.push_text(answers)?;
+    push(answers, b"\n")
+}
+
+// Puts the answer to a request, or the id for which it waits.
+fn push_asked(alloc: Global, answers: &mut Vec<u8>, reply: &Reply) -> Result<(), NoMemory>
+    ensures ok { OnOk result (answers.new.items ≡ answers.old.items ++ asked_text reply.now) }
+{
+    match reply {
+        Reply::Now(answer) => push_reply(alloc, answers, answer),
+        Reply::Waiting { id, .. } => push_waiting(answers, *id),
+    }
+}

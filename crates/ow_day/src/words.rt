@@ -1,0 +1,80 @@
+// The command line.
+ghost use Rattle.std.specs.Prelude.{◌≡◌, map, string_bytes};
+ghost use Rattle.ow_day.specs.Words.{command_named, command_of};
+
+/// What the words ask for.
+#[derive(Clone, Copy, Debug, PartialEq, Eq)]
+pub enum Command {
+    /// Carry out the statements of a day.
+    Day,
+    /// Tell how the program is used.
+    Help,
+    /// Tell the program's version.
+    Version,
+}
+
+/// What `--help` writes.
+pub const HELP: &[u8] = b"ow_whisk: a function service after Apache OpenWhisk
+
+usage: ow_whisk day < FILE     carries out the statements of a day, and writes each answer
+       ow_whisk --help         writes this text
+       ow_whisk --version      writes the version
+
+A day has one statement a line, of at most 8388608 bytes. Its words are parted by one space, its
+numbers are decimal without leading zeros. NAME is an action's full name, percent-encoded, as
+/guest/hello, or /whisk.system/utils/echo, which is built in. TEXT is the rest of the line: a JSON
+object with whole numbers of 64 bits, nested at most 100 deep. An ID has 32 hexadecimal digits.
+Below each statement stand the forms of its answer.
+
+  at MOMENT          sets the moment, in milliseconds, at most 253402300799999; it is 0 at first
+                       no answer
+  ask N              is an HTTP request: N bytes, at most 8388608, follow the line, and a newline
+                       reply M               on the lines behind it its M bytes, and a newline
+  call NAME TEXT     calls an action with this object
+                       accepted ID           it waits
+                       refused NUMBER WHY    it was not accepted
+  next               orders what has waited longest to run
+                       run RUN ID            RUN is its number, from 1
+                       nothing empty         nothing waits
+  answer RUN TEXT    is a runner's answer to that run, of at most 1048576 bytes
+                       recorded ID CODE      0 success, 1 it has the name error, 2 no such object
+                       refused 29 WHY        no such run is under way
+  drain              takes no more calls from now on
+                       drained N             all N that were accepted have ended
+                       open N                N have not ended
+  end                ends the day; what follows is not acted on
+                       no answer
+
+exit status, and its line on standard error:
+  0  none            all was carried out
+  1  bad day at N    what stands at the Nth place is no statement; an ask and its bytes are one
+  2  bad words       the command line is none of the three above
+  3  read fault      the day could not be read on
+  4  write fault     an answer could not be written
+  7  no memory       memory was wanted
+  8  day too long    it has more than 1073741824 bytes
+";
+
+/// What `--version` writes.
+pub const VERSION: &[u8] = b"ow_whisk 0.1.0\n";
+
+/// The command of the words, or none where they aren't in the command set.
+pub fn command_of(words: &[String]) -> Option<Command>
+    ensures { result ≡ command_of (map string_bytes words.now) }
+{
+    match words {
+        [word] => command_named(word.as_str()),
+        _ => None,
+    }
+}
+
+fn command_named(word: &str) -> Option<Command>
+    ensures { result ≡ command_named word.now }
+{
+    match word {
+        "day" => Some(Command::Day),
+        "--help" => Some(Command::Help),
+        "--version" => Some(Command::Version),
+        _ => None,
+    }
+}

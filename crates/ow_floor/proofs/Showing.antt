@@ -1,0 +1,204 @@
+-- What changes of the kept lists show.
+use Rattle.std.proofs.Common.{◌≡◌, ◌≤◌, ◌+◌, ◌-◌, ◌++◌, ℕ, zero, suc, Bool, false, cond, List, [], ◌∷◌, Option, Some, None, length, get_or, refl, sym, ap, ◌∙◌, arith, length-append}
+use Rattle.std.specs.List.{find}
+use Rattle.std.specs.Prelude.{slice_set}
+use Rattle.std.proofs.lemmas.List.{length-set}
+use Rattle.ow_records.specs.declared.ids.Id.{Id}
+use Rattle.ow_floor.specs.declared.activations.Activation.{Activation}
+use Rattle.ow_floor.specs.declared.activations.Open.{Open}
+use Rattle.ow_floor.specs.declared.activations.Ended.{Ended as Record}
+use Rattle.ow_floor.specs.declared.activations.State.TheVariants.{Waiting, Running}
+use Rattle.ow_floor.specs.declared.lists.Berth.{Berth}
+use Rattle.ow_floor.specs.declared.lists.Spot.{Spot}
+use Rattle.ow_floor.specs.declared.runs.Run.{Run}
+use Rattle.ow_floor.specs.View.{begun, is_number, is_of, is_slot, slot_of, waits, with_state}
+use Rattle.ow_floor.specs.Trace.{End, Accepted, Answered, Begun, Drained, Ended, Gone, Lost, Ordered, Reopened, Swept, record_of}
+use Rattle.ow_floor.specs.Growth.{grow}
+use Rattle.ow_floor.specs.Owed.{owed_of, owed_run, owed_runs}
+use Rattle.ow_floor.specs.Store.{Store, IsCell, IsGood, IsSpot, accepted_in, at_moment, drained_in, ended_in, freed_in, empty_of, opens, ordered_in, reopened_in, run_in, run_put, show, slot_cut, slot_in, there}
+use Rattle.ow_floor.proofs.Firsts.{update_none}
+use Rattle.ow_floor.proofs.Owing.{runs_begun, runs_push, runs_removed, slots_removed}
+use Rattle.ow_floor.proofs.Tallies.{length-removed, length-started}
+
+opens_push : (ss : List Spot) (ts : List (Option Activation)) (s : Spot) (a : Activation) → length ts ≡ length ss
+    → opens (ss ++ s ∷ []) (ts ++ Some a ∷ []) ≡ opens ss ts ++ record { task = a; state = s.state } ∷ []
+opens_push [] [] s a same = refl
+opens_push [] (t ∷ ts) s a same = absurd (omega (arith, same))
+opens_push (x ∷ ss) [] s a same = absurd (omega (arith, same))
+opens_push (x ∷ ss) (t ∷ ts) s a same = at t (opens_push ss ts s a (omega (arith, same)))
+  where
+    at : (t : Option Activation) → opens (ss ++ s ∷ []) (ts ++ Some a ∷ []) ≡ opens ss ts ++ record { task = a; state = s.state } ∷ []
+        → opens ((x ∷ ss) ++ s ∷ []) ((t ∷ ts) ++ Some a ∷ []) ≡ opens (x ∷ ss) (t ∷ ts) ++ record { task = a; state = s.state } ∷ []
+    at None rest = rest
+    at (Some b) rest = ap (λ (os : List Open). record { task = b; state = x.state } ∷ os) rest
+
+pub there_push : {X Y : Type 0} (g : X → Y) (xs : List (Option X)) (x : X) → there g (xs ++ Some x ∷ []) ≡ there g xs ++ g x ∷ []
+there_push g [] x = refl
+there_push g (None ∷ xs) x = there_push g xs x
+there_push g (Some y ∷ xs) x = ap (λ zs. g y ∷ zs) (there_push g xs x)
+
+there_none : {X Y Z : Type 0} (g : X → Y) (xs : List Z) → there g (empty_of xs) ≡ []
+there_none g [] = refl
+there_none g (x ∷ xs) = there_none g xs
+
+none_length : {X : Type 0} (Y : Type 0) (xs : List X) → length (empty_of {Y = Y} xs) ≡ length xs
+none_length Y [] = refl
+none_length Y (x ∷ xs) = ap suc (none_length Y xs)
+
+more : (m n : ℕ) → m ≤ n → n + 1 - m ≡ n - m + 1
+more m n le = omega (arith, le)
+
+-- ---- acceptance
+
+pub show_accepted : (R : Store) (a : Activation) → IsGood R → show (accepted_in a R) ≡ grow (Accepted a) (show R)
+show_accepted R a good =
+    let len : length (R.spots ++ record { state = Waiting } ∷ []) ≡ length R.spots + 1 = length-append R.spots (record { state = Waiting } ∷ []) in
+    let count : length (R.spots ++ record { state = Waiting } ∷ []) - R.marks.opened ≡ length R.spots - R.marks.opened + 1 = ap (λ n. n - R.marks.opened) len ∙ more R.marks.opened (length R.spots) good.opened in
+    rw (opens_push R.spots R.tasks (record { state = Waiting }) a good.paired, count) refl
+
+pub good_accepted : (R : Store) (a : Activation) → IsGood R → IsGood (accepted_in a R)
+good_accepted R a good =
+    let one : length (R.spots ++ record { state = Waiting } ∷ []) ≡ length R.spots + 1 = length-append R.spots (record { state = Waiting } ∷ []) in
+    let two : length (R.tasks ++ Some a ∷ []) ≡ length R.tasks + 1 = length-append R.tasks (Some a ∷ []) in
+    let three : length (opens R.spots R.tasks ++ record { task = a; state = Waiting } ∷ []) ≡ length (opens R.spots R.tasks) + 1 = length-append (opens R.spots R.tasks) (record { task = a; state = Waiting } ∷ []) in
+    record {
+      paired = two ∙ (ap (λ n. n + 1) good.paired ∙ sym one);
+      opened = omega (arith, one, good.opened);
+      number = rw (opens_push R.spots R.tasks (record { state = Waiting }) a good.paired) (omega (arith, one, three, good.number));
+      owed = good.owed;
+    }
+
+-- ---- orders
+
+pub show_ordered : (R : Store) (k : ℕ) (r : Run) → IsSpot waits R.spots R.tasks k → show (ordered_in k r R) ≡ grow (Ordered r) (show R)
+show_ordered R k r spot =
+    let runs : length (R.runs ++ Some (record { run = r; place = k }) ∷ []) ≡ length R.runs + 1 = length-append R.runs (Some (record { run = r; place = k }) ∷ []) in
+    rw (
+      spot.changed (record { state = Running r.number }),
+      there_push run_in R.runs (record { run = r; place = k }),
+      there_push slot_in R.slots (slot_of r),
+      runs,
+      length-set R.spots k (record { state = Running r.number }),
+    ) refl
+
+pub good_ordered : (R : Store) (k : ℕ) (r : Run) → r.begun ≡ false → IsSpot waits R.spots R.tasks k → IsGood R → IsGood (ordered_in k r R)
+good_ordered R k r new spot good =
+    let s : Spot = record { state = Running r.number } in
+    let len : length (slice_set R.spots k s) ≡ length R.spots = length-set R.spots k s in
+    let owes : owed_runs (there run_in R.runs ++ r ∷ []) ≡ owed_runs (there run_in R.runs) + 2 = runs_push r (there run_in R.runs) ∙ ap (λ b. owed_runs (there run_in R.runs) + cond b 1 2) new in
+    let more : length (there slot_in R.slots ++ slot_of r ∷ []) ≡ length (there slot_in R.slots) + 1 = length-append (there slot_in R.slots) (slot_of r ∷ []) in
+    record {
+      paired = good.paired ∙ sym len;
+      opened = rw len good.opened;
+      number = rw (spot.changed s, length-started waits (Running r.number) (opens R.spots R.tasks), len) good.number;
+      owed = rw (there_push run_in R.runs (record { run = r; place = k }), there_push slot_in R.slots (slot_of r)) (omega (arith, owes, more, good.owed));
+    }
+
+-- ---- runs
+
+pub show_begun : (R : Store) (at run owed k : ℕ) (b : Berth) (c : IsCell run_in (is_number run) R.runs k) → b.run ≡ begun c.item.run → show (run_put at owed k (Some b) R) ≡ grow (Begun run at) (show R)
+show_begun R at run owed k b c is = rw (c.changed begun b is, length-set R.runs k (Some b)) refl
+
+pub show_answered : (R : Store) (at run owed k : ℕ) (alive : Bool) → IsCell run_in (is_number run) R.runs k → show (run_put at owed k None R) ≡ grow (Answered run alive at) (show R)
+show_answered R at run owed k alive c = rw (c.removed, length-set R.runs k None) refl
+
+good_run : (R : Store) (at owed k : ℕ) (cell : Option Berth) → IsGood R → owed ≡ owed_of (show (run_put at owed k cell R)) → IsGood (run_put at owed k cell R)
+good_run R at owed k cell good owes = record { paired = good.paired; opened = good.opened; number = good.number; owed = owes }
+
+pub good_begun : (R : Store) (at run k : ℕ) (b : Berth) (c : IsCell run_in (is_number run) R.runs k) → b.run ≡ begun c.item.run → c.item.run.begun ≡ false → IsGood R
+    → IsGood (run_put at (R.marks.owed - 1) k (Some b) R)
+good_begun R at run k b c is new good =
+    let less = runs_begun (is_number run) c.item.run (there run_in R.runs) c.found in
+    let two : owed_run c.item.run ≡ 2 = ap (λ b. cond b 1 2) new in
+    good_run R at (R.marks.owed - 1) k (Some b) good (rw (c.changed begun b is) (omega (arith, less, two, good.owed)))
+
+pub good_left : (R : Store) (at run k : ℕ) (c : IsCell run_in (is_number run) R.runs k) → IsGood R → IsGood (run_put at (R.marks.owed - owed_run c.item.run) k None R)
+good_left R at run k c good =
+    let less = runs_removed (is_number run) c.item.run (there run_in R.runs) c.found in
+    good_run R at (R.marks.owed - owed_run c.item.run) k None good (rw c.removed (omega (arith, less, good.owed)))
+
+pub good_freed : (R : Store) (p : Open → Bool) (k : ℕ) → IsSpot p R.spots R.tasks k → IsGood R → IsGood (freed_in k R)
+good_freed R p k spot good =
+    let s : Spot = record { state = Waiting } in
+    let len : length (slice_set R.spots k s) ≡ length R.spots = length-set R.spots k s in
+    record {
+      paired = good.paired ∙ sym len;
+      opened = rw len good.opened;
+      number = rw (spot.changed s, length-started p Waiting (opens R.spots R.tasks), len) good.number;
+      owed = good.owed;
+    }
+
+-- what a lost run carries isn't open
+pub show_lost : (R : Store) (at run owed k : ℕ) (c : IsCell run_in (is_number run) R.runs k) → find (is_of c.item.run.id) (opens R.spots R.tasks) ≡ None
+    → show (run_put at owed k None R) ≡ grow (Lost run at) (show R)
+show_lost R at run owed k c none =
+    rw (c.removed, length-set R.runs k None, c.found, update_none (is_of c.item.run.id) (with_state Waiting) (opens R.spots R.tasks) none) refl
+
+-- it is open, at this place
+pub show_freed : (R : Store) (at run owed k place : ℕ) (c : IsCell run_in (is_number run) R.runs k) → IsSpot (is_of c.item.run.id) R.spots R.tasks place
+    → show (run_put at owed k None (freed_in place R)) ≡ grow (Lost run at) (show R)
+show_freed R at run owed k place c spot =
+    rw (c.removed, length-set R.runs k None, length-set R.spots place (record { state = Waiting }), c.found, spot.changed (record { state = Waiting })) refl
+
+-- ---- slots
+
+pub show_gone : (R : Store) (at slot generation k : ℕ) → IsCell slot_in (is_slot slot generation) R.slots k → show (slot_cut at k R) ≡ grow (Gone slot generation at) (show R)
+show_gone R at slot generation k c = rw c.removed refl
+
+pub good_gone : (R : Store) (at slot generation k : ℕ) → IsCell slot_in (is_slot slot generation) R.slots k → IsGood R → IsGood (slot_cut at k R)
+good_gone R at slot generation k c good =
+    let less = slots_removed (is_slot slot generation) c.item (there slot_in R.slots) c.found in
+    record { paired = good.paired; opened = good.opened; number = good.number; owed = rw c.removed (omega (arith, less, good.owed)) }
+
+-- ---- ends
+
+pub show_ended : (R : Store) (k : ℕ) (id : Id) (e : End) → e.task.id ≡ id → IsSpot (is_of id) R.spots R.tasks k → show (ended_in k (record_of e) R) ≡ grow (Ended e) (show R)
+show_ended R k id e is spot = rw (spot.removed, ← is) refl
+
+pub good_ended : (R : Store) (p : Open → Bool) (k : ℕ) (e : Record) → IsSpot p R.spots R.tasks k → IsGood R → IsGood (ended_in k e R)
+good_ended R p k e spot good =
+    let len : length (slice_set R.tasks k None) ≡ length R.tasks = length-set R.tasks k None in
+    let less = length-removed p (opens R.spots R.tasks) spot.item spot.found in
+    let more : length (R.ended ++ e ∷ []) ≡ length R.ended + 1 = length-append R.ended (e ∷ []) in
+    record { paired = len ∙ good.paired; opened = good.opened; number = rw spot.removed (omega (arith, less, more, good.number)); owed = good.owed }
+
+-- ---- marks
+
+pub show_swept : (R : Store) (at : ℕ) → show (at_moment at R) ≡ grow (Swept at) (show R)
+show_swept R at = refl
+
+pub show_drained : (R : Store) (at : ℕ) → show (drained_in at R) ≡ grow (Drained at) (show R)
+show_drained R at = refl
+
+pub show_reopened : (R : Store) (at : ℕ) → show (reopened_in at R) ≡ grow (Reopened at) (show R)
+show_reopened R at =
+    let none : length R.spots - length R.spots ≡ 0 = omega arith in
+    rw (there_none run_in R.runs, there_none slot_in R.slots, none_length Berth R.runs, none) refl
+
+pub good_reopened : (R : Store) (at : ℕ) → IsGood R → IsGood (reopened_in at R)
+good_reopened R at good = record { paired = good.paired; opened = omega arith; number = good.number; owed = rw (there_none run_in R.runs, there_none slot_in R.slots) refl }
+
+pub good_marked : (R : Store) (at : ℕ) → IsGood R → IsGood (at_moment at R) × IsGood (drained_in at R)
+good_marked R at good = (record { paired = good.paired; opened = good.opened; number = good.number; owed = good.owed }, record { paired = good.paired; opened = good.opened; number = good.number; owed = good.owed })
+
+-- ---- what an end leaves good, wherever it is
+
+cut_at : (s : Spot) (t : Option Activation) (ss : List Spot) (ts us : List (Option Activation)) → length (opens ss us) + 1 ≡ length (opens ss ts)
+    → length (opens (s ∷ ss) (t ∷ us)) + 1 ≡ length (opens (s ∷ ss) (t ∷ ts))
+cut_at s None ss ts us e = e
+cut_at s (Some a) ss ts us e = omega (arith, e)
+
+cut_length : (ss : List Spot) (ts : List (Option Activation)) (k : ℕ) (a : Activation) → length ts ≡ length ss → get_or ts k None ≡ Some a
+    → length (opens ss (slice_set ts k None)) + 1 ≡ length (opens ss ts)
+cut_length ss [] k a same here = cc
+cut_length [] (t ∷ ts) k a same here = absurd (omega (arith, same))
+cut_length (s ∷ ss) (None ∷ ts) zero a same here = cc
+cut_length (s ∷ ss) (Some b ∷ ts) zero a same here = omega arith
+cut_length (s ∷ ss) (t ∷ ts) (suc k) a same here = cut_at s t ss ts (slice_set ts k None) (cut_length ss ts k a (omega (arith, same)) here)
+
+pub good_cut : (R : Store) (k : ℕ) (a : Activation) (e : Record) → get_or R.tasks k None ≡ Some a → IsGood R → IsGood (ended_in k e R)
+good_cut R k a e here good =
+    let len : length (slice_set R.tasks k None) ≡ length R.tasks = length-set R.tasks k None in
+    let less = cut_length R.spots R.tasks k a good.paired here in
+    let more : length (R.ended ++ e ∷ []) ≡ length R.ended + 1 = length-append R.ended (e ∷ []) in
+    record { paired = len ∙ good.paired; opened = good.opened; number = omega (arith, less, more, good.number); owed = good.owed }

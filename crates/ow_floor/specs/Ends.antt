@@ -1,0 +1,90 @@
+-- For private clauses: ends of activations over the kept lists.
+use Rattle.std.specs.Prelude.{◌≡◌, ◌⊎◌, ◌++◌, ℕ, Bool, true, List, [], ◌∷◌, Option, Some, None, length, take, slice_index_or}
+use Rattle.std.specs.List.{find}
+use Rattle.ow_records.specs.declared.outcomes.Ending.{Ending}
+use Rattle.ow_records.specs.declared.outcomes.Ending.TheVariants.{Abandoned, Replied}
+use Rattle.ow_traits.specs.declared.replies.RunReply.{RunReply}
+use Rattle.ow_records.specs.Outcome.{outcome}
+use Rattle.ow_floor.specs.declared.activations.Activation.{Activation}
+use Rattle.ow_floor.specs.declared.activations.Open.{Open}
+use Rattle.ow_floor.specs.declared.answers.Answered.{Answered}
+use Rattle.ow_floor.specs.declared.answers.Happening.{Happening}
+use Rattle.ow_floor.specs.declared.answers.Happening.TheVariants as happenings
+use Rattle.ow_floor.specs.declared.lists.Berth.{Berth}
+use Rattle.ow_floor.specs.declared.runs.Run.{Run}
+use Rattle.ow_floor.specs.View.{is_end_of, is_of}
+use Rattle.ow_floor.specs.Trace.{Trace, record_of}
+use Rattle.ow_floor.specs.Growth.{grown}
+use Rattle.ow_floor.specs.Calls.{abandoned_items, answer_open, end_items, ended_by, happened, is_late, late_items, overrun_items}
+use Rattle.ow_floor.specs.Store.{IsGood, IsSpot, Store, ended_in, freed_in, opens, run_in, show, there}
+
+-- what stands there has ended, and it is told so
+pub record IsEndedAt (at : ℕ) (ending : Ending) (place : ℕ) (old new : Store) (h : Happening) : Type 0 where
+  pub task : Activation
+  pub here : slice_index_or old.tasks place None ≡ Some task
+  pub now : new ≡ ended_in place (record_of (ended_by at ending None task)) old
+  pub told : h ≡ happenings.Recorded task.id (outcome ending task.action.limits).code
+
+-- what the run carries is late and stands there, or isn't late
+abbrev pub IsLateEnd : ℕ → Run → Store → Option ℕ → Type 0
+IsLateEnd at r R None = late_items at r (find (is_of r.id) (opens R.spots R.tasks)) ≡ []
+IsLateEnd at r R (Some place) = (s : IsSpot (is_of r.id) R.spots R.tasks place) × (is_late at r s.item.task ≡ true)
+
+-- these items were made, and told
+pub record IsMade (items : Trace) (old new : Store) (told : List Happening) : Type 0 where
+  pub shows : show new ≡ grown items (show old)
+  pub good : IsGood new
+  pub runs : new.runs ≡ old.runs
+  pub tells : told ≡ happened items
+
+-- what the run carries has ended by a reply, or had ended before
+pub record IsEndedRun (at : ℕ) (r : Run) (reply : RunReply) (old new : Store) (a : Answered) : Type 0 where
+  pub shows : show new ≡ grown (end_items at (Replied reply) (Some r.number) (find (is_of r.id) (opens old.spots old.tasks))) (show old)
+  pub good : IsGood new
+  pub runs : new.runs ≡ old.runs
+  pub marks : new.marks.owed ≡ old.marks.owed
+  pub tells : a ≡ answer_open at r.number reply (find (is_of r.id) (opens old.spots old.tasks)) (find (is_end_of r.id) old.ended)
+
+-- the end of what this run carries, where it is late
+abbrev pub late_of : ℕ → Option Berth → Store → Trace
+late_of at None R = []
+late_of at (Some b) R = late_items at b.run (find (is_of b.run.id) (opens R.spots R.tasks))
+
+abbrev pub IsSweptOne : ℕ → Option Berth → Store → Store → List Happening → List Happening → Type 0
+IsSweptOne at cell old new before after = (told : List Happening) × IsMade (late_of at cell old) old new told × (after ≡ before ++ told)
+
+abbrev pub sweeps : ℕ → Store → Trace
+sweeps at R = overrun_items at (show R).live (show R)
+
+abbrev pub abandons : ℕ → Store → Trace
+abandons at R = abandoned_items at (show R).open_items
+
+-- ---- under way
+
+-- these runs are still to be swept
+pub record IsSweeping (at : ℕ) (old now : Store) (cells : List (Option Berth)) (told : List Happening) : Type 0 where
+  pub shows : grown (overrun_items at (there run_in cells) (show now)) (show now) ≡ grown (sweeps at old) (show old)
+  pub tells : told ++ happened (overrun_items at (there run_in cells) (show now)) ≡ happened (sweeps at old)
+  pub runs : now.runs ≡ old.runs
+  pub good : IsGood now
+
+abbrev pub always : Open → Bool
+always o = true
+
+-- nothing is open before this place any more
+pub record IsAbandoning (at : ℕ) (old now : Store) (place : ℕ) (told : List Happening) : Type 0 where
+  pub shows : grown (abandons at now) (show now) ≡ grown (abandons at old) (show old)
+  pub tells : told ++ happened (abandons at now) ≡ happened (abandons at old)
+  pub none : find always (opens (take place now.spots) (take place now.tasks)) ≡ None
+  pub size : length now.tasks ≡ length old.tasks
+  pub runs : now.runs ≡ old.runs
+  pub good : IsGood now
+
+abbrev pub IsAbandonedAt : ℕ → ℕ → Option Activation → Store → Store → List Happening → List Happening → Type 0
+IsAbandonedAt at place None old new before after = (new ≡ old) × (after ≡ before)
+IsAbandonedAt at place (Some a) old new before after = (h : Happening) × IsEndedAt at Abandoned place old new h × (after ≡ before ++ h ∷ [])
+
+-- what the run carries waits again at its place, or isn't open
+abbrev pub IsFreed : Run → Store → Store → Type 0
+IsFreed r old new = ((find (is_of r.id) (opens old.spots old.tasks) ≡ None) × (new ≡ old))
+    ⊎ ((place : ℕ) × IsSpot (is_of r.id) old.spots old.tasks place × (new ≡ freed_in place old))

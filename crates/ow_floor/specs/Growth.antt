@@ -1,0 +1,58 @@
+-- What items do to the lists of a floor, and which item may come.
+use Rattle.std.specs.Prelude.{◌≡◌, ◌+◌, ◌++◌, List, [], ◌∷◌, Option, Some, None}
+use Rattle.std.specs.List.{find}
+use Rattle.ow_floor.specs.declared.activations.Open.{Open}
+use Rattle.ow_floor.specs.declared.activations.State.TheVariants.{Waiting, Running}
+use Rattle.ow_floor.specs.declared.runs.Run.{Run}
+use Rattle.ow_floor.specs.View.{Shown, is_number, is_of, last_of, remove_first, update_first, waits, with_state}
+use Rattle.ow_floor.specs.Trace.{Item, Trace, Accepted, Ordered, Answered, Lost, Ended, Reopened, count_after, draining_after, drawn_after, live_after, moment_of, records_after, run_count_after, slots_after}
+
+-- what a lost run carries waits again
+abbrev pub freed : Option Run → List Open → List Open
+freed None os = os
+freed (Some r) os = update_first (is_of r.id) (with_state Waiting) os
+
+-- what is open, with one more item
+abbrev pub open_after : Item → List Run → List Open → List Open
+open_after (Accepted a) rs os = os ++ record { task = a; state = Waiting } ∷ []
+open_after (Ordered r) rs os = update_first waits (with_state (Running r.number)) os
+open_after (Lost run at) rs os = freed (find (is_number run) rs) os
+open_after (Ended e) rs os = remove_first (is_of e.task.id) os
+open_after item rs os = os
+
+-- the lists, with one more item
+abbrev pub grow : Item → Shown → Shown
+grow item v = record {
+  open_items = open_after item v.live v.open_items;
+  live = live_after item v.live;
+  slots = slots_after item v.slots;
+  ended = records_after item v.ended;
+  drawn = drawn_after item v.drawn;
+  runs = run_count_after item v.runs;
+  count = count_after item v.count;
+  latest = moment_of item;
+  draining = draining_after item v.draining;
+}
+
+-- with more items, the newest first
+abbrev pub grown : Trace → Shown → Shown
+grown [] v = v
+grown (item ∷ items) v = grow item (grown items v)
+
+-- ---- which item may come
+
+-- an id is the next of its namespace; a run carries the first that waits, under the next number; a reply comes from a live run
+-- whose activation has ended; what is lost is a live run; what ends is open; at an opening nothing is open
+abbrev pub IsRight : Item → Shown → Type 0
+IsRight (Accepted a) v = a.id.count ≡ last_of v.drawn a.id.namespace + 1
+IsRight (Ordered r) v = (r.number ≡ v.runs + 1) × ((o : Open) × (find waits v.open_items ≡ Some o) × (r.id ≡ o.task.id))
+IsRight (Answered run alive at) v = (r : Run) × (find (is_number run) v.live ≡ Some r) × (find (is_of r.id) v.open_items ≡ None)
+IsRight (Lost run at) v = (r : Run) × (find (is_number run) v.live ≡ Some r)
+IsRight (Ended e) v = (o : Open) × (find (is_of e.task.id) v.open_items ≡ Some o) × (e.task ≡ o.task)
+IsRight (Reopened at) v = v.open_items ≡ []
+IsRight item v = Unit {0}
+
+-- each may come behind those before it
+abbrev pub AreRight : Trace → Shown → Type 0
+AreRight [] v = Unit {0}
+AreRight (item ∷ items) v = IsRight item (grown items v) × AreRight items v

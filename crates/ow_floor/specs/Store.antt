@@ -1,0 +1,207 @@
+-- For private clauses: the lists of a floor as they are kept. What was taken out leaves its place empty, so places stay.
+use Rattle.std.specs.Prelude.{◌≡◌, ◌+◌, ◌-◌, ◌++◌, ◌<◌, ◌≤◌, ℕ, Bool, List, [], ◌∷◌, Option, Some, None, true, false, length, slice_set, slice_index_or}
+use Rattle.std.proofs.Common.{zero, suc}
+use Rattle.std.specs.List.{find, cons_option}
+use Rattle.ow_records.specs.declared.ids.Id.{Id}
+use Rattle.ow_floor.specs.declared.activations.Activation.{Activation}
+use Rattle.ow_floor.specs.declared.activations.Ended.{Ended as Record}
+use Rattle.ow_floor.specs.declared.activations.Open.{Open}
+use Rattle.ow_floor.specs.declared.activations.State.TheVariants.{Waiting, Running}
+use Rattle.ow_floor.specs.declared.lists.Berth.{Berth}
+use Rattle.ow_floor.specs.declared.lists.Marks.{Marks}
+use Rattle.ow_floor.specs.declared.lists.Spot.{Spot}
+use Rattle.ow_floor.specs.declared.runs.Run.{Run}
+use Rattle.ow_floor.specs.declared.runs.Slot.{Slot}
+use Rattle.ow_floor.specs.Owed.{owed_of}
+use Rattle.ow_floor.specs.View.{Shown, put_id, remove_first, slot_of, update_first, with_state}
+
+-- the lists as they are kept
+pub record Store : Type 0 where
+  pub spots : List Spot
+  pub tasks : List (Option Activation)
+  pub runs : List (Option Berth)
+  pub slots : List (Option Slot)
+  pub ended : List Record
+  pub drawn : List Id
+  pub marks : Marks
+
+-- the lists now, and as they were at the hold
+pub record StoreView : Type 0 where
+  pub now : Store
+  pub past : Option Store
+
+-- all the parts as they were, where they are held
+abbrev pub past_of : Option (List Spot) → Option (List (Option Activation)) → Option (List (Option Berth)) → Option (List (Option Slot)) → Option (List Record) → Option (List Id) → Option Marks → Option Store
+past_of (Some spots) (Some tasks) (Some runs) (Some slots) (Some ended) (Some drawn) (Some marks) =
+    Some (record { spots = spots; tasks = tasks; runs = runs; slots = slots; ended = ended; drawn = drawn; marks = marks })
+past_of spots tasks runs slots ended drawn marks = None
+
+-- what was before, where they are held
+abbrev pub taken_back : Option Store → Store → Store
+taken_back None now = now
+taken_back (Some past) now = past
+
+-- ---- what they show
+
+abbrev pub open_at : Spot → Option Activation → Option Open
+open_at s None = None
+open_at s (Some a) = Some (record { task = a; state = s.state })
+
+-- the activations that are there, with their states
+abbrev pub opens : List Spot → List (Option Activation) → List Open
+opens [] ts = []
+opens (s ∷ ss) [] = []
+opens (s ∷ ss) (t ∷ ts) = cons_option (open_at s t) (opens ss ts)
+
+-- those that are there, as they are shown
+abbrev pub there : {X Y : Type 0} → (X → Y) → List (Option X) → List Y
+there g [] = []
+there g (None ∷ xs) = there g xs
+there g (Some x ∷ xs) = g x ∷ there g xs
+
+abbrev pub run_in : Berth → Run
+run_in b = b.run
+
+abbrev pub slot_in : Slot → Slot
+slot_in s = s
+
+abbrev pub show : Store → Shown
+show R = record {
+  open_items = opens R.spots R.tasks;
+  live = there run_in R.runs;
+  slots = there slot_in R.slots;
+  ended = R.ended;
+  drawn = R.drawn;
+  runs = length R.runs;
+  count = length R.spots - R.marks.opened;
+  latest = R.marks.latest;
+  draining = R.marks.draining;
+}
+
+abbrev pub show_past : Option Store → Option Shown
+show_past None = None
+show_past (Some R) = Some (show R)
+
+-- ---- places
+
+-- the first open activation that passes stands at this place
+pub record IsSpot (p : Open → Bool) (ss : List Spot) (ts : List (Option Activation)) (k : ℕ) : Type 0 where
+  pub item : Open
+  pub within : k < length ss
+  pub task : (d : Option Activation) → slice_index_or ts k d ≡ Some item.task
+  pub state : (d : Spot) → (slice_index_or ss k d).state ≡ item.state
+  pub found : find p (opens ss ts) ≡ Some item
+  pub changed : (s : Spot) → opens (slice_set ss k s) ts ≡ update_first p (with_state s.state) (opens ss ts)
+  pub removed : opens ss (slice_set ts k None) ≡ remove_first p (opens ss ts)
+
+abbrev pub SpotOf : (Open → Bool) → List Spot → List (Option Activation) → Option ℕ → Type 0
+SpotOf p ss ts None = find p (opens ss ts) ≡ None
+SpotOf p ss ts (Some k) = IsSpot p ss ts k
+
+-- the first that is there and passes stands at this place
+pub record IsCell {X Y : Type 0} (g : X → Y) (p : Y → Bool) (xs : List (Option X)) (k : ℕ) : Type 0 where
+  pub item : X
+  pub within : k < length xs
+  pub here : (d : Option X) → slice_index_or xs k d ≡ Some item
+  pub found : find p (there g xs) ≡ Some (g item)
+  pub changed : (f : Y → Y) (x : X) → g x ≡ f (g item) → there g (slice_set xs k (Some x)) ≡ update_first p f (there g xs)
+  pub removed : there g (slice_set xs k None) ≡ remove_first p (there g xs)
+
+abbrev pub CellOf : {X Y : Type 0} → (X → Y) → (Y → Bool) → List (Option X) → Option ℕ → Type 0
+CellOf g p xs None = find p (there g xs) ≡ None
+CellOf g p xs (Some k) = IsCell g p xs k
+
+-- nothing stands at the first so many places
+abbrev pub AreGone : {X : Type 0} → ℕ → List (Option X) → Type 0
+AreGone zero xs = Unit {0}
+AreGone (suc k) [] = ⊥
+AreGone (suc k) (x ∷ xs) = (x ≡ None) × AreGone k xs
+
+-- ---- what holds of them
+
+-- each place of a spot is one of a task; the last opening stands within; each that was accepted is open or recorded; so much is owed
+pub record IsGood (R : Store) : Type 0 where
+  pub paired : length R.tasks ≡ length R.spots
+  pub opened : R.marks.opened ≤ length R.spots
+  pub number : length (opens R.spots R.tasks) + length R.ended ≡ length R.spots
+  pub owed : R.marks.owed ≡ owed_of (show R)
+
+abbrev pub IsGoodPast : Option Store → Type 0
+IsGoodPast None = Unit {0}
+IsGoodPast (Some R) = IsGood R
+
+-- ---- changes
+
+abbrev pub with_latest : ℕ → Marks → Marks
+with_latest at m = record { latest = at; opened = m.opened; owed = m.owed; draining = m.draining }
+
+abbrev pub with_owed : ℕ → ℕ → Marks → Marks
+with_owed at owed m = record { latest = at; opened = m.opened; owed = owed; draining = m.draining }
+
+-- at this moment
+abbrev pub at_moment : ℕ → Store → Store
+at_moment at R = record R { marks = with_latest at R.marks }
+
+-- an activation comes to the end
+abbrev pub accepted_in : Activation → Store → Store
+accepted_in a R = record {
+  spots = R.spots ++ record { state = Waiting } ∷ [];
+  tasks = R.tasks ++ Some a ∷ [];
+  runs = R.runs;
+  slots = R.slots;
+  ended = R.ended;
+  drawn = put_id a.id R.drawn;
+  marks = with_latest a.at R.marks;
+}
+
+-- the run starts with what stands at this place
+abbrev pub ordered_in : ℕ → Run → Store → Store
+ordered_in place r R = record {
+  spots = slice_set R.spots place (record { state = Running r.number });
+  tasks = R.tasks;
+  runs = R.runs ++ Some (record { run = r; place = place }) ∷ [];
+  slots = R.slots ++ Some (slot_of r) ∷ [];
+  ended = R.ended;
+  drawn = R.drawn;
+  marks = with_owed r.at (R.marks.owed + 3) R.marks;
+}
+
+-- another run, or none, at this place, and so much is owed
+abbrev pub run_put : ℕ → ℕ → ℕ → Option Berth → Store → Store
+run_put at owed place cell R = record R { runs = slice_set R.runs place cell; marks = with_owed at owed R.marks }
+
+-- what stands at this place waits again
+abbrev pub freed_in : ℕ → Store → Store
+freed_in place R = record R { spots = slice_set R.spots place (record { state = Waiting }) }
+
+-- no slot at this place
+abbrev pub slot_cut : ℕ → ℕ → Store → Store
+slot_cut at place R = record R { slots = slice_set R.slots place None; marks = with_owed at (R.marks.owed - 1) R.marks }
+
+-- what stands at this place has ended
+abbrev pub ended_in : ℕ → Record → Store → Store
+ended_in place e R = record {
+  spots = R.spots;
+  tasks = slice_set R.tasks place None;
+  runs = R.runs;
+  slots = R.slots;
+  ended = R.ended ++ e ∷ [];
+  drawn = R.drawn;
+  marks = with_latest e.at R.marks;
+}
+
+abbrev pub drained_in : ℕ → Store → Store
+drained_in at R = record R { marks = record { latest = at; opened = R.marks.opened; owed = R.marks.owed; draining = true } }
+
+-- as many empty places
+abbrev pub empty_of : {X Y : Type 0} → List X → List (Option Y)
+empty_of [] = []
+empty_of (x ∷ xs) = None ∷ empty_of xs
+
+-- no run is live, and no container is there
+abbrev pub reopened_in : ℕ → Store → Store
+reopened_in at R = record R {
+  runs = empty_of R.runs;
+  slots = empty_of R.slots;
+  marks = record { latest = at; opened = length R.spots; owed = 0; draining = false };
+}

@@ -1,0 +1,209 @@
+// Ends of activations.
+ghost use Rattle.std.specs.Prelude.{◌≡◌, ◌<◌, ◌++◌, ◌∷◌, [], length, None, Some, slice_index_or, is_some, IfOk, OnOk};
+ghost use Rattle.ow_floor.specs.declared.activations.Activation.{Activation};
+ghost use Rattle.std.specs.List.{find};
+ghost use Rattle.ow_floor.specs.View.{is_end_of};
+ghost use Rattle.ow_floor.specs.Calls.{is_late, since};
+ghost use Rattle.ow_floor.specs.Ends.{IsAbandonedAt, IsEndedAt, IsEndedRun, IsFreed, IsLateEnd, IsMade, IsSweptOne, abandons, sweeps};
+ghost use Rattle.ow_floor.specs.Store.{IsGood};
+
+use crate::lists::Lists;
+use crate::places::record_place;
+use crate::{Activation, Answered, Ended, Happened, Happening, Run};
+use ow_records::{Ending, outcome_in};
+use ow_traits::RunReply;
+use ow_value::{NoMemory, PlainData, Scratch, Shared};
+use std::alloc::Global;
+
+/// Ends what stands at this place. It tells what happened.
+pub(crate) fn end_at(
+    alloc: Global,
+    lists: &mut Lists,
+    scratch: &mut Scratch,
+    at: u64,
+    place: usize,
+    ending: &Ending,
+) -> Result<Happening, NoMemory>
+    requires place { place < length lists.old.now.tasks }
+    requires good { IsGood lists.old.now }
+    ensures good { IsGood lists.new.now }
+    ensures made { IfOk result (λ h. IsEndedAt at ending.now place lists.old.now lists.new.now h) }
+    ensures past { lists.new.past ≡ lists.old.past }
+{
+    let Some(task) = &lists.tasks()[place] else {
+        return Err(NoMemory);
+    };
+    let task = task.get();
+    let id = task.id;
+    let response = outcome_in(alloc, scratch, ending, &task.action.get().limits)?;
+    let happening = Happening::Recorded {
+        id,
+        code: response.code(),
+    };
+    lists.end(place, Ended { id, at, response })?;
+    Ok(happening)
+}
+
+fn is_late(at: u64, run: Run, task: &Activation) -> bool
+    ensures { result ≡ is_late at run task.now }
+{
+    at.saturating_sub(run.at) > u64::from(task.action.get().limits.timeout.get())
+}
+
+// The place of what the run carries, where it is late.
+fn late_place(lists: &Lists, at: u64, run: Run) -> Option<usize>
+    requires { IsGood lists.now.now }
+    ensures { IsLateEnd at run lists.now.now result }
+{
+    let place = lists.open_place(run.id)?;
+    let Some(task) = &lists.tasks()[place] else {
+        return None;
+    };
+    if is_late(at, run, task.get()) {
+        return Some(place);
+    }
+    None
+}
+
+// The moment of the record of what the run carries, 0 where there is none.
+fn since(ended: &[Ended], run: Run) -> u64
+    ensures { result ≡ since (find (is_end_of run.id) ended.now) }
+{
+    match record_place(ended, run.id) {
+        Some(place) => ended[place].at,
+        None => 0,
+    }
+}
+
+/// What the run carries ends by a reply, unless it has ended before.
+pub(crate) fn end_run(
+    alloc: Global,
+    lists: &mut Lists,
+    scratch: &mut Scratch,
+    at: u64,
+    run: Run,
+    reply: &RunReply,
+) -> Result<Answered, NoMemory>
+    requires { IsGood lists.old.now }
+    ensures good { IsGood lists.new.now }
+    ensures made { IfOk result (λ a. IsEndedRun at run reply.now lists.old.now lists.new.now a) }
+    ensures past { lists.new.past ≡ lists.old.past }
+{
+    let Some(place) = lists.open_place(run.id) else {
+        let at = since(lists.ended(), run);
+        return Ok(Answered::Late {
+            run: run.number,
+            at,
+        });
+    };
+    let ending = Ending::Replied(reply.copy(alloc)?);
+    let ended = end_at(alloc, lists, scratch, at, place, &ending);
+    drop(ending);
+    Ok(Answered::Recorded(Happened::one(alloc, ended?)?))
+}
+
+// What the run at this place carries ends, where it is late.
+fn end_late(
+    alloc: Global,
+    lists: &mut Lists,
+    scratch: &mut Scratch,
+    at: u64,
+    place: usize,
+    happened: &mut Vec<Happening>,
+) -> Result<(), NoMemory>
+    requires good { IsGood lists.old.now }
+    requires within { place < length lists.old.now.runs }
+    ensures good { IsGood lists.new.now }
+    ensures made { OnOk result (IsSweptOne at (slice_index_or lists.old.now.runs place None) lists.old.now lists.new.now happened.old.items happened.new.items) }
+    ensures past { lists.new.past ≡ lists.old.past }
+{
+    let Some(berth) = lists.runs()[place] else {
+        return Ok(());
+    };
+    if let Some(spot) = late_place(lists, at, berth.run) {
+        let happening = end_at(alloc, lists, scratch, at, spot, &Ending::Overran)?;
+        happened.push(happening)?;
+    }
+    Ok(())
+}
+
+/// Ends what late runs carry, one behind another. It tells what happened.
+pub(crate) fn sweep(
+    alloc: Global,
+    lists: &mut Lists,
+    scratch: &mut Scratch,
+    at: u64,
+) -> Result<Vec<Happening>, NoMemory>
+    requires { IsGood lists.old.now }
+    ensures good { IsGood lists.new.now }
+    ensures made { IfOk result (λ hs. IsMade (sweeps at lists.old.now) lists.old.now lists.new.now hs.items) }
+    ensures past { lists.new.past ≡ lists.old.past }
+{
+    let mut happened = Vec::new(alloc);
+    let count = lists.runs().len();
+    for i in 0..count {
+        end_late(alloc, lists, scratch, at, i, &mut happened)?;
+    }
+    Ok(happened)
+}
+
+// What stands at this place ends as abandoned, where an activation stands there.
+fn abandon_at(
+    alloc: Global,
+    lists: &mut Lists,
+    scratch: &mut Scratch,
+    at: u64,
+    place: usize,
+    happened: &mut Vec<Happening>,
+) -> Result<(), NoMemory>
+    requires good { IsGood lists.old.now }
+    requires within { place < length lists.old.now.tasks }
+    ensures good { IsGood lists.new.now }
+    ensures made { OnOk result (IsAbandonedAt at place (slice_index_or lists.old.now.tasks place None) lists.old.now lists.new.now happened.old.items happened.new.items) }
+    ensures past { lists.new.past ≡ lists.old.past }
+{
+    if !is_there(&lists.tasks()[place]) {
+        return Ok(());
+    }
+    let happening = end_at(alloc, lists, scratch, at, place, &Ending::Abandoned)?;
+    happened.push(happening)?;
+    Ok(())
+}
+
+fn is_there(task: &Option<Shared<Activation>>) -> bool
+    ensures { result ≡ is_some task.now }
+{
+    task.is_some()
+}
+
+/// What a lost run carries waits again, where it is open. Nothing is held.
+pub(crate) fn free_run(lists: &mut Lists, run: Run)
+    requires good { IsGood lists.old.now }
+    requires free { lists.old.past ≡ None }
+    ensures made { IsFreed run lists.old.now lists.new.now }
+    ensures past { lists.new.past ≡ lists.old.past }
+{
+    if let Some(place) = lists.open_place(run.id) {
+        let _ = lists.free(place);
+    }
+}
+
+/// Ends all that is open as abandoned, by acceptance. It tells what happened.
+pub(crate) fn abandon(
+    alloc: Global,
+    lists: &mut Lists,
+    scratch: &mut Scratch,
+    at: u64,
+) -> Result<Vec<Happening>, NoMemory>
+    requires { IsGood lists.old.now }
+    ensures good { IsGood lists.new.now }
+    ensures made { IfOk result (λ hs. IsMade (abandons at lists.old.now) lists.old.now lists.new.now hs.items) }
+    ensures past { lists.new.past ≡ lists.old.past }
+{
+    let mut happened = Vec::new(alloc);
+    let count = lists.tasks().len();
+    for i in 0..count {
+        abandon_at(alloc, lists, scratch, at, i, &mut happened)?;
+    }
+    Ok(happened)
+}

@@ -1,0 +1,442 @@
+// The lists of a floor as they are kept. What is taken out leaves its place empty, so places stay.
+ghost use Rattle.std.specs.Prelude.{◌≡◌, ◌<◌, ◌≤◌, ◌+◌, [], ◌∷◌, length, None, Some, true, false, IfOk, IfSome, IsOk, OnOk, OnErr};
+ghost use Rattle.ow_floor.specs.Kept.{past};
+ghost use Rattle.ow_floor.specs.View.{is_number, is_of, put_id, waits};
+ghost use Rattle.ow_floor.specs.Store.{AreGone, CellOf, SpotOf, Store, accepted_in, at_moment, drained_in, empty_of, ended_in, freed_in, ordered_in, reopened_in, run_in, run_put, slot_cut, taken_back};
+
+use crate::kept::Kept;
+use crate::places::{namespace_place, open_place, run_place, waiting_place};
+use crate::{Activation, Ended, Run, Slot, State};
+use ow_records::Id;
+use ow_value::{NoMemory, Shared};
+use std::alloc::Global;
+use std::marker::Model;
+
+/// How an activation stands that has not ended.
+#[derive(Clone, Copy)]
+pub(crate) struct Spot {
+    pub(crate) state: State,
+}
+
+/// A live run, and the place of the activation that it carries.
+#[derive(Clone, Copy)]
+pub(crate) struct Berth {
+    pub(crate) run: Run,
+    pub(crate) place: usize,
+}
+
+/// The moment of the newest thing, how many were accepted before the last opening, how many entries are owed, and whether it drains.
+#[derive(Clone, Copy)]
+pub(crate) struct Marks {
+    pub(crate) latest: u64,
+    pub(crate) opened: usize,
+    pub(crate) owed: usize,
+    pub(crate) draining: bool,
+}
+
+/// The lists. They can be held.
+#[derive(Drop)]
+pub(crate) struct Lists {
+    spots: Kept<Spot>,
+    tasks: Kept<Option<Shared<Activation>>>,
+    runs: Kept<Option<Berth>>,
+    slots: Kept<Option<Slot>>,
+    ended: Kept<Ended>,
+    // The last id of each namespace.
+    drawn: Kept<Id>,
+    marks: Marks,
+    held: bool,
+    // The marks at the hold.
+    before: Marks,
+    // At so many first places no activation stands any more, and at so many no run.
+    tasks_gone: usize,
+    runs_gone: usize,
+}
+
+impl Model for Lists {
+    ghost use Rattle.std.specs.Coded.{codes};
+    ghost use Rattle.ow_value.specs.Code.{value_code};
+    ghost use Rattle.ow_floor.specs.Kept.{past};
+    ghost use Rattle.ow_floor.specs.Store.{StoreView, past_of};
+
+    ghost Value = { StoreView };
+
+    ghost coded = { Prim.hlevel (codes, value_code) };
+
+    ghost view = { λ l. record {
+      now = record {
+        spots = l.spots.now;
+        tasks = l.tasks.now;
+        runs = l.runs.now;
+        slots = l.slots.now;
+        ended = l.ended.now;
+        drawn = l.drawn.now;
+        marks = l.marks;
+      };
+      past = past_of (past l.held l.spots.before) (past l.held l.tasks.before) (past l.held l.runs.before) (past l.held l.slots.before)
+          (past l.held l.ended.before) (past l.held l.drawn.before) (past l.held l.before);
+    } };
+
+    ghost use Rattle.ow_floor.specs.Store.{AreGone};
+
+    ghost invariant = { λ l. AreGone l.tasks_gone l.tasks.now × AreGone l.runs_gone l.runs.now };
+}
+
+const NO_MARKS: Marks = Marks {
+    latest: 0,
+    opened: 0,
+    owed: 0,
+    draining: false,
+};
+
+impl Lists {
+    /// Nothing stands in them, and they aren't held.
+    pub(crate) fn new(alloc: Global) -> Lists
+        ensures now { result.now ≡ record { spots = []; tasks = []; runs = []; slots = []; ended = []; drawn = []; marks = record { latest = 0; opened = 0; owed = 0; draining = false } } }
+        ensures past { result.past ≡ None }
+    {
+        Lists {
+            spots: Kept::new(alloc),
+            tasks: Kept::new(alloc),
+            runs: Kept::new(alloc),
+            slots: Kept::new(alloc),
+            ended: Kept::new(alloc),
+            drawn: Kept::new(alloc),
+            marks: NO_MARKS,
+            held: false,
+            before: NO_MARKS,
+            tasks_gone: 0,
+            runs_gone: 0,
+        }
+    }
+
+    pub(crate) fn spots(&self) -> &[Spot]
+        ensures { result.now ≡ self.now.now.spots }
+    {
+        self.spots.items()
+    }
+
+    pub(crate) fn tasks(&self) -> &[Option<Shared<Activation>>]
+        ensures { result.now ≡ self.now.now.tasks }
+    {
+        self.tasks.items()
+    }
+
+    /// The place of the first activation that waits.
+    pub(crate) fn waiting_place(&self) -> Option<usize>
+        requires { length self.now.now.tasks ≡ length self.now.now.spots }
+        ensures { SpotOf waits self.now.now.spots self.now.now.tasks result }
+    {
+        waiting_place(self.spots.items(), self.tasks.items(), self.tasks_gone)
+    }
+
+    /// The place of the open activation of this id.
+    pub(crate) fn open_place(&self, id: Id) -> Option<usize>
+        requires { length self.now.now.tasks ≡ length self.now.now.spots }
+        ensures { SpotOf (is_of id) self.now.now.spots self.now.now.tasks result }
+    {
+        open_place(self.spots.items(), self.tasks.items(), self.tasks_gone, id)
+    }
+
+    /// The place of the live run of this number.
+    pub(crate) fn run_place(&self, run: u64) -> Option<usize>
+        ensures { CellOf run_in (is_number run) self.now.now.runs result }
+    {
+        run_place(self.runs.items(), self.runs_gone, run)
+    }
+
+    pub(crate) fn runs(&self) -> &[Option<Berth>]
+        ensures { result.now ≡ self.now.now.runs }
+    {
+        self.runs.items()
+    }
+
+    pub(crate) fn slots(&self) -> &[Option<Slot>]
+        ensures { result.now ≡ self.now.now.slots }
+    {
+        self.slots.items()
+    }
+
+    pub(crate) fn ended(&self) -> &[Ended]
+        ensures { result.now ≡ self.now.now.ended }
+    {
+        self.ended.items()
+    }
+
+    pub(crate) fn drawn(&self) -> &[Id]
+        ensures { result.now ≡ self.now.now.drawn }
+    {
+        self.drawn.items()
+    }
+
+    pub(crate) fn marks(&self) -> Marks
+        ensures { result ≡ self.now.now.marks }
+    {
+        self.marks
+    }
+
+    /// From now on what they are is kept. It takes no memory.
+    pub(crate) fn hold(&mut self)
+        ensures { self.new ≡ record { now = self.old.now; past = Some self.old.now } }
+    {
+        self.spots.hold();
+        self.tasks.hold();
+        self.runs.hold();
+        self.slots.hold();
+        self.ended.hold();
+        self.drawn.hold();
+        self.before = self.marks;
+        self.held = true;
+    }
+
+    /// Lets what was before go. It takes no memory.
+    pub(crate) fn keep(&mut self)
+        ensures { self.new ≡ record { now = self.old.now; past = None } }
+    {
+        self.hold();
+        self.held = false;
+    }
+
+    /// They are again what they were at the hold, where they are held. It takes no memory.
+    pub(crate) fn take_back(&mut self)
+        ensures { self.new ≡ record { now = taken_back self.old.past self.old.now; past = None } }
+    {
+        if self.held {
+            self.spots.take_back();
+            self.tasks.take_back();
+            self.runs.take_back();
+            self.slots.take_back();
+            self.ended.take_back();
+            self.drawn.take_back();
+            self.marks = self.before;
+            self.tasks_gone = 0;
+            self.runs_gone = 0;
+        }
+        self.held = false;
+    }
+}
+
+// The last id of its namespace is this one from now on. There is room.
+fn note_id(drawn: &mut Kept<Id>, held: bool, id: Id)
+    requires space { 1 ≤ drawn.old.space }
+    requires slack { held ≡ true → 1 ≤ drawn.old.slack }
+    ensures now { drawn.new.now ≡ put_id id drawn.old.now }
+    ensures past { past held drawn.new.before ≡ past held drawn.old.before }
+{
+    match namespace_place(drawn.items(), id.namespace) {
+        Some(place) => drawn.set(held, place, id),
+        None => drawn.push(held, id),
+    }
+}
+
+// So many first places at which nothing stands, up to two more than these. Each place is met twice at most, so all that are
+// met are no more than twice the changes.
+fn further<T>(cells: &[Option<T>], gone: usize) -> usize
+    requires { AreGone gone cells.now }
+    ensures { AreGone result cells.now }
+{
+    one_further(cells, one_further(cells, gone))
+}
+
+fn one_further<T>(cells: &[Option<T>], gone: usize) -> usize
+    requires { AreGone gone cells.now }
+    ensures { AreGone result cells.now }
+{
+    if gone < cells.len() && cells[gone].is_none() {
+        return gone + 1;
+    }
+    gone
+}
+
+// Makes room for one more.
+fn make_room<T: Drop>(kept: &mut Kept<T>, held: bool) -> Result<(), NoMemory>
+    ensures now { kept.new.now ≡ kept.old.now }
+    ensures before { kept.new.before ≡ kept.old.before }
+    ensures space { OnOk result (1 ≤ kept.new.space) }
+    ensures slack { OnOk result (held ≡ true → 1 ≤ kept.new.slack) }
+{
+    kept.reserve()?;
+    kept.reserve_step(held)
+}
+
+// As many empty places.
+fn empty_places<T: Drop, U>(alloc: Global, cells: &[Option<U>]) -> Result<Vec<Option<T>>, NoMemory>
+    ensures { IfOk result (λ v. v.items ≡ empty_of cells.now) }
+{
+    let mut places = Vec::new(alloc);
+    for _ in cells {
+        places.push(None)?;
+    }
+    Ok(places)
+}
+
+impl Lists {
+    /// An activation comes to the end, and waits.
+    pub(crate) fn accept(&mut self, task: Shared<Activation>) -> Result<(), NoMemory>
+        ensures now { OnOk result (self.new.now ≡ accepted_in task self.old.now) }
+        ensures err { OnErr result (self.new.now ≡ self.old.now) }
+        ensures past { self.new.past ≡ self.old.past }
+    {
+        let held = self.held;
+        if make_room(&mut self.tasks, held).is_err()
+            || make_room(&mut self.spots, held).is_err()
+            || make_room(&mut self.drawn, held).is_err()
+        {
+            drop(task);
+            return Err(NoMemory);
+        }
+        let id = task.get().id;
+        let at = task.get().at;
+        let spot = Spot {
+            state: State::Waiting,
+        };
+        self.tasks.push(held, Some(task));
+        self.spots.push(held, spot);
+        note_id(&mut self.drawn, held, id);
+        self.marks.latest = at;
+        Ok(())
+    }
+
+    /// A run starts with what stands at this place.
+    pub(crate) fn order(&mut self, place: usize, run: Run) -> Result<(), NoMemory>
+        requires { place < length self.old.now.spots }
+        ensures now { OnOk result (self.new.now ≡ ordered_in place run self.old.now) }
+        ensures err { OnErr result (self.new.now ≡ self.old.now) }
+        ensures past { self.new.past ≡ self.old.past }
+    {
+        let held = self.held;
+        let Some(owed) = self.marks.owed.checked_add(3) else {
+            return Err(NoMemory);
+        };
+        self.spots.reserve_step(held)?;
+        make_room(&mut self.runs, held)?;
+        make_room(&mut self.slots, held)?;
+        let spot = Spot {
+            state: State::Running(run.number),
+        };
+        let slot = Slot {
+            place: run.slot,
+            generation: run.generation,
+        };
+        self.spots.set(held, place, spot);
+        self.runs.push(held, Some(Berth { run, place }));
+        self.slots.push(held, Some(slot));
+        self.marks.latest = run.at;
+        self.marks.owed = owed;
+        Ok(())
+    }
+
+    /// Another run, or none, stands at this place, and so much is owed. Where nothing is held it takes no memory.
+    pub(crate) fn put_run(
+        &mut self,
+        at: u64,
+        owed: usize,
+        place: usize,
+        cell: Option<Berth>,
+    ) -> Result<(), NoMemory>
+        requires { place < length self.old.now.runs }
+        ensures now { OnOk result (self.new.now ≡ run_put at owed place cell self.old.now) }
+        ensures err { OnErr result (self.new.now ≡ self.old.now) }
+        ensures past { self.new.past ≡ self.old.past }
+        ensures free { self.old.past ≡ None → IsOk result }
+    {
+        self.runs.reserve_step(self.held)?;
+        let gone = self.runs_gone.min(place);
+        self.runs.set(self.held, place, cell);
+        self.runs_gone = further(self.runs.items(), gone);
+        self.marks.latest = at;
+        self.marks.owed = owed;
+        Ok(())
+    }
+
+    /// What stands at this place waits again. Where nothing is held it takes no memory.
+    pub(crate) fn free(&mut self, place: usize) -> Result<(), NoMemory>
+        requires { place < length self.old.now.spots }
+        ensures now { OnOk result (self.new.now ≡ freed_in place self.old.now) }
+        ensures err { OnErr result (self.new.now ≡ self.old.now) }
+        ensures past { self.new.past ≡ self.old.past }
+        ensures free { self.old.past ≡ None → IsOk result }
+    {
+        let spot = Spot {
+            state: State::Waiting,
+        };
+        self.spots.reserve_step(self.held)?;
+        self.spots.set(self.held, place, spot);
+        Ok(())
+    }
+
+    /// No slot stands at this place any more. Where nothing is held it takes no memory.
+    pub(crate) fn cut_slot(&mut self, at: u64, place: usize) -> Result<(), NoMemory>
+        requires { place < length self.old.now.slots }
+        ensures now { OnOk result (self.new.now ≡ slot_cut at place self.old.now) }
+        ensures err { OnErr result (self.new.now ≡ self.old.now) }
+        ensures past { self.new.past ≡ self.old.past }
+        ensures free { self.old.past ≡ None → IsOk result }
+    {
+        self.slots.reserve_step(self.held)?;
+        self.slots.set(self.held, place, None);
+        self.marks.latest = at;
+        self.marks.owed = self.marks.owed.saturating_sub(1);
+        Ok(())
+    }
+
+    /// What stands at this place has ended.
+    pub(crate) fn end(&mut self, place: usize, ended: Ended) -> Result<(), NoMemory>
+        requires { place < length self.old.now.tasks }
+        ensures now { OnOk result (self.new.now ≡ ended_in place ended self.old.now) }
+        ensures err { OnErr result (self.new.now ≡ self.old.now) }
+        ensures past { self.new.past ≡ self.old.past }
+    {
+        let held = self.held;
+        if make_room(&mut self.ended, held).is_err() || self.tasks.reserve_step(held).is_err() {
+            drop(ended);
+            return Err(NoMemory);
+        }
+        self.marks.latest = ended.at;
+        self.ended.push(held, ended);
+        self.tasks.set(held, place, None);
+        self.tasks_gone = further(self.tasks.items(), self.tasks_gone);
+        Ok(())
+    }
+
+    /// The moment of the newest thing is this one.
+    pub(crate) fn note_moment(&mut self, at: u64)
+        ensures now { self.new.now ≡ at_moment at self.old.now }
+        ensures past { self.new.past ≡ self.old.past }
+    {
+        self.marks.latest = at;
+    }
+
+    pub(crate) fn drain(&mut self, at: u64)
+        ensures now { self.new.now ≡ drained_in at self.old.now }
+        ensures past { self.new.past ≡ self.old.past }
+    {
+        self.marks.latest = at;
+        self.marks.draining = true;
+    }
+
+    /// No run is live any more, and no container is there.
+    pub(crate) fn reopen(&mut self, alloc: Global, at: u64) -> Result<(), NoMemory>
+        ensures now { OnOk result (self.new.now ≡ reopened_in at self.old.now) }
+        ensures err { OnErr result (self.new.now ≡ self.old.now) }
+        ensures past { self.new.past ≡ self.old.past }
+    {
+        let held = self.held;
+        self.runs.reserve_step(held)?;
+        self.slots.reserve_step(held)?;
+        let runs = empty_places(alloc, self.runs.items())?;
+        let Ok(slots) = empty_places(alloc, self.slots.items()) else {
+            drop(runs);
+            return Err(NoMemory);
+        };
+        self.runs.replace(held, runs);
+        self.slots.replace(held, slots);
+        self.marks = Marks {
+            latest: at,
+            opened: self.spots.items().len(),
+            owed: 0,
+            draining: false,
+        };
+        Ok(())
+    }
+}

@@ -1,0 +1,20 @@
+-- What is kept of every activation, by every legal book and each of its beginnings.
+use Rattle.std.specs.Prelude.{List, [], ◌∷◌}
+use Rattle.ow_floor.specs.Trace.{Trace}
+use Rattle.ow_floor.specs.Laws.{EndedWereAccepted, IsParted, RunOnce}
+use Rattle.ow_floor.specs.Calls.{AllRecorded, drain_answer}
+use Rattle.ow_hall.specs.declared.tenants.Tenants.{Tenants}
+use Rattle.ow_hall.specs.History.{History, seen}
+
+-- of what happened on the floor: each accepted activation is exactly one of waiting, running and recorded, once, and has one
+-- live run at most; what has ended was accepted, as it was planned; and where `drain` would answer drained, each is recorded, once
+pub record IsKept (T : Trace) : Type 0 where
+  pub parted : IsParted T
+  pub once : RunOnce T
+  pub known : EndedWereAccepted T
+  pub drained : AllRecorded T (drain_answer T)
+
+-- a book, and each of its beginnings
+abbrev pub KeepsEach : Tenants → History → Type 0
+KeepsEach t [] = IsKept (seen t []).trace
+KeepsEach t (e ∷ B) = IsKept (seen t (e ∷ B)).trace × KeepsEach t B

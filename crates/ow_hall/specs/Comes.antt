@@ -1,0 +1,125 @@
+-- What one call of the hall comes to: one relation of what the hall was, the moment, the event, what comes of it, and what the
+-- hall is now.
+use Rattle.std.specs.Prelude.{◌≡◌, ◌≢◌, ◌≤◌, ℕ, List, [], ◌∷◌, Option, Some, None, Result, Ok, Err}
+use Rattle.ow_traits.specs.Changes.{changed}
+use Rattle.ow_traits.specs.Streams.{Rose}
+use Rattle.ow_traits.specs.declared.change_list.Change.{Change}
+use Rattle.ow_traits.specs.declared.replies.RunReply.{RunReply}
+use Rattle.ow_value.specs.declared.memory.NoMemory.{NoMemory as Want}
+use Rattle.ow_floor.specs.declared.answers.Answered.{Answered}
+use Rattle.ow_floor.specs.declared.answers.AnswerRefusal.{AnswerRefusal}
+use Rattle.ow_floor.specs.declared.answers.AnswerRefusal.TheVariants.{NoRun, NoMemory}
+use Rattle.ow_floor.specs.declared.answers.Drain.{Drain}
+use Rattle.ow_floor.specs.declared.answers.Order.{Order}
+use Rattle.ow_hall.specs.declared.entry.Event.{Event}
+use Rattle.ow_hall.specs.declared.entry.Told.{Told}
+use Rattle.ow_hall.specs.declared.entry.Told.TheVariants as told
+use Rattle.ow_hall.specs.declared.replies.Called.{Called}
+use Rattle.ow_hall.specs.declared.replies.Reply.{Reply}
+use Rattle.ow_hall.specs.declared.replies.Reply.TheVariants as replies
+use Rattle.ow_hall.specs.declared.tenants.Tenants.{Tenants}
+use Rattle.ow_hall.specs.Decision.{Decision}
+use Rattle.ow_hall.specs.History.{answer, decision, moment}
+use Rattle.ow_hall.specs.Ledger.{Ledger, faulted, posted}
+
+-- a hall: the office table, its ledger, and its store
+pub record HallView (P : Type 0) : Type 0 where
+  pub tenants : Tenants
+  pub ledger : Ledger
+  pub store : P
+
+-- what comes of an event: it is answered, memory is wanted, or the store fails
+pub data Outcome : Type 0 where
+  Answers : (answer : Told) → Outcome
+  Wants : Outcome
+  Fails : Outcome
+
+-- ---- what is kept by the store
+
+-- rows of a key and a text, where the keeper tells them
+abbrev pub KeptRows : Type 0
+KeptRows = Option (List (List ℕ × List ℕ))
+
+-- which changes a decision makes there: none is kept yet
+abbrev pub commits : Decision → List Change
+commits d = []
+
+abbrev pub kept_after : List Change → KeptRows → KeptRows
+kept_after changes None = None
+kept_after changes (Some rows) = Some (changed changes rows)
+
+-- the store holds what it held, with these changes; where there is none it isn't asked
+abbrev pub Holds : {P : Type 0} → (P → KeptRows) → (P → ℕ) → List Change → P → P → Type 0
+Holds rows faults [] old new = new ≡ old
+Holds rows faults (c ∷ cs) old new = (rows new ≡ kept_after (c ∷ cs) (rows old)) × (faults old ≤ faults new)
+
+-- ---- the relation
+
+-- at the moment that is booked
+abbrev pub at_hall : {P : Type 0} → HallView P → ℕ → ℕ
+at_hall h at = moment h.ledger.entries at
+
+abbrev pub decided : {P : Type 0} → HallView P → ℕ → Event → Decision
+decided h at event = decision h.tenants h.ledger.entries (at_hall h at) event
+
+-- the answer is the one answer, and it is posted, and kept by the store. Where memory is wanted nothing has changed. The store
+-- fails only where a change was to be kept, and then nothing has changed but the tally
+abbrev pub Comes : {P : Type 0} → (P → KeptRows) → (P → ℕ) → HallView P → HallView P → ℕ → Event → Outcome → Type 0
+Comes rows faults old new at event (Answers t) = (t ≡ answer old.tenants old.ledger.entries (at_hall old at) event)
+    × (new.ledger ≡ posted old.ledger (at_hall old at) event t) × (new.tenants ≡ old.tenants)
+    × Holds rows faults (commits (decided old at event)) old.store new.store
+Comes rows faults old new at event Wants = (new.ledger ≡ old.ledger) × (new.tenants ≡ old.tenants) × (new.store ≡ old.store)
+Comes rows faults old new at event Fails = (commits (decided old at event) ≢ []) × (new.ledger ≡ faulted old.ledger) × (new.tenants ≡ old.tenants)
+    × (rows new.store ≡ rows old.store) × Rose (faults old.store) (faults new.store)
+
+-- ---- what the calls tell of it
+
+-- an answer, or want of memory
+abbrev pub outcome : {E : Type 0} → Result Told E → Outcome
+outcome (Ok t) = Answers t
+outcome (Err e) = Wants
+
+-- a call of the office
+abbrev pub call_outcome : Result Called Want → Outcome
+call_outcome (Ok c) = Answers (told.Called c)
+call_outcome (Err e) = Wants
+
+-- a runner that asks
+abbrev pub next_outcome : Result Order Want → Outcome
+next_outcome (Ok order) = Answers (told.Next order)
+next_outcome (Err e) = Wants
+
+-- a runner that replies. A refusal hands the run's number and the reply back
+abbrev pub reply_outcome : Result Answered AnswerRefusal → Outcome
+reply_outcome (Ok answered) = Answers (told.Answered answered)
+reply_outcome (Err (NoRun run reply)) = Answers (told.NoRun run reply)
+reply_outcome (Err (NoMemory reply)) = Wants
+
+-- the office that drains
+abbrev pub drain_outcome : Result Drain Want → Outcome
+drain_outcome (Ok drain) = Answers (told.Drain drain)
+drain_outcome (Err e) = Wants
+
+-- what a request is answered by what it is told: an answer that the book is full looks as any other
+abbrev pub reply_in : Told → Option Reply
+reply_in (told.Asked reply) = Some reply
+reply_in (told.Full answer) = Some (replies.Now answer)
+reply_in t = None
+
+-- what a runner's reply is answered by what is told
+abbrev pub replied_in : Told → Option (Result Answered AnswerRefusal)
+replied_in (told.Answered answered) = Some (Ok answered)
+replied_in (told.NoRun run reply) = Some (Err (NoRun run reply))
+replied_in t = None
+
+-- a request
+abbrev pub Replies : Result Reply Want → Outcome → Type 0
+Replies (Ok reply) (Answers t) = reply_in t ≡ Some reply
+Replies (Ok reply) other = ⊥
+Replies (Err e) o = o ≡ Wants
+
+-- a refusal hands the run's number and the reply back
+abbrev pub HandsBack : ℕ → RunReply → Result Answered AnswerRefusal → Type 0
+HandsBack run reply (Err (NoRun number back)) = (number ≡ run) × (back ≡ reply)
+HandsBack run reply (Err (NoMemory back)) = back ≡ reply
+HandsBack run reply (Ok answered) = Unit {0}

@@ -1,0 +1,141 @@
+// The office's own invocation of an action.
+ghost use Rattle.std.specs.Prelude.{◌≡◌, ◌+◌, None, IfOk, option_map};
+ghost use Rattle.ow_floor.specs.View.{last_of};
+ghost use Rattle.ow_floor.specs.Laws.{Stands};
+ghost use Rattle.ow_hall.specs.Calling.{call_decision, call_plan, callee_in, fitting, pairs_of, plan_for};
+ghost use Rattle.ow_hall.specs.Sight.{Sight};
+ghost use Rattle.ow_hall.specs.State.{IsSeen, Makes};
+
+use crate::ask_steps::room_for;
+use crate::entry::Told;
+use crate::replies::Called;
+use crate::step::{Now, Step};
+use crate::tenants::Tenants;
+use ow_entity::{Action, EntityKind, EntityRefusal, Row};
+use ow_floor::{Floor, Plan};
+use ow_http::{CallRefusal, Reason, ServiceRefusal};
+use ow_names::FullName;
+use ow_records::Id;
+use ow_tables::Tables;
+use ow_value::{MEGABYTE, NoMemory, Params, PlainData, Shared, Val, merge, size};
+use std::alloc::Global;
+
+/// What is done at a call: the action is accepted, unless the call is refused.
+pub(crate) fn call(
+    alloc: Global,
+    tenants: &Tenants,
+    floor: &mut Floor,
+    tables: &Tables,
+    now: Now,
+    name: &FullName,
+    params: &Params,
+) -> Result<Step, NoMemory>
+    ensures ok { IfOk result (Makes tenants.now tables.now.rows now floor.old.now floor.new.now (λ S. call_decision S (call_plan S name.now params.now))) }
+    ensures change { IfOk result (λ s. s.change ≡ None) }
+    ensures before { floor.new.before ≡ floor.old.before }
+{
+    match call_plan(alloc, tenants, floor, tables, now, name, params)? {
+        Ok(plan) => {
+            let happened = floor.accept(alloc, now.at, plan)?;
+            Ok(Step::telling(Told::Called(Called::Happened(happened))))
+        }
+        Err(reason) => Ok(Step::telling(Told::Called(Called::Refused(reason)))),
+    }
+}
+
+// What is to be accepted, or why not. Nothing is done yet.
+fn call_plan(
+    alloc: Global,
+    tenants: &Tenants,
+    floor: &Floor,
+    tables: &Tables,
+    now: Now,
+    name: &FullName,
+    params: &Params,
+) -> Result<Result<Plan, Reason>, NoMemory>
+    ensures plan { IfOk result (λ p. (S : Sight) → IsSeen S tenants.now tables.now.rows floor.now.now now → p ≡ call_plan S name.now params.now) }
+    ensures next { IfOk result (λ p. IfOk p (λ plan. plan.id.count ≡ last_of floor.now.now.drawn plan.id.namespace + 1)) }
+{
+    if let Err(reason) = room_for(now.counted, 0) {
+        return Ok(Err(reason));
+    }
+    let Some((number, action)) = callee(tenants, tables, name) else {
+        return Ok(Err(Reason::Service(ServiceRefusal::NotFound)));
+    };
+    let Some(params) = merged(alloc, action.get(), params)? else {
+        return Ok(Err(Reason::Call(CallRefusal::BadEntity(EntityRefusal::TooLarge))));
+    };
+    if floor.is_draining() {
+        return Ok(Err(Reason::Service(ServiceRefusal::Draining)));
+    }
+    let Some(count) = floor.last(number).checked_add(1) else {
+        return Err(NoMemory);
+    };
+    let id = Id {
+        namespace: number,
+        count,
+    };
+    Ok(Ok(plan_for(alloc, tenants, id, name, action, params)?))
+}
+
+// The plan of a call under this id, with these merged parameters.
+fn plan_for(
+    alloc: Global,
+    tenants: &Tenants,
+    id: Id,
+    name: &FullName,
+    action: &Shared<Action>,
+    params: Params,
+) -> Result<Plan, NoMemory>
+    ensures { IfOk result (λ p. p ≡ plan_for tenants.now id name.now action.now params) }
+{
+    let subject = tenants.office.copy(alloc)?;
+    let namespace = name.namespace.copy(alloc)?;
+    let action = action.copy(alloc)?;
+    Ok(Plan {
+        id,
+        namespace,
+        action,
+        params,
+        subject,
+        cause: None,
+        until: None,
+    })
+}
+
+// The action of the name, and the number of the namespace that is charged.
+fn callee<'a>(
+    tenants: &Tenants,
+    tables: &'a Tables,
+    name: &FullName,
+) -> Option<(u64, &'a Shared<Action>)>
+    ensures { option_map (λ c. record { number = c.0; action = c.1.now }) result ≡ callee_in tenants.now tables.now.rows name.now }
+{
+    let number = tenants.number_of(name.namespace.as_str());
+    match (number, tables.get(EntityKind::Action, name)) {
+        (Some(number), Ok(Row::Action(action))) => Some((number, action)),
+        _ => None,
+    }
+}
+
+// What is given over the action's own parameters, unless it has too many bytes.
+#[tactic(auto, unfolding(crate::specs::Calling::is_oversized))]
+fn merged(alloc: Global, action: &Action, params: &Params) -> Result<Option<Params>, NoMemory>
+    ensures { IfOk result (λ p. p ≡ fitting action.now params.now) }
+{
+    let merged = Val::Object(merge(alloc, action.params.get(), params)?);
+    if size(&merged) > MEGABYTE {
+        return Ok(None);
+    }
+    Ok(pairs_of(merged))
+}
+
+// The pairs of an object.
+fn pairs_of(value: Val) -> Option<Params>
+    ensures { result ≡ pairs_of value }
+{
+    match value {
+        Val::Object(pairs) => Some(pairs),
+        _ => None,
+    }
+}

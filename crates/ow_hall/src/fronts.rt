@@ -1,0 +1,77 @@
+// What the calls answer, by what is told.
+ghost use Rattle.std.specs.Prelude.{◌≡◌, Some, IsSome, ℕ};
+ghost use Rattle.ow_hall.specs.Comes.{Answers, replied_in, reply_in, reply_outcome};
+ghost use Rattle.ow_traits.specs.declared.replies.RunReply.{RunReply};
+
+use crate::entry::{Event, Told};
+use crate::replies::{Called, Reply};
+use ow_floor::{AnswerRefusal, Answered, Drain, Order};
+use ow_traits::RunReply;
+
+/// What a request is answered. An answer that the book is full looks as any other.
+pub(crate) fn reply_in(told: Told) -> Reply
+    requires { IsSome (reply_in told) }
+    ensures { reply_in told ≡ Some result }
+{
+    match told {
+        Told::Asked(reply) => reply,
+        Told::Full(answer) => Reply::Now(answer),
+        _ => unreachable!(),
+    }
+}
+
+/// What a call of the office is answered.
+pub(crate) fn called_in(told: Told) -> Called
+    requires { (c : Called) × (told ≡ Told.Called c) }
+    ensures { told ≡ Told.Called result }
+{
+    match told {
+        Told::Called(called) => called,
+        _ => unreachable!(),
+    }
+}
+
+/// What a runner is answered that asks.
+pub(crate) fn order_in(told: Told) -> Order
+    requires { (o : Order) × (told ≡ Told.Next o) }
+    ensures { told ≡ Told.Next result }
+{
+    match told {
+        Told::Next(order) => order,
+        _ => unreachable!(),
+    }
+}
+
+/// What a runner is answered that replies.
+pub(crate) fn answered_in(told: Told) -> Result<Answered, AnswerRefusal>
+    requires { IsSome (replied_in told) }
+    ensures { Answers told ≡ reply_outcome result }
+{
+    match told {
+        Told::Answered(answered) => Ok(answered),
+        Told::NoRun { run, reply } => Err(AnswerRefusal::NoRun { run, reply }),
+        _ => unreachable!(),
+    }
+}
+
+/// What the office is answered that drains.
+pub(crate) fn drain_in(told: Told) -> Drain
+    requires { (d : Drain) × (told ≡ Told.Drain d) }
+    ensures { told ≡ Told.Drain result }
+{
+    match told {
+        Told::Drain(drain) => drain,
+        _ => unreachable!(),
+    }
+}
+
+/// The reply of a runner, to be handed back.
+pub(crate) fn reply_of(event: Event) -> RunReply
+    requires { (run : ℕ) × ((reply : RunReply) × (event ≡ Event.Answered run reply)) }
+    ensures { (run : ℕ) × (event ≡ Event.Answered run result) }
+{
+    match event {
+        Event::Answered { reply, .. } => reply,
+        _ => unreachable!(),
+    }
+}

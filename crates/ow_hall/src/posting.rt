@@ -1,0 +1,55 @@
+// How an answer is posted.
+ghost use Rattle.std.specs.Prelude.{◌≡◌};
+ghost use Rattle.ow_hall.specs.Posting.{call_posting, posting_by};
+
+use crate::entry::Told;
+use crate::reasons::tells_full;
+use crate::replies::Called;
+use ow_floor::Order;
+
+/// What becomes of an answer in the book.
+#[derive(Clone, Copy, Debug, PartialEq, Eq)]
+pub(crate) enum Posting {
+    /// It is an entry.
+    Booked,
+    /// It is tallied as a `next` that ordered nothing again.
+    Quiet,
+    /// It is tallied as an event of a runner that was refused.
+    Denied,
+    /// It leaves nothing.
+    Unbooked,
+}
+
+/// How an answer is posted behind an entry that ordered nothing, or behind another.
+pub(crate) fn posting_of(idle: bool, told: &Told) -> Posting
+    ensures { result ≡ posting_by idle told.now }
+{
+    match told {
+        Told::Next(Order::Nothing(_)) => {
+            if idle {
+                Posting::Quiet
+            } else {
+                Posting::Booked
+            }
+        }
+        Told::NoRun { .. } => Posting::Denied,
+        Told::Full(_) => Posting::Unbooked,
+        Told::Called(called) => call_posting(called),
+        _ => Posting::Booked,
+    }
+}
+
+fn call_posting(called: &Called) -> Posting
+    ensures { result ≡ call_posting called.now }
+{
+    match called {
+        Called::Refused(reason) => {
+            if tells_full(reason) {
+                Posting::Unbooked
+            } else {
+                Posting::Booked
+            }
+        }
+        Called::Happened(_) => Posting::Booked,
+    }
+}

@@ -1,4 +1,0 @@
-use Rattle.ow_http.proofs.parts.+after_slashes.Given as goal
-
-abbrev pub decreases-after_slashes : goal.decreases-after_slashes
-decreases-after_slashes l = l.n

@@ -1,6 +1,0 @@
-use Rattle.std.proofs.Common.{ap, refl, append_assoc}
-use Rattle.ow_http.specs.Reason.{row}
-use Rattle.ow_http.proofs.texts.with_numbers.Goals as goal
-
-pub returns : goal.returns
-returns c = ap (row c.args.status) (rw c.from_string.ensures.value (rw c.in_ok-text.ensures.ok (simp append_assoc refl)))

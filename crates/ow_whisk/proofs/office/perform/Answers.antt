@@ -1,5 +1,0 @@
-use Rattle.ow_whisk.proofs.SoFar.{leaves_unread}
-use Rattle.ow_whisk.proofs.office.perform.Goals as goal
-
-pub returns-in-Some-Help-clause-reads : goal.returns-in-Some-Help-clause-reads
-returns-in-Some-Help-clause-reads g c = leaves_unread _
