@@ -1,5 +1,5 @@
 -- For whose end a request waits.
-use Rattle.std.proofs.Common.{◌≡◌, ◌<◌, ◌++◌, ℕ, suc, Bool, true, false, cond, List, [], ◌∷◌, Option, Some, None, length, drop, drop-cons, get_or, refl, sym, ap, ◌∙◌}
+use Rattle.std.proofs.Common.{◌≡◌, ◌<◌, ◌++◌, ℕ, zero, suc, Bool, true, false, cond, List, [], ◌∷◌, Option, Some, None, length, drop, drop-cons, get_or, refl, ap, ◌∙◌}
 use Rattle.std.specs.List.{find}
 use Rattle.ow_records.specs.declared.ids.Id.{Id}
 use Rattle.ow_records.specs.Id.{same_id}
@@ -56,9 +56,9 @@ pub wait_found : (id : Id) (n : ℕ) (bs : List Blocking) (until : ℕ) → wait
 wait_found id n [] until found = empty n found
   where
     empty : (n : ℕ) → wait_in id (drop n []) ≡ Some until → wait_in id [] ≡ Some until
-    empty 0 h = h
+    empty zero h = h
     empty (suc n) h = h
-wait_found id 0 (b ∷ bs) until found = found
+wait_found id zero (b ∷ bs) until found = found
 wait_found id (suc n) (b ∷ bs) until found = rw (wait_found id n bs until found) refl
 
 -- one place further back

@@ -75,7 +75,6 @@ show R = record {
   slots = there slot_in R.slots;
   ended = R.ended;
   drawn = R.drawn;
-  blocking = R.blocking;
   runs = length R.runs;
   count = length R.spots - R.marks.opened;
   blocking = R.blocking;

@@ -405,7 +405,7 @@ fn collected_by(
     until: Option<u64>,
     ended: Option<&Record>,
 ) -> Result<Collected<'_>, FloorRefusal>
-    ensures { collection_of result ≡ collected_by at until (option_copied ended) }
+    ensures { collection_of result ≡ collected_by at until (option_copied ended.entry) }
 {
     match (until, ended) {
         (None, _) => Err(FloorRefusal::NotFound),

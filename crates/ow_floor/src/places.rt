@@ -133,11 +133,9 @@ fn is_at(task: &Option<Shared<Activation>>, id: Id) -> bool
 pub(crate) fn until(blocking: &[Blocking], id: Id) -> Option<u64>
     ensures { result ≡ wait_in id blocking.now }
 {
-    let mut left = blocking.len();
-    while left > 0 {
-        left -= 1;
-        if blocking[left].id == id {
-            return Some(blocking[left].until);
+    for i in (0..blocking.len()).rev() {
+        if blocking[i].id == id {
+            return Some(blocking[i].until);
         }
     }
     None
