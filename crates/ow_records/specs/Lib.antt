@@ -3,5 +3,7 @@ pub mod Logs
 pub mod Notes
 pub mod Outcome
 pub mod Record
+pub mod RecordRefusal
+pub mod Records
 pub mod Response
 pub mod Span
