@@ -10,7 +10,7 @@ ghost use Rattle.ow_floor.specs.Store.{IsGood};
 
 use crate::lists::Lists;
 use crate::{Answered, Happened, Happening, Run};
-use ow_records::{Activation, Ending, record_of};
+use ow_records::{Activation, Ending, ReadyRecord, record_of};
 use ow_traits::RunReply;
 use ow_value::{NoMemory, PlainData, Scratch, Shared};
 use std::alloc::Global;
@@ -38,8 +38,8 @@ pub(crate) fn end_at(
     let id = task.id;
     let record = record_of(alloc, scratch, task, ending, started(run), at)?;
     let code = record.response.code();
-    let record = Shared::new(alloc, record)?;
-    lists.end(at, place, record)?;
+    let ready = ReadyRecord::new(alloc, record)?;
+    lists.end(at, place, ready)?;
     Ok(Happening::Recorded { id, code })
 }
 

@@ -14,7 +14,7 @@ use crate::{
     AnswerRefusal, Answered, Collected, Drain, FloorRefusal, Happened, Happening, Idle, Order,
     Plan, Run, RunOrder, Swept,
 };
-use ow_records::{Activation, Ending, Id, Record};
+use ow_records::{Activation, Ending, Id, Record, Records};
 use ow_traits::RunReply;
 use ow_value::{NoMemory, Scratch, Shared};
 use std::alloc::Global;
@@ -97,8 +97,8 @@ impl Floor {
     }
 
     /// The records of the activations that have ended, by their ends.
-    pub fn records(&self) -> &[Shared<Record>]
-        ensures { result.now ≡ self.now.now.ended }
+    pub fn records(&self) -> &Records
+        ensures { result.now.items ≡ self.now.now.ended }
     {
         self.lists.records()
     }

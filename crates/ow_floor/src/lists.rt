@@ -7,9 +7,9 @@ ghost use Rattle.ow_floor.specs.Trace.{blocked_by};
 ghost use Rattle.ow_floor.specs.Store.{AreGone, CellOf, SpotOf, Store, accepted_in, at_moment, drained_in, empty_of, ended_in, freed_in, ordered_in, reopened_in, run_in, run_put, slot_cut, taken_back};
 
 use crate::kept::Kept;
-use crate::places::{namespace_place, open_place, record_place, run_place, until, waiting_place};
+use crate::places::{namespace_place, open_place, run_place, until, waiting_place};
 use crate::{Run, Slot, State};
-use ow_records::{Activation, Id, Record};
+use ow_records::{Activation, Id, ReadyRecord, Record, Records};
 use ow_value::{NoMemory, Shared};
 use std::alloc::Global;
 use std::marker::Model;
@@ -50,7 +50,9 @@ pub(crate) struct Lists {
     tasks: Kept<Option<Shared<Activation>>>,
     runs: Kept<Option<Berth>>,
     slots: Kept<Option<Slot>>,
-    records: Kept<Shared<Record>>,
+    records: Records,
+    // How many records there were at the hold.
+    records_held: usize,
     // The last id of each namespace.
     drawn: Kept<Id>,
     // Those that were accepted since the last opening.
@@ -80,18 +82,19 @@ impl Model for Lists {
         tasks = l.tasks.now;
         runs = l.runs.now;
         slots = l.slots.now;
-        ended = l.records.now;
+        ended = l.records.items;
         drawn = l.drawn.now;
         blocking = l.blocking.now;
         marks = l.marks;
       };
       past = past_of (past l.held l.spots.before) (past l.held l.tasks.before) (past l.held l.runs.before) (past l.held l.slots.before)
-          (past l.held l.records.before) (past l.held l.drawn.before) (past l.held l.blocking.before) (past l.held l.before);
+          (past l.held (take l.records_held l.records.items)) (past l.held l.drawn.before) (past l.held l.blocking.before) (past l.held l.before);
     } };
 
+    ghost use Rattle.std.specs.Prelude.{◌≤◌, length, take};
     ghost use Rattle.ow_floor.specs.Store.{AreGone};
 
-    ghost invariant = { λ l. AreGone l.tasks_gone l.tasks.now × AreGone l.runs_gone l.runs.now };
+    ghost invariant = { λ l. AreGone l.tasks_gone l.tasks.now × AreGone l.runs_gone l.runs.now × (l.records_held ≤ length l.records.items) };
 }
 
 const NO_MARKS: Marks = Marks {
@@ -112,7 +115,8 @@ impl Lists {
             tasks: Kept::new(alloc),
             runs: Kept::new(alloc),
             slots: Kept::new(alloc),
-            records: Kept::new(alloc),
+            records: Records::new(alloc),
+            records_held: 0,
             drawn: Kept::new(alloc),
             blocking: Kept::new(alloc),
             marks: NO_MARKS,
@@ -170,20 +174,19 @@ impl Lists {
         self.slots.items()
     }
 
-    pub(crate) fn records(&self) -> &[Shared<Record>]
-        ensures { result.now ≡ self.now.now.ended }
+    pub(crate) fn records(&self) -> &Records
+        ensures { result.now.items ≡ self.now.now.ended }
     {
-        self.records.items()
+        &self.records
     }
 
     /// The record of an activation that has ended.
     pub(crate) fn record_of(&self, id: Id) -> Option<&Record>
         ensures { option_copied result ≡ find (is_end_of id) self.now.now.ended }
     {
-        let records = self.records.items();
-        match record_place(records, id) {
-            Some(place) => Some(records[place].get()),
-            None => None,
+        match self.records.get(&id) {
+            Ok(ended) => Some(ended),
+            Err(_) => None,
         }
     }
 
@@ -214,7 +217,7 @@ impl Lists {
         self.tasks.hold();
         self.runs.hold();
         self.slots.hold();
-        self.records.hold();
+        self.records_held = self.records.len();
         self.drawn.hold();
         self.blocking.hold();
         self.before = self.marks;
@@ -238,7 +241,7 @@ impl Lists {
             self.tasks.take_back();
             self.runs.take_back();
             self.slots.take_back();
-            self.records.take_back();
+            self.records.cut(self.records_held);
             self.drawn.take_back();
             self.blocking.take_back();
             self.marks = self.before;
@@ -429,24 +432,19 @@ impl Lists {
     }
 
     /// What stands at this place has ended at this moment.
-    pub(crate) fn end(
-        &mut self,
-        at: u64,
-        place: usize,
-        ended: Shared<Record>,
-    ) -> Result<(), NoMemory>
+    pub(crate) fn end(&mut self, at: u64, place: usize, ended: ReadyRecord) -> Result<(), NoMemory>
         requires { place < length self.old.now.tasks }
         ensures now { OnOk result (self.new.now ≡ ended_in at place ended self.old.now) }
         ensures err { OnErr result (self.new.now ≡ self.old.now) }
         ensures past { self.new.past ≡ self.old.past }
     {
         let held = self.held;
-        if make_room(&mut self.records, held).is_err() || self.tasks.reserve_step(held).is_err() {
+        if self.records.reserve().is_err() || self.tasks.reserve_step(held).is_err() {
             drop(ended);
             return Err(NoMemory);
         }
         self.marks.latest = at;
-        self.records.push(held, ended);
+        self.records.add(ended);
         self.tasks.set(held, place, None);
         self.tasks_gone = further(self.tasks.items(), self.tasks_gone);
         Ok(())

@@ -1,13 +1,13 @@
 // Places in lists.
 ghost use Rattle.std.specs.Prelude.{◌≡◌, length, position};
 ghost use Rattle.std.specs.List.{find};
-ghost use Rattle.ow_floor.specs.View.{is_end_of, is_in, last_of, is_number, is_of, is_slot, wait_in, waits};
+ghost use Rattle.ow_floor.specs.View.{is_in, last_of, is_number, is_of, is_slot, wait_in, waits};
 ghost use Rattle.ow_floor.specs.Store.{AreGone, CellOf, SpotOf, run_in, slot_in};
 ghost use Rattle.ow_floor.specs.Places.{PlaceOf, has, has_id, has_open};
 
 use crate::lists::{Berth, Blocking, Spot};
 use crate::{Slot, State};
-use ow_records::{Activation, Id, Record};
+use ow_records::{Activation, Id};
 use ow_value::Shared;
 
 /// The place of the first id of the namespace.
@@ -21,19 +21,6 @@ fn namespace_position(ids: &[Id], namespace: u64) -> Option<usize>
     ensures { result ≡ position (is_in namespace) ids.now }
 {
     ids.iter().position(|id| id.namespace == namespace)
-}
-
-/// The place of the record of an activation.
-pub(crate) fn record_place(records: &[Shared<Record>], id: Id) -> Option<usize>
-    ensures { PlaceOf (is_end_of id) records.now result }
-{
-    record_position(records, id)
-}
-
-fn record_position(records: &[Shared<Record>], id: Id) -> Option<usize>
-    ensures { result ≡ position (is_end_of id) records.now }
-{
-    records.iter().position(|r| r.get().id == id)
 }
 
 /// The place of the live run of this number. At the first `from` places no run stands.
