@@ -21,7 +21,8 @@ use std::alloc::Global;
 use std::marker::Model;
 
 /// What was accepted: the activations that have not ended, by acceptance, the live runs, and the records of the
-/// activations that have ended, by their ends. What it holds of an ended activation is its record alone.
+/// activations that have ended, by their ends. What it holds of an ended activation is its record alone, and up to which
+/// moment its request waits, where one does and it was accepted since the last opening.
 #[derive(Drop)]
 pub struct Floor {
     lists: Lists,

@@ -67,6 +67,7 @@ pub(crate) struct Lists {
 }
 
 impl Model for Lists {
+    ghost use Rattle.std.specs.Prelude.{take};
     ghost use Rattle.std.specs.Coded.{codes};
     ghost use Rattle.ow_value.specs.Code.{value_code};
     ghost use Rattle.ow_floor.specs.Kept.{past};
@@ -91,7 +92,7 @@ impl Model for Lists {
           (past l.held (take l.records_held l.records.items)) (past l.held l.drawn.before) (past l.held l.blocking.before) (past l.held l.before);
     } };
 
-    ghost use Rattle.std.specs.Prelude.{◌≤◌, length, take};
+    ghost use Rattle.std.specs.Prelude.{◌≤◌, length};
     ghost use Rattle.ow_floor.specs.Store.{AreGone};
 
     ghost invariant = { λ l. AreGone l.tasks_gone l.tasks.now × AreGone l.runs_gone l.runs.now × (l.records_held ≤ length l.records.items) };
