@@ -2,7 +2,6 @@
 use Rattle.std.proofs.Common.{◌≡◌, ◌+◌, ◌-◌, ◌++◌, ℕ, Bool, true, false, cond, List, [], ◌∷◌, Option, Some, None, length, get_or, refl, sym, ap, ◌∙◌, arith, subst, length-append, inl, inr}
 use Rattle.std.specs.List.{find}
 use Rattle.std.specs.Prelude.{is_err, is_some, IsSome, IsOk, OnOk, Result, Ok, Err}
-use Rattle.std.proofs.lemmas.Bool.Decides.{nat_tests}
 use Rattle.ow_records.specs.declared.ids.Id.{Id}
 use Rattle.ow_records.specs.declared.outcomes.Ending.{Ending}
 use Rattle.ow_records.specs.declared.outcomes.Ending.TheVariants.{Replied, Overran}
@@ -24,7 +23,6 @@ use Rattle.ow_floor.specs.Store.{IsCell, IsGood, IsGoodPast, IsSpot, Store, at_m
 use Rattle.ow_floor.specs.Ends.{IsEndedAt, IsEndedRun, IsFreed, IsMade, abandons, sweeps}
 use Rattle.ow_floor.proofs.Coming.{right_begun, right_end, right_gone, right_lost, right_next, right_reopened, right_reply, right_swept}
 use Rattle.ow_floor.proofs.Drawn.{drawn_last}
-use Rattle.ow_floor.proofs.Firsts.{find_passes}
 use Rattle.ow_floor.proofs.Making.{ended_made, happened_append}
 use Rattle.ow_floor.proofs.Showing.{good_begun, good_freed, good_gone, good_left, good_marked, good_ordered, good_reopened, show_answered, show_begun, show_freed, show_gone, show_lost, show_ordered, show_reopened}
 use Rattle.ow_floor.proofs.Soundness.{grows}

@@ -1,5 +1,5 @@
 -- What collecting the end of an activation tells, for whose end a request waits.
-use Rattle.std.specs.Prelude.{◌<◌, ℕ, Option, Some, None, if◌then◌else◌, nat_lt, Result, Ok, Err}
+use Rattle.std.specs.Prelude.{ℕ, Option, Some, None, if◌then◌else◌, nat_lt, Result, Ok, Err}
 use Rattle.ow_records.specs.declared.ids.Id.{Id}
 use Rattle.ow_records.specs.declared.record.Record.{Record}
 use Rattle.ow_floor.specs.declared.answers.Collected.{Collected}
