@@ -1,3 +1,4 @@
 pub mod RowLaws
 pub mod RegionLaws
 pub mod Found
+pub mod InsideLaws
