@@ -2,8 +2,8 @@ use crate::held::{boxed, name_of, value_of};
 use ow_entity::{EntityKind, Package, Row, read_entity, write_entity};
 use ow_names::{FullName, read_name};
 use ow_packages::{
-    Effective, PackageRefusal, check_binding, check_override, effective, fixed_names,
-    reached_package,
+    Effective, PackageRefusal, check_binding, check_override, effective, fixed_names, is_shared,
+    package_of, reached_package,
 };
 use ow_tables::{TableRefusal, Tables};
 use ow_value::{Params, PlainData, Val, merge, write_val};
@@ -97,7 +97,12 @@ const ROWS: [(EntityKind, &str, &str, u32); 16] = [
         0,
     ),
     (PACKAGE, "c", "{'binding':{'name':'b','namespace':'_'}}", 15),
-    (PACKAGE, "c", "{'binding':{'name':'no','namespace':'_'}}", 14),
+    (
+        PACKAGE,
+        "c",
+        "{'binding':{'name':'no','namespace':'_'}}",
+        14,
+    ),
     (PACKAGE, "/lib/closed", "{}", 0),
     (PACKAGE, "/lib/open", "{'publish':true}", 0),
     (
@@ -118,7 +123,12 @@ const ROWS: [(EntityKind, &str, &str, u32); 16] = [
         "{'exec':{'kind':'program:1','code':'open'}}",
         0,
     ),
-    (ACTION, "/lib/a", "{'exec':{'kind':'program:1','code':'a'}}", 0),
+    (
+        ACTION,
+        "/lib/a",
+        "{'exec':{'kind':'program:1','code':'a'}}",
+        0,
+    ),
     (
         ACTION,
         "b/a",
@@ -137,7 +147,12 @@ const ROWS: [(EntityKind, &str, &str, u32); 16] = [
         "{'binding':{'name':'closed','namespace':'lib'}}",
         14,
     ),
-    (PACKAGE, "c", "{'binding':{'name':'open','namespace':'lib'}}", 0),
+    (
+        PACKAGE,
+        "c",
+        "{'binding':{'name':'open','namespace':'lib'}}",
+        0,
+    ),
     (PACKAGE, "c", "{'publish':true}", 0),
 ];
 
@@ -145,7 +160,7 @@ fn filled(alloc: Global) -> Result<Box<Tables>, Fail> {
     let mut tables = boxed(alloc, Tables::new(alloc))?;
     for (kind, path, body, number) in ROWS.iter() {
         if put(alloc, &mut tables, *kind, path, body)? != *number {
-            Err("another refusal")?;
+            return Err(Fail::new("another refusal"));
         }
     }
     Ok(tables)
@@ -223,7 +238,7 @@ fn called(alloc: Global, tables: &Tables, path: &str) -> Result<Box<Effective>, 
     let guest = boxed(alloc, read_name(alloc, b"guest"))?;
     match effective(alloc, tables, &name, &guest) {
         Ok(e) => boxed(alloc, e.copy(alloc)),
-        Err(_) => Err("no action")?,
+        Err(_) => Err(Fail::new("no action")),
     }
 }
 
@@ -249,7 +264,16 @@ fn final_parameters_stand(rt: HostRuntime) -> Result<(), Fail> {
     assert!(rt; is_called(alloc, &tables, "p/a", "guest", "{'x':4}", "x")?);
     assert!(rt; is_called(alloc, &tables, "p/a", "guest", "{'x':3}", "x")?);
     assert!(rt; is_called(alloc, &tables, "b/a", "guest", "{'c':1,'p':1}", "p")?);
-    assert!(rt; is_called(alloc, &tables, "p/a", "guest", "{'b':1}", "{'a':3,'b':1,'p':1,'x':3}")?);
+    assert!(rt;
+        is_called(
+            alloc,
+            &tables,
+            "p/a",
+            "guest",
+            "{'b':1}",
+            "{'a':3,'b':1,'p':1,'x':3}"
+        )?
+    );
     Ok(())
 }
 
@@ -299,13 +323,14 @@ fn bindings_bind_packages_that_bind_nothing(rt: HostRuntime) -> Result<(), Fail>
     let open = name_of(alloc, "/lib/open")?;
     let guest = boxed(alloc, read_name(alloc, b"guest"))?;
     assert!(rt; reached_package(&*tables, &open, &guest).is_some_and(|p| p.publish));
+    assert!(rt; is_shared(&*tables, &open) && package_of(alloc, &open)?.is_none());
     Ok(())
 }
 
 fn package_in<'a>(tables: &'a Tables, name: &FullName) -> Result<&'a Package, Fail> {
     match tables.get(PACKAGE, name) {
         Ok(Row::Package(bundle)) => Ok(bundle.get()),
-        _ => Err("no package")?,
+        _ => Err(Fail::new("no package")),
     }
 }
 
@@ -342,7 +367,16 @@ fn actions_of_a_package_that_was_made_a_binding_stay(rt: HostRuntime) -> Result<
     assert_eq!(rt; remove(alloc, &mut tables, ACTION, "p/a")?, 15);
     assert_eq!(rt; remove(alloc, &mut tables, PACKAGE, "p")?, 21);
     assert!(rt; is_called(alloc, &tables, "p/a", "guest", "{}", "14")?);
-    assert!(rt; is_called(alloc, &tables, "b/a", "guest", "{}", "{'a':3,'b':2,'p':1,'x':3}")?);
+    assert!(rt;
+        is_called(
+            alloc,
+            &tables,
+            "b/a",
+            "guest",
+            "{}",
+            "{'a':3,'b':2,'p':1,'x':3}"
+        )?
+    );
     assert_eq!(rt; put(alloc, &mut tables, PACKAGE, "p", "{'binding':{}}")?, 0);
     assert_eq!(rt; remove(alloc, &mut tables, ACTION, "p/a")?, 0);
     Ok(())

@@ -25,9 +25,9 @@ finds_each : (b : Behind) → FindsEach (effective_of b).params b
 finds_each b given q =
     find-merge q (effective_of b).params given
     ∙ ap (or_else (find q given)) (
-        finds_over b.inside (params_over b.binding b.action.params) q
-        ∙ ap (λ o. or_else o (find q (params_of b.inside))) (finds_over b.binding b.action.params q)
-        ∙ or_else_or (find q b.action.params) (find q (params_of b.binding)) (find q (params_of b.inside)))
+    finds_over b.inside (params_over b.binding b.action.params) q
+    ∙ ap (λ o. or_else o (find q (params_of b.inside))) (finds_over b.binding b.action.params q)
+    ∙ or_else_or (find q b.action.params) (find q (params_of b.binding)) (find q (params_of b.inside)))
 
 of_some : (b c : Behind) (e : Effective) → Some (effective_of b) ≡ Some e → Some b ≡ Some c → FindsEach e.params c
 of_some b c e h k = subst (λ (x : Effective). FindsEach x.params c) (some_same _ _ (ap (option_map effective_of) (sym k) ∙ h)) (finds_each c)

@@ -1,5 +1,5 @@
 -- What stands under a kind and a name, and what can be reached from a namespace.
-use Rattle.std.specs.Prelude.{◌||◌, ℕ, Bool, List, option_map, if◌then◌else◌, Option, Some, None}
+use Rattle.std.specs.Prelude.{◌||◌, ℕ, Bool, false, List, option_map, if◌then◌else◌, Option, Some, None}
 use Rattle.std.specs.Str.{bytes_eq}
 use Rattle.ow_names.specs.declared.full.FullName.{FullName}
 use Rattle.ow_entity.specs.declared.kinds.EntityKind.{EntityKind}
@@ -38,6 +38,10 @@ abbrev pub lying_in : FullName → List ℕ → FullName
 lying_in bundle name = record { namespace = bundle.namespace; «package» = Some bundle.name; name = name }
 
 -- ---- access
+
+abbrev pub is_shared : Option Package → Bool
+is_shared None = false
+is_shared (Some p) = p.publish
 
 -- a package of this namespace is reached from its own namespace, and where it is shared from any other
 abbrev pub is_reached : List ℕ → List ℕ → Package → Bool

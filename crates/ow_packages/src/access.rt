@@ -1,7 +1,7 @@
 // What can be reached from a namespace.
 ghost use Rattle.std.specs.Prelude.{◌≡◌, IfOk};
 ghost use Rattle.std.specs.Option.{option_copied};
-ghost use Rattle.ow_packages.specs.Access.{action_at, package_of, lying_in, reached_package};
+ghost use Rattle.ow_packages.specs.Access.{is_shared, package_at, action_at, package_of, lying_in, reached_package};
 
 use ow_entity::{Action, EntityKind, Lookup, Package, Row};
 use ow_names::{EntityName, FullName};
@@ -29,11 +29,18 @@ pub fn reached_package<'a, T: Lookup>(
     }
 }
 
+/// Whether the package of the name stands and is shared.
+pub fn is_shared<T: Lookup>(rows: &T, name: &FullName) -> bool
+    ensures { result ≡ is_shared (package_at (T.found rows.now) name.now) }
+{
+    match rows.row(EntityKind::Package, name) {
+        Some(Row::Package(bundle)) => bundle.get().publish,
+        _ => false,
+    }
+}
+
 /// The action of the name.
-pub(crate) fn action_at<'a, T: Lookup>(
-    rows: &'a T,
-    name: &FullName,
-) -> Option<&'a Shared<Action>>
+pub(crate) fn action_at<'a, T: Lookup>(rows: &'a T, name: &FullName) -> Option<&'a Shared<Action>>
     ensures { option_copied result ≡ action_at (T.found rows.now) name.now }
 {
     match rows.row(EntityKind::Action, name) {
@@ -43,7 +50,7 @@ pub(crate) fn action_at<'a, T: Lookup>(
 }
 
 /// The package in which the name lies, if it lies in one.
-pub(crate) fn package_of(alloc: Global, name: &FullName) -> Result<Option<FullName>, NoMemory>
+pub fn package_of(alloc: Global, name: &FullName) -> Result<Option<FullName>, NoMemory>
     ensures { IfOk result (λ p. p ≡ package_of name.now) }
 {
     let Some(bundle) = &name.package else {

@@ -133,11 +133,7 @@ fn all_params(
 }
 
 // The parameters, with those of the package below them.
-fn params_over(
-    alloc: Global,
-    below: Option<&Package>,
-    params: &Params,
-) -> Result<Params, NoMemory>
+fn params_over(alloc: Global, below: Option<&Package>, params: &Params) -> Result<Params, NoMemory>
     ensures { IfOk result (λ ps. ps ≡ params_over (option_copied below.entry) params.now) }
 {
     match below {

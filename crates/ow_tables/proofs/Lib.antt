@@ -2,3 +2,4 @@ pub mod RowLaws
 pub mod RegionLaws
 pub mod Found
 pub mod InsideLaws
+pub mod PutLaws

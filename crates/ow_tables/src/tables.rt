@@ -1,16 +1,18 @@
 // The rows of the entities that stand.
-ghost use Rattle.std.specs.Prelude.{◌≡◌, ◌≢◌, ◌≤◌, [], ◌∷◌, true, false, Some, None, Ok, IfOk, OnOk, IfErr, OnErr, MatchResult};
+ghost use Rattle.std.specs.Prelude.{◌≡◌, ◌≢◌, ◌≤◌, is_some, map, [], ◌∷◌, true, false, Some, None, Ok, IfOk, OnOk, IfErr, OnErr, MatchResult};
+ghost use Rattle.std.specs.Result.{result_err};
+ghost use Rattle.std.specs.Option.{option_copied};
 ghost use Rattle.ow_names.specs.declared.full.FullName.{FullName};
 ghost use Rattle.ow_entity.specs.Chain.{first_some};
 ghost use Rattle.ow_entity.specs.declared.kinds.EntityKind.{EntityKind};
 ghost use Rattle.ow_entity.specs.Finish.{finished_row};
+ghost use Rattle.ow_entity.specs.Row.{draft_name};
+ghost use Rattle.ow_entity.specs.declared.rows.Row.TheVariants as entities;
+ghost use Rattle.ow_entity.specs.Written.{package_entry};
+ghost use Rattle.ow_packages.specs.Access.{package_at, package_of, reached_package};
 ghost use Rattle.ow_tables.specs.Builtin.{builtin};
 ghost use Rattle.ow_tables.specs.Rows.{AreRows, standing, found, found_after, with_row, changed, listing};
-ghost use Rattle.std.specs.Result.{result_err};
-ghost use Rattle.ow_entity.specs.Row.{draft_name};
-ghost use Rattle.std.specs.Option.{option_copied};
-ghost use Rattle.ow_packages.specs.Access.{package_at, package_of};
-ghost use Rattle.ow_tables.specs.Inside.{shown_actions};
+ghost use Rattle.ow_tables.specs.Inside.{actions_behind, shown_actions};
 ghost use Rattle.ow_tables.specs.Refusal.{package_refusal, target_of, target_refusal, exists_refusal, finish_refusal, bound_refusal, holding_refusal, old_row, put_refusal, remove_refusal};
 
 use crate::builtin::{echo, utils};
@@ -149,6 +151,16 @@ impl Tables {
         }
     }
 
+    /// What the package will show of the actions that are called by its name once it is put.
+    pub fn actions_once_put(&self, alloc: Global, bundle: &Package) -> Result<Vals, NoMemory>
+        ensures { IfOk result (λ vs. vs ≡ shown_actions bundle.now (with_row (entities.Package bundle.now) self.now.rows)) }
+    {
+        match &bundle.binding {
+            None => actions_in(alloc, &self.rows, &bundle.name),
+            Some(target) => self.actions_bound(alloc, bundle, target),
+        }
+    }
+
     /// Equal tables. Both share their entities.
     pub fn copy(&self, alloc: Global) -> Result<Tables, NoMemory>
         ensures { IfOk result (λ t. t.rows ≡ self.now.rows) }
@@ -156,6 +168,30 @@ impl Tables {
         Ok(Tables {
             rows: copy_slice(alloc, &self.rows)?,
         })
+    }
+
+    // What a package that is to bind the target will show.
+    fn actions_bound(
+        &self,
+        alloc: Global,
+        bundle: &Package,
+        target: &FullName,
+    ) -> Result<Vals, NoMemory>
+        ensures { IfOk result (λ vs. vs ≡ map package_entry (actions_behind bundle.now (Some target.now) (with_row (entities.Package bundle.now) self.now.rows))) }
+    {
+        if self.reaches_once_put(bundle, target) {
+            return actions_in(alloc, &self.rows, target);
+        }
+        Ok(Vals::new())
+    }
+
+    // Whether the package will reach the target once it is put.
+    fn reaches_once_put(&self, bundle: &Package, target: &FullName) -> bool
+        ensures { result ≡ is_some (reached_package (standing (with_row (entities.Package bundle.now) self.now.rows)) target.now bundle.now.name.namespace) }
+    {
+        let order = target.compare(&bundle.name);
+        let reached = reached_package(self, target, &bundle.name.namespace).is_some();
+        order.is_eq() || reached
     }
 
     // Memory for one more row.
