@@ -197,6 +197,10 @@ PUT /_/actions/n 1.5 -> 2
 PUT /_/actions/n [] -> 10 body
 PUT /_/actions/n {\"publish\":1,\"parameters\":2} -> 10 parameters
 PUT /_/actions/n {\"exec\":{\"kind\":\"x:1\"}} -> 12
+PUT /_/packages/p {} -> /guest/p false false false 0 0 true
+PUT /_/packages/p?overwrite=true {\"binding\":{\"namespace\":\"lib\",\"name\":\"q\"}} -> /guest/p true false false 0 0 true
+PUT /_/packages/p {\"binding\":[]} -> 10 binding
+PUT /_/packages/p {\"binding\":{\"namespace\":\"lib\",\"name\":\"\"}} -> 4
 GET /_/actions/n?overwrite=x [ -> /guest/n false false false 0 0 false
 DELETE /a%20b/actions/p/n [ -> /a b/p/n false false false 0 0 false
 DELETE /a%20/actions/n [ -> 7
