@@ -1,6 +1,6 @@
 #![tactic(auto)]
 
-//! The outside of the service: byte sources and sinks, key-value stores, and what runners reply.
+//! The outside of the service: byte sources and sinks, key-value stores, and runners with what they reply.
 mod adapters;
 mod calls;
 mod change_list;
@@ -10,6 +10,8 @@ mod memory_keeper;
 mod replies;
 mod row_edits;
 mod row_list;
+mod runners;
+mod script_runner;
 mod streams;
 
 pub use adapters::{ReaderSource, WriterSink};
@@ -19,4 +21,6 @@ pub use memory::{MemorySink, MemorySource};
 pub use memory_keeper::MemoryKeeper;
 pub use replies::{Kind, RunReply};
 pub use row_list::Rows;
+pub use runners::{Runner, Started};
+pub use script_runner::ScriptRunner;
 pub use streams::{Failed, Sink, Source, read_some, write_all};
