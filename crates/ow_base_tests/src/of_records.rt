@@ -305,6 +305,31 @@ fn the_text_of_a_record(rt: HostRuntime) -> Result<(), Fail> {
 }
 
 #[test]
+fn the_text_of_all_annotations(rt: HostRuntime) -> Result<(), Fail> {
+    let alloc = rt.alloc();
+    let id = Id {
+        namespace: 1,
+        count: 2,
+    };
+    let task = task(alloc, "hello", 1, b"guest", id)?;
+    let mut kept = record(alloc, &task, &Ending::Overran, None, 9)?;
+    kept.cause = Some(Id {
+        namespace: 1,
+        count: 1,
+    });
+    kept.notes.binding = kept.notes.path.copy(alloc)?;
+    kept.notes.caused_by = true;
+    kept.notes.init_time = Some(3);
+    kept.notes.topmost = true;
+    kept.notes.limits = None;
+    assert_eq!(rt;
+        text_of(alloc, write_record(alloc, &kept))?.as_str(),
+        "{\"activationId\":\"00000000000000010000000000000002\",\"annotations\":[{\"key\":\"binding\",\"value\":\"guest/hello\"},{\"key\":\"causedBy\",\"value\":\"sequence\"},{\"key\":\"initTime\",\"value\":3},{\"key\":\"kind\",\"value\":\"program:1\"},{\"key\":\"path\",\"value\":\"guest/hello\"},{\"key\":\"topmost\",\"value\":true},{\"key\":\"waitTime\",\"value\":0}],\"cause\":\"00000000000000010000000000000001\",\"duration\":4,\"end\":9,\"logs\":[],\"name\":\"hello\",\"namespace\":\"guest\",\"response\":{\"result\":{\"error\":\"The action exceeded its time limit of 60000 milliseconds.\"},\"status\":\"action developer error\",\"statusCode\":2,\"success\":false},\"start\":5,\"subject\":\"anna\",\"version\":\"0.0.1\"}"
+    );
+    Ok(())
+}
+
+#[test]
 fn what_records_keep(rt: HostRuntime) -> Result<(), Fail> {
     let alloc = rt.alloc();
     let answer = boxed(alloc, answer_with_line(alloc, "{}"))?;

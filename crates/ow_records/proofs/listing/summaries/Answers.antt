@@ -1,4 +1,4 @@
-use Rattle.std.proofs.Common.{◌≡◌, ◌-◌, ◌++◌, length, map, take, ap, ◌∙◌}
+use Rattle.std.proofs.Common.{◌-◌, ◌++◌, length, map, take, ap, ◌∙◌}
 use Rattle.std.specs.Prelude.{reverse}
 use Rattle.ow_value.specs.View.{views}
 use Rattle.ow_records.specs.Written.{summary_value}

@@ -3,7 +3,7 @@ use Rattle.std.specs.Ordering.{is_lt, is_le}
 use Rattle.std.proofs.lemmas.Fn.{always_returns_same}
 use Rattle.std.proofs.lemmas.List.{take_rest}
 use Rattle.ow_value.specs.Value.{text_cmp}
-use Rattle.ow_records.specs.Order.{Rises, namespace_key, region, region_of}
+use Rattle.ow_records.specs.Order.{Rises, region, region_of}
 use Rattle.ow_records.proofs.Sorting.{parts_before, parts_through}
 use Rattle.ow_records.proofs.Regions.{regions_rise, rises_drop, stands_together}
 use Rattle.ow_records.proofs.order.part.Goals as goal
