@@ -4,8 +4,10 @@
 mod activations;
 mod digits;
 mod ids;
+mod listing;
 mod logs;
 mod notes;
+mod order;
 mod outcomes;
 mod ready;
 mod record;
@@ -13,6 +15,8 @@ mod record_refusal;
 mod records;
 mod responses;
 mod span;
+mod written;
+mod written_notes;
 
 pub use activations::Activation;
 pub use ids::Id;
@@ -24,3 +28,4 @@ pub use record_refusal::RecordRefusal;
 pub use records::Records;
 pub use responses::Response;
 pub use span::Span;
+pub use written::{write_logs, write_record, write_response, write_summary};
