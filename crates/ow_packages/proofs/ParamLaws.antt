@@ -1,7 +1,7 @@
 -- What each name finds among the parameters of an effective action.
 use Rattle.std.proofs.Common.{◌≡◌, ◌≢◌, ℕ, List, option_map, Option, Some, None, refl, sym, ap, ◌∙◌, subst, Result, Ok, Err, MatchResult, IfOk}
 use Rattle.ow_value.specs.Value.{V, Pairs}
-use Rattle.ow_value.specs.Find.{find, merge, or_else}
+use Rattle.ow_value.specs.Find.{find, or_else}
 use Rattle.ow_value.proofs.Laws.{find-merge}
 use Rattle.ow_entity.specs.declared.packages.Package.{Package}
 use Rattle.ow_packages.specs.declared.effective_action.Effective.{Effective}

@@ -1,7 +1,7 @@
 -- Which parameters of an effective action a call can't give.
 use Rattle.std.specs.Prelude.{◌&&◌, ◌||◌, ℕ, Bool, true, false, List, find, filter, codes, Option, Some, None}
 use Rattle.std.specs.Map.{keys_of}
-use Rattle.ow_value.specs.Value.{V, Pairs, null, boolean, whole, text, list, object}
+use Rattle.ow_value.specs.Value.{V, Pairs, null}
 use Rattle.ow_value.specs.Find as values
 use Rattle.ow_entity.specs.Annotations.{is_set}
 use Rattle.ow_packages.specs.declared.effective_action.Effective.{Effective}

@@ -1,5 +1,6 @@
 -- The actions that lie in a package, and what the package shows of them.
-use Rattle.std.specs.Prelude.{◌&&◌, ℕ, Bool, false, List, [], filter, map, list_any, Option, Some, None}
+use Rattle.std.specs.Prelude.{◌&&◌, ℕ, Bool, false, List, [], filter, map, Option, Some, None}
+use Rattle.std.specs.List.{list_any}
 use Rattle.std.specs.Str.{bytes_eq}
 use Rattle.ow_value.specs.Value.{V}
 use Rattle.ow_names.specs.declared.full.FullName.{FullName}

@@ -1,6 +1,6 @@
 // What lies in packages.
 ghost use Rattle.std.specs.Prelude.{◌≡◌, filter, map, IfOk};
-ghost use Rattle.std.specs.Result.{result_err};
+ghost use Rattle.std.specs.List.{list_any};
 ghost use Rattle.ow_entity.specs.Written.{package_entry};
 ghost use Rattle.ow_tables.specs.Inside.{actions_in, lies_in, holds_actions, lies_under};
 ghost use Rattle.ow_tables.specs.Region.{AreKept};
@@ -22,13 +22,19 @@ pub(crate) fn actions_in(alloc: Global, rows: &[Row], bundle: &FullName) -> Resu
 }
 
 /// Whether an action lies in the package of the name.
-#[tactic(auto, using(crate::proofs::InsideLaws::any_both))]
 pub(crate) fn holds_actions(rows: &[Row], bundle: &FullName) -> bool
     requires { AreKept rows.now }
     ensures { result ≡ holds_actions bundle.now rows.now }
 {
     let rows = part(rows, EntityKind::Action, &bundle.namespace);
-    rows.iter().any(|row| lies_under(row, &bundle.name))
+    is_any_under(rows, &bundle.name)
+}
+
+// Whether any of the rows lies in a package that is called so.
+fn is_any_under(rows: &[Row], bundle: &EntityName) -> bool
+    ensures { result ≡ list_any (lies_under bundle.now) rows.now }
+{
+    rows.iter().any(|row| lies_under(row, bundle))
 }
 
 // What a package shows of the rows that lie under this name.

@@ -1,5 +1,5 @@
 // The rows of the entities that stand.
-ghost use Rattle.std.specs.Prelude.{◌≡◌, ◌≢◌, ◌≤◌, is_some, map, [], ◌∷◌, true, false, Some, None, Ok, IfOk, OnOk, IfErr, OnErr, MatchResult};
+ghost use Rattle.std.specs.Prelude.{◌≡◌, ◌≢◌, ◌≤◌, is_some, map, Option, List, [], ◌∷◌, true, false, Some, None, Ok, IfOk, OnOk, IfErr, OnErr, MatchResult};
 ghost use Rattle.std.specs.Result.{result_err};
 ghost use Rattle.std.specs.Option.{option_copied};
 ghost use Rattle.ow_names.specs.declared.full.FullName.{FullName};
@@ -10,6 +10,7 @@ ghost use Rattle.ow_entity.specs.Row.{draft_name};
 ghost use Rattle.ow_entity.specs.declared.rows.Row.TheVariants as entities;
 ghost use Rattle.ow_entity.specs.Written.{package_entry};
 ghost use Rattle.ow_packages.specs.Access.{package_at, package_of, reached_package};
+ghost use Rattle.ow_tables.specs.declared.refusal.TableRefusal.{TableRefusal};
 ghost use Rattle.ow_tables.specs.Builtin.{builtin};
 ghost use Rattle.ow_tables.specs.Rows.{AreRows, standing, found, found_after, with_row, changed, listing};
 ghost use Rattle.ow_tables.specs.Inside.{actions_behind, shown_actions};
@@ -291,9 +292,25 @@ impl Tables {
         ensures refused { IfErr result (λ e. e ≢ TableRefusal.NoMemory → put_refusal draft overwrite self.now.rows ≡ Some e) }
         ensures row { IfOk result (λ r. finished_row draft (old_row draft self.now.rows) ≡ Ok r) }
     {
+        match self.check_put(alloc, &draft) {
+            Ok(()) => self.finished(alloc, draft, overwrite),
+            Err(refusal) => {
+                drop(draft);
+                Err(refusal)
+            }
+        }
+    }
+
+    // That the draft can lie where it is to lie, and bind what it is to bind.
+    fn check_put(&self, alloc: Global, draft: &Draft) -> Result<(), TableRefusal>
+        ensures place { OnOk result (package_refusal (package_of (draft_name draft.now)) self.now.rows ≡ None) }
+        ensures target { OnOk result (target_refusal (target_of draft.now) (draft_name draft.now).namespace self.now.rows ≡ None) }
+        ensures refused { IfErr result (λ e. e ≢ TableRefusal.NoMemory → (rest : List (Option TableRefusal))
+            → first_some (package_refusal (package_of (draft_name draft.now)) self.now.rows
+            ∷ target_refusal (target_of draft.now) (draft_name draft.now).namespace self.now.rows ∷ rest) ≡ Some e) }
+    {
         self.check_package(alloc, draft.name())?;
-        self.check_target(&draft)?;
-        self.finished(alloc, draft, overwrite)
+        self.check_target(draft)
     }
 
     // The row of the draft, over the one that stands, if any.
