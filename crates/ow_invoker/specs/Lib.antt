@@ -1,3 +1,4 @@
 pub mod Equality
 pub mod Plain
 pub mod PlainReply
+pub mod Turns

@@ -4,5 +4,10 @@
 mod fill;
 mod plain_cases;
 mod plain_runner;
+mod run;
+mod shelf;
+mod turn;
 
 pub use plain_runner::{PlainContainer, PlainRunner};
+pub use shelf::{Laid, Shelf};
+pub use turn::{TurnStep, TurnSteps, Turned, day_turn};

@@ -14,7 +14,7 @@ fill-returns-in-Some t c =
 pub fill-returns-in_ok-fill_members-in-None : goal.fill-returns-in_ok-fill_members-in-None
 fill-returns-in_ok-fill_members-in-None t c =
     let m : members_of c.in_ok-fill_members-in-None.field-0 ≡ filled_members c.args.params.now (members_of c.in-Object.members) = c.in_ok-fill_members-in-None.ensures in
-    let e : None {T = V} ≡ hole c.args.params.now c.in-Object.members = sym (ap (option_map view) c.in-None.is) ∙ c.in_ok-value-in-Object.ensures in
+    let e : ◌≡◌ {A = Option V} None (hole c.args.params.now c.in-Object.members) = sym (ap (option_map view) c.in-None.is) ∙ c.in_ok-value-in-Object.ensures in
     ap object m ∙ filled_object c.args.params.now c.in-Object.members None e ∙ sym (ap (λ x. filled c.args.params.now (view x)) c.in-Object.is)
 
 pub fill_items-fill-requires : goal.fill_items-fill-requires
