@@ -81,8 +81,13 @@ Books rows faults old new at run reply (Err e) =
     Comes rows faults old new at (events.Answered run reply) Wants ⊎ ((answer : Told) × Comes rows faults old new at (events.Answered run reply) (Answers answer))
 
 -- an order is carried out
-abbrev pub Carries : {P : Type 0} → (P → KeptRows) → (P → ℕ) → Giving → ℕ → ℕ → HallView P → HallView P → ℕ → RunOrder → Result (List TurnStep) Want → Type 0
+abbrev pub Carries : {P : Type 0} → (P → KeptRows) → (P → ℕ) → Giving → ℕ → ℕ → HallView P → HallView P → ℕ → Order → Result (List TurnStep) Want → Type 0
 Carries rows faults gives before now old new at order (Ok steps) =
-    (xs : List Exchange) × (Follows gives before now (orders.Run order) xs × Chain rows faults old new at xs × (steps ≡ steps_in xs))
+    (xs : List Exchange) × (Follows gives before now order xs × Chain rows faults old new at xs × (steps ≡ steps_in xs))
 Carries rows faults gives before now old new at order (Err e) =
-    (xs : List Exchange) × (((xs ≡ []) ⊎ Follows gives before now (orders.Run order) xs) × Chain rows faults old new at xs)
+    (xs : List Exchange) × (((xs ≡ []) ⊎ Follows gives before now order xs) × Chain rows faults old new at xs)
+
+-- and told
+abbrev pub Tells : {P : Type 0} → (P → KeptRows) → (P → ℕ) → Giving → ℕ → ℕ → HallView P → HallView P → ℕ → Order → Result Turned Want → Type 0
+Tells rows faults gives before now old new at order (Ok turned) = (turned.order ≡ order) × Carries rows faults gives before now old new at order (Ok turned.steps)
+Tells rows faults gives before now old new at order (Err e) = Carries rows faults gives before now old new at order (Err e)

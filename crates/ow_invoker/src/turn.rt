@@ -1,7 +1,7 @@
 // A turn of a day: one order, carried out.
 ghost use Rattle.std.specs.Prelude.{◌≡◌, ◌∷◌, [], IfOk};
 ghost use Rattle.ow_traits.specs.Runner.{Steady};
-ghost use Rattle.ow_invoker.specs.Turns.{Books, Carries, Turns};
+ghost use Rattle.ow_invoker.specs.Turns.{Books, Carries, Tells, Turns};
 
 use crate::run::run;
 use crate::shelf::Shelf;
@@ -50,30 +50,53 @@ pub fn day_turn<P: Keeper + Drop, R: Runner>(
     ensures shelf { shelf.new ≡ shelf.old }
 {
     match hall.next(alloc, at) {
-        Ok(Order::Run(order)) => match carry(alloc, hall, runner, at, &order) {
-            Ok(steps) => Ok(Turned {
-                order: Order::Run(order),
-                steps,
-            }),
-            Err(_) => Err(NoMemory),
-        },
-        Ok(Order::Nothing(idle)) => Ok(Turned {
-            order: Order::Nothing(idle),
-            steps: TurnSteps::new(),
-        }),
+        Ok(order) => follow(alloc, hall, runner, at, order),
         Err(_) => Err(NoMemory),
     }
 }
 
-// Runs an order and books its reply.
+// Carries out an order, and tells what came of it.
+fn follow<P: Keeper + Drop, R: Runner>(
+    alloc: Global,
+    hall: &mut Hall<P>,
+    runner: &mut R,
+    at: u64,
+    order: Order,
+) -> Result<Turned, NoMemory>
+    ensures turns { Tells P.rows P.faults (R.gives runner.old) (R.faults runner.old) (R.faults runner.new) hall.old hall.new at order result }
+    ensures runner { Steady (R.gives runner.old) (R.gives runner.new) (R.faults runner.old) (R.faults runner.new) }
+{
+    match carry(alloc, hall, runner, at, &order) {
+        Ok(steps) => Ok(Turned { order, steps }),
+        Err(_) => Err(NoMemory),
+    }
+}
+
 fn carry<P: Keeper + Drop, R: Runner>(
+    alloc: Global,
+    hall: &mut Hall<P>,
+    runner: &mut R,
+    at: u64,
+    order: &Order,
+) -> Result<TurnSteps, NoMemory>
+    ensures turns { Carries P.rows P.faults (R.gives runner.old) (R.faults runner.old) (R.faults runner.new) hall.old hall.new at order.now result }
+    ensures runner { Steady (R.gives runner.old) (R.gives runner.new) (R.faults runner.old) (R.faults runner.new) }
+{
+    match order {
+        Order::Run(order) => run_and_book(alloc, hall, runner, at, order),
+        Order::Nothing(_) => Ok(TurnSteps::new()),
+    }
+}
+
+// Runs an order and books its reply.
+fn run_and_book<P: Keeper + Drop, R: Runner>(
     alloc: Global,
     hall: &mut Hall<P>,
     runner: &mut R,
     at: u64,
     order: &RunOrder,
 ) -> Result<TurnSteps, NoMemory>
-    ensures carries { Carries P.rows P.faults (R.gives runner.old) (R.faults runner.old) (R.faults runner.new) hall.old hall.new at order.now result }
+    ensures turns { Carries P.rows P.faults (R.gives runner.old) (R.faults runner.old) (R.faults runner.new) hall.old hall.new at (Order.Run order.now) result }
     ensures runner { Steady (R.gives runner.old) (R.gives runner.new) (R.faults runner.old) (R.faults runner.new) }
 {
     match run(alloc, runner, order) {
@@ -93,7 +116,7 @@ fn book<P: Keeper + Drop>(
     ensures { Books P.rows P.faults hall.old hall.new at run reply result }
 {
     match hall.answered(alloc, at, run, reply) {
-        Ok(Answered::Recorded(happened)) => one_step(alloc, TurnStep::Happened(happened)),
+        Ok(Answered::Recorded(happened)) => { Ok(one_step(alloc, TurnStep::Happened(happened))?) }
         Ok(Answered::Late { .. }) => Ok(TurnSteps::new()),
         Err(AnswerRefusal::NoRun { .. }) => Ok(TurnSteps::new()),
         Err(AnswerRefusal::NoMemory(_)) => Err(NoMemory),
