@@ -21,7 +21,7 @@ reply_told run reply (Some answered) = told.Answered answered
 
 abbrev pub decide : Sight → Event → Decision
 decide S (events.Opened rows) = tells (told.Opened [])
-decide S (events.Asked r) = ask_decision (request_done S (parts_of r))
+decide S (events.Asked r) = ask_decision S.moment (request_done S (parts_of r))
 decide S (events.Called name params) = call_decision S (call_plan S name params)
 decide S events.Next = adds (told.Next (next_order S.trace)) (next_items S.moment S.trace)
 decide S (events.Answered run reply) = adds (reply_told run reply (answer_to S.moment run reply S.trace)) (answered_items S.moment run reply S.trace)

@@ -3,7 +3,8 @@ use Rattle.std.specs.Prelude.{◌≡◌, ◌≤◌, ◌+◌, ◌++◌, ℕ, List
 use Rattle.ow_value.specs.View.{view}
 use Rattle.ow_entity.specs.declared.rows.Row.{Row}
 use Rattle.ow_floor.specs.Laws.{Stands}
-use Rattle.ow_floor.specs.View.{FloorView, Shown}
+use Rattle.ow_floor.specs.View.{FloorView, Shown, last_of}
+use Rattle.ow_records.specs.declared.ids.Id.{Id}
 use Rattle.ow_http.specs.declared.reason.Reason.{Reason}
 use Rattle.ow_tables.specs.Contents.{Change}
 use Rattle.ow_hall.specs.declared.done.Done.{Done}
@@ -24,6 +25,7 @@ abbrev pub done_of : Done → Result asking.Done Reason
 done_of (codes.Refused reason) = Err reason
 done_of (codes.Shown value) = Ok (asking.Shown (view value))
 done_of (codes.Changed ready) = Ok (asking.Changed ready)
+done_of (codes.Invoked plan shows) = Ok (asking.Invoked plan shows)
 
 -- there is room for a change
 abbrev pub HasPlace : Option Change → ℕ → Type 0
@@ -33,6 +35,11 @@ HasPlace (Some change) room = change.removes ≡ false → 1 ≤ room
 abbrev pub change_of : Done → Option Change
 change_of (codes.Changed ready) = Some ready
 change_of done = None
+
+-- the id of what is to be accepted is the next of its namespace
+abbrev pub IsNextOf : List Id → Done → Type 0
+IsNextOf drawn (codes.Invoked plan shows) = plan.id.count ≡ last_of drawn plan.id.namespace + 1
+IsNextOf drawn done = Unit {0}
 
 -- ---- floor, rows and waits
 
