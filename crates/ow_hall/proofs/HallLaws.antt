@@ -28,7 +28,7 @@ use Rattle.ow_hall.specs.declared.waits.Waits.{Waits}
 use Rattle.ow_hall.specs.declared.waits.Waits.TheVariants.{Keep}
 use Rattle.ow_hall.specs.Sight.{Sight}
 use Rattle.ow_hall.specs.Decision.{Decision, adds, tells}
-use Rattle.ow_hall.specs.Asking.{Done, Shown as ShownDone, Changed, ask_decision, refusal_told, request_done}
+use Rattle.ow_hall.specs.Asking.{Done, Shown as ShownDone, Changed, Invoked, ask_decision, refusal_told, request_done}
 use Rattle.ow_hall.specs.Calling.{call_decision, call_plan}
 use Rattle.ow_hall.specs.Decisions.{decide, reply_told}
 use Rattle.ow_hall.specs.Posting.{posting_by}
@@ -57,10 +57,11 @@ unless_any Unbooked X x = x
 tells_so : (idle : Bool) (t : Told) → Unbooks idle (tells t)
 tells_so idle t = unless_any (posting_by idle t) (Leaves (tells t)) (refl, refl, refl)
 
-ask_so : (idle : Bool) (d : Result Done Reason) → Unbooks idle (ask_decision d)
-ask_so idle (Ok (ShownDone value)) = tt
-ask_so idle (Ok (Changed change)) = tt
-ask_so idle (Err reason) = tells_so idle (refusal_told reason)
+ask_so : (idle : Bool) (at : ℕ) (d : Result Done Reason) → Unbooks idle (ask_decision at d)
+ask_so idle at (Ok (ShownDone value)) = tt
+ask_so idle at (Ok (Changed change)) = tt
+ask_so idle at (Ok (Invoked plan shows)) = tt
+ask_so idle at (Err reason) = tells_so idle (refusal_told reason)
 
 call_so : (idle : Bool) (S : Sight) (p : Result Plan Reason) → Unbooks idle (call_decision S p)
 call_so idle S (Ok plan) = tt
@@ -77,7 +78,7 @@ reply_so idle at run reply v (Some r) = tt
 
 pub unbooked : (idle : Bool) (S : Sight) (event : Event) → Unbooks idle (decide S event)
 unbooked idle S (events.Opened rows) = tt
-unbooked idle S (events.Asked r) = ask_so idle (request_done S (parts_of r))
+unbooked idle S (events.Asked r) = ask_so idle S.moment (request_done S (parts_of r))
 unbooked idle S (events.Called name params) = call_so idle S (call_plan S name params)
 unbooked idle S events.Next = order_so idle (run_count S.trace + 1) S.moment (head S.trace)
 unbooked idle S (events.Answered run reply) = reply_so idle S.moment run reply (shown S.trace) (live_run S.trace run)

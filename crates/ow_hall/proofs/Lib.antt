@@ -1,5 +1,7 @@
 pub mod Beginnings
 mod AskLaws
+mod Filters
 mod HallLaws
+mod ReadLaws
 mod Results
 mod RoomLaws

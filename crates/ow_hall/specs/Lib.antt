@@ -1,4 +1,5 @@
 pub mod Tenants
+pub mod Ids
 pub mod Reasons
 pub mod Sight
 pub mod Decision

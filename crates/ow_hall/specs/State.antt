@@ -9,6 +9,8 @@ use Rattle.ow_http.specs.declared.reason.Reason.{Reason}
 use Rattle.ow_tables.specs.Contents.{Change}
 use Rattle.ow_hall.specs.declared.done.Done.{Done}
 use Rattle.ow_hall.specs.declared.done.Done.TheVariants as codes
+use Rattle.ow_hall.specs.declared.done.Served.{Served}
+use Rattle.ow_hall.specs.declared.done.Served.TheVariants as served
 use Rattle.ow_hall.specs.declared.step.Now.{Now}
 use Rattle.ow_hall.specs.declared.step.Step.{Step}
 use Rattle.ow_hall.specs.declared.tenants.Tenants.{Tenants}
@@ -25,7 +27,10 @@ abbrev pub done_of : Done → Result asking.Done Reason
 done_of (codes.Refused reason) = Err reason
 done_of (codes.Shown value) = Ok (asking.Shown (view value))
 done_of (codes.Changed ready) = Ok (asking.Changed ready)
-done_of (codes.Invoked plan shows) = Ok (asking.Invoked plan shows)
+
+abbrev pub served_of : Served → Result asking.Done Reason
+served_of (served.Done done) = done_of done
+served_of (served.Accepts plan shows) = Ok (asking.Invoked plan shows)
 
 -- there is room for a change
 abbrev pub HasPlace : Option Change → ℕ → Type 0
@@ -36,10 +41,14 @@ abbrev pub change_of : Done → Option Change
 change_of (codes.Changed ready) = Some ready
 change_of done = None
 
+abbrev pub served_change : Served → Option Change
+served_change (served.Done done) = change_of done
+served_change (served.Accepts plan shows) = None
+
 -- the id of what is to be accepted is the next of its namespace
-abbrev pub IsNextOf : List Id → Done → Type 0
-IsNextOf drawn (codes.Invoked plan shows) = plan.id.count ≡ last_of drawn plan.id.namespace + 1
-IsNextOf drawn done = Unit {0}
+abbrev pub IsNextOf : List Id → Served → Type 0
+IsNextOf drawn (served.Done done) = Unit {0}
+IsNextOf drawn (served.Accepts plan shows) = plan.id.count ≡ last_of drawn plan.id.namespace + 1
 
 -- ---- floor, rows and waits
 

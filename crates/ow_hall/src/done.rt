@@ -1,12 +1,12 @@
 // What comes of a request, before it is told.
-ghost use Rattle.std.specs.Prelude.{◌≡◌, ◌+◌, ℕ, None, IfOk, OnOk};
+ghost use Rattle.std.specs.Prelude.{◌≡◌, ◌+◌, ℕ, Ok, None, IfOk, OnOk};
 ghost use Rattle.ow_value.specs.View.{view};
 ghost use Rattle.ow_floor.specs.Calls.{accept_items};
 ghost use Rattle.ow_floor.specs.Laws.{Grows};
 ghost use Rattle.ow_floor.specs.View.{last_of};
-ghost use Rattle.ow_hall.specs.Asking.{ask_decision, refusal_told};
+ghost use Rattle.ow_hall.specs.Asking.{Invoked, ask_decision, refusal_told};
 ghost use Rattle.ow_hall.specs.Reading.{good};
-ghost use Rattle.ow_hall.specs.State.{Carries, IsNextOf, change_of, done_of};
+ghost use Rattle.ow_hall.specs.State.{Carries, change_of, done_of};
 
 use crate::entry::Told;
 use crate::reasons::tells_full;
@@ -20,7 +20,16 @@ use ow_tables::Ready;
 use ow_value::{Bytes, NoMemory, Pairs, Val, write_val};
 use std::alloc::Global;
 
-/// A refusal, a value to be shown, a change that was made ready, or an activation to be accepted.
+/// What comes of a request.
+#[derive(Drop)]
+pub(crate) enum Served {
+    /// This is told, or made ready.
+    Done(Done),
+    /// This is to be accepted. Where it has a moment up to which it is waited for, this is shown to one who waits.
+    Accepts { plan: Plan, shows: Shows },
+}
+
+/// A refusal, a value to be shown, or a change that was made ready.
 #[derive(Drop)]
 pub(crate) enum Done {
     /// Why nothing comes of it.
@@ -29,37 +38,23 @@ pub(crate) enum Done {
     Shown(Val),
     /// The row of the change is shown.
     Changed(Ready),
-    /// This is accepted. Where it has a moment up to which it is waited for, this is shown to one who waits.
-    Invoked { plan: Plan, shows: Shows },
 }
 
 impl Done {
-    /// What is told of it, and the change. An activation is accepted.
-    pub(crate) fn step(self, alloc: Global, floor: &mut Floor, at: u64) -> Result<Step, NoMemory>
-        requires next { IsNextOf floor.old.now.drawn self }
-        ensures ok { IfOk result (λ s. Carries s (ask_decision at (done_of self))) }
+    /// What is told of it, and the change.
+    pub(crate) fn step(self, alloc: Global) -> Result<Step, NoMemory>
+        ensures ok { IfOk result (λ s. (at : ℕ) → Carries s (ask_decision at (done_of self))) }
         ensures change { IfOk result (λ s. s.change ≡ change_of self) }
-        ensures grows { OnOk result (Grows floor.old.now floor.new.now (λ T. (ask_decision at (done_of self)).items)) }
-        ensures before { floor.new.before ≡ floor.old.before }
     {
         let Ok(told) = self.told(alloc) else {
             drop(self);
             return Err(NoMemory);
         };
-        let waits = self.waits();
-        match self {
-            Done::Invoked { plan, .. } => invoked_step(alloc, floor, at, plan, told, waits),
-            Done::Changed(ready) => Ok(Step {
-                told,
-                change: Some(ready),
-                waits,
-            }),
-            Done::Refused(_) | Done::Shown(_) => Ok(Step {
-                told,
-                change: None,
-                waits,
-            }),
-        }
+        Ok(Step {
+            told,
+            change: self.change(),
+            waits: Waits::Keep,
+        })
     }
 
     fn told(&self, alloc: Global) -> Result<Told, NoMemory>
@@ -72,42 +67,44 @@ impl Done {
                 let value = write_entity(alloc, ready.row())?;
                 Ok(Told::Asked(Reply::Now(good(alloc, &value)?)))
             }
-            Done::Invoked { plan, .. } => {
-                Ok(Told::Asked(invoked_reply(alloc, plan.id, plan.until)?))
-            }
         }
     }
 
-    fn waits(&self) -> Waits
-        ensures { (at : ℕ) → result ≡ (ask_decision at (done_of self.now)).waits }
+    fn change(self) -> Option<Ready>
+        ensures { result ≡ change_of self }
     {
         match self {
-            Done::Invoked { plan, shows } => waits_of(plan.id, *shows, plan.until),
-            _ => Waits::Keep,
+            Done::Changed(ready) => Some(ready),
+            _ => None,
         }
     }
 }
 
-// An activation is accepted, and this is told of it.
-fn invoked_step(
+/// What is told of an activation, which is accepted.
+pub(crate) fn accepted(
     alloc: Global,
     floor: &mut Floor,
     at: u64,
     plan: Plan,
-    told: Told,
-    waits: Waits,
+    shows: Shows,
 ) -> Result<Step, NoMemory>
     requires next { plan.id.count ≡ last_of floor.old.now.drawn plan.id.namespace + 1 }
-    ensures ok { IfOk result (λ s. s ≡ record { told = told; change = None; waits = waits }) }
+    ensures ok { IfOk result (λ s. Carries s (ask_decision at (Ok (Invoked plan shows)))) }
+    ensures change { IfOk result (λ s. s.change ≡ None) }
     ensures grows { OnOk result (Grows floor.old.now floor.new.now (λ T. accept_items at plan)) }
     ensures before { floor.new.before ≡ floor.old.before }
 {
+    let Ok(reply) = invoked_reply(alloc, plan.id, plan.until) else {
+        drop(plan);
+        return Err(NoMemory);
+    };
+    let waits = waits_of(plan.id, shows, plan.until);
     if floor.accept(alloc, at, plan).is_err() {
-        drop(told);
+        drop(reply);
         return Err(NoMemory);
     }
     Ok(Step {
-        told,
+        told: Told::Asked(reply),
         change: None,
         waits,
     })

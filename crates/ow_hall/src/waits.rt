@@ -87,7 +87,10 @@ fn id_value(alloc: Global, id: Id) -> Result<Val, NoMemory>
     ensures { IfOk result (λ v. view v ≡ id_value id) }
 {
     let mut object = Fields::new(alloc);
-    object.set(Str::of(alloc, "activationId")?, Val::Text(id_str(alloc, id)?))?;
+    object.set(
+        Str::of(alloc, "activationId")?,
+        Val::Text(id_str(alloc, id)?),
+    )?;
     Ok(Val::Object(object.into_params()?))
 }
 
