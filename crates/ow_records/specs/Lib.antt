@@ -1,3 +1,9 @@
 pub mod Id
+pub mod Logs
+pub mod Notes
 pub mod Outcome
+pub mod Record
+pub mod RecordRefusal
+pub mod Records
 pub mod Response
+pub mod Span
