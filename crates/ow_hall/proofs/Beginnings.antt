@@ -87,6 +87,7 @@ decided_sound S (events.Asked r) sound = asked_sound S (request_done S (parts_of
 decided_sound S (events.Called name params) sound = called_sound S (call_plan S name params) (called_next S name params) sound
 decided_sound S events.Next sound = calls_keep_sound.next S.moment S.trace sound
 decided_sound S (events.Answered run reply) sound = calls_keep_sound.answered S.moment run reply S.trace sound
+decided_sound S (events.Collected id) sound = sound
 decided_sound S events.Drain sound = calls_keep_sound.drain S.moment S.trace sound
 
 pub seen_sound : (t : Tenants) (B : History) → IsSound (seen t B).trace

@@ -31,6 +31,8 @@ use Rattle.ow_hall.specs.Decision.{Decision, adds, tells}
 use Rattle.ow_hall.specs.Asking.{Done, Shown as ShownDone, Changed, Invoked, ask_decision, refusal_told, request_done}
 use Rattle.ow_hall.specs.Calling.{call_decision, call_plan}
 use Rattle.ow_hall.specs.Decisions.{decide, reply_told}
+use Rattle.ow_hall.specs.Waiting.{collected_told, shows_for}
+use Rattle.ow_floor.specs.Collecting.{collected}
 use Rattle.ow_hall.specs.Posting.{posting_by}
 use Rattle.ow_hall.specs.History.{AreAnswered, History, IsLegal, Seen, after, all_changed, answer, counted, decision, greatest_moment, is_idle, is_opening, last_moment, moment, opens_here, posting, seen, sight, waits_after}
 use Rattle.ow_hall.specs.Ledger.{Ledger, no_entries, posted, posted_as}
@@ -82,6 +84,7 @@ unbooked idle S (events.Asked r) = ask_so idle S.moment (request_done S (parts_o
 unbooked idle S (events.Called name params) = call_so idle S (call_plan S name params)
 unbooked idle S events.Next = order_so idle (run_count S.trace + 1) S.moment (head S.trace)
 unbooked idle S (events.Answered run reply) = reply_so idle S.moment run reply (shown S.trace) (live_run S.trace run)
+unbooked idle S (events.Collected id) = tells_so idle (told.Collected (collected_told id (shows_for S.waits id) (collected S.moment id S.trace)))
 unbooked idle S events.Drain = tt
 
 -- ---- moments
@@ -104,6 +107,7 @@ opens_so (events.Asked r) B b later = refl
 opens_so (events.Called name params) B b later = refl
 opens_so events.Next B b later = refl
 opens_so (events.Answered run reply) B b later = refl
+opens_so (events.Collected id) B b later = refl
 opens_so events.Drain B b later = refl
 
 left : (t : Tenants) (L : Ledger) (new : StateView) (at : ℕ) (event : Event) → IsAt new (after (decision t L.entries at event) (seen t L.entries))

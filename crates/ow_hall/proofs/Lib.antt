@@ -3,5 +3,6 @@ mod AskLaws
 mod Filters
 mod HallLaws
 mod ReadLaws
+mod RecordLaws
 mod Results
 mod RoomLaws

@@ -23,7 +23,7 @@ use Rattle.ow_http.specs.Steps.{◌>>=◌}
 use Rattle.ow_http.specs.declared.answer.Answer.{Answer}
 use Rattle.ow_http.specs.declared.call.Call.{Call}
 use Rattle.ow_http.specs.declared.call_kind.CallKind.{CallKind}
-use Rattle.ow_http.specs.declared.call_kind.CallKind.TheVariants.{ListEntities, GetEntity, PutEntity, DeleteEntity, Invoke}
+use Rattle.ow_http.specs.declared.call_kind.CallKind.TheVariants.{ListEntities, GetEntity, PutEntity, DeleteEntity, Invoke, ListActivations, GetActivation}
 use Rattle.ow_http.specs.declared.reason.Reason.{Reason}
 use Rattle.ow_http.specs.declared.route.Route.{Route}
 use Rattle.ow_http.specs.declared.route.Route.TheVariants as route
@@ -31,7 +31,7 @@ use Rattle.ow_http.specs.declared.verb.Verb.{Verb}
 use Rattle.ow_hall.specs.declared.acts.Act.{Act}
 use Rattle.ow_hall.specs.declared.acts.Act.TheVariants.{Reads, Puts, Removes, Invokes}
 use Rattle.ow_hall.specs.declared.acts.Reading.{Reading}
-use Rattle.ow_hall.specs.declared.acts.Reading.TheVariants.{Rows, Row as OneRow}
+use Rattle.ow_hall.specs.declared.acts.Reading.TheVariants.{Rows, Row as OneRow, Activations, Activation}
 use Rattle.ow_hall.specs.declared.entry.Told.{Told}
 use Rattle.ow_hall.specs.declared.entry.Told.TheVariants as told
 use Rattle.ow_hall.specs.declared.replies.Reply.TheVariants as replies
@@ -50,6 +50,7 @@ use Rattle.ow_hall.specs.Waiting.{invoked_reply, shows_of, waits_of}
 abbrev pub reading_in : CallKind → Option Reading
 reading_in (ListEntities kinds.Action) = Some (Rows kinds.Action)
 reading_in (GetEntity kinds.Action) = Some (OneRow kinds.Action)
+reading_in (GetActivation part) = Some (Activation part)
 reading_in kind = None
 
 -- what it is to do, where it is served yet: actions are put, deleted and invoked

@@ -96,6 +96,10 @@ pub record Carries (step : Step) (d : Decision) : Type 0 where
 abbrev pub Makes : Tenants → List Row → Now → Shown → Shown → (Sight → Decision) → Step → Type 0
 Makes t rs now old new decided step = (S : Sight) → IsSeen S t rs old now → Carries step (decided S) × Stands new ((decided S).items ++ S.trace)
 
+-- over those who wait too
+abbrev pub MakesFor : List Wait → Tenants → List Row → Now → Shown → Shown → (Sight → Decision) → Step → Type 0
+MakesFor ws t rs now old new decided step = (S : Sight) → IsSeen S t rs old now → S.waits ≡ ws → Carries step (decided S) × Stands new ((decided S).items ++ S.trace)
+
 -- over floor, rows and waits
 abbrev pub Does : StateView → Shown → Tenants → Now → (Sight → Decision) → Step → Type 0
 Does old new t now decided step = (S : Sight) → IsSeen S t old.rows old.floor.now now → S.waits ≡ old.waits

@@ -3,7 +3,7 @@ ghost use Rattle.std.specs.Prelude.{◌≡◌};
 ghost use Rattle.ow_hall.specs.Asking.{act_in, act_of, change_in, is_inside, reading_in};
 
 use ow_entity::EntityKind;
-use ow_http::{CallKind, Route, Verb};
+use ow_http::{CallKind, Part, Route, Verb};
 
 /// What is read.
 #[derive(Clone, Copy, Debug, PartialEq, Eq)]
@@ -12,6 +12,10 @@ pub(crate) enum Reading {
     Rows(EntityKind),
     /// A row of this kind.
     Row(EntityKind),
+    /// The list of the activations that have ended.
+    Activations,
+    /// This part of an activation that has ended.
+    Activation(Part),
 }
 
 /// A read, a change of the rows, or an invocation.
@@ -65,6 +69,7 @@ fn reading_in(kind: CallKind) -> Option<Reading>
     match kind {
         CallKind::ListEntities(EntityKind::Action) => Some(Reading::Rows(EntityKind::Action)),
         CallKind::GetEntity(EntityKind::Action) => Some(Reading::Row(EntityKind::Action)),
+        CallKind::GetActivation(part) => Some(Reading::Activation(part)),
         _ => None,
     }
 }

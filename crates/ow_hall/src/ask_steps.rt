@@ -64,7 +64,9 @@ fn request_served(
         return Ok(Served::Done(Done::Refused(reason)));
     }
     match act {
-        Act::Reads(reading) => Ok(Served::Done(read(alloc, tenants, tables, reading, request)?)),
+        Act::Reads(reading) => Ok(Served::Done(read(
+            alloc, tenants, floor, tables, reading, request,
+        )?)),
         act => called_served(alloc, tenants, floor, tables, now.at, act, request),
     }
 }
@@ -93,7 +95,10 @@ fn namespace_of(route: &Route) -> &[u8]
     ensures { result.now ≡ namespace_of route.now }
 {
     match route {
-        Route::List { namespace, .. } | Route::Entity { namespace, .. } => namespace.as_slice(),
+        Route::List { namespace, .. }
+        | Route::Entity { namespace, .. }
+        | Route::Activations { namespace }
+        | Route::Activation { namespace, .. } => namespace.as_slice(),
         _ => b"".as_slice(),
     }
 }

@@ -1,21 +1,28 @@
 // What reads show, of what whoever asks may see.
-ghost use Rattle.std.specs.Prelude.{◌≡◌, None, Ok, true, filter, IfOk, option_copied};
+ghost use Rattle.std.specs.Prelude.{◌≡◌, Some, None, Ok, true, if◌then◌else◌, filter, IfOk, option_copied};
+ghost use Rattle.ow_value.specs.View.{view};
 ghost use Rattle.ow_entity.specs.Row.{name_of};
+ghost use Rattle.ow_floor.specs.Laws.{Stands};
+ghost use Rattle.ow_floor.specs.Trace.{Trace, records};
 ghost use Rattle.ow_http.specs.Request.{parts_of};
+ghost use Rattle.ow_records.specs.Records.{is_in};
 ghost use Rattle.ow_tables.specs.Rows.{found, is_row};
 ghost use Rattle.ow_hall.specs.Asking.{granted_call, shown_done};
-ghost use Rattle.ow_hall.specs.Reading.{read_done, read_value};
+ghost use Rattle.ow_hall.specs.Reading.{id_of, part_value, read_done, read_value, recorded, recorded_under};
 ghost use Rattle.ow_hall.specs.Sight.{Sight};
 ghost use Rattle.ow_hall.specs.State.{change_of, done_of};
-ghost use Rattle.ow_hall.specs.View.{is_visible, own_rights, view_of};
+ghost use Rattle.ow_hall.specs.View.{is_visible, is_visible_record, own_rights, view_of};
 
 use crate::acts::Reading;
 use crate::ask_steps::granted_call;
 use crate::done::Done;
+use crate::ids::id_in;
 use crate::tenants::Tenants;
 use ow_entity::{EntityKind, Row, write_entity};
-use ow_http::{Call, HttpRefusal, Reason, Request, ServiceRefusal};
+use ow_floor::Floor;
+use ow_http::{Call, HttpRefusal, Part, Reason, Request, Route, ServiceRefusal};
 use ow_names::FullName;
+use ow_records::{Id, Record, write_logs, write_record, write_response};
 use ow_tables::Tables;
 use ow_value::{NoMemory, Val};
 use std::alloc::Global;
@@ -24,17 +31,18 @@ use std::alloc::Global;
 pub(crate) fn read(
     alloc: Global,
     tenants: &Tenants,
+    floor: &Floor,
     tables: &Tables,
     reading: Reading,
     request: &Request,
 ) -> Result<Done, NoMemory>
-    ensures done { IfOk result (λ d. (S : Sight) → S.tenants ≡ tenants.now → S.rows ≡ tables.now.rows
+    ensures done { IfOk result (λ d. (S : Sight) → S.tenants ≡ tenants.now → S.rows ≡ tables.now.rows → Stands floor.now.now S.trace
         → done_of d ≡ shown_done (read_done (view_of S) reading (parts_of request.now))) }
     ensures change { IfOk result (λ d. change_of d ≡ None) }
 {
     let granted = granted_call(alloc, tenants, request)?;
     match granted {
-        Ok(call) => shown(alloc, tenants, tables, reading, request, &call),
+        Ok(call) => shown(alloc, tenants, floor, tables, reading, request, &call),
         Err(reason) => Ok(Done::Refused(reason)),
     }
 }
@@ -43,19 +51,22 @@ pub(crate) fn read(
 fn shown(
     alloc: Global,
     tenants: &Tenants,
+    floor: &Floor,
     tables: &Tables,
     reading: Reading,
     request: &Request,
     call: &Call,
 ) -> Result<Done, NoMemory>
     requires { (S : Sight) → S.tenants ≡ tenants.now → granted_call S (parts_of request.now) ≡ Ok call.now }
-    ensures done { IfOk result (λ d. (S : Sight) → S.tenants ≡ tenants.now → S.rows ≡ tables.now.rows
+    ensures done { IfOk result (λ d. (S : Sight) → S.tenants ≡ tenants.now → S.rows ≡ tables.now.rows → Stands floor.now.now S.trace
         → done_of d ≡ shown_done (read_value (view_of S) reading (parts_of request.now) call.now)) }
     ensures change { IfOk result (λ d. change_of d ≡ None) }
 {
     match reading {
         Reading::Rows(kind) => listed(alloc, tenants, tables, kind, request, call),
         Reading::Row(kind) => row_shown(alloc, tenants, tables, kind, request, call),
+        Reading::Activations => Ok(Done::Refused(Reason::Service(ServiceRefusal::NotFound))),
+        Reading::Activation(part) => record_shown(alloc, tenants, floor, part, request, call),
     }
 }
 
@@ -123,4 +134,74 @@ fn has_name(row: &Row, kind: EntityKind, name: &FullName)
     ensures { name_of row.now ≡ name.now }
 {
     row.name().compare(name);
+}
+
+fn record_shown(
+    alloc: Global,
+    tenants: &Tenants,
+    floor: &Floor,
+    part: Part,
+    request: &Request,
+    call: &Call,
+) -> Result<Done, NoMemory>
+    requires { (S : Sight) → S.tenants ≡ tenants.now → granted_call S (parts_of request.now) ≡ Ok call.now }
+    ensures done { IfOk result (λ d. (S : Sight) → S.tenants ≡ tenants.now → Stands floor.now.now S.trace
+        → done_of d ≡ shown_done (read_value (view_of S) (Reading.Activation part) (parts_of request.now) call.now)) }
+    ensures change { IfOk result (λ d. change_of d ≡ None) }
+{
+    match visible_record(tenants, floor, id_of(&request.route)) {
+        Some(record) => Ok(Done::Shown(part_value(alloc, part, record)?)),
+        None => Ok(Done::Refused(Reason::Service(ServiceRefusal::NotFound))),
+    }
+}
+
+// The id that a path writes.
+fn id_of(route: &Route) -> &[u8]
+    ensures { result.now ≡ id_of route.now }
+{
+    match route {
+        Route::Activation { id, .. } => id.as_slice(),
+        _ => b"".as_slice(),
+    }
+}
+
+fn part_value(alloc: Global, part: Part, ended: &Record) -> Result<Val, NoMemory>
+    ensures { IfOk result (λ v. view v ≡ part_value part ended.now) }
+{
+    match part {
+        Part::Whole => write_record(alloc, ended),
+        Part::Response => write_response(alloc, &ended.response),
+        Part::Logs => write_logs(alloc, ended),
+    }
+}
+
+// The record whose id the text is, where it is of the namespace of whoever asks.
+fn visible_record<'a>(tenants: &Tenants, floor: &'a Floor, text: &[u8]) -> Option<&'a Record>
+    ensures { (T : Trace) → Stands floor.now.now T
+        → option_copied result ≡ recorded tenants.now.home text.now (filter (is_visible_record (own_rights tenants.now.home)) (records T)) }
+{
+    match id_in(text) {
+        Some(id) => record_of(tenants, floor, id),
+        None => None,
+    }
+}
+
+fn record_of<'a>(tenants: &Tenants, floor: &'a Floor, id: Id) -> Option<&'a Record>
+    ensures { (T : Trace) → Stands floor.now.now T
+        → option_copied result ≡ recorded_under tenants.now.home (Some id) (filter (is_visible_record (own_rights tenants.now.home)) (records T)) }
+{
+    match floor.records().get(&id) {
+        Ok(ended) => own_record(tenants, ended),
+        Err(_) => None,
+    }
+}
+
+fn own_record<'a>(tenants: &Tenants, ended: &'a Record) -> Option<&'a Record>
+    ensures { option_copied result ≡ if is_in tenants.now.home ended.now then Some ended.now else None }
+{
+    if tenants.home.as_str().as_bytes() == ended.namespace.as_str().as_bytes() {
+        Some(ended)
+    } else {
+        None
+    }
 }

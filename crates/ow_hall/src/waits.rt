@@ -1,6 +1,5 @@
 // Who waits for the end of an activation, and how that is answered.
 ghost use Rattle.std.specs.Prelude.{◌≡◌, IfOk};
-ghost use Rattle.ow_records.specs.Id.{id_text};
 ghost use Rattle.ow_value.specs.View.{view};
 ghost use Rattle.ow_hall.specs.Waiting.{accepted_answer, id_value, invoked_reply, shows_of, waits_of};
 
@@ -87,20 +86,6 @@ fn id_value(alloc: Global, id: Id) -> Result<Val, NoMemory>
     ensures { IfOk result (λ v. view v ≡ id_value id) }
 {
     let mut object = Fields::new(alloc);
-    object.set(
-        Str::of(alloc, "activationId")?,
-        Val::Text(id_str(alloc, id)?),
-    )?;
+    object.set(Str::of(alloc, "activationId")?, Val::Text(id.text(alloc)?))?;
     Ok(Val::Object(object.into_params()?))
-}
-
-fn id_str(alloc: Global, id: Id) -> Result<Str, NoMemory>
-    ensures { IfOk result (λ s. s ≡ id_text id) }
-{
-    let mut bytes = Vec::new(alloc);
-    id.push_text(&mut bytes)?;
-    match String::from_utf8(bytes) {
-        Ok(text) => Str::from_string(text),
-        Err(_) => Err(NoMemory),
-    }
 }
