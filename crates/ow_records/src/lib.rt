@@ -13,6 +13,8 @@ mod record_refusal;
 mod records;
 mod responses;
 mod span;
+mod written;
+mod written_notes;
 
 pub use activations::Activation;
 pub use ids::Id;
@@ -24,3 +26,4 @@ pub use record_refusal::RecordRefusal;
 pub use records::Records;
 pub use responses::Response;
 pub use span::Span;
+pub use written::{write_logs, write_record, write_response, write_summary};
