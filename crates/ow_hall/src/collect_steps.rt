@@ -41,7 +41,7 @@ fn told(
     shows: Shows,
     collected: Result<Collected, FloorRefusal>,
 ) -> Result<HallCollected, NoMemory>
-    ensures { IfOk result (λ c. c ≡ collected_told id shows (collection_of collected)) }
+    ensures { IfOk result (λ c. c ≡ collected_told id shows (collection_of collected.entry)) }
 {
     match collected {
         Ok(Collected::Recorded(ended)) => {

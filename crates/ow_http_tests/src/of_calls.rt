@@ -1,7 +1,7 @@
 use ow_entity::EntityRefusal;
 use ow_http::{Call, CallRefusal, Request, Routes, read_call};
 use ow_names::{FullName, full_text, read_name};
-use ow_value::PlainData;
+use ow_value::{Params, PlainData, Val, write_val};
 use std::alloc::Global;
 use std::test::Fail;
 
@@ -126,13 +126,9 @@ fn push_params(alloc: Global, out: &mut String, params: &Params) -> Result<(), F
 }
 
 fn push_object(alloc: Global, out: &mut String, params: &Params) -> Result<(), Fail> {
-    let written = text_of(alloc, Val::Object(params.copy(alloc)?))?;
+    let object = Val::Object(params.copy(alloc)?);
+    let written = String::from_utf8(write_val(alloc, &object)?).map_err(|_| "no text")?;
     push_text(out, written.as_str())
-}
-
-fn text_of(alloc: Global, value: Val) -> Result<Str, Fail> {
-    let written = write_val(alloc, &value)?;
-    Ok(Str::from_utf8(alloc, &written)?)
 }
 
 fn push_name(alloc: Global, out: &mut String, name: &Option<FullName>) -> Result<(), Fail> {
