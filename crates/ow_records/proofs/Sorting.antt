@@ -1,7 +1,7 @@
 -- Records in the order of a key: what a put makes of them, where they part, and what is found.
-use Rattle.std.proofs.Common.{◌≡◌, ◌≢◌, ℕ, zero, suc, ◌+◌, ◌-◌, ◌<◌, ◌≤◌, Bool, true, false, not, cond, List, [], ◌∷◌, ◌++◌, length, map, fold, filter, find, get_or, take, drop, Option, Some, None, Ordering, Less, Equal, Greater, is_eq, is_lt, refl, sym, ap, ◌∙◌, subst, append_assoc, arith}
+use Rattle.std.proofs.Common.{◌≡◌, ◌≢◌, ℕ, zero, suc, ◌-◌, ◌<◌, ◌≤◌, Bool, true, false, not, cond, ◌&&◌, ◌==◌, List, [], ◌∷◌, ◌++◌, length, fold, find, get_or, take, drop, Option, Some, None, Ordering, Less, Equal, Greater, is_eq, is_lt, refl, sym, ap, ◌∙◌, subst, append_assoc, arith}
 use Rattle.std.specs.List.{AllByRecursion}
-use Rattle.std.specs.List.Sorted.{IsNonDecreasingBy, IsPartitionedBy, IsPartitionPoint}
+use Rattle.std.specs.List.Sorted.{IsPartitionedBy, IsPartitionPoint}
 use Rattle.std.specs.Option.{option_or}
 use Rattle.std.specs.Ordering.{is_le, ordering_index, ordering_reverse}
 use Rattle.std.proofs.lemmas.Cmp.{nat_list_cmp_total}
@@ -9,10 +9,11 @@ use Rattle.std.proofs.lemmas.List.{append-nil}
 use Rattle.std.proofs.lemmas.List.Folds.{find-append}
 use Rattle.std.proofs.lemmas.List.Sums.{fold-append}
 use Rattle.ow_value.specs.Value.{text_cmp}
-use Rattle.ow_value.proofs.KeySearch.{equal_texts, turned, rises_at}
+use Rattle.ow_value.proofs.KeySearch.{equal_texts, test_of, turned, rises_at}
 use Rattle.ow_records.specs.declared.record.Record.{Record}
-use Rattle.ow_records.specs.Records.{put_by, sorted_by}
-use Rattle.ow_records.specs.Order.{Rises, IsBehind}
+use Rattle.ow_records.specs.declared.ids.Id.{Id}
+use Rattle.ow_records.specs.Records.{id_key, id_numbers, is_of_id, put_by, sorted_by}
+use Rattle.ow_records.specs.Order.{Rises, IsBehind, first_if}
 
 -- ---- texts
 
@@ -25,7 +26,7 @@ below_then a b c Greater lt e n = absurd (n refl)
 less_not : (o : Ordering) → o ≡ Less → o ≢ Greater
 less_not o e f = cc
 
-is_less : (o : Ordering) → is_lt o ≡ true → o ≡ Less
+pub is_less : (o : Ordering) → is_lt o ≡ true → o ≡ Less
 is_less Less e = refl
 is_less Equal e = cc
 is_less Greater e = cc
@@ -182,6 +183,21 @@ module _ (key : Record → List ℕ) where
           let rest = more n (omega arith) (λ j d a b. h.0 (suc j) d (omega arith) (omega arith), λ j d a b. h.1 (suc j) d (omega arith) (omega arith)) in
           (suc rest.0, ap suc rest.1, ap (λ ys. x ∷ ys) rest.2)
 
+  -- ---- the same, as a search and a change tell it
+
+  pub put_between : (k : List ℕ) (xs ys new : List Record) (r : Record) (i : ℕ) → ys ≡ xs → k ≡ key r → new ≡ take i xs ++ r ∷ drop i xs → IsBehind key k ys i → new ≡ put_by key r xs
+  put_between k xs ys new r i e f n h =
+      n ∙ sym (put_at r xs i (subst (λ zs. IsBehind key (key r) zs i) e (subst (λ a. IsBehind key a ys i) f h)))
+
+  at_last : (ys : List Record) (i j : ℕ) → i ≡ suc j → take (i - 1) ys ++ drop i ys ≡ take j ys ++ drop (suc j) ys
+  at_last ys i j e = let f : i - 1 ≡ j = omega arith in rw (f, e) refl
+
+  pub taken_between : (k : List ℕ) (xs ys new before : List Record) (r : Record) (i : ℕ) → ys ≡ xs → k ≡ key r → new ≡ take (i - 1) xs ++ drop i xs → i ≤ length xs
+      → IsBehind key k ys i → xs ≡ put_by key r before → new ≡ before
+  taken_between k xs ys new before r i e f n le h g =
+      let back = put_back r before i (subst (λ (zs : List Record). i ≤ length zs) g le) (subst (λ zs. IsBehind key (key r) zs i) (e ∙ g) (subst (λ a. IsBehind key a ys i) f h)) in
+      n ∙ ap (λ zs. take (i - 1) zs ++ drop i zs) g ∙ at_last (put_by key r before) i back.0 back.1 ∙ back.2
+
   -- ---- what is found
 
   -- whether the record has the key
@@ -238,21 +254,8 @@ module _ (key : Record → List ℕ) where
   unfolding Rises
   find_sorted k rs = find_fold k rs [] [] tt refl
 
-  -- those below the key need not be looked at
-  pub find_from : (k : List ℕ) (xs : List Record) (i : ℕ) → IsPartitionPoint (λ y. is_lt (text_cmp (key y) k) ≡ true) (λ y. is_lt (text_cmp (key y) k) ≡ false) xs i
-      → find (has_key k) xs ≡ find (has_key k) (drop i xs)
-  find_from k xs zero h = refl
-  find_from k [] (suc i) h = refl
-  find_from k (x ∷ xs) (suc i) h =
-      rw (less_is_not _ (h.0 0 x (omega arith) (omega arith))) (find_from k xs i (λ j d a b. h.0 (suc j) d (omega arith) (omega arith), λ j d a b. h.1 (suc j) d (omega arith) (omega arith)))
-    where
-      less_is_not : (o : Ordering) → is_lt o ≡ true → is_eq o ≡ false
-      less_is_not Less e = refl
-      less_is_not Equal e = cc
-      less_is_not Greater e = cc
-
   -- behind a greater one none has the key
-  pub none_behind : (k : List ℕ) (x : Record) (xs : List Record) → Rises key (x ∷ xs) → is_lt (text_cmp (key x) k) ≡ false → has_key k x ≡ false → find (has_key k) (x ∷ xs) ≡ None
+  none_behind : (k : List ℕ) (x : Record) (xs : List Record) → Rises key (x ∷ xs) → is_lt (text_cmp (key x) k) ≡ false → has_key k x ≡ false → find (has_key k) (x ∷ xs) ≡ None
   unfolding Rises
   none_behind k x xs h e f =
       let less : text_cmp k (key x) ≡ Less = turned (key x) k Greater (is_greater _ e f) in
@@ -262,3 +265,45 @@ module _ (key : Record → List ℕ) where
       is_greater Less e f = cc
       is_greater Equal e f = cc
       is_greater Greater e f = refl
+
+  -- the first that isn't below the key is the one that is found, if it has the key
+  pub first_found : (k : List ℕ) (xs : List Record) (i : ℕ) → Rises key xs
+      → IsPartitionPoint (λ y. is_lt (text_cmp (key y) k) ≡ true) (λ y. is_lt (text_cmp (key y) k) ≡ false) xs i
+      → first_if (has_key k) (drop i xs) ≡ find (has_key k) xs
+  unfolding Rises
+  first_found k [] zero h g = refl
+  first_found k (x ∷ xs) zero h g = by_test (has_key k x) refl
+    where
+      by_test : (b : Bool) → has_key k x ≡ b → first_if (has_key k) (x ∷ xs) ≡ find (has_key k) (x ∷ xs)
+      by_test true f = rw f refl
+      by_test false f = ap (λ t. cond t (Some x) None) f ∙ sym (none_behind k x xs h (g.1 0 x (omega arith) (omega arith)) f)
+  first_found k [] (suc i) h g = refl
+  first_found k (x ∷ xs) (suc i) h g =
+      rw (less_is_not _ (g.0 0 x (omega arith) (omega arith))) (first_found k xs i h.1 (λ j d a b. g.0 (suc j) d (omega arith) (omega arith), λ j d a b. g.1 (suc j) d (omega arith) (omega arith)))
+    where
+      less_is_not : (o : Ordering) → is_lt o ≡ true → is_eq o ≡ false
+      less_is_not Less e = refl
+      less_is_not Equal e = cc
+      less_is_not Greater e = cc
+
+-- ---- ids
+
+and_true : (b : Bool) → b ≡ (b && true)
+and_true true = refl
+and_true false = refl
+
+-- an activation is told by the numbers of its id
+id_told : (id : Id) (r : Record) → is_of_id id r ≡ has_key id_key (id_numbers id) r
+id_told id r =
+    ap (λ t. (r.id.namespace == id.namespace) && t) (and_true (r.id.count == id.count))
+    ∙ test_of (id_key r) (id_numbers id) _ refl
+
+pub find_by_id : (id : Id) (rs : List Record) → find (is_of_id id) rs ≡ find (has_key id_key (id_numbers id)) rs
+find_by_id id rs i = find (λ r. id_told id r i) rs
+
+pub first_by_id : (id : Id) (rs : List Record) → first_if (is_of_id id) rs ≡ first_if (has_key id_key (id_numbers id)) rs
+first_by_id id rs i = first_if (λ r. id_told id r i) rs
+
+-- what is found among those sorted by their ids is the first of all
+pub found_sorted : (id : Id) (rs : List Record) → find (is_of_id id) (sorted_by id_key rs) ≡ find (is_of_id id) rs
+found_sorted id rs = find_by_id id _ ∙ find_sorted id_key (id_numbers id) rs ∙ sym (find_by_id id rs)

@@ -1,5 +1,5 @@
 -- For private clauses: the records by their ids, and by their namespaces and then their ids.
-use Rattle.std.specs.Prelude.{◌≡◌, ◌≢◌, ℕ, true, false, List, [], ◌∷◌, ◌++◌, length}
+use Rattle.std.specs.Prelude.{◌≡◌, ◌≢◌, ℕ, Bool, true, false, List, [], ◌∷◌, ◌++◌, length, if◌then◌else◌, Option, Some, None}
 use Rattle.std.specs.List.{AllByRecursion}
 use Rattle.std.specs.List.Sorted.{IsPartitionPoint}
 use Rattle.std.specs.Ordering.{is_le}
@@ -26,6 +26,11 @@ Rises key (x ∷ xs) = AllByRecursion (λ y. text_cmp (key x) (key y) ≢ Greate
 -- behind those whose keys aren't greater
 abbrev pub IsBehind : (Record → List ℕ) → List ℕ → List Record → ℕ → Type 0
 IsBehind key k xs i = IsPartitionPoint (λ y. is_le (text_cmp (key y) k) ≡ true) (λ y. is_le (text_cmp (key y) k) ≡ false) xs i
+
+-- the first, if it passes
+abbrev pub first_if : (Record → Bool) → List Record → Option Record
+first_if p [] = None
+first_if p (x ∷ xs) = if p x then Some x else None
 
 pub record AreKept (by_end by_id by_namespace : List Record) : Type 0 where
   pub ids : by_id ≡ sorted_by id_key by_end

@@ -4,8 +4,10 @@
 mod activations;
 mod digits;
 mod ids;
+mod listing;
 mod logs;
 mod notes;
+mod order;
 mod outcomes;
 mod ready;
 mod record;
