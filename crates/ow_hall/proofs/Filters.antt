@@ -48,7 +48,7 @@ find_filter_some {X = X} p q y (x ∷ xs) found passes = by_tests (p x) (q x) re
         let same : x ≡ y = cc in
         let hidden : q y ≡ false = subst (λ (z : X). q z ≡ false) same f in cc
     by_tests false true e f rest = rw (f, e) (rest (rw e at found))
-    by_tests false false e f rest = rw (f, e) (rest (rw e at found))
+    by_tests false false e f rest = rw f (rest (rw e at found))
 
 -- what a wider test doesn't pass
 pub not_wider : {X : Type 0} (q p : X → Bool) (x : X) → ((x : X) → q x ≡ true → p x ≡ true) → p x ≡ false → q x ≡ false

@@ -6,3 +6,4 @@ mod ReadLaws
 mod RecordLaws
 mod Results
 mod RoomLaws
+mod ViewLaws

@@ -185,7 +185,7 @@ rows_shown S p c kind vs granted is = ap (λ (xs : List V). shows (list (items_o
     ∙ ap (λ (n : List ℕ). listing kind n c.skip c.limit (filter (is_visible (own_rights S.tenants.home)) S.rows)) (sym (granted_home S p c granted))))
 
 -- what is seen where nothing has happened
-bare : Tenants → Sight
+abbrev bare : Tenants → Sight
 bare t = record { tenants = t; rows = []; trace = []; waits = []; counted = 0; moment = 0 }
 
 pub named_home : (t : Tenants) (p : Parts) (c : Call) (n : FullName) → ((S : Sight) → S.tenants ≡ t → granted_call S p ≡ Ok c) → c.name ≡ Some n → n.namespace ≡ t.home

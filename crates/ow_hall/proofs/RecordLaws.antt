@@ -16,12 +16,15 @@ use Rattle.ow_floor.proofs.Firsts.{find_passes}
 use Rattle.ow_floor.proofs.Soundness.{parted}
 use Rattle.ow_floor.proofs.Tallies.{eq_of}
 use Rattle.ow_http.specs.Parts.{Parts}
+use Rattle.ow_http.specs.Steps.{◌>>=◌}
+use Rattle.ow_http.specs.declared.route.Part.{Part}
 use Rattle.ow_http.specs.declared.call.Call.{Call}
 use Rattle.ow_http.specs.declared.reason.Reason.{Reason}
-use Rattle.ow_hall.specs.declared.acts.Reading.TheVariants.{Activations}
+use Rattle.ow_hall.specs.declared.acts.Reading.TheVariants.{Activations, Activation}
 use Rattle.ow_hall.specs.Asking.{granted_call, shown_done}
-use Rattle.ow_hall.specs.Reading.{is_recorded, read_value, recorded_under}
-use Rattle.ow_hall.specs.Sight.{Sight}
+use Rattle.ow_hall.specs.Reading.{id_of, is_recorded, part_value, read_value, recorded, recorded_under}
+use Rattle.ow_hall.specs.Reasons.{not_found}
+use Rattle.ow_hall.specs.Sight.{Sight, or_else}
 use Rattle.ow_hall.specs.View.{is_visible_record, own_rights, view_of}
 use Rattle.ow_hall.proofs.Filters.{filter_filter, find_filter, find_only_none, find_only_some, not_wider}
 use Rattle.ow_hall.proofs.ReadLaws.{granted_home, own_read, second, shows, turned}
@@ -96,25 +99,38 @@ abbrev pub in_own : List ℕ → Option Record → Option Record
 in_own here None = None
 in_own here (Some r) = if is_in here r then Some r else None
 
+narrow : (here : List ℕ) (id : Id) (r : Record) → is_recorded here id r ≡ true → is_of_id id r ≡ true
+narrow here id r h = second (is_in here r) (same_id r.id id) h
+
+placed : (here : List ℕ) (id : Id) (r : Record) → is_recorded here id r ≡ true → is_visible_record (own_rights here) r ≡ true
+placed here id r h = is_in_visible here r (first (is_in here r) (same_id r.id id) h)
+
+by_place : (here : List ℕ) (id : Id) (T : Trace) (r : Record) (b : Bool) → IsSound T → is_in here r ≡ b → find (is_of_id id) (records T) ≡ Some r
+    → find (is_recorded here id) (records T) ≡ in_own here (Some r)
+by_place here id T r true sound e found =
+    rw e (find_only_some (is_of_id id) (is_recorded here id) r (records T) (narrow here id) found (rw e (find_passes (is_of_id id) r (records T) found)))
+by_place here id T r false sound e found =
+    rw e (once_only id (is_recorded here id) r (records T) (recorded_once T id sound) found (rw e refl) (narrow here id))
+
+by_found : (here : List ℕ) (id : Id) (T : Trace) (o : Option Record) → IsSound T → find (is_of_id id) (records T) ≡ o → find (is_recorded here id) (records T) ≡ in_own here o
+by_found here id T None sound found = find_only_none (is_of_id id) (is_recorded here id) (records T) (narrow here id) found
+by_found here id T (Some r) sound found = by_place here id T r (is_in here r) sound refl found
+
 -- a record of the namespace, by its id
-pub own_record : (here : List ℕ) (id : Id) (T : Trace) (o : Option Record) → IsSound T → find (is_of_id id) (records T) ≡ o
+own_record : (here : List ℕ) (id : Id) (T : Trace) (o : Option Record) → IsSound T → find (is_of_id id) (records T) ≡ o
     → find (is_recorded here id) (filter (is_visible_record (own_rights here)) (records T)) ≡ in_own here o
 own_record here id T o sound found =
-    find_filter (is_recorded here id) (is_visible_record (own_rights here)) (records T) (λ r h. is_in_visible here r (first _ _ h)) ∙ by_found o found
-  where
-    narrow : (x : Record) → is_recorded here id x ≡ true → is_of_id id x ≡ true
-    narrow x h = second _ _ h
-
-    by_place : (r : Record) (b : Bool) → is_in here r ≡ b → find (is_of_id id) (records T) ≡ Some r → find (is_recorded here id) (records T) ≡ in_own here (Some r)
-    by_place r true e h = rw e (find_only_some (is_of_id id) (is_recorded here id) r (records T) narrow h (rw (e, find_passes (is_of_id id) r (records T) h) refl))
-    by_place r false e h = rw e (once_only id (is_recorded here id) r (records T) (recorded_once T id sound) h (rw e refl) narrow)
-
-    by_found : (x : Option Record) → find (is_of_id id) (records T) ≡ x → find (is_recorded here id) (records T) ≡ in_own here x
-    by_found None h = find_only_none (is_of_id id) (is_recorded here id) (records T) narrow h
-    by_found (Some r) h = by_place r (is_in here r) refl h
+    find_filter (is_recorded here id) (is_visible_record (own_rights here)) (records T) (placed here id) ∙ by_found here id T o sound found
 
 -- the record of the namespace, over a floor
 pub own_recorded : (here : List ℕ) (id : Id) (v : FloorShown) (T : Trace) (o : Option Record) → Stands v T → find (is_of_id id) v.ended ≡ o
     → in_own here o ≡ recorded_under here (Some id) (filter (is_visible_record (own_rights here)) (records T))
 own_recorded here id v T o stands found =
     sym (own_record here id T o stands.sound (sym (ap (λ (w : FloorShown). find (is_of_id id) w.ended) stands.is) ∙ found))
+
+-- what is shown of a record
+pub record_read : (S : Sight) (p : Parts) (c : Call) (part : Part) (o : Option Record) → granted_call S p ≡ Ok c
+    → o ≡ recorded S.tenants.home (id_of p.route) (filter (is_visible_record (own_rights S.tenants.home)) (records S.trace))
+    → shown_done (or_else o not_found >>= (λ (r : Record). Ok (part_value part r))) ≡ shown_done (read_value (view_of S) (Activation part) p c)
+record_read S p c part o granted is = ap (λ (x : Option Record). shown_done (or_else x not_found >>= (λ (r : Record). Ok (part_value part r))))
+    (is ∙ ap (λ (n : List ℕ). recorded n (id_of p.route) (filter (is_visible_record (own_rights S.tenants.home)) (records S.trace))) (sym (granted_home S p c granted)))

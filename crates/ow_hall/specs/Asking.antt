@@ -1,5 +1,5 @@
 -- What a request is answered: its first refusal, in the order of their places, or what it reads and changes.
-use Rattle.std.specs.Prelude.{ℕ, Bool, true, false, not, [], ◌∷◌, Option, Some, None, Result, Ok, Err, if◌then◌else◌}
+use Rattle.std.specs.Prelude.{◌≡◌, ℕ, Bool, true, false, not, [], ◌∷◌, Option, Some, None, Result, Ok, Err, if◌then◌else◌}
 use Rattle.ow_value.specs.Value.{V}
 use Rattle.ow_names.specs.declared.full.FullName.{FullName}
 use Rattle.ow_entity.specs.Finish.{finished_row}
@@ -39,10 +39,10 @@ use Rattle.ow_hall.specs.declared.waits.Shows.{Shows}
 use Rattle.ow_hall.specs.declared.waits.Waits.TheVariants.{Keep}
 use Rattle.ow_hall.specs.Tenants.{is_granted}
 use Rattle.ow_hall.specs.Reasons.{no_route, not_found, not_granted, table_reason, tells_full}
-use Rattle.ow_hall.specs.Sight.{Sight, or_else, room_for, unless}
+use Rattle.ow_hall.specs.Sight.{Sight, is_full, or_else, room_for, unless}
 use Rattle.ow_hall.specs.Decision.{Decision, tells}
 use Rattle.ow_hall.specs.View.{view_of}
-use Rattle.ow_hall.specs.Reading.{good, name_in, namespace_of, or_call_reason, read_done}
+use Rattle.ow_hall.specs.Reading.{good, name_in, namespace_of, or_call_reason, read_answer, read_done}
 use Rattle.ow_hall.specs.Calling.{invocation_plan}
 use Rattle.ow_hall.specs.Waiting.{invoked_reply, shows_of, waits_of}
 
@@ -50,6 +50,7 @@ use Rattle.ow_hall.specs.Waiting.{invoked_reply, shows_of, waits_of}
 abbrev pub reading_in : CallKind → Option Reading
 reading_in (ListEntities kinds.Action) = Some (Rows kinds.Action)
 reading_in (GetEntity kinds.Action) = Some (OneRow kinds.Action)
+reading_in ListActivations = Some Activations
 reading_in (GetActivation part) = Some (Activation part)
 reading_in kind = None
 
@@ -191,3 +192,8 @@ ask_decision at (Ok (Invoked plan shows)) = record {
   waits = waits_of plan.id shows plan.until;
 }
 ask_decision at (Err reason) = tells (refusal_told reason)
+
+-- a read that the book has room for is answered of what whoever asks may see
+abbrev pub IsOfView : Sight → Type 0
+IsOfView S = (reading : Reading) (p : Parts) → act_of p.route p.method ≡ Some (Reads reading) → is_full S.counted p.size ≡ false
+    → (ask_decision S.moment (request_done S p)).told ≡ at_once (read_answer (view_of S) reading p)

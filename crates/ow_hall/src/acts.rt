@@ -69,6 +69,7 @@ fn reading_in(kind: CallKind) -> Option<Reading>
     match kind {
         CallKind::ListEntities(EntityKind::Action) => Some(Reading::Rows(EntityKind::Action)),
         CallKind::GetEntity(EntityKind::Action) => Some(Reading::Row(EntityKind::Action)),
+        CallKind::ListActivations => Some(Reading::Activations),
         CallKind::GetActivation(part) => Some(Reading::Activation(part)),
         _ => None,
     }

@@ -57,10 +57,14 @@ fn told(
 fn shows_for(waits: &[Wait], id: Id) -> Shows
     ensures { result ≡ shows_for waits.now id }
 {
-    match waits.iter().rev().find(|w| w.id == id) {
-        Some(wait) => wait.shows,
-        None => Shows::Whole,
+    let mut rest = waits;
+    while let [before @ .., wait] = rest {
+        if wait.id == id {
+            return wait.shows;
+        }
+        rest = before;
     }
+    Shows::Whole
 }
 
 // What is answered to one who waited for this record.

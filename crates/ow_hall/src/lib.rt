@@ -28,6 +28,6 @@ pub use book::{Book, GREATEST_MOMENT};
 pub use entries::Entries;
 pub use entry::{Entry, Event, Told};
 pub use hall::Hall;
-pub use laws::legal_books_keep_activations;
+pub use laws::{legal_books_keep_activations, reads_are_answered_of_the_view};
 pub use replies::{Called, HallCollected, Reply};
 pub use tenants::{Namespace, Tenants};

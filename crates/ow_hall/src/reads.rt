@@ -65,7 +65,7 @@ fn shown(
     match reading {
         Reading::Rows(kind) => listed(alloc, tenants, tables, kind, request, call),
         Reading::Row(kind) => row_shown(alloc, tenants, tables, kind, request, call),
-        Reading::Activations => Ok(Done::Refused(Reason::Service(ServiceRefusal::NotFound))),
+        Reading::Activations => records_listed(alloc, tenants, floor, request, call),
         Reading::Activation(part) => record_shown(alloc, tenants, floor, part, request, call),
     }
 }
@@ -134,6 +134,23 @@ fn has_name(row: &Row, kind: EntityKind, name: &FullName)
     ensures { name_of row.now ≡ name.now }
 {
     row.name().compare(name);
+}
+
+fn records_listed(
+    alloc: Global,
+    tenants: &Tenants,
+    floor: &Floor,
+    request: &Request,
+    call: &Call,
+) -> Result<Done, NoMemory>
+    requires { (S : Sight) → S.tenants ≡ tenants.now → granted_call S (parts_of request.now) ≡ Ok call.now }
+    ensures done { IfOk result (λ d. (S : Sight) → S.tenants ≡ tenants.now → Stands floor.now.now S.trace
+        → done_of d ≡ shown_done (read_value (view_of S) Reading.Activations (parts_of request.now) call.now)) }
+    ensures change { IfOk result (λ d. change_of d ≡ None) }
+{
+    let records = floor.records();
+    let listed = records.list(alloc, &tenants.home, call.skip, call.limit)?;
+    Ok(Done::Shown(Val::List(listed)))
 }
 
 fn record_shown(
