@@ -1,5 +1,5 @@
 -- What is done at a request.
-use Rattle.std.proofs.Common.{◌≡◌, ◌++◌, ℕ, Bool, true, false, if◌then◌else◌, Result, Ok, Err, IsSome, refl, sym, subst}
+use Rattle.std.proofs.Common.{◌≡◌, ◌++◌, ℕ, [], Bool, true, false, if◌then◌else◌, Result, Ok, Err, IsSome, refl, sym, subst}
 use Rattle.ow_floor.specs.View.{Shown as FloorShown}
 use Rattle.ow_floor.specs.Trace.{Trace}
 use Rattle.ow_floor.specs.Laws.{Grows, Stands}
@@ -11,7 +11,9 @@ use Rattle.ow_hall.specs.declared.step.Step.{Step}
 use Rattle.ow_hall.specs.Asking.{Done, Shown, Changed, Invoked, ask_decision, at_once}
 use Rattle.ow_hall.specs.Comes.{reply_in}
 use Rattle.ow_hall.specs.Reasons.{tells_full}
-use Rattle.ow_hall.specs.State.{Carries}
+use Rattle.ow_hall.specs.State.{Carries, done_of}
+use Rattle.ow_hall.specs.declared.done.Done.{Done as CodeDone}
+use Rattle.ow_hall.specs.declared.done.Done.TheVariants as codes
 
 -- what is done at a request, where what comes of it is what is decided
 pub ask_makes : (old new : FloorShown) (T : Trace) (s : Step) (at moment : ℕ) (d e : Result Done Reason) → Stands old T
@@ -32,3 +34,12 @@ ask_replies at (Ok (Shown value)) = refl
 ask_replies at (Ok (Changed change)) = refl
 ask_replies at (Ok (Invoked plan shows)) = refl
 ask_replies at (Err reason) = replies_if (tells_full reason) (refusal_of reason)
+
+done_items : (at : ℕ) (d : CodeDone) → (ask_decision at (done_of d)).items ≡ []
+done_items at (codes.Refused reason) = refl
+done_items at (codes.Shown value) = refl
+done_items at (codes.Changed ready) = refl
+
+-- nothing is added on the floor but where an activation is accepted
+pub done_grows : (v : FloorShown) (at : ℕ) (d : CodeDone) → Grows v v (λ T. (ask_decision at (done_of d)).items)
+done_grows v at d = λ T stands. subst (λ (items : Trace). Stands v (items ++ T)) (sym (done_items at d)) stands

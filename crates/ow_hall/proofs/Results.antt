@@ -1,10 +1,6 @@
 -- What follows of a result.
-use Rattle.std.proofs.Common.{IfOk, OnOk, Result, Ok, Err}
+use Rattle.std.proofs.Common.{IfOk, Result, Ok, Err}
 
 pub if_ok_map : {T E : Type 0} (r : Result T E) (P Q : T → Type 0) → ((x : T) → P x → Q x) → IfOk r P → IfOk r Q
 if_ok_map (Ok x) P Q f p = f x p
 if_ok_map (Err e) P Q f p = p
-
-pub if_ok_both : {T E : Type 0} (r : Result T E) (P Q : T → Type 0) {X : Type 0} → ((x : T) → P x → X → Q x) → IfOk r P → OnOk r X → IfOk r Q
-if_ok_both (Ok x) P Q f p x' = f x p x'
-if_ok_both (Err e) P Q f p x' = p

@@ -1,8 +1,10 @@
 -- What reads are answered.
-use Rattle.std.proofs.Common.{◌≡◌, ◌∙◌, ℕ, Bool, true, false, Option, Some, None, Result, Ok, Err, IfErr, refl, ap}
+use Rattle.std.proofs.Common.{◌≡◌, ◌∙◌, ℕ, Bool, true, false, not, Option, Some, None, Result, Ok, Err, IfErr, refl, ap}
 use Rattle.ow_value.specs.Value.{V}
 use Rattle.ow_names.specs.declared.full.FullName.{FullName}
+use Rattle.ow_entity.specs.Written.{row_value}
 use Rattle.ow_entity.specs.declared.rows.Row.{Row}
+use Rattle.ow_tables.specs.Rows.{found}
 use Rattle.ow_records.specs.declared.record.Record.{Record}
 use Rattle.ow_http.specs.CallOf.{call_of}
 use Rattle.ow_http.specs.Parts.{Parts}
@@ -10,15 +12,16 @@ use Rattle.ow_http.specs.Steps.{◌>>=◌}
 use Rattle.ow_http.specs.declared.call.Call.{Call}
 use Rattle.ow_http.specs.declared.call_refusal.CallRefusal.{CallRefusal}
 use Rattle.ow_http.specs.declared.reason.Reason.{Reason}
+use Rattle.ow_http.specs.declared.route.Part.{Part}
 use Rattle.ow_hall.specs.declared.acts.Act.{Act}
 use Rattle.ow_hall.specs.declared.acts.Act.TheVariants.{Reads}
 use Rattle.ow_hall.specs.declared.acts.Reading.{Reading}
 use Rattle.ow_hall.specs.declared.acts.Reading.TheVariants.{Rows, Row as OneRow, Activations, Activation}
 use Rattle.ow_hall.specs.Asking.{act_done, act_of, ask_decision, at_once, request_done, shown_done}
-use Rattle.ow_hall.specs.Reading.{answer_of, name_in, or_call_reason, read_answer, read_call, read_done, read_grant, read_value}
+use Rattle.ow_hall.specs.Reading.{answer_of, id_of, name_in, or_call_reason, part_value, read_answer, read_call, read_done, read_grant, read_namespace, read_value, recorded}
 use Rattle.ow_hall.specs.Reasons.{book_full, no_route, not_found, not_granted, tells_full}
 use Rattle.ow_hall.specs.Sight.{Sight, is_full, or_else, room_for, unless}
-use Rattle.ow_hall.specs.View.{View, view_of}
+use Rattle.ow_hall.specs.View.{View, may_read, view_of}
 
 -- it isn't that the book is full
 abbrev IsOther : Reason → Type 0
@@ -40,14 +43,28 @@ call_other : (r : Result Call CallRefusal) → IfErr (or_call_reason r) IsOther
 call_other (Ok call) = tt
 call_other (Err e) = refl
 
+abbrev shown : V → Result V Reason
+shown v = Ok v
+
+row_other : (o : Option Row) → IfErr (or_else o not_found >>= (λ (r : Row). shown (row_value r))) IsOther
+row_other None = refl
+row_other (Some r) = tt
+
+record_other : (part : Part) (o : Option Record) → IfErr (or_else o not_found >>= (λ (r : Record). shown (part_value part r))) IsOther
+record_other part None = refl
+record_other part (Some r) = tt
+
 value_other : (W : View) (reading : Reading) (p : Parts) (c : Call) → IfErr (read_value W reading p c) IsOther
 value_other W (Rows kind) p c = tt
-value_other W (OneRow kind) p c = then_other (name_in c) _ (or_other c.name no_route refl) (λ name. then_other (or_else _ not_found) _ (or_other _ not_found refl) (λ row. tt))
+value_other W (OneRow kind) p c = then_other (name_in c) (λ (name : FullName). or_else (found kind name W.rows) not_found >>= (λ (r : Row). shown (row_value r)))
+    (or_other c.name no_route refl) (λ name. row_other (found kind name W.rows))
 value_other W Activations p c = tt
-value_other W (Activation part) p c = then_other (or_else _ not_found) _ (or_other _ not_found refl) (λ r. tt)
+value_other W (Activation part) p c = record_other part (recorded (read_namespace W p) (id_of p.route) W.records)
 
 done_other : (W : View) (reading : Reading) (p : Parts) → IfErr (read_done W reading p) IsOther
-done_other W reading p = then_other (read_call W p) _ (then_other (read_grant W p) _ (unless_other _ not_granted refl) (λ grant. call_other (call_of W.home p))) (value_other W reading p)
+done_other W reading p = then_other (read_call W p) (read_value W reading p)
+    (then_other (read_grant W p) (λ (u : Unit {0}). or_call_reason (call_of W.home p)) (unless_other (not (may_read W.rights (read_namespace W p))) not_granted refl) (λ grant. call_other (call_of W.home p)))
+    (value_other W reading p)
 
 told_so : (at : ℕ) (r : Result V Reason) → IfErr r IsOther → (ask_decision at (shown_done r)).told ≡ at_once (answer_of r)
 told_so at (Ok value) other = refl

@@ -52,6 +52,7 @@ const ROWS: &str = r#"0|PUT /api/v1/namespaces/_/actions/hello|HELLO|200 OK|
 "#;
 
 // A row of the table, by its parts.
+#[derive(Clone, Copy)]
 struct Row<'a> {
     at: u64,
     call: &'a str,
