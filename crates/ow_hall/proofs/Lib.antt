@@ -7,3 +7,4 @@ mod RecordLaws
 mod Results
 mod RoomLaws
 mod ViewLaws
+mod WaitLaws

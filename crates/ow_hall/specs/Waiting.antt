@@ -1,11 +1,12 @@
 -- Who waits for the end of an activation, and what is answered of it.
-use Rattle.std.specs.Prelude.{◌==◌, ℕ, List, [], codes, find, reverse, Bool, true, false, if◌then◌else◌, Option, Some, None}
+use Rattle.std.specs.Prelude.{◌==◌, ℕ, List, [], ◌∷◌, codes, Bool, true, false, if◌then◌else◌, Option, Some, None}
 use Rattle.ow_value.specs.Value.{V, object, member, members_of, no_members, text}
 use Rattle.ow_value.specs.Text.{compact}
 use Rattle.ow_records.specs.Id.{id_text, same_id}
 use Rattle.ow_records.specs.Written.{record_value}
 use Rattle.ow_records.specs.declared.ids.Id.{Id}
 use Rattle.ow_records.specs.declared.record.Record.{Record}
+use Rattle.ow_floor.specs.View.{newest}
 use Rattle.ow_floor.specs.Collecting.{Collection, Unknown, Recorded, NotYet, Elapsed}
 use Rattle.ow_http.specs.declared.answer.Answer.{Answer}
 use Rattle.ow_hall.specs.declared.replies.HallCollected.{HallCollected}
@@ -55,16 +56,17 @@ ended_status code = if code == 0 then 200 else 502
 abbrev pub ended_answer : Shows → Record → Answer
 ended_answer shows r = record { status = ended_status r.response.code; headers = []; body = compact (shown_value shows r) }
 
-abbrev pub is_for : Id → Wait → Bool
-is_for id w = same_id w.id id
-
-abbrev pub shows_in : Option Wait → Shows
-shows_in None = Whole
-shows_in (Some w) = w.shows
-
 -- what is shown to the one who waits for it, the newest where there are several
+abbrev pub wait_shows : Id → List Wait → Option Shows
+wait_shows id [] = None
+wait_shows id (w ∷ ws) = newest (wait_shows id ws) (if same_id w.id id then Some w.shows else None)
+
+abbrev pub or_whole : Option Shows → Shows
+or_whole None = Whole
+or_whole (Some shows) = shows
+
 abbrev pub shows_for : List Wait → Id → Shows
-shows_for ws id = shows_in (find (is_for id) (reverse ws))
+shows_for ws id = or_whole (wait_shows id ws)
 
 -- what is told of an activation that is collected: no blocking request accepted it, its end, that it isn't there yet, or that it
 -- was accepted, once nobody waits any more

@@ -5,7 +5,7 @@ ghost use Rattle.ow_value.specs.View.{view};
 ghost use Rattle.ow_floor.specs.Collecting.{collection_of};
 ghost use Rattle.ow_hall.specs.Decisions.{decide};
 ghost use Rattle.ow_hall.specs.State.{MakesFor};
-ghost use Rattle.ow_hall.specs.Waiting.{collected_told, ended_answer, ended_status, shown_value, shows_for};
+ghost use Rattle.ow_hall.specs.Waiting.{collected_told, ended_answer, ended_status, shown_value, shows_for, wait_shows};
 ghost use Rattle.ow_hall.specs.declared.tenants.Tenants.{Tenants};
 ghost use Rattle.ow_hall.specs.declared.entry.Event.TheVariants as events;
 
@@ -53,18 +53,26 @@ fn told(
     }
 }
 
-// What is shown to the one who waits for it, the newest where there are several.
+// What is shown to the one who waits for it, or else the record.
 fn shows_for(waits: &[Wait], id: Id) -> Shows
     ensures { result ≡ shows_for waits.now id }
 {
-    let mut rest = waits;
-    while let [before @ .., wait] = rest {
-        if wait.id == id {
-            return wait.shows;
-        }
-        rest = before;
+    match wait_shows(waits, id) {
+        Some(shows) => shows,
+        None => Shows::Whole,
     }
-    Shows::Whole
+}
+
+// By the newest of its id.
+fn wait_shows(waits: &[Wait], id: Id) -> Option<Shows>
+    ensures { result ≡ wait_shows id waits.now }
+{
+    for i in (0..waits.len()).rev() {
+        if waits[i].id == id {
+            return Some(waits[i].shows);
+        }
+    }
+    None
 }
 
 // What is answered to one who waited for this record.
