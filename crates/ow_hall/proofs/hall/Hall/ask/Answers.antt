@@ -5,4 +5,4 @@ use Rattle.ow_hall.proofs.AskLaws.{ask_replies}
 use Rattle.ow_hall.proofs.hall.Hall.ask.Goals as goal
 
 pub reply_in-requires : goal.reply_in-requires
-reply_in-requires g c = subst (λ (t : Told). IsSome (reply_in t)) (sym c.in-Ok.ensures.comes.0) (ask_replies _)
+reply_in-requires g c = subst (λ (t : Told). IsSome (reply_in t)) (sym c.in-Ok.ensures.comes.0) (ask_replies _ _)
