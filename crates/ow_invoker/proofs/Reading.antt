@@ -1,8 +1,8 @@
 -- Reading cases, one after another.
-use Rattle.std.proofs.Common.{◌≡◌, ◌++◌, List, [], ◌∷◌, length, map, Option, None, Some, option_map, option_and_then, refl, ap, ◌∙◌}
-use Rattle.ow_value.specs.Value.{V, Pairs, object, members_of}
+use Rattle.std.proofs.Common.{◌≡◌, length, ap}
+use Rattle.ow_value.specs.Value.{Pairs, object, members_of}
 use Rattle.ow_value.specs.Field.{pairs_in, pairs_in-members_of}
-use Rattle.ow_entity.specs.PlainCode.{Case, name_count}
+use Rattle.ow_entity.specs.PlainCode.{name_count}
 
 pub name_count_of_object : (ps : Pairs) → name_count (object (members_of ps)) ≡ length ps
 name_count_of_object ps = ap length (pairs_in-members_of ps)

@@ -1,5 +1,6 @@
 -- What a runner's earlier and later calls keep of a reply.
-use Rattle.std.proofs.Common.{◌≡◌, ◌≤◌, ◌<◌, ℕ, List, Result, Ok, Err, IfOk, arith}
+use Rattle.std.proofs.Common.{◌≤◌, ℕ, List, Result, Ok, Err, IfOk, ⊎_elim, arith}
+use Rattle.std.proofs.lemmas.Bool.{cases_lt}
 use Rattle.ow_value.specs.Value.{Pairs}
 use Rattle.ow_value.specs.declared.memory.NoMemory.{NoMemory as Want}
 use Rattle.ow_traits.specs.Runner.{Giving, RefusesStart, Replies, Steady}
@@ -16,7 +17,7 @@ steady_trans s t = record {
 }
 
 rose_within : (a b c d : ℕ) → a ≤ b → b ≤ c → c ≤ d → Rose b c → Rose a d
-rose_within a b c d x y z h lt = omega (arith, h)
+rose_within a b c d x y z h lt = ⊎_elim (λ u. let v = h u in omega arith) (λ u. omega arith) (cases_lt b 18446744073709551615)
 
 -- a reply of one call is one of all the calls around it
 pub replied_within : {f g h : Giving} {a b c d : ℕ} (kind : Kind) (code : List ℕ) (params : Pairs) (reply : RunReply)
@@ -32,9 +33,9 @@ replied_if kind code params (Ok reply) s t le x = replied_within kind code param
 replied_if kind code params (Err e) s t le x = tt
 
 -- a reply in place of a start is one to each code
-pub down_replied : {f : Giving} {a b : ℕ} (kind : Kind) (code : List ℕ) (params : Pairs) (reply : RunReply)
+pub down_replied : (f : Giving) (a b : ℕ) (kind : Kind) (code : List ℕ) (params : Pairs) (reply : RunReply)
     → RefusesStart f a b kind reply → Replies f a b kind code params reply
-down_replied kind code params (NoStart text) x = x code params
-down_replied kind code params Fault x = x
-down_replied kind code params (Answer text logs) x = absurd x
-down_replied kind code params (Exit status logs) x = absurd x
+down_replied f a b kind code params (NoStart text) x = x code params
+down_replied f a b kind code params Fault x = x
+down_replied f a b kind code params (Answer text logs) x = absurd x
+down_replied f a b kind code params (Exit status logs) x = absurd x

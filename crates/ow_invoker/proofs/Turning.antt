@@ -1,5 +1,5 @@
 -- Chains of calls, put together.
-use Rattle.std.proofs.Common.{◌≡◌, ◌++◌, ◌⊎◌, ℕ, List, [], ◌∷◌, Ok, Err, refl, sym, ap, inl, inr, ⊎_elim, append-nil, subst, Result, ◌∙◌}
+use Rattle.std.proofs.Common.{◌≡◌, ℕ, List, [], ◌∷◌, Ok, Err, refl, sym, ap, inl, inr, ⊎_elim, append-nil, subst, Result, ◌∙◌}
 use Rattle.ow_traits.specs.Runner.{Giving, Replies}
 use Rattle.ow_traits.specs.declared.replies.RunReply.{RunReply}
 use Rattle.ow_value.specs.declared.memory.NoMemory.{NoMemory as Want}

@@ -1,5 +1,5 @@
 -- The text of a value is UTF-8.
-use Rattle.std.proofs.Common.{ℕ, suc, ℤ, pos, negsuc, ◌∷◌, [], Bool, true, false, decimal, IsUtf8, refl, arith}
+use Rattle.std.proofs.Common.{suc, ℤ, pos, negsuc, ◌∷◌, [], Bool, true, false, decimal, IsUtf8, refl, arith}
 use Rattle.std.proofs.lemmas.Fmt.{IsAscii-decimal}
 use Rattle.std.proofs.lemmas.Str.{IsUtf8-append, IsUtf8-nil, IsUtf8-from_ascii}
 use Rattle.json.proofs.Printed.Utf8.{IsUtf8-are_ascii, IsUtf8-boolean, IsUtf8-quoted}

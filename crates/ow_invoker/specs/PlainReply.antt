@@ -1,5 +1,5 @@
 -- The plain reply: what code of cases answers to parameters.
-use Rattle.std.specs.Prelude.{◌==◌, ◌&&◌, ℕ, List, [], ◌∷◌, Bool, true, false, length, codes, if◌then◌else◌, Option, Some, None}
+use Rattle.std.specs.Prelude.{◌==◌, ◌&&◌, ℕ, List, [], ◌∷◌, Bool, true, length, codes, if◌then◌else◌, Option, Some, None}
 use Rattle.std.specs.Option.{unwrap_or}
 use Rattle.ow_value.specs.Value.{V, Pairs, null, boolean, whole, text, list, object, Items, no_items, item, Members, no_members, member, members_of}
 use Rattle.ow_value.specs.Field.{pairs_in}

@@ -1,4 +1,4 @@
-use Rattle.std.proofs.Common.{◌≡◌, ◌≤◌, ◌+◌, List, Option, Some, None, option_map, map, take, arith, ap, sym, subst, ◌∙◌}
+use Rattle.std.proofs.Common.{◌≡◌, ◌≤◌, List, Option, Some, None, option_map, map, take, arith, ap, sym, subst, ◌∙◌}
 use Rattle.ow_value.specs.Value.{V, Pairs, object, depth, items_depth, members_depth, items_of, members_of, AreParams}
 use Rattle.ow_value.specs.Find.{with_pair}
 use Rattle.ow_value.specs.View.{view, views, pair_views}
