@@ -334,12 +334,13 @@ fn package_in<'a>(tables: &'a Tables, name: &FullName) -> Result<&'a Package, Fa
     }
 }
 
-// Whether the package shows these actions.
+// Whether the package shows these actions, now and once it is put as it stands.
 fn shows(alloc: Global, tables: &Tables, path: &str, expected: &str) -> Result<bool, Fail> {
     let name = name_of(alloc, path)?;
     let bundle = package_in(tables, &name)?;
     let shown = boxed(alloc, tables.actions_of(alloc, bundle).map(Val::List))?;
-    is_written(alloc, &shown, expected)
+    let once_put = boxed(alloc, tables.actions_once_put(alloc, bundle).map(Val::List))?;
+    Ok(is_written(alloc, &shown, expected)? && is_written(alloc, &once_put, expected)?)
 }
 
 const SHOWN: &str = "[{'annotations':[],'name':'a','version':'0.0.1'}]";
