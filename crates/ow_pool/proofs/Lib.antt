@@ -1,0 +1,6 @@
+pub mod Putting
+pub mod Room
+pub mod Removals
+pub mod Sums
+pub mod EventLaws
+pub mod OrderLaws

@@ -1,0 +1,4 @@
+pub mod Candidates
+pub mod Four
+pub mod Rules
+pub mod Keeping

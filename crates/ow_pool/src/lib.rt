@@ -1,0 +1,14 @@
+#![tactic(auto)]
+
+//! Where the next run goes: to a warm, a prewarmed or a new container, or which containers are removed to make room.
+mod answers;
+mod candidates;
+mod four;
+mod laws;
+mod removal;
+mod rules;
+
+pub use answers::{Head, Place, Unplaced};
+pub use laws::events_keep_the_pool;
+pub use removal::Removal;
+pub use rules::place;
