@@ -1,5 +1,5 @@
 -- No event raises the memory held.
-use Rattle.std.proofs.Common.{◌≡◌, ◌≤◌, ◌&&◌, ℕ, Bool, true, false, cond, List, arith}
+use Rattle.std.proofs.Common.{◌≡◌, ◌≤◌, ◌&&◌, ℕ, Bool, true, false, cond, List, refl, arith}
 use Rattle.std.specs.Prelude.{is_none}
 use Rattle.ow_slots.specs.declared.keys.Key.{Key}
 use Rattle.ow_slots.specs.declared.states.State.{State}
@@ -7,7 +7,7 @@ use Rattle.ow_slots.specs.declared.states.State.TheVariants.{Vacant, Opening, Pr
 use Rattle.ow_slots.specs.declared.states.Slot.{Slot}
 use Rattle.ow_slots.specs.Slots.{change, change_first, has}
 use Rattle.ow_slots.specs.State.{IsMemory, IsSized, after_gone, answered_state, awaits, begun_state, goes, gone_state, holds, lost_state, overrun_state, removed_state, runs, state_memory, with_state}
-use Rattle.ow_pool.specs.Keeping.{EventsKeep, Keeps}
+use Rattle.ow_pool.specs.Keeping.{EventsKeep}
 use Rattle.ow_pool.specs.Rules.{IsWithinPool}
 use Rattle.ow_pool.proofs.Sums.{Sized, all_change, all_first, less_change, less_first, size}
 
@@ -16,7 +16,7 @@ record Lessens (f : State → State) : Type 0 where
   less : (s : State) → state_memory (f s) ≤ state_memory s
   sized : (s : State) → IsSized s → IsSized (f s)
 
-first_keeps : (p : State → Bool) (f : State → State) → Lessens f → Keeps (change_first (has p) (with_state f))
+first_keeps : (p : State → Bool) (f : State → State) → Lessens f → (slots : List Slot) (pool : ℕ) → IsWithinPool slots pool → IsWithinPool (change_first (has p) (with_state f) slots) pool
 first_keeps p f lessens slots pool keeps =
     let le = less_first (has p) (with_state f) slots (λ s e. lessens.less s.state) in
     let before = keeps.within in
@@ -169,7 +169,7 @@ gone_sized_at generation s h = at (goes generation s)
     at true = gone_lessens.sized s.state h
     at false = h
 
-gone_keeps : (slot generation : ℕ) → Keeps (change slot (after_gone generation))
+gone_keeps : (slot generation : ℕ) (slots : List Slot) (pool : ℕ) → IsWithinPool slots pool → IsWithinPool (change slot (after_gone generation) slots) pool
 gone_keeps slot generation slots pool keeps =
     let le = less_change slot (after_gone generation) slots (gone_at generation) in
     let before = keeps.within in

@@ -4,3 +4,5 @@ pub mod Removals
 pub mod Sums
 pub mod EventLaws
 pub mod OrderLaws
+pub mod WithinLaws
+pub mod CandidateLaws

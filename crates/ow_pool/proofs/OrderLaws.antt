@@ -11,6 +11,7 @@ use Rattle.ow_traits.specs.declared.replies.Kind.TheVariants as kinds
 use Rattle.ow_slots.specs.declared.keys.Key.{Key}
 use Rattle.ow_slots.specs.declared.keys.Start.{Start}
 use Rattle.ow_slots.specs.declared.keys.Start.TheVariants as starts
+use Rattle.ow_slots.specs.declared.states.TheConstants.{GREATEST_GENERATION}
 use Rattle.ow_slots.specs.declared.states.State.{State}
 use Rattle.ow_slots.specs.declared.states.State.TheVariants.{Vacant, Opening, Prewarmed, Busy, Idle, Closing}
 use Rattle.ow_slots.specs.declared.states.Slot.{Slot}
@@ -97,7 +98,7 @@ ready_size key (Closing m) fits = absurd fits
 
 open_fits : (s : Slot) → can_open s ≡ true → IsVacant s
 open_fits s e =
-    let h = both_of _ _ e in
+    let h = both_of (is_vacant s.state) (nat_lt s.generation GREATEST_GENERATION) e in
     (h.0, let small = h.1 in grind (arith, nat_tests))
 
 run_keeps : (start : Start) (slots : List Slot) (head : Head) (pool n : ℕ) (s : Slot) → IsWithinPool slots pool → IsMemory head.key.memory → slice_get slots n ≡ Some s
@@ -156,7 +157,7 @@ remove_one n slots = at (slice_get slots n) refl
   where
     at : (found : Option Slot) → slice_get slots n ≡ found → memory_held (change n (with_state removed_state) slots) ≡ memory_held slots
     at None e = ap memory_held (none_changed n (with_state removed_state) slots e)
-    at (Some s) e = let sum = held_change n (with_state removed_state) slots s e in let same = removed_size s.state in omega (arith, sum, same)
+    at (Some s) e = let sum = held_change n (with_state removed_state) slots s e in let same : size (with_state removed_state s) ≡ size s = removed_size s.state in omega (arith, sum, same)
 
 removed_keeps : (ns : List ℕ) (slots : List Slot) (pool : ℕ) → IsWithinPool slots pool → IsWithinPool (removed ns slots) pool
 removed_keeps [] slots pool keeps = keeps
@@ -304,7 +305,7 @@ wanted_fits slots pool w (x ∷ wants) sized e = at (is_wanted slots pool x) ref
         → (find (is_wanted slots pool) wants ≡ Some w → Wanted slots pool w) → Wanted slots pool w
     at true t found rest =
         let same : x ≡ w = cc in
-        let here : Wanted slots pool x = record { room = le_of (memory_held slots + x.memory) pool (both_of _ _ t).1; sized = sized.0 } in
+        let here : Wanted slots pool x = record { room = le_of (memory_held slots + x.memory) pool (both_of _ (nat_le (memory_held slots + x.memory) pool) t).1; sized = sized.0 } in
         subst (λ (y : Prewarm). Wanted slots pool y) same here
     at false t found rest = rest found
 

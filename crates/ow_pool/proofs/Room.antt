@@ -17,7 +17,7 @@ apart_of a b lt = grind (arith, nat_tests)
 apart_up : (a b : ℕ) → a < b → (a == b) ≡ false
 apart_up a b lt = grind (arith, nat_tests)
 
-self_same : (a : ℕ) → (a == a) ≡ true
+pub self_same : (a : ℕ) → (a == a) ≡ true
 self_same a = grind (arith, nat_tests)
 
 turned : (a b : ℕ) → (a == b) ≡ false → (b == a) ≡ false
@@ -109,7 +109,7 @@ swap_or true true c = refl
 swap_or true false c = refl
 swap_or false b c = refl
 
-among_put : (x : Candidate) (cs : List Candidate) (n : ℕ) → is_among (put x cs) n ≡ ((x.slot == n) || is_among cs n)
+pub among_put : (x : Candidate) (cs : List Candidate) (n : ℕ) → is_among (put x cs) n ≡ ((x.slot == n) || is_among cs n)
 unfolding put
 among_put x [] n = refl
 among_put x (y ∷ ys) n = at (is_before y x) (among_put x ys n)
@@ -133,7 +133,7 @@ distinct_put x (y ∷ ys) fresh distinct = at (is_before y x) (distinct_put x ys
         (rw (among_put x ys y.slot, apart) distinct.0, rest)
     at false rest = (fresh, distinct)
 
-unmet : (n : ℕ) (slots : List Slot) (cs : List Candidate) → AllByRecursion (Facts (suc n) slots) cs → is_among cs n ≡ false
+pub unmet : (n : ℕ) (slots : List Slot) (cs : List Candidate) → AllByRecursion (Facts (suc n) slots) cs → is_among cs n ≡ false
 unmet n slots [] all = refl
 unmet n slots (c ∷ cs) all =
     let apart : (c.slot == n) ≡ false = let le = all.0.0 in apart_of n c.slot (omega arith) in

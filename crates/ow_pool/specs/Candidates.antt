@@ -1,6 +1,7 @@
 -- Which slots can be removed, in which order, and when they make room.
-use Rattle.std.specs.Prelude.{◌==◌, ◌+◌, ◌&&◌, ◌||◌, ℕ, suc, Bool, true, false, List, [], ◌∷◌, ◌++◌, Option, Some, None, if◌then◌else◌, nat_lt, map}
-use Rattle.std.specs.List.{list_any}
+use Rattle.std.specs.Prelude.{◌≡◌, ◌==◌, ◌+◌, ◌&&◌, ◌||◌, ℕ, suc, Bool, true, false, List, [], ◌∷◌, ◌++◌, Option, Some, None, if◌then◌else◌, nat_lt, map}
+use Rattle.std.specs.List.{list_any, slice_get, AllByRecursion}
+use Rattle.ow_slots.specs.Slots.{IsThere}
 use Rattle.ow_slots.specs.declared.states.State.{State}
 use Rattle.ow_slots.specs.declared.states.State.TheVariants.{Prewarmed, Idle, Closing}
 use Rattle.ow_slots.specs.declared.states.Slot.{Slot}
@@ -62,3 +63,18 @@ shortest passes done (c ∷ left) = if passes (done ++ c ∷ []) then Some (done
 abbrev pub numbers_of : Option (List Candidate) → Option (List ℕ)
 numbers_of None = None
 numbers_of (Some cs) = Some (map (λ c. c.slot) cs)
+
+-- a slot is this candidate
+abbrev pub IsCandidate : ℕ → Candidate → Slot → Type 0
+IsCandidate n c s = candidate_in n s.state ≡ Some c
+
+-- each stands before all that are removed later
+abbrev pub AreInOrder : List Candidate → Type 0
+AreInOrder [] = Unit {0}
+AreInOrder (c ∷ cs) = AllByRecursion (λ d. is_before c d ≡ true) cs × AreInOrder cs
+
+-- each slot whose container can be removed, and no other, in their order
+pub record AreCandidates (slots : List Slot) (cs : List Candidate) : Type 0 where
+  pub ordered : AreInOrder cs
+  pub only : AllByRecursion (λ c. IsThere (IsCandidate c.slot c) (slice_get slots c.slot)) cs
+  pub each : (n : ℕ) (x : Candidate) → IsThere (IsCandidate n x) (slice_get slots n) → is_among cs n ≡ true

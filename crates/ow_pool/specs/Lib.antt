@@ -2,3 +2,4 @@ pub mod Candidates
 pub mod Four
 pub mod Rules
 pub mod Keeping
+pub mod Within

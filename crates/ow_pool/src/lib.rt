@@ -7,8 +7,10 @@ mod four;
 mod laws;
 mod removal;
 mod rules;
+mod within;
 
 pub use answers::{Head, Place, Unplaced};
-pub use laws::events_keep_the_pool;
+pub use laws::{candidates_are_in_order, events_keep_the_pool};
 pub use removal::Removal;
 pub use rules::place;
+pub use within::can_place;

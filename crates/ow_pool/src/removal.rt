@@ -1,5 +1,5 @@
 // One to four slots.
-ghost use Rattle.std.specs.Prelude.{◌≡◌, [], ◌∷◌};
+ghost use Rattle.std.specs.Prelude.{◌≡◌, ◌≤◌, [], ◌∷◌, length};
 
 use std::marker::Model;
 
@@ -17,13 +17,14 @@ impl Model for Removal {
 
     ghost view = { λ r. take r.len r.slots };
 
-    ghost invariant = { λ r. r.len ≤ 4 };
+    ghost invariant = { λ r. (1 ≤ r.len) × (r.len ≤ 4) };
 }
 
 impl Removal {
     /// The slots, in the order in which they are to be removed.
     pub fn as_slice(&self) -> &[u32]
-        ensures { result.now ≡ self.now }
+        ensures value { result.now ≡ self.now }
+        ensures count { (1 ≤ length result.now) × (length result.now ≤ 4) }
     {
         &self.slots[..self.len]
     }

@@ -172,7 +172,7 @@ fn vacant(slots: &[Slot]) -> Option<usize>
     slots.iter().position(|slot| slot.can_open())
 }
 
-fn held(slots: &[Slot]) -> u64
+pub(crate) fn held(slots: &[Slot]) -> u64
     requires { memory_held slots.now < 2 ^ 64 }
     ensures { result ≡ memory_held slots.now }
 {

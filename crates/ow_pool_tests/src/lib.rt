@@ -1,13 +1,9 @@
-// A library with one function.
+//! The tests of ow_slots and ow_pool, in a crate of their own, so that each of these is proved once.
 #![tactic(auto)]
 
-ghost use Rattle.std.specs.Prelude.{◌≡◌};
-ghost use Rattle.ow_pool_tests.specs.Echo.{echo_of};
-
-// The `ensures` clause is the contract: what `echo` returns is `echo_of` of its argument, a definition
-// in `specs/Echo.antt`, which a caller's clause can cite too.
-pub fn echo(x: usize) -> usize
-    ensures { result ≡ echo_of x }
-{
-    x
-}
+#[cfg(test)]
+mod events;
+#[cfg(test)]
+mod of_pool;
+#[cfg(test)]
+mod of_slots;

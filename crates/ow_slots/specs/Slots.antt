@@ -39,6 +39,10 @@ abbrev pub IsThere : (Slot → Type 0) → Option Slot → Type 0
 IsThere P None = ⊥
 IsThere P (Some s) = P s
 
+abbrev pub refusal_number : SlotRefusal → ℕ
+refusal_number (NoSlot slot generation) = 28
+refusal_number (NoRun run) = 29
+
 -- refused where no slot has such a run
 abbrev pub run_answer : {X : Type 0} → ℕ → (Slot → X) → Option Slot → Result X SlotRefusal
 run_answer run f None = Err (NoRun run)

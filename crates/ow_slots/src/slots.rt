@@ -1,5 +1,5 @@
 // All slots, and their calls.
-ghost use Rattle.std.specs.Prelude.{◌≡◌, ◌<◌, ◌^◌, length, IfOk, replicate, slice_get};
+ghost use Rattle.std.specs.Prelude.{◌≡◌, ◌<◌, ◌^◌, ◌↔◌, length, IfOk, IsTrue, replicate, slice_get};
 ghost use Rattle.std.specs.Option.{option_copied};
 ghost use Rattle.ow_slots.specs.Slots.{IsThere, change, change_first, first_with, gone_answer, has, run_answer, vacant_slot};
 ghost use Rattle.ow_slots.specs.State.{CanGo, IsUnrecorded, IsVacant, StartFits, after_gone, answered_state, assigned, awaits, begun_state, holds, lost_state, opened, overrun_state, recorded_of, removed_state, runs, with_state};
@@ -58,6 +58,36 @@ impl Slots {
         ensures { option_copied result ≡ slice_get self.now slot }
     {
         self.slots.get(slot as usize)
+    }
+
+    /// Whether a run can start so in the slot.
+    pub fn fits(&self, slot: u32, start: Start) -> bool
+        ensures { IsTrue result ↔ IsThere (StartFits start) (slice_get self.now slot) }
+    {
+        match self.get(slot) {
+            Some(found) => found.fits(start),
+            None => false,
+        }
+    }
+
+    /// Whether the container of the slot can be removed.
+    pub fn can_remove(&self, slot: u32) -> bool
+        ensures { IsTrue result ↔ IsThere CanGo (slice_get self.now slot) }
+    {
+        match self.get(slot) {
+            Some(found) => found.can_go(),
+            None => false,
+        }
+    }
+
+    /// Whether a slot is busy with the run, and its activation isn't recorded as overrun.
+    pub fn is_unrecorded(&self, run: u64) -> bool
+        ensures { IsTrue result ↔ IsThere IsUnrecorded (first_with (runs run) self.now) }
+    {
+        match running(&self.slots, run) {
+            Some(place) => self.slots[place].state.recorded().is_none(),
+            None => false,
+        }
     }
 
     /// A run starts in the slot.

@@ -1,7 +1,7 @@
 // Slots and their states, and what each event makes of one.
-ghost use Rattle.std.specs.Prelude.{◌≡◌, ◌+◌, Some, true, if◌then◌else◌};
+ghost use Rattle.std.specs.Prelude.{◌≡◌, ◌+◌, ◌↔◌, IsTrue, Some, true, if◌then◌else◌};
 ghost use Rattle.ow_slots.specs.Slots.{slot_answer};
-ghost use Rattle.ow_slots.specs.State.{IsVacant, StartFits, after_gone, answered_state, assigned, awaits, begun_state, can_open, gone_state, goes, holds, is_cold, lost_state, opened, overrun_state, recorded_of, removed_state, runs, state_memory, takes_gone, with_state};
+ghost use Rattle.ow_slots.specs.State.{CanGo, IsVacant, StartFits, after_gone, answered_state, assigned, awaits, begun_state, can_open, gone_state, goes, holds, is_cold, is_idle, is_prewarmed, lost_state, opened, overrun_state, recorded_of, removed_state, runs, state_memory, takes_gone, with_state};
 ghost use Rattle.ow_slots.specs.declared.states.State.TheVariants.{Busy, Vacant};
 
 use crate::keys::{Key, Start};
@@ -113,6 +113,18 @@ impl State {
         }
     }
 
+    fn is_idle(&self) -> bool
+        ensures { result ≡ is_idle self.now }
+    {
+        matches!(self, State::Idle { .. })
+    }
+
+    fn is_prewarmed(&self) -> bool
+        ensures { result ≡ is_prewarmed self.now }
+    {
+        matches!(self, State::Prewarmed { .. })
+    }
+
     // Whether it has this run, which may still begin.
     pub(crate) fn awaits(&self, run: u64) -> bool
         ensures { result ≡ awaits run self.now }
@@ -161,7 +173,7 @@ impl State {
     }
 
     // The moment at which its run was recorded as overrun.
-    fn recorded(&self) -> Option<u64>
+    pub(crate) fn recorded(&self) -> Option<u64>
         ensures { result ≡ recorded_of self.now }
     {
         match self {
@@ -245,6 +257,32 @@ impl Slot {
             State::Vacant => self.generation < GREATEST_GENERATION,
             _ => false,
         }
+    }
+
+    /// Whether a run can start in it so.
+    #[tactic(auto, using(crate::proofs::Offers::open_told))]
+    pub fn fits(&self, start: Start) -> bool
+        ensures { IsTrue result ↔ StartFits start self.now }
+    {
+        match start {
+            Start::Warm => self.state.is_idle(),
+            Start::Prewarmed => self.state.is_prewarmed(),
+            Start::Cold => self.is_vacant(),
+        }
+    }
+
+    /// Whether its container can be removed.
+    pub fn can_go(&self) -> bool
+        ensures { IsTrue result ↔ CanGo self.now }
+    {
+        self.state.is_idle() || self.state.is_prewarmed()
+    }
+
+    #[tactic(auto, using(crate::proofs::Offers::open_told))]
+    fn is_vacant(&self) -> bool
+        ensures { IsTrue result ↔ IsVacant self.now }
+    {
+        self.can_open()
     }
 
     // Whether its container, of this generation, can be told to be gone.
