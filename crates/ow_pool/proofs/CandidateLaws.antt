@@ -93,8 +93,9 @@ put_stands : (k : ℕ) (s : Slot) (slots : List Slot) (found : Option Candidate)
 put_stands k s slots None e own cs all = all
 put_stands k s slots (Some x) e own cs all =
     let here : x.slot ≡ k = own x refl in
-    let none : x.slot - k ≡ 0 = omega (arith, here) in
-    all_put (Stands k (s ∷ slots)) x cs (omega (arith, here), rw (none, here) e) all
+    let none : k - k ≡ 0 = omega arith in
+    let there = subst (λ (i : ℕ). IsThere (IsCandidate k x) (slice_get (s ∷ slots) i)) (sym none) e in
+    all_put (Stands k (s ∷ slots)) x cs (omega (arith, here), subst (λ (m : ℕ). IsThere (IsCandidate m x) (slice_get (s ∷ slots) (m - k))) (sym here) there) all
 
 own_number : (k : ℕ) (state : State) (x : Candidate) → candidate_in k state ≡ Some x → x.slot ≡ k
 own_number k Vacant x e = cc

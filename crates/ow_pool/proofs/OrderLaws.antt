@@ -212,7 +212,7 @@ moved (d ∷ done) c left = ap (λ xs. d ∷ xs) (moved done c left)
 shortest_begins : (passes : List Candidate → Bool) (done left : List Candidate) → IfBeginning (done ++ left) (shortest passes done left)
 shortest_begins passes done [] = tt
 shortest_begins passes done (c ∷ left) = at (passes (done ++ c ∷ []))
-  (subst (λ (all : List Candidate). IfBeginning all (shortest passes (done ++ c ∷ []) left)) (moved done c left) (shortest_begins passes (done ++ c ∷ []) left))
+    (subst (λ (all : List Candidate). IfBeginning all (shortest passes (done ++ c ∷ []) left)) (moved done c left) (shortest_begins passes (done ++ c ∷ []) left))
   where
     at : (b : Bool) → IfBeginning (done ++ c ∷ left) (shortest passes (done ++ c ∷ []) left) → IfBeginning (done ++ c ∷ left) (cond b (Some (done ++ c ∷ [])) (shortest passes (done ++ c ∷ []) left))
     at true rest = record { rest = left; joined = moved done c left }
@@ -233,13 +233,16 @@ distinct_front [] rest d = tt
 distinct_front (c ∷ front) rest d = (front_apart front rest c.slot d.0, distinct_front front rest d.1)
 
 -- one after the other
+next_apart : (m n : ℕ) → (suc m == suc n) ≡ false → (m == n) ≡ false
+next_apart m n e = grind (arith, nat_tests)
+
 get_other : (n m : ℕ) (f : Slot → Slot) (slots : List Slot) → (m == n) ≡ false → slice_get (change n f slots) m ≡ slice_get slots m
 unfolding change
 get_other n m f [] e = refl
 get_other zero zero f (s ∷ slots) e = cc
 get_other zero (suc m) f (s ∷ slots) e = refl
 get_other (suc n) zero f (s ∷ slots) e = refl
-get_other (suc n) (suc m) f (s ∷ slots) e = get_other n m f slots e
+get_other (suc n) (suc m) f (s ∷ slots) e = get_other n m f slots (next_apart m n e)
 
 abbrev GoesNow : List Slot → Candidate → Type 0
 GoesNow slots c = IsThere CanGo (slice_get slots c.slot)

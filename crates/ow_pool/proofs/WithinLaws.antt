@@ -69,9 +69,14 @@ pub held_fits : (slots : List Slot) → AllByRecursion Sized slots → length sl
 held_fits slots all few = let le = held_small slots all in omega (arith, le, few)
 
 pub within_told : (slots : List Slot) (pool : ℕ) (r : Bool) → AllByRecursion Sized slots → r ≡ nat_le (memory_held slots) pool → IsTrue r ↔ IsWithinPool slots pool
-within_told slots pool r all e =
-    (λ t. record { within = (le_told (memory_held slots) pool).0 (sym e ∙ t); sized = all },
-    λ w. e ∙ (le_told (memory_held slots) pool).1 w.within)
+within_told slots pool r all e = (
+  λ t. record { within = (le_told (memory_held slots) pool).0 (sym e ∙ t); sized = all },
+  λ w. e ∙ (le_told (memory_held slots) pool).1 w.within,
+)
 
-pub unsized_told : (slots : List Slot) (pool : ℕ) → (AllByRecursion Sized slots → ⊥) → IsTrue false ↔ IsWithinPool slots pool
-unsized_told slots pool none = (λ t. cc, λ w. absurd (none w.sized))
+not_both : (r : Bool) → r ≡ true → r ≡ false → ⊥
+not_both true t f = cc
+not_both false t f = cc
+
+pub unsized_told : (slots : List Slot) (pool : ℕ) (r : Bool) → r ≡ list_all (λ s. is_sized s.state) slots → r ≡ false → IsTrue false ↔ IsWithinPool slots pool
+unsized_told slots pool r e f = (λ t. cc, λ w. absurd (not_both r ((sized_told slots r e).1 w.sized) f))

@@ -3,7 +3,7 @@ ghost use Rattle.std.specs.Prelude.{◌≡◌, ◌<◌, ◌&&◌, ◌||◌, nat_
 ghost use Rattle.std.specs.List.{list_any};
 ghost use Rattle.std.specs.Option.{option_copied};
 ghost use Rattle.ow_slots.specs.Slots.{memory_held};
-ghost use Rattle.ow_slots.specs.State.{IsMemory, can_open};
+ghost use Rattle.ow_slots.specs.State.{IsMemory, can_open, state_memory};
 ghost use Rattle.ow_pool.specs.Candidates.{is_closing};
 ghost use Rattle.ow_pool.specs.Keeping.{IsCarriedOut};
 ghost use Rattle.ow_pool.specs.Rules.{AreWantsSized, IsHeadSized, IsWithinPool, fresh, is_kept_for, is_ready, is_used_at, is_wanted, kept_share, last_in, last_uses, place_of, placed, prewarmed, prewarming, removal, warmest};
@@ -176,10 +176,17 @@ pub(crate) fn held(slots: &[Slot]) -> u64
     requires { memory_held slots.now < 2 ^ 64 }
     ensures { result ≡ memory_held slots.now }
 {
-    slots
-        .iter()
-        .map(|slot| u64::from(slot.state.memory()))
-        .sum()
+    let mut sum = 0;
+    for i in 0..slots.len() {
+        sum += memory_of(&slots[i]);
+    }
+    sum
+}
+
+fn memory_of(slot: &Slot) -> u64
+    ensures { result ≡ state_memory slot.now.state }
+{
+    u64::from(slot.state.memory())
 }
 
 // Nothing where the closing slots make room; else the containers that make room.
@@ -233,7 +240,11 @@ fn kept(slots: &[Slot]) -> u64
     requires { sum_by kept_share slots.now < 2 ^ 64 }
     ensures { result ≡ sum_by kept_share slots.now }
 {
-    slots.iter().map(|slot| kept_share(slot)).sum()
+    let mut sum = 0;
+    for i in 0..slots.len() {
+        sum += kept_share(&slots[i]);
+    }
+    sum
 }
 
 fn kept_share(slot: &Slot) -> u64

@@ -8,13 +8,11 @@ use std::test::Fail;
 
 const NONE: &[Prewarm] = &[];
 
-const ONE: &[Prewarm] = &[
-    Prewarm {
-        kind: Kind::Plain,
-        memory: 256,
-        count: 1,
-    },
-];
+const ONE: &[Prewarm] = &[Prewarm {
+    kind: Kind::Plain,
+    memory: 256,
+    count: 1,
+}];
 
 const TWO: &[Prewarm] = &[
     Prewarm {

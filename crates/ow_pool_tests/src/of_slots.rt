@@ -119,7 +119,11 @@ fn keys_are_told_apart(rt: HostRuntime) -> Result<(), Fail> {
         ("guest", 'a', 1, 512, false),
     ] {
         let other = key_of(alloc, namespace, action, version, memory)?;
-        assert_eq!(rt; key.is_same(&other), same, "at {namespace} {version} {memory}");
+        assert_eq!(rt;
+            key.is_same(&other),
+            same,
+            "at {namespace} {version} {memory}"
+        );
     }
     Ok(())
 }

@@ -23,9 +23,10 @@ lt_told a b = (λ e. grind (arith, nat_tests), λ lt. grind (arith, nat_tests))
 -- whether a new container can be opened
 pub open_told : (s : Slot) (r : Bool) → r ≡ can_open s → IsTrue r ↔ IsVacant s
 open_told s r e =
-    let lt = lt_told s.generation GREATEST_GENERATION in
-    (λ t. let h = both (is_vacant s.state) (nat_lt s.generation GREATEST_GENERATION) (sym e ∙ t) in (h.0, lt.0 h.1),
-    λ v. e ∙ joined (is_vacant s.state) (nat_lt s.generation GREATEST_GENERATION) v.0 (lt.1 v.1))
+    let lt = lt_told s.generation GREATEST_GENERATION in (
+      λ t. let h = both (is_vacant s.state) (nat_lt s.generation GREATEST_GENERATION) (sym e ∙ t) in (h.0, lt.0 h.1),
+      λ v. e ∙ joined (is_vacant s.state) (nat_lt s.generation GREATEST_GENERATION) v.0 (lt.1 v.1),
+    )
 
 none_told : (o : Option ℕ) (r : Bool) → is_some o ≡ not r → IsTrue r ↔ (o ≡ None)
 none_told None true e = (λ t. refl, λ f. refl)
