@@ -1,5 +1,5 @@
 -- Each order of the rules can be carried out, and keeps the pool.
-use Rattle.std.proofs.Common.{◌≡◌, ◌==◌, ◌+◌, ◌-◌, ◌≤◌, ◌&&◌, ◌++◌, ℕ, zero, suc, Bool, true, false, cond, List, [], ◌∷◌, Option, Some, None, map, get_or, refl, ap, ◌∙◌, arith, subst}
+use Rattle.std.proofs.Common.{◌≡◌, ◌==◌, ◌+◌, ◌-◌, ◌≤◌, ◌&&◌, ◌++◌, ℕ, zero, suc, Bool, true, false, cond, List, [], ◌∷◌, Option, Some, None, map, get_or, refl, ap, arith, subst}
 use Rattle.std.specs.Prelude.{nat_le, nat_lt, fold, max}
 use Rattle.std.specs.List.{find, slice_get, position, AllByRecursion}
 use Rattle.std.proofs.lemmas.Bool.Decides.{nat_tests}
@@ -17,15 +17,15 @@ use Rattle.ow_slots.specs.declared.states.State.TheVariants.{Vacant, Opening, Pr
 use Rattle.ow_slots.specs.declared.states.Slot.{Slot}
 use Rattle.ow_slots.specs.Key.{kind_of, same_key, same_kind}
 use Rattle.ow_slots.specs.Slots.{IsThere, change, memory_held, vacant_slot}
-use Rattle.ow_slots.specs.State.{CanGo, IsMemory, IsSized, IsVacant, StartFits, assigned, can_open, is_idle, is_prewarmed, is_vacant, opened, removed_state, state_memory, with_state}
+use Rattle.ow_slots.specs.State.{CanGo, IsMemory, IsVacant, StartFits, assigned, can_open, is_idle, is_prewarmed, is_vacant, opened, removed_state, state_memory, with_state}
 use Rattle.ow_pool.specs.declared.answers.Head.{Head}
 use Rattle.ow_pool.specs.declared.answers.Place.{Place}
 use Rattle.ow_pool.specs.declared.answers.Place.TheVariants as places
-use Rattle.ow_pool.specs.declared.answers.Unplaced.TheVariants.{Empty, NoRoom}
+use Rattle.ow_pool.specs.declared.answers.Unplaced.TheVariants.{NoRoom}
 use Rattle.ow_pool.specs.declared.candidates.Candidate.{Candidate}
 use Rattle.ow_pool.specs.Candidates.{put_if, candidate_in, candidates_from, is_among, shortest, numbers_of}
 use Rattle.ow_pool.specs.Keeping.{CanAllGo, IsCarriedOut, IsFor, removed}
-use Rattle.ow_pool.specs.Rules.{AreWantsSized, IsHeadSized, IsWithinPool, fresh, is_ready, is_used_at, is_wanted, last_uses, makes_room, place_of, placed, prewarm_or_wait, prewarmed, prewarming, removal, remove_or_wait, run_or, warmest}
+use Rattle.ow_pool.specs.Rules.{AreWantsSized, IsHeadSized, IsWithinPool, fresh, is_ready, is_used_at, is_wanted, last_uses, makes_room, place_of, placed, prewarm_or_wait, prewarmed, removal, remove_or_wait, run_or, warmest}
 use Rattle.ow_pool.proofs.EventLaws.{removed_size, removed_sized}
 use Rattle.ow_pool.proofs.Room.{Distinct, all_put, distinct, first_false}
 use Rattle.ow_pool.proofs.Sums.{Sized, all_change, held_change, size}

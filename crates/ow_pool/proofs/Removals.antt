@@ -6,7 +6,7 @@ use Rattle.ow_slots.specs.declared.states.State.{State}
 use Rattle.ow_slots.specs.declared.states.State.TheVariants.{Vacant, Opening, Prewarmed, Busy, Idle, Closing}
 use Rattle.ow_slots.specs.declared.states.Slot.{Slot}
 use Rattle.ow_slots.specs.Slots.{memory_held}
-use Rattle.ow_slots.specs.State.{state_memory, can_open, IsSized, IsMemory}
+use Rattle.ow_slots.specs.State.{state_memory, can_open, IsSized}
 use Rattle.ow_pool.specs.declared.candidates.Candidate.{Candidate}
 use Rattle.ow_pool.specs.Candidates.{put_if, is_closing, is_among, candidate_in, candidates_from, outside, shortest, numbers_of}
 use Rattle.ow_pool.specs.Four.{freeing}

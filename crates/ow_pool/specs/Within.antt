@@ -1,5 +1,5 @@
 -- Tests of what placing relies on.
-use Rattle.std.specs.Prelude.{◌&&◌, ◌||◌, ℕ, Bool, true, nat_le}
+use Rattle.std.specs.Prelude.{◌&&◌, ℕ, Bool, true, nat_le}
 use Rattle.ow_entity.specs.declared.bounds.TheConstants.{LEAST_MEMORY, MOST_MEMORY}
 use Rattle.ow_slots.specs.declared.states.State.{State}
 use Rattle.ow_slots.specs.declared.states.State.TheVariants.{Vacant, Opening, Prewarmed, Busy, Idle, Closing}

@@ -1,5 +1,5 @@
 -- The states of a slot, and what each event makes of them.
-use Rattle.std.specs.Prelude.{◌≡◌, ◌==◌, ◌+◌, ◌<◌, ◌≤◌, ◌&&◌, ◌||◌, ℕ, Bool, true, false, not, Option, Some, None, is_none, if◌then◌else◌, nat_lt}
+use Rattle.std.specs.Prelude.{◌≡◌, ◌==◌, ◌+◌, ◌<◌, ◌&&◌, ◌||◌, ℕ, Bool, true, false, not, Option, Some, None, is_none, if◌then◌else◌, nat_lt}
 use Rattle.ow_traits.specs.declared.replies.Kind.{Kind}
 use Rattle.ow_entity.specs.declared.bounds.TheConstants.{LEAST_MEMORY, MOST_MEMORY}
 use Rattle.ow_entity.specs.Bounds.{IsBetween}
