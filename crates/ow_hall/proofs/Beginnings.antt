@@ -1,5 +1,5 @@
 -- Each legal book and each of its beginnings keeps every activation.
-use Rattle.std.proofs.Common.{◌≡◌, ◌++◌, ℕ, Bool, false, List, [], ◌∷◌, Result, Ok, Err, IfOk, refl}
+use Rattle.std.proofs.Common.{◌++◌, ℕ, Bool, false, List, [], ◌∷◌, Result, Ok, Err, IfOk, refl}
 use Rattle.ow_value.specs.Value.{V, Pairs}
 use Rattle.ow_names.specs.declared.full.FullName.{FullName}
 use Rattle.ow_floor.specs.Calls.{IsNext}

@@ -1,5 +1,5 @@
 -- What is found among those that pass another test.
-use Rattle.std.proofs.Common.{◌≡◌, Bool, true, false, List, [], ◌∷◌, Option, Some, None, refl, sym, ap, subst}
+use Rattle.std.proofs.Common.{◌≡◌, Bool, true, false, List, [], ◌∷◌, Some, None, refl, sym, ap, subst}
 use Rattle.std.specs.List.{filter, find}
 use Rattle.ow_floor.proofs.Firsts.{none_tail}
 

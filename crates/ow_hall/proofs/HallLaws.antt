@@ -8,7 +8,6 @@ use Rattle.ow_floor.specs.Calls.{answer_by, order_items, order_of, reply_items}
 use Rattle.ow_floor.specs.Laws.{Stands}
 use Rattle.ow_floor.specs.declared.activations.Open.{Open}
 use Rattle.ow_floor.specs.declared.activations.Plan.{Plan}
-use Rattle.ow_floor.specs.declared.answers.Answered.{Answered}
 use Rattle.ow_floor.specs.declared.runs.Run.{Run}
 use Rattle.ow_http.specs.Request.{parts_of}
 use Rattle.ow_http.specs.declared.reason.Reason.{Reason}
@@ -23,7 +22,6 @@ use Rattle.ow_hall.specs.declared.replies.Called.TheVariants as called
 use Rattle.ow_hall.specs.declared.step.Now.{Now}
 use Rattle.ow_hall.specs.declared.step.Step.{Step}
 use Rattle.ow_hall.specs.declared.tenants.Tenants.{Tenants}
-use Rattle.ow_hall.specs.declared.waits.Wait.{Wait}
 use Rattle.ow_hall.specs.declared.waits.Waits.{Waits}
 use Rattle.ow_hall.specs.declared.waits.Waits.TheVariants.{Keep}
 use Rattle.ow_hall.specs.Sight.{Sight}
@@ -34,7 +32,7 @@ use Rattle.ow_hall.specs.Decisions.{decide, reply_told}
 use Rattle.ow_hall.specs.Waiting.{collected_told, shows_for}
 use Rattle.ow_floor.specs.Collecting.{collected}
 use Rattle.ow_hall.specs.Posting.{posting_by}
-use Rattle.ow_hall.specs.History.{AreAnswered, History, IsLegal, Seen, after, all_changed, answer, counted, decision, greatest_moment, is_idle, is_opening, last_moment, moment, opens_here, posting, seen, sight, waits_after}
+use Rattle.ow_hall.specs.History.{AreAnswered, History, IsLegal, after, all_changed, answer, counted, decision, greatest_moment, is_idle, is_opening, last_moment, moment, opens_here, posting, seen, sight, waits_after}
 use Rattle.ow_hall.specs.Ledger.{Ledger, no_entries, posted, posted_as}
 use Rattle.ow_hall.specs.State.{Carries, Does, IsAt, Keeps, StateView, changes_of}
 

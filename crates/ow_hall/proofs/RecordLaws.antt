@@ -1,7 +1,6 @@
 -- What is seen of the records by whoever asks.
-use Rattle.std.proofs.Common.{◌≡◌, ◌∙◌, ◌&&◌, ◌+◌, ◌≤◌, ℕ, Bool, true, false, cond, if◌then◌else◌, List, [], ◌∷◌, Option, Some, None, Result, Ok, Err, map, take, drop, reverse, refl, sym, ap, subst, arith}
+use Rattle.std.proofs.Common.{◌≡◌, ◌∙◌, ◌&&◌, ◌+◌, ◌≤◌, ℕ, Bool, true, false, if◌then◌else◌, List, [], ◌∷◌, Option, Some, None, Ok, map, take, drop, reverse, refl, sym, ap, subst, arith}
 use Rattle.std.specs.List.{filter, find}
-use Rattle.std.specs.Str.{bytes_eq}
 use Rattle.ow_value.specs.Value.{V, list, items_of}
 use Rattle.ow_records.specs.Id.{same_id}
 use Rattle.ow_records.specs.Records.{id_key, is_in, is_of_id, listing, sorted_by}
@@ -19,7 +18,6 @@ use Rattle.ow_http.specs.Parts.{Parts}
 use Rattle.ow_http.specs.Steps.{◌>>=◌}
 use Rattle.ow_http.specs.declared.route.Part.{Part}
 use Rattle.ow_http.specs.declared.call.Call.{Call}
-use Rattle.ow_http.specs.declared.reason.Reason.{Reason}
 use Rattle.ow_hall.specs.declared.acts.Reading.TheVariants.{Activations, Activation}
 use Rattle.ow_hall.specs.Asking.{granted_call, shown_done}
 use Rattle.ow_hall.specs.Reading.{id_of, is_recorded, part_value, read_value, recorded, recorded_under}

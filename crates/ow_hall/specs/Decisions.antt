@@ -1,5 +1,5 @@
 -- What the service does at an event, by what is seen: one case for each kind of event.
-use Rattle.std.specs.Prelude.{ℕ, List, [], ◌∷◌, Option, Some, None}
+use Rattle.std.specs.Prelude.{ℕ, [], ◌∷◌, Option, Some, None}
 use Rattle.ow_traits.specs.declared.replies.RunReply.{RunReply}
 use Rattle.ow_floor.specs.Trace.{Drained}
 use Rattle.ow_floor.specs.Calls.{answer_to, answered_items, drain_answer, next_items, next_order}

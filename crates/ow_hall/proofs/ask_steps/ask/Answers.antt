@@ -1,4 +1,4 @@
-use Rattle.std.proofs.Common.{◌≡◌, ◌∙◌, IfOk, ap, sym}
+use Rattle.std.proofs.Common.{◌∙◌, ap, sym}
 use Rattle.ow_http.specs.Request.{parts_of}
 use Rattle.ow_hall.specs.Asking.{request_done}
 use Rattle.ow_hall.specs.State.{done_of, served_of}

@@ -1,4 +1,4 @@
-use Rattle.std.proofs.Common.{◌≡◌, None, Option, IfOk, subst, sym}
+use Rattle.std.proofs.Common.{◌≡◌, Option, IfOk, subst, sym}
 use Rattle.ow_floor.specs.Laws.{Stands}
 use Rattle.ow_tables.specs.Contents.{Change}
 use Rattle.ow_hall.specs.declared.acts.Act.{Act}

@@ -1,4 +1,4 @@
-use Rattle.std.proofs.Common.{◌≡◌, ◌∙◌, sym, ap}
+use Rattle.std.proofs.Common.{◌∙◌, sym, ap}
 use Rattle.ow_value.specs.Value.{text_cmp}
 use Rattle.ow_names.specs.FullName.{full_text}
 use Rattle.ow_names.specs.declared.full.FullName.{FullName}

@@ -1,4 +1,4 @@
-use Rattle.std.proofs.Common.{◌≡◌, ◌∙◌, List, None, Some, find, sym, ap}
+use Rattle.std.proofs.Common.{◌∙◌, List, None, Some, find, sym, ap}
 use Rattle.ow_records.specs.Records.{is_of_id}
 use Rattle.ow_records.specs.declared.record.Record.{Record}
 use Rattle.ow_hall.proofs.RecordLaws.{own_recorded}

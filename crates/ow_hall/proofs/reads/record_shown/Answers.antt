@@ -1,4 +1,4 @@
-use Rattle.std.proofs.Common.{◌≡◌, ◌∙◌, ℕ, List, None, Some, filter, sym, ap}
+use Rattle.std.proofs.Common.{◌∙◌, ℕ, List, None, Some, filter, ap}
 use Rattle.ow_floor.specs.Trace.{records}
 use Rattle.ow_http.specs.Request.{parts_of}
 use Rattle.ow_hall.specs.Reading.{recorded}

@@ -1,4 +1,4 @@
-use Rattle.std.proofs.Common.{◌≡◌, IfOk, subst, sym}
+use Rattle.std.proofs.Common.{IfOk, subst, sym}
 use Rattle.ow_hall.specs.declared.entry.Event.{Event}
 use Rattle.ow_hall.specs.Decisions.{decide}
 use Rattle.ow_hall.specs.State.{MakesFor}

@@ -1,4 +1,4 @@
-use Rattle.std.proofs.Common.{◌≡◌, IsSome, sym, subst}
+use Rattle.std.proofs.Common.{IsSome, sym, subst}
 use Rattle.ow_hall.specs.declared.entry.Told.{Told}
 use Rattle.ow_hall.specs.Comes.{reply_in}
 use Rattle.ow_hall.proofs.AskLaws.{ask_replies}
