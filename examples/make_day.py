@@ -1,6 +1,7 @@
-"""Writes examples/actions.day: a day of requests and calls, as a new user sends them.
+"""Writes a day of examples/: requests and calls, as a new user sends them.
 
     python3 examples/make_day.py > examples/actions.day
+    python3 examples/make_day.py blocking > examples/blocking.day
 
 Each request is counted in bytes, with its head's lines ended by CR LF. Standard library only.
 """
@@ -11,9 +12,9 @@ import sys
 HOST = ["Host: localhost:3233", "User-Agent: curl/8.5.0", "Accept: */*"]
 
 
-def request(method, path, body=None):
+def request(method, path, body=None, of="actions"):
     """The bytes of a request, with the headers that curl sends."""
-    head = [f"{method} /api/v1/namespaces/_/actions{path} HTTP/1.1", *HOST]
+    head = [f"{method} /api/v1/namespaces/_/{of}{path} HTTP/1.1", *HOST]
     data = b""
     if body is not None:
         data = json.dumps(body, separators=(",", ":")).encode()
@@ -21,9 +22,9 @@ def request(method, path, body=None):
     return "\r\n".join([*head, "", ""]).encode() + data
 
 
-def ask(method, path, body=None):
+def ask(method, path, body=None, of="actions"):
     """The statement that asks by a request: its length, a newline, its bytes and a newline."""
-    data = request(method, path, body)
+    data = request(method, path, body, of)
     return b"ask %d\n%s\n" % (len(data), data)
 
 
@@ -39,7 +40,8 @@ def hello():
     return {"exec": {"kind": "plain:1", "code": code}}
 
 
-DAY = [
+# An action is put, called from beginning to end, and taken away.
+ACTIONS = [
     ask("PUT", "/hello", hello()),
     ask("GET", "/hello"),
     ask("GET", "?limit=10"),
@@ -56,5 +58,33 @@ DAY = [
     say("end"),
 ]
 
+# The ids of the first activations of the namespace guest.
+FIRST = "00000000000000010000000000000001"
+SECOND = "00000000000000010000000000000002"
+
+# An action is called by requests that wait for its result: the service runs it itself, and the result is collected. The
+# second run is replied to by hand, with a line of logs.
+BLOCKING = [
+    ask("PUT", "/hello", hello()),
+    ask("POST", "/hello?blocking=true&result=true"),
+    say(f"collect {FIRST}"),
+    say("turn"),
+    say(f"collect {FIRST}"),
+    say("at 1000"),
+    ask("POST", "/hello?blocking=true", {"name": "Anna"}),
+    say("next"),
+    say('logged 2 1 {"greeting":"Hello Anna"}'),
+    say("called by Anna"),
+    say(f"collect {SECOND}"),
+    ask("GET", f"/{SECOND}/logs", of="activations"),
+    ask("GET", "?limit=10", of="activations"),
+    say("turn"),
+    say("drain"),
+    say("end"),
+]
+
+DAYS = {"actions": ACTIONS, "blocking": BLOCKING}
+
 if __name__ == "__main__":
-    sys.stdout.buffer.write(b"".join(DAY))
+    name = sys.argv[1] if len(sys.argv) > 1 else "actions"
+    sys.stdout.buffer.write(b"".join(DAYS[name]))

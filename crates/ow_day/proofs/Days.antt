@@ -1,13 +1,14 @@
 -- How a day goes on: by its first statement, to its end.
-use Rattle.std.proofs.Common.{◌≡◌, ◌<◌, ◌≤◌, ◌+◌, ◌-◌, ◌++◌, ◌==◌, ℕ, zero, suc, Bool, true, false, nat_lt, List, [], ◌∷◌, Option, Some, None, if◌then◌else◌, length, take, drop, position, slice_index, refl, sym, ap, arith, append_assoc, append-nil, length-append, length-take}
+use Rattle.std.proofs.Common.{◌≡◌, ◌<◌, ◌≤◌, ◌+◌, ◌-◌, ◌++◌, ◌==◌, ℕ, zero, suc, Bool, true, false, nat_lt, List, [], ◌∷◌, Option, Some, None, if◌then◌else◌, length, take, drop, position, slice_index, refl, sym, ap, ◌∙◌, arith, append_assoc, append-nil, length-append, length-take}
 use Rattle.std.specs.Option.{option_map}
 use Rattle.std.proofs.lemmas.Bool.Decides.{nat_tests}
 use Rattle.std.proofs.lemmas.List.{take-append-le, drop-append-le}
 use Rattle.std.proofs.lemmas.List.Quantifiers.{position-Some}
 use Rattle.ow_day.specs.Limits.{most_line}
-use Rattle.ow_day.specs.Input.{is_newline}
-use Rattle.ow_day.specs.Statement.{Statement, At, Call, Ask, Next, Answer, Drain, End, Reading, Whole, Asks, line_of}
-use Rattle.ow_day.specs.Day.{Day, Finished, TooLong, ended, with_statements, First, Found, Wrong, Cut, line_at, asked, behind_line, first_in, first_statement, going_on, day_step, day_from}
+use Rattle.ow_day.specs.Statement.{Statement, At, Call, Ask, Next, Answer, Logged, Exit, NoStart, Fault, Drain, End, Reading, Whole, Asks, Logs, is_newline, line_of}
+use Rattle.ow_day.specs.Day.{Day, Finished, TooLong, ended, with_statements, First, Found, Wrong, Cut, Lines, LinesAre, NoLines, CutLines, line_at, lines_in, logged, asked, behind_line, first_in, first_statement, going_on, day_step, day_from}
+use Rattle.ow_day.proofs.Choices.{is_apart, is_more, is_short, more_by}
+use Rattle.ow_day.proofs.Logging.{lines_extended, lines_last, lines_longer}
 use Rattle.ow_day.proofs.Newlines.{position-append_none, position-append_some}
 
 -- a day whose bytes are not at their end goes by its first statement
@@ -34,20 +35,15 @@ statement_goes_on (Call name words) day not_end = refl
 statement_goes_on (Ask request) day not_end = refl
 statement_goes_on Next day not_end = refl
 statement_goes_on (Answer run words) day not_end = refl
+statement_goes_on (Logged run words logs) day not_end = refl
+statement_goes_on (Exit run code) day not_end = refl
+statement_goes_on (NoStart run words) day not_end = refl
+statement_goes_on (Fault run) day not_end = refl
 statement_goes_on Drain day not_end = refl
 statement_goes_on End day not_end = absurd (not_end refl)
 
 pub with_both : (a b : List Statement) (day : Day) → with_statements a (with_statements b day) ≡ with_statements (a ++ b) day
 with_both a b day = ap (λ t. record { statements = t; ending = day.ending }) (sym (append_assoc a b day.statements))
-
-pub is_more : (m n : ℕ) → m < n → nat_lt m n ≡ true
-is_more m n lt = grind (arith, nat_tests)
-
-pub is_short : (m n : ℕ) → n ≤ m → nat_lt m n ≡ false
-is_short m n le = grind (arith, nat_tests)
-
-pub is_apart : (m n : ℕ) → n < m → (m == n) ≡ false
-is_apart m n lt = grind (arith, nat_tests)
 
 -- ---- what stands at the front of bytes, and what follows them
 
@@ -86,13 +82,20 @@ asked_at more count bytes later false false lt eq found =
     rw (lt', eq', lt, eq, index_before bytes later count within, take-append-le count bytes later (omega arith), drop-append-le (count + 1) bytes later (omega arith))
     (picked (slice_index bytes count == 10) (Ask (take count bytes)) (drop (count + 1) bytes) later)
 
+logged_longer : (run : ℕ) (text later : List ℕ) (lines : Lines) → logged run text (lines_extended later lines) ≡ extended later (logged run text lines)
+logged_longer run text later (LinesAre lines rest) = refl
+logged_longer run text later NoLines = refl
+logged_longer run text later CutLines = refl
+
 behind_longer : (more : Bool) (o : Option Reading) (rest later : List ℕ) → (behind_line true o rest ≡ Cut → ⊥) → behind_line more o (rest ++ later) ≡ extended later (behind_line true o rest)
 behind_longer more None rest later found = refl
 behind_longer more (Some (Whole s)) rest later found = refl
 behind_longer more (Some (Asks count)) rest later found = asked_at more count rest later _ _ refl refl found
+behind_longer more (Some (Logs run count text)) rest later found =
+    ap (logged run text) (lines_longer more count rest later (λ cut. found (ap (logged run text) cut))) ∙ logged_longer run text later (lines_in true count rest)
 
 -- a line that is too long is none
-too_long : (line : List ℕ) → most_line < length line → line_of line ≡ None
+pub too_long : (line : List ℕ) → most_line < length line → line_of line ≡ None
 unfolding line_of
 too_long line lt = rw (is_more most_line (length line) lt) refl
 
@@ -115,7 +118,7 @@ longer_at more bytes later (Some k) b is long found =
     rw (position-append_some is_newline bytes later k is, front, back) (behind_longer more (line_of (take k bytes)) (drop (k + 1) bytes) later found)
 longer_at more bytes later None false is long found = absurd (found (rw long refl))
 longer_at more bytes later None true is long found =
-    let lt : most_line < length bytes = grind (arith, nat_tests) in
+    let lt : most_line < length bytes = more_by most_line (length bytes) long in
     rw (position-append_none is_newline bytes later is, long_at more bytes later (position is_newline later) lt, long, too_long bytes lt) refl
 
 -- what stands at the front stays there, whatever follows
@@ -132,10 +135,16 @@ at_last count bytes false true c lt eq is cut = let e : Found (Ask bytes) [] ≡
 at_last count bytes false false true lt eq is cut = let e : Found (Ask (take count bytes)) (drop (count + 1) bytes) ≡ Cut = rw (lt, eq, is) at cut in cc
 at_last count bytes false false false lt eq is cut = let e : Wrong ≡ Cut = rw (lt, eq, is) at cut in cc
 
+logged_last : (run : ℕ) (text : List ℕ) (lines : Lines) → (lines ≡ CutLines → ⊥) → logged run text lines ≡ Cut → ⊥
+logged_last run text (LinesAre lines rest) uncut cut = cc
+logged_last run text NoLines uncut cut = cc
+logged_last run text CutLines uncut cut = uncut refl
+
 behind_last : (o : Option Reading) (rest : List ℕ) → behind_line false o rest ≡ Cut → ⊥
 behind_last None rest cut = cc
 behind_last (Some (Whole s)) rest cut = cc
 behind_last (Some (Asks count)) rest cut = at_last count rest _ _ _ refl refl refl cut
+behind_last (Some (Logs run count text)) rest cut = logged_last run text (lines_in false count rest) (lines_last count rest) cut
 
 line_last : (bytes : List ℕ) (o : Option ℕ) (b : Bool) → nat_lt most_line (length bytes) ≡ b → first_in false (line_at false bytes o) ≡ Cut → ⊥
 line_last bytes (Some k) b long cut = behind_last (line_of (take k bytes)) (drop (k + 1) bytes) cut

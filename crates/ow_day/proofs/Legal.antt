@@ -1,5 +1,5 @@
 -- The book of a day is legal.
-use Rattle.std.proofs.Common.{◌≡◌, ◌≤◌, ℕ, Bool, true, false, List, [], ◌∷◌, Result, Ok, Err, refl, ◌∙◌, arith, take}
+use Rattle.std.proofs.Common.{◌≡◌, ◌≤◌, ℕ, pos, Bool, true, false, List, [], ◌∷◌, Result, Ok, Err, refl, ◌∙◌, arith, take}
 use Rattle.std.proofs.Math.Nat.{le-max_left, max-le, min-le_right}
 use Rattle.ow_floor.specs.declared.answers.Idle.{Idle}
 use Rattle.ow_floor.specs.declared.answers.Order.TheVariants as orders
@@ -22,7 +22,7 @@ use Rattle.ow_day.specs.declared.call_words.CallWords.{CallWords}
 use Rattle.ow_day.specs.declared.call_words.CallWords.TheVariants as calls
 use Rattle.ow_day.specs.declared.done.Done.{Done}
 use Rattle.ow_day.specs.CallWords.{called as words_of}
-use Rattle.ow_day.specs.Statement.{Statement, At, Call, Ask, Next, Answer, Drain, End}
+use Rattle.ow_day.specs.Statement.{Statement, At, Call, Ask, Next, Answer, Logged, Exit, NoStart, Fault, Drain, End}
 use Rattle.ow_day.specs.Machine.{Machine, Asks, Calls, CarriesOut, Does, Meets, start}
 use Rattle.ow_day.specs.Day.{day_of}
 use Rattle.ow_day.specs.Office.{HasLegalBooks}
@@ -103,6 +103,10 @@ done_so M N (Call name text) done does legal = called_so M N (words_of (is_full 
 done_so M N (Ask bytes) done (read, is, asks) legal = asked_so M N read done asks legal
 done_so M N Next done meets legal = met M N events.Next done refl meets legal
 done_so M N (Answer run text) done meets legal = met M N (events.Answered run (runs.Answer text [])) done refl meets legal
+done_so M N (Logged run text logs) done meets legal = met M N (events.Answered run (runs.Answer text logs)) done refl meets legal
+done_so M N (Exit run code) done meets legal = met M N (events.Answered run (runs.Exit (pos code) [])) done refl meets legal
+done_so M N (NoStart run text) done meets legal = met M N (events.Answered run (runs.NoStart text)) done refl meets legal
+done_so M N (Fault run) done meets legal = met M N (events.Answered run runs.Fault) done refl meets legal
 done_so M N Drain done meets legal = met M N events.Drain done refl meets legal
 done_so M N End done (is, same) legal = rw same legal
 

@@ -2,10 +2,14 @@ pub mod Utf8
 pub mod Newlines
 pub mod Reading
 pub mod Results
-pub mod Days
 pub mod Choices
+pub mod Logging
+pub mod Searching
+pub mod Days
+pub mod Awaiting
 pub mod Numbers
 pub mod Parting
+pub mod PrintedLogs
 pub mod Printing
 pub mod PrintedDays
 pub mod Lines

@@ -1,18 +1,18 @@
 -- What is read as a line was written as one.
-use Rattle.std.proofs.Common.{◌≡◌, ℕ, ◌==◌, ◌<◌, ◌≤◌, ◌^◌, Bool, true, false, nat_lt, List, ◌∷◌, ◌++◌, length, codes, Option, Some, None, if◌then◌else◌, refl, sym, ap, subst, arith}
+use Rattle.std.proofs.Common.{◌≡◌, ℕ, ◌==◌, ◌<◌, ◌≤◌, ◌^◌, Bool, true, false, nat_lt, List, ◌∷◌, ◌++◌, length, codes, Option, Some, None, if◌then◌else◌, refl, sym, ap, ◌∙◌, subst, arith}
 use Rattle.std.specs.Fmt.{decimal}
 use Rattle.std.specs.Str.{bytes_eq, is_utf8, IsUtf8}
 use Rattle.std.proofs.lemmas.Bool.Decides.{nat_tests}
 use Rattle.std.proofs.lemmas.List.Elements.{All-tail}
-use Rattle.std.proofs.lemmas.Option.{none-some, same_Some}
+use Rattle.std.proofs.lemmas.Option.{none-some, same_Some, some_pair_parts}
 use Rattle.std.proofs.lemmas.Slice.Eq.{bytes_eq-Decides}
 use Rattle.std.proofs.lemmas.Str.{IsUtf8-from_is_utf8}
 use Rattle.ow_value.specs.Decimal.{decimal_of}
 use Rattle.ow_hall.specs.History.{greatest_moment}
 use Rattle.ow_day.specs.Limits.{most_line}
-use Rattle.ow_day.specs.Statement.{Statement, At, Call, Next, Answer, Drain, End, Reading, Whole, Asks, answer_in, answer_of, answered, ask_of, asks_for, at_moment, at_of, call_in, call_of, called, line_of, parted, worded, worded_in}
-use Rattle.ow_day.specs.Printed.{HasNo, IsLineText, IsPrintable, IsWord, printed}
-use Rattle.ow_day.proofs.Choices.{either, if_later}
+use Rattle.ow_day.specs.Statement.{Statement, At, Call, Next, Answer, Logged, Exit, NoStart, Fault, Drain, End, Reading, Whole, Asks, Logs, answer_in, answer_of, answered, ask_of, asks_for, at_moment, at_of, call_in, call_of, called, exit_in, exit_of, exited, failed, fault_of, line_of, logged, logged_in, logged_of, logs_in, no_start_in, no_start_of, numbered, numbered_in, parted, reply_of, unstarted, with_number, worded, worded_in}
+use Rattle.ow_day.specs.Printed.{HasNo, IsLineText, IsPrintable, IsWord, logs_head, printed}
+use Rattle.ow_day.proofs.Choices.{either, fits_by, if_later, some_by}
 use Rattle.ow_day.proofs.Numbers.{decimal_read}
 use Rattle.ow_day.proofs.Parting.{none_in_back, none_in_front, parted_read}
 
@@ -20,12 +20,7 @@ use Rattle.ow_day.proofs.Parting.{none_in_back, none_in_front, parted_read}
 abbrev pub IsWritten : List ℕ → Reading → Type 0
 IsWritten line (Whole s) = IsPrintable s × (line ≡ printed s)
 IsWritten line (Asks count) = (count ≤ most_line) × (line ≡ codes "ask " ++ decimal count)
-
-fits_by : (m n : ℕ) → nat_lt m n ≡ false → n ≤ m
-fits_by m n is = grind (arith, nat_tests)
-
-some_by : (n : ℕ) → (n == 0) ≡ false → 0 < n
-some_by n is = grind (arith, nat_tests)
+IsWritten line (Logs run count text) = (run < 2 ^ 64) × (count < 2 ^ 64) × IsLineText text × (length line ≤ most_line) × (line ≡ logs_head run count text)
 
 -- what follows a space is text of one line, where all is
 line_text : (word text : List ℕ) → HasNo 10 (word ++ 32 ∷ text) → IsUtf8 text → IsLineText text
@@ -63,35 +58,124 @@ call_written : (rest : List ℕ) (r : Reading) → HasNo 10 rest → length (cod
 unfolding call_of
 call_written rest r none fits e = call_by rest (parted rest) r refl none fits e
 
--- ---- `answer`
+-- ---- a number in front
 
-answered_by : (number text : List ℕ) (r : Reading) (o : Option ℕ) (t : Bool) → decimal_of number ≡ o → is_utf8 text ≡ t → answered o (if t then Some text else None) ≡ Some r
-    → (run : ℕ) × (run < 2 ^ 64) × (decimal run ≡ number) × IsUtf8 text × (Whole (Answer run text) ≡ r)
-answered_by number text r None t oi ti e = absurd (none-some r e)
-answered_by number text r (Some run) false oi ti e = absurd (none-some r e)
-answered_by number text r (Some run) true oi ti e =
-    let k = decimal_read number run oi in
-    (run, k.0, k.1, IsUtf8-from_is_utf8 text ti, same_Some (Whole (Answer run text)) r e)
+number_by : (digits rest text : List ℕ) (n : ℕ) (o : Option ℕ) → decimal_of digits ≡ o → with_number o rest ≡ Some (n, text) → (n < 2 ^ 64) × (decimal n ≡ digits) × (rest ≡ text)
+number_by digits rest text n None is e = absurd (none-some (n, text) e)
+number_by digits rest text n (Some m) is e =
+    let k = decimal_read digits m is in
+    let same = some_pair_parts m n rest text e in
+    (subst (λ x. x < 2 ^ 64) same.0 k.0, ap decimal (sym same.0) ∙ k.1, same.1)
 
-answer_words : (number text : List ℕ) (r : Reading) → HasNo 10 (number ++ 32 ∷ text) → length (codes "answer " ++ (number ++ 32 ∷ text)) ≤ most_line → answer_in (Some (number, text)) ≡ Some r
-    → IsWritten (codes "answer " ++ (number ++ 32 ∷ text)) r
+numbered_by : (rest text : List ℕ) (n : ℕ) (o : Option (List ℕ × List ℕ)) → parted rest ≡ o → numbered_in o ≡ Some (n, text) → (n < 2 ^ 64) × (rest ≡ decimal n ++ 32 ∷ text)
+numbered_by rest text n None is e = absurd (none-some (n, text) e)
+numbered_by rest text n (Some parts) is e =
+    let at = parted_read rest parts.0 parts.1 is in
+    let k = number_by parts.0 parts.1 text n (decimal_of parts.0) refl e in
+    (k.0, at.0 ∙ (λ i. sym k.1 i ++ 32 ∷ k.2 i))
+
+number_known : (rest text : List ℕ) (n : ℕ) → numbered rest ≡ Some (n, text) → (n < 2 ^ 64) × (rest ≡ decimal n ++ 32 ∷ text)
+unfolding numbered
+number_known rest text n e = numbered_by rest text n (parted rest) refl e
+
+text_behind : (digits text : List ℕ) → HasNo 10 (digits ++ 32 ∷ text) → HasNo 10 text
+text_behind digits text none = All-tail (λ c. (c == 10) ≡ false) 32 text (none_in_back 10 digits (32 ∷ text) none)
+
+-- ---- `answer` and `nostart`
+
+answered_by : (run : ℕ) (text : List ℕ) (r : Reading) (t : Bool) → is_utf8 text ≡ t → answered run (if t then Some text else None) ≡ Some r → IsUtf8 text × (Whole (Answer run text) ≡ r)
+answered_by run text r false is e = absurd (none-some r e)
+answered_by run text r true is e = (IsUtf8-from_is_utf8 text is, same_Some (Whole (Answer run text)) r e)
+
+answer_by : (rest : List ℕ) (o : Option (ℕ × List ℕ)) (r : Reading) → numbered rest ≡ o → HasNo 10 rest → length (codes "answer " ++ rest) ≤ most_line → answer_in o ≡ Some r → IsWritten (codes "answer " ++ rest) r
 unfolding printed
-answer_words number text r none fits e =
-    let known = answered_by number text r (decimal_of number) (is_utf8 text) refl refl e in
-    let same : codes "answer " ++ (number ++ 32 ∷ text) ≡ codes "answer " ++ (decimal known.0 ++ 32 ∷ text) = ap (λ d. codes "answer " ++ (d ++ 32 ∷ text)) (sym known.2) in
-    subst (λ s. IsWritten (codes "answer " ++ (number ++ 32 ∷ text)) s) known.4
-    ((known.1, line_text number text none known.3, subst (λ l. length l ≤ most_line) same fits), same)
-
-answer_by : (rest : List ℕ) (o : Option (List ℕ × List ℕ)) (r : Reading) → parted rest ≡ o → HasNo 10 rest → length (codes "answer " ++ rest) ≤ most_line → answer_in o ≡ Some r → IsWritten (codes "answer " ++ rest) r
 answer_by rest None r is none fits e = absurd (none-some r e)
 answer_by rest (Some parts) r is none fits e =
-    let at = parted_read rest parts.0 parts.1 is in
-    subst (λ t. IsWritten (codes "answer " ++ t) r) (sym at.0)
-    (answer_words parts.0 parts.1 r (subst (HasNo 10) at.0 none) (subst (λ t. length (codes "answer " ++ t) ≤ most_line) at.0 fits) e)
+    let k = number_known rest parts.1 parts.0 is in
+    let known = answered_by parts.0 parts.1 r (is_utf8 parts.1) refl e in
+    let same : codes "answer " ++ rest ≡ printed (Answer parts.0 parts.1) = ap (λ t. codes "answer " ++ t) k.1 in
+    subst (λ s. IsWritten (codes "answer " ++ rest) s) known.1
+    ((k.0, line_text (decimal parts.0) parts.1 (subst (HasNo 10) k.1 none) known.0, subst (λ l. length l ≤ most_line) same fits), same)
 
 answer_written : (rest : List ℕ) (r : Reading) → HasNo 10 rest → length (codes "answer " ++ rest) ≤ most_line → answer_of rest ≡ Some r → IsWritten (codes "answer " ++ rest) r
 unfolding answer_of
-answer_written rest r none fits e = answer_by rest (parted rest) r refl none fits e
+answer_written rest r none fits e = answer_by rest (numbered rest) r refl none fits e
+
+unstarted_by : (run : ℕ) (text : List ℕ) (r : Reading) (t : Bool) → is_utf8 text ≡ t → unstarted run (if t then Some text else None) ≡ Some r → IsUtf8 text × (Whole (NoStart run text) ≡ r)
+unstarted_by run text r false is e = absurd (none-some r e)
+unstarted_by run text r true is e = (IsUtf8-from_is_utf8 text is, same_Some (Whole (NoStart run text)) r e)
+
+no_start_by : (rest : List ℕ) (o : Option (ℕ × List ℕ)) (r : Reading) → numbered rest ≡ o → HasNo 10 rest → length (codes "nostart " ++ rest) ≤ most_line → no_start_in o ≡ Some r → IsWritten (codes "nostart " ++ rest) r
+unfolding printed
+no_start_by rest None r is none fits e = absurd (none-some r e)
+no_start_by rest (Some parts) r is none fits e =
+    let k = number_known rest parts.1 parts.0 is in
+    let known = unstarted_by parts.0 parts.1 r (is_utf8 parts.1) refl e in
+    let same : codes "nostart " ++ rest ≡ printed (NoStart parts.0 parts.1) = ap (λ t. codes "nostart " ++ t) k.1 in
+    subst (λ s. IsWritten (codes "nostart " ++ rest) s) known.1
+    ((k.0, line_text (decimal parts.0) parts.1 (subst (HasNo 10) k.1 none) known.0, subst (λ l. length l ≤ most_line) same fits), same)
+
+no_start_written : (rest : List ℕ) (r : Reading) → HasNo 10 rest → length (codes "nostart " ++ rest) ≤ most_line → no_start_of rest ≡ Some r → IsWritten (codes "nostart " ++ rest) r
+unfolding no_start_of
+no_start_written rest r none fits e = no_start_by rest (numbered rest) r refl none fits e
+
+-- ---- `logged`
+
+logged_by : (run count : ℕ) (text : List ℕ) (r : Reading) (t : Bool) → is_utf8 text ≡ t → logged run count (if t then Some text else None) ≡ Some r → IsUtf8 text × (Logs run count text ≡ r)
+logged_by run count text r false is e = absurd (none-some r e)
+logged_by run count text r true is e = (IsUtf8-from_is_utf8 text is, same_Some (Logs run count text) r e)
+
+logs_by : (run : ℕ) (rest behind : List ℕ) (o : Option (ℕ × List ℕ)) (r : Reading) → numbered behind ≡ o → run < 2 ^ 64 → rest ≡ decimal run ++ 32 ∷ behind → HasNo 10 rest → length (codes "logged " ++ rest) ≤ most_line
+    → logs_in run o ≡ Some r → IsWritten (codes "logged " ++ rest) r
+logs_by run rest behind None r is small at none fits e = absurd (none-some r e)
+logs_by run rest behind (Some parts) r is small at none fits e =
+    let k = number_known behind parts.1 parts.0 is in
+    let known = logged_by run parts.0 parts.1 r (is_utf8 parts.1) refl e in
+    let behind_none : HasNo 10 behind = text_behind (decimal run) behind (subst (HasNo 10) at none) in
+    let same : codes "logged " ++ rest ≡ logs_head run parts.0 parts.1 = ap (λ t. codes "logged " ++ t) (at ∙ ap (λ t. decimal run ++ 32 ∷ t) k.1) in
+    subst (λ s. IsWritten (codes "logged " ++ rest) s) known.1
+    (small, k.0, line_text (decimal parts.0) parts.1 (subst (HasNo 10) k.1 behind_none) known.0, fits, same)
+
+logged_known : (rest : List ℕ) (o : Option (ℕ × List ℕ)) (r : Reading) → numbered rest ≡ o → HasNo 10 rest → length (codes "logged " ++ rest) ≤ most_line → logged_in o ≡ Some r → IsWritten (codes "logged " ++ rest) r
+logged_known rest None r is none fits e = absurd (none-some r e)
+logged_known rest (Some parts) r is none fits e =
+    let k = number_known rest parts.1 parts.0 is in
+    logs_by parts.0 rest parts.1 (numbered parts.1) r refl k.0 k.1 none fits e
+
+logged_written : (rest : List ℕ) (r : Reading) → HasNo 10 rest → length (codes "logged " ++ rest) ≤ most_line → logged_of rest ≡ Some r → IsWritten (codes "logged " ++ rest) r
+unfolding logged_of
+logged_written rest r none fits e = logged_known rest (numbered rest) r refl none fits e
+
+-- ---- `exit` and `fault`
+
+exit_code : (run : ℕ) (rest digits : List ℕ) (o : Option ℕ) (r : Reading) → decimal_of digits ≡ o → run < 2 ^ 64 → rest ≡ decimal run ++ 32 ∷ digits → exited run o ≡ Some r → IsWritten (codes "exit " ++ rest) r
+unfolding printed
+exit_code run rest digits None r is small at e = absurd (none-some r e)
+exit_code run rest digits (Some code) r is small at e =
+    let some = if_later (nat_lt 255 code) _ r e in
+    let same : codes "exit " ++ rest ≡ printed (Exit run code) = ap (λ t. codes "exit " ++ t) (at ∙ ap (λ t. decimal run ++ 32 ∷ t) (sym (decimal_read digits code is).1)) in
+    subst (λ s. IsWritten (codes "exit " ++ rest) s) (same_Some (Whole (Exit run code)) r some.1) ((small, fits_by 255 code some.0), same)
+
+exit_by : (rest : List ℕ) (o : Option (ℕ × List ℕ)) (r : Reading) → numbered rest ≡ o → exit_in o ≡ Some r → IsWritten (codes "exit " ++ rest) r
+exit_by rest None r is e = absurd (none-some r e)
+exit_by rest (Some parts) r is e =
+    let k = number_known rest parts.1 parts.0 is in
+    exit_code parts.0 rest parts.1 (decimal_of parts.1) r refl k.0 k.1 e
+
+exit_written : (rest : List ℕ) (r : Reading) → exit_of rest ≡ Some r → IsWritten (codes "exit " ++ rest) r
+unfolding exit_of
+exit_written rest r e = exit_by rest (numbered rest) r refl e
+
+fault_by : (rest : List ℕ) (o : Option ℕ) (r : Reading) → decimal_of rest ≡ o → failed o ≡ Some r → IsWritten (codes "fault " ++ rest) r
+unfolding printed
+fault_by rest None r is e = absurd (none-some r e)
+fault_by rest (Some run) r is e =
+    let k = decimal_read rest run is in
+    subst (λ s. IsWritten (codes "fault " ++ rest) s) (same_Some (Whole (Fault run)) r e) (k.0, ap (λ d. codes "fault " ++ d) (sym k.1))
+
+fault_written : (rest : List ℕ) (r : Reading) → fault_of rest ≡ Some r → IsWritten (codes "fault " ++ rest) r
+unfolding fault_of
+fault_written rest r e = fault_by rest (decimal_of rest) r refl e
 
 -- ---- `at` and `ask`
 
@@ -127,6 +211,15 @@ word_is word known rest r is fits written =
     let same = (bytes_eq-Decides word known).0 is in
     subst (λ w. IsWritten (w ++ 32 ∷ rest) r) (sym same) (written (subst (λ w. length (w ++ 32 ∷ rest) ≤ most_line) same fits))
 
+reply_written : (word rest : List ℕ) (r : Reading) → HasNo 10 rest → length (word ++ 32 ∷ rest) ≤ most_line → reply_of word rest ≡ Some r → IsWritten (word ++ 32 ∷ rest) r
+unfolding reply_of
+reply_written word rest r none fits e =
+    either (bytes_eq word (codes "logged")) _ _ _ e (λ is e. word_is word (codes "logged") rest r is fits (λ fits. logged_written rest r none fits e)) (λ _ e.
+    either (bytes_eq word (codes "exit")) _ _ _ e (λ is e. word_is word (codes "exit") rest r is fits (λ _. exit_written rest r e)) (λ _ e.
+    either (bytes_eq word (codes "nostart")) _ _ _ e (λ is e. word_is word (codes "nostart") rest r is fits (λ fits. no_start_written rest r none fits e)) (λ _ e.
+    either (bytes_eq word (codes "fault")) _ _ _ e (λ is e. word_is word (codes "fault") rest r is fits (λ _. fault_written rest r e)) (λ _ e.
+    absurd (none-some r e)))))
+
 worded_written : (word rest : List ℕ) (r : Reading) → HasNo 10 rest → length (word ++ 32 ∷ rest) ≤ most_line → worded word rest ≡ Some r → IsWritten (word ++ 32 ∷ rest) r
 unfolding worded
 worded_written word rest r none fits e =
@@ -134,7 +227,7 @@ worded_written word rest r none fits e =
     either (bytes_eq word (codes "answer")) _ _ _ e (λ is e. word_is word (codes "answer") rest r is fits (λ fits. answer_written rest r none fits e)) (λ _ e.
     either (bytes_eq word (codes "at")) _ _ _ e (λ is e. word_is word (codes "at") rest r is fits (λ _. at_written rest r e)) (λ _ e.
     either (bytes_eq word (codes "ask")) _ _ _ e (λ is e. word_is word (codes "ask") rest r is fits (λ _. ask_written rest r e)) (λ _ e.
-    absurd (none-some r e)))))
+    reply_written word rest r none fits e))))
 
 words_by : (line : List ℕ) (o : Option (List ℕ × List ℕ)) (r : Reading) → parted line ≡ o → HasNo 10 line → length line ≤ most_line → worded_in o ≡ Some r → IsWritten line r
 words_by line None r is none fits e = absurd (none-some r e)

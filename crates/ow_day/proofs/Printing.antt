@@ -1,5 +1,5 @@
 -- What is printed of a statement is read as the statement.
-use Rattle.std.proofs.Common.{◌≡◌, ℕ, ◌==◌, ◌<◌, ◌≤◌, ◌^◌, Bool, false, List, [], ◌∷◌, ◌++◌, length, codes, position, slice_index, Some, None, refl, ap, ◌∙◌, arith, append_assoc, length-append}
+use Rattle.std.proofs.Common.{◌≡◌, ℕ, ◌==◌, ◌<◌, ◌≤◌, ◌^◌, Bool, false, List, [], ◌∷◌, ◌++◌, length, codes, position, slice_index, Some, None, refl, ap, ◌∙◌, arith, append_assoc, append-nil, length-append}
 use Rattle.std.specs.Fmt.{decimal}
 use Rattle.std.specs.Str.{IsUtf8}
 use Rattle.std.proofs.lemmas.Bool.Decides.{nat_tests}
@@ -8,10 +8,11 @@ use Rattle.std.proofs.lemmas.List.{get_or_at}
 use Rattle.std.proofs.lemmas.Str.{is_utf8-from_IsUtf8}
 use Rattle.ow_hall.specs.History.{greatest_moment}
 use Rattle.ow_day.specs.Limits.{most_line}
-use Rattle.ow_day.specs.Statement.{Statement, At, Call, Ask, Next, Answer, Drain, End, Whole, Asks, answer_of, ask_of, at_of, call_of, line_of, utf8_text, worded}
-use Rattle.ow_day.specs.Day.{Found, asked, behind_line, first_statement}
-use Rattle.ow_day.specs.Printed.{IsLineText, IsPrintable, IsReadBack, IsWord, printed}
-use Rattle.ow_day.proofs.Days.{is_apart, is_short}
+use Rattle.ow_day.specs.Statement.{Statement, At, Call, Ask, Next, Answer, Logged, Exit, NoStart, Fault, Drain, End, Whole, Asks, Logs, answer_of, ask_of, at_of, call_of, exit_of, fault_of, line_of, logged_of, no_start_of, numbered, reply_of, utf8_text, worded}
+use Rattle.ow_day.specs.Day.{Found, asked, behind_line, first_statement, lines_in, logged}
+use Rattle.ow_day.specs.Printed.{EndsInByte, IsLineText, IsLogLine, IsPrintable, IsReadBack, IsWord, logs_head, printed, printed_logs}
+use Rattle.ow_day.proofs.Choices.{is_apart, is_short}
+use Rattle.ow_day.proofs.PrintedLogs.{logs_before, logs_last, rest_of, tail_of}
 use Rattle.ow_day.proofs.Numbers.{decimal_of-decimal}
 use Rattle.ow_day.proofs.Parting.{back_of, first_behind, front_of, is_itself, none_in_both, none_in_decimal, none_there, parted_word}
 
@@ -28,9 +29,29 @@ unfolding call_of
 call_back name text word line =
     rw (parted_word name text (none_there 32 name word.space), not_none (length name) word.some, text_read name word.text.utf8, text_read text line.utf8) refl
 
-answer_back : (run : ℕ) (text : List ℕ) → run < 2 ^ 64 → position (λ c. c == 32) (decimal run) ≡ None → IsUtf8 text → answer_of (decimal run ++ 32 ∷ text) ≡ Some (Whole (Answer run text))
+numbered_back : (n : ℕ) (text : List ℕ) → n < 2 ^ 64 → numbered (decimal n ++ 32 ∷ text) ≡ Some (n, text)
+unfolding numbered
+numbered_back n text small = rw (parted_word (decimal n) text (none_in_decimal 32 n (omega arith) small), decimal_of-decimal n small) refl
+
+answer_back : (run : ℕ) (text : List ℕ) → run < 2 ^ 64 → IsUtf8 text → answer_of (decimal run ++ 32 ∷ text) ≡ Some (Whole (Answer run text))
 unfolding answer_of
-answer_back run text small none u = rw (parted_word (decimal run) text none, decimal_of-decimal run small, text_read text u) refl
+answer_back run text small u = rw (numbered_back run text small, text_read text u) refl
+
+no_start_back : (run : ℕ) (text : List ℕ) → run < 2 ^ 64 → IsUtf8 text → no_start_of (decimal run ++ 32 ∷ text) ≡ Some (Whole (NoStart run text))
+unfolding no_start_of
+no_start_back run text small u = rw (numbered_back run text small, text_read text u) refl
+
+logged_back : (run count : ℕ) (text : List ℕ) → run < 2 ^ 64 → count < 2 ^ 64 → IsUtf8 text → logged_of (decimal run ++ 32 ∷ (decimal count ++ 32 ∷ text)) ≡ Some (Logs run count text)
+unfolding logged_of
+logged_back run count text small few u = rw (numbered_back run (decimal count ++ 32 ∷ text) small, numbered_back count text few, text_read text u) refl
+
+exit_back : (run code : ℕ) → run < 2 ^ 64 → code ≤ 255 → exit_of (decimal run ++ 32 ∷ decimal code) ≡ Some (Whole (Exit run code))
+unfolding exit_of
+exit_back run code small most = rw (numbered_back run (decimal code) small, decimal_of-decimal code (omega arith), is_short 255 code most) refl
+
+fault_back : (run : ℕ) → run < 2 ^ 64 → fault_of (decimal run) ≡ Some (Whole (Fault run))
+unfolding fault_of
+fault_back run small = rw (decimal_of-decimal run small) refl
 
 at_back : (moment : ℕ) → moment ≤ greatest_moment → at_of (decimal moment) ≡ Some (Whole (At moment))
 unfolding at_of
@@ -58,6 +79,22 @@ ask_line : (rest : List ℕ) → length (codes "ask " ++ rest) ≤ most_line →
 unfolding line_of worded
 ask_line rest fits = rw (is_short most_line (length (codes "ask " ++ rest)) fits, parted_word (codes "ask") rest refl) refl
 
+logged_line : (rest : List ℕ) → length (codes "logged " ++ rest) ≤ most_line → line_of (codes "logged " ++ rest) ≡ logged_of rest
+unfolding line_of worded reply_of
+logged_line rest fits = rw (is_short most_line (length (codes "logged " ++ rest)) fits, parted_word (codes "logged") rest refl) refl
+
+exit_line : (rest : List ℕ) → length (codes "exit " ++ rest) ≤ most_line → line_of (codes "exit " ++ rest) ≡ exit_of rest
+unfolding line_of worded reply_of
+exit_line rest fits = rw (is_short most_line (length (codes "exit " ++ rest)) fits, parted_word (codes "exit") rest refl) refl
+
+no_start_line : (rest : List ℕ) → length (codes "nostart " ++ rest) ≤ most_line → line_of (codes "nostart " ++ rest) ≡ no_start_of rest
+unfolding line_of worded reply_of
+no_start_line rest fits = rw (is_short most_line (length (codes "nostart " ++ rest)) fits, parted_word (codes "nostart") rest refl) refl
+
+fault_line : (rest : List ℕ) → length (codes "fault " ++ rest) ≤ most_line → line_of (codes "fault " ++ rest) ≡ fault_of rest
+unfolding line_of worded reply_of
+fault_line rest fits = rw (is_short most_line (length (codes "fault " ++ rest)) fits, parted_word (codes "fault") rest refl) refl
+
 -- ---- a line and the bytes behind it
 
 behind_newline : (more : Bool) (line later : List ℕ) → position (λ c. c == 10) line ≡ None → first_statement more (line ++ 10 ∷ later) ≡ behind_line more (line_of line) later
@@ -72,7 +109,7 @@ alone line none fits = rw (none, is_short most_line (length line) fits) refl
 whole_back : (s : Statement) → position (λ c. c == 10) (printed s) ≡ None → length (printed s) ≤ most_line → line_of (printed s) ≡ Some (Whole s) → IsReadBack s
 whole_back s none fits read = record {
   first = λ more later. behind_newline more (printed s) later none ∙ ap (λ o. behind_line more o later) read;
-  last = alone (printed s) none fits ∙ ap (λ o. behind_line false o []) read;
+  last = λ ends. alone (printed s) none fits ∙ ap (λ o. behind_line false o []) read;
 }
 
 asked_before : (more : Bool) (request later : List ℕ) → asked more (length request) (request ++ 10 ∷ later) ≡ Found (Ask request) later
@@ -102,7 +139,7 @@ request_back request most =
           ∙ behind_newline more (asking request) (request ++ 10 ∷ later) none
           ∙ ap (λ o. behind_line more o (request ++ 10 ∷ later)) read
           ∙ asked_before more request later;
-      last = behind_newline false (asking request) request none ∙ ap (λ o. behind_line false o request) read ∙ asked_last request;
+      last = λ ends. behind_newline false (asking request) request none ∙ ap (λ o. behind_line false o request) read ∙ asked_last request;
     }
 
 -- ---- each statement
@@ -131,7 +168,68 @@ unfolding printed
 reply_back run text can = whole_back (Answer run text)
     (none_in_both 10 (codes "answer ") (decimal run ++ 32 ∷ text) refl (none_in_both 10 (decimal run) (32 ∷ text) (none_in_decimal 10 run (omega arith) can.0) (none_in_text text can.1)))
     can.2
-    (answer_line (decimal run ++ 32 ∷ text) can.2 ∙ answer_back run text can.0 (none_in_decimal 32 run (omega arith) can.0) can.1.utf8)
+    (answer_line (decimal run ++ 32 ∷ text) can.2 ∙ answer_back run text can.0 can.1.utf8)
+
+no_start_text_back : (run : ℕ) (text : List ℕ) → IsPrintable (NoStart run text) → IsReadBack (NoStart run text)
+unfolding printed
+no_start_text_back run text can = whole_back (NoStart run text)
+    (none_in_both 10 (codes "nostart ") (decimal run ++ 32 ∷ text) refl (none_in_both 10 (decimal run) (32 ∷ text) (none_in_decimal 10 run (omega arith) can.0) (none_in_text text can.1)))
+    can.2
+    (no_start_line (decimal run ++ 32 ∷ text) can.2 ∙ no_start_back run text can.0 can.1.utf8)
+
+code_back : (run code : ℕ) → run < 2 ^ 64 → code ≤ 255 → IsReadBack (Exit run code)
+unfolding printed
+code_back run code small most =
+    let short : length (decimal run) ≤ 20 = length-decimal-le 20 run (omega arith) (omega arith) (omega arith) in
+    let short_code : length (decimal code) ≤ 3 = length-decimal-le 3 code (omega arith) (omega arith) (omega arith) in
+    let fits : length (codes "exit " ++ (decimal run ++ 32 ∷ decimal code)) ≤ most_line = omega (arith, length-append (decimal run) (32 ∷ decimal code)) in
+    whole_back (Exit run code)
+    (none_in_both 10 (codes "exit ") (decimal run ++ 32 ∷ decimal code) refl
+    (none_in_both 10 (decimal run) (32 ∷ decimal code) (none_in_decimal 10 run (omega arith) small) (none_in_both 10 (codes " ") (decimal code) refl (none_in_decimal 10 code (omega arith) (omega arith)))))
+    fits
+    (exit_line (decimal run ++ 32 ∷ decimal code) fits ∙ exit_back run code small most)
+
+fault_run_back : (run : ℕ) → run < 2 ^ 64 → IsReadBack (Fault run)
+unfolding printed
+fault_run_back run small =
+    let short : length (decimal run) ≤ 20 = length-decimal-le 20 run (omega arith) (omega arith) (omega arith) in
+    whole_back (Fault run)
+    (none_in_both 10 (codes "fault ") (decimal run) refl (none_in_decimal 10 run (omega arith) small))
+    (omega arith)
+    (fault_line (decimal run) (omega arith) ∙ fault_back run small)
+
+-- ---- lines of logs
+
+none_in_head : (run count : ℕ) (text : List ℕ) → run < 2 ^ 64 → count < 2 ^ 64 → IsLineText text → position (λ c. c == 10) (logs_head run count text) ≡ None
+none_in_head run count text small few line =
+    none_in_both 10 (codes "logged ") (decimal run ++ 32 ∷ (decimal count ++ 32 ∷ text)) refl
+    (none_in_both 10 (decimal run) (32 ∷ (decimal count ++ 32 ∷ text)) (none_in_decimal 10 run (omega arith) small)
+    (none_in_both 10 (codes " ") (decimal count ++ 32 ∷ text) refl (none_in_both 10 (decimal count) (32 ∷ text) (none_in_decimal 10 count (omega arith) few) (none_in_text text line))))
+
+logs_last_by : (run : ℕ) (text : List ℕ) (logs : List (List ℕ)) → IsPrintable (Logged run text logs) → EndsInByte logs → line_of (logs_head run (length logs) text) ≡ Some (Logs run (length logs) text)
+    → position (λ c. c == 10) (logs_head run (length logs) text) ≡ None → first_statement false (printed (Logged run text logs)) ≡ Found (Logged run text logs) []
+unfolding printed lines_in
+logs_last_by run text [] can ends read none =
+    ap (first_statement false) (append-nil (logs_head run 0 text)) ∙ alone (logs_head run 0 text) none can.3 ∙ ap (λ o. behind_line false o []) read
+logs_last_by run text (l ∷ ls) can ends read none =
+    behind_newline false (logs_head run (length (l ∷ ls)) text) (l ++ printed_logs ls) none ∙ ap (λ o. behind_line false o (l ++ printed_logs ls)) read
+    ∙ ap (logged run text) (logs_last l ls can.4 ends)
+
+logs_back : (run : ℕ) (text : List ℕ) (logs : List (List ℕ)) → IsPrintable (Logged run text logs) → IsReadBack (Logged run text logs)
+unfolding printed
+logs_back run text logs can =
+    let head = logs_head run (length logs) text in
+    let none : position (λ c. c == 10) head ≡ None = none_in_head run (length logs) text can.0 can.1 can.2 in
+    let rest = decimal run ++ 32 ∷ (decimal (length logs) ++ 32 ∷ text) in
+    let read : line_of head ≡ Some (Logs run (length logs) text) = logged_line rest can.3 ∙ logged_back run (length logs) text can.0 can.1 can.2.utf8 in
+    record {
+      first = λ more later.
+          ap (first_statement more) (append_assoc head (printed_logs logs) (10 ∷ later) ∙ ap (λ t. head ++ t) (tail_of logs later))
+          ∙ behind_newline more head (rest_of logs later) none
+          ∙ ap (λ o. behind_line more o (rest_of logs later)) read
+          ∙ ap (logged run text) (logs_before more logs later can.4);
+      last = λ ends. logs_last_by run text logs can ends read none;
+    }
 
 pub read_back : (s : Statement) → IsPrintable s → IsReadBack s
 unfolding printed line_of
@@ -140,5 +238,9 @@ read_back (Call name text) can = words_back name text can
 read_back (Ask request) can = request_back request can
 read_back Next can = whole_back Next refl (omega arith) refl
 read_back (Answer run text) can = reply_back run text can
+read_back (Logged run text logs) can = logs_back run text logs can
+read_back (Exit run code) can = code_back run code can.0 can.1
+read_back (NoStart run text) can = no_start_text_back run text can
+read_back (Fault run) can = fault_run_back run can
 read_back Drain can = whole_back Drain refl (omega arith) refl
 read_back End can = whole_back End refl (omega arith) refl

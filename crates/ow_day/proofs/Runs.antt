@@ -22,7 +22,8 @@ use Rattle.ow_day.specs.Office.{Tells, Wrote, WroteFront}
 use Rattle.ow_day.specs.Run.{Closes, ClosesSo, EndsSo, IsAtEnd, IsBounded, IsUnderWay, IsOfDay, StepsOn, Turns, WritesOn, in_window}
 use Rattle.ow_day.proofs.Carrying.{carried_more}
 use Rattle.ow_day.proofs.SoFar.{cut_day, read_at_start, read_done, read_more, read_same}
-use Rattle.ow_day.proofs.Days.{at_no_bytes, by_first, cut_nothing, extended, extended-nil, first_last, first_longer, is_more, is_short, statement_goes_on, with_both}
+use Rattle.ow_day.proofs.Days.{at_no_bytes, by_first, cut_nothing, extended, extended-nil, first_last, first_longer, statement_goes_on, with_both}
+use Rattle.ow_day.proofs.Choices.{is_more, is_short}
 
 -- at the start nothing is read, carried out or written
 pub begins : {P : Type 0} (bytes : List ℕ) (left taken : Option (List ℕ)) (r : Run P) → left ≡ Some bytes → machine_of r.session ≡ start → r.input.pending ≡ [] → r.input.taken ≡ 0 → r.answers.items ≡ []

@@ -1,5 +1,5 @@
 -- What is found as a statement was printed as one.
-use Rattle.std.proofs.Common.{◌≡◌, ◌⊎◌, ℕ, zero, suc, ◌==◌, ◌&&◌, ◌+◌, ◌<◌, ◌≤◌, Bool, true, false, not, nat_lt, List, [], ◌∷◌, ◌++◌, length, codes, take, drop, position, slice_index, Option, Some, None, inl, inr, refl, sym, ap, ◌∙◌, subst, arith, if◌then◌else◌, append_assoc, length-append, length-take}
+use Rattle.std.proofs.Common.{◌≡◌, ◌⊎◌, ℕ, zero, suc, ◌==◌, ◌&&◌, ◌+◌, ◌^◌, ◌<◌, ◌≤◌, Bool, true, false, not, nat_lt, List, [], ◌∷◌, ◌++◌, length, codes, take, drop, position, slice_index, Option, Some, None, inl, inr, refl, sym, ap, ◌∙◌, subst, arith, if◌then◌else◌, append_assoc, append-nil, length-append, length-take}
 use Rattle.std.specs.Fmt.{decimal}
 use Rattle.std.specs.List.{All}
 use Rattle.std.proofs.lemmas.Bool.{eqb-true}
@@ -7,12 +7,13 @@ use Rattle.std.proofs.lemmas.Bool.Decides.{nat_tests}
 use Rattle.std.proofs.lemmas.List.{drop_more, take-append-drop}
 use Rattle.std.proofs.lemmas.List.Elements.{All-cons, All-nil}
 use Rattle.ow_day.specs.Limits.{most_line}
-use Rattle.ow_day.specs.Statement.{Statement, At, Call, Ask, Next, Answer, Drain, End, Reading, Whole, Asks, line_of}
-use Rattle.ow_day.specs.Day.{Day, First, Found, Wrong, Cut, asked, at_end, behind_line, day_from, day_of, day_step, first_in, first_statement, going_on, has_more, line_at, window}
-use Rattle.ow_day.specs.Printed.{HasNo, IsPrintable, IsPrintedAt, printed}
+use Rattle.ow_day.specs.Statement.{Statement, At, Call, Ask, Next, Answer, Logged, Exit, NoStart, Fault, Drain, End, Reading, Whole, Asks, Logs, line_of}
+use Rattle.ow_day.specs.Day.{Day, First, Found, Wrong, Cut, Lines, LinesAre, NoLines, CutLines, lines_in, logged, asked, at_end, behind_line, day_from, day_of, day_step, first_in, first_statement, going_on, has_more, line_at, window}
+use Rattle.ow_day.specs.Printed.{HasNo, IsLogLine, IsPrintable, IsPrintedAt, logs_head, printed, printed_logs}
 use Rattle.ow_day.proofs.Choices.{either}
 use Rattle.ow_day.proofs.Lines.{IsWritten, line_written}
 use Rattle.ow_day.proofs.Parting.{nowhere, split_at}
+use Rattle.ow_day.proofs.PrintedLogs.{ArePrinted, lines_printed, of_nothing}
 
 not_wrong : (s : Statement) (later : List ℕ) → Wrong ≡ Found s later → ⊥
 not_wrong s later e = cc
@@ -82,6 +83,27 @@ ask_printed line bytes later s count written found =
       ],
     )
 
+logged_by : (run : ℕ) (text later : List ℕ) (lines : Lines) (s : Statement) → logged run text lines ≡ Found s later → (logs : List (List ℕ)) × (lines ≡ LinesAre logs later) × (Logged run text logs ≡ s)
+logged_by run text later NoLines s e = absurd (not_wrong s later e)
+logged_by run text later CutLines s e = absurd (not_cut s later e)
+logged_by run text later (LinesAre logs rest) s e =
+    let same = same_found (Logged run text logs) s rest later e in
+    (logs, ap (LinesAre logs) same.1, same.0)
+
+logs_printed : (line rest later : List ℕ) (run count : ℕ) (text : List ℕ) (logs : List (List ℕ)) → IsWritten line (Logs run count text) → ArePrinted count rest logs later
+    → IsPrintable (Logged run text logs) × IsPrintedAt (line ++ 10 ∷ rest) (Logged run text logs) later
+unfolding printed
+logs_printed line rest later run count text logs written p =
+    let head : line ≡ logs_head run (length logs) text = written.4 ∙ ap (λ n. logs_head run n text) (sym p.size) in
+    let few : length logs < 2 ^ 64 = rw p.size written.1 in
+    let fits : length (logs_head run (length logs) text) ≤ most_line = subst (λ l. length l ≤ most_line) head written.3 in (
+      (written.0, few, written.2, fits, p.all),
+      elim p.ends [
+        | inl before ↦ inl ((λ i. head i ++ before i) ∙ sym (append_assoc (logs_head run (length logs) text) (printed_logs logs) (10 ∷ later)))
+        | inr last ↦ inr (last.0, inl (λ i. head i ++ last.1 i))
+      ],
+    )
+
 behind_by : (more : Bool) (line rest later : List ℕ) (s : Statement) (o : Option Reading) → line_of line ≡ o → HasNo 10 line → behind_line more o rest ≡ Found s later → IsPrintable s × IsPrintedAt (line ++ 10 ∷ rest) s later
 behind_by more line rest later s None is none e = absurd (not_wrong s later e)
 behind_by more line rest later s (Some (Whole t)) is none e =
@@ -90,6 +112,10 @@ behind_by more line rest later s (Some (Whole t)) is none e =
     (subst IsPrintable same.0 written.0, inl (λ i. (written.1 ∙ ap printed same.0) i ++ 10 ∷ same.1 i))
 behind_by more line rest later s (Some (Asks count)) is none e =
     ask_printed line rest later s count (line_written line (Asks count) none is) (asked_read more count rest later s e)
+behind_by more line rest later s (Some (Logs run count text)) is none e =
+    let found = logged_by run text later (lines_in more count rest) s e in
+    subst (λ t. IsPrintable t × IsPrintedAt (line ++ 10 ∷ rest) t later) found.2
+    (logs_printed line rest later run count text found.0 (line_written line (Logs run count text) none is) (lines_printed more count rest found.0 later found.1))
 
 -- ---- the last line of a day
 
@@ -115,6 +141,14 @@ last_by more line later s (Some (Asks count)) is none e =
     let last = last_asked count s later (asked_read more count [] later s e) in
     subst (λ t. IsPrintable t × IsPrintedAt line t later) last.0
     (omega arith, inr (last.2, inr (ap (λ l. l ++ 10 ∷ []) (written.1 ∙ ap (λ n. codes "ask " ++ decimal n) last.1) ∙ append_assoc (codes "ask ") (decimal 0) (10 ∷ []))))
+last_by more line later s (Some (Logs run count text)) is none e =
+    let found = logged_by run text later (lines_in more count []) s e in
+    let none_left = of_nothing more count found.0 later found.1 in
+    let written = line_written line (Logs run count text) none is in
+    let head : line ≡ logs_head run 0 text = written.4 ∙ ap (λ n. logs_head run n text) none_left.0 in
+    let fits : length (logs_head run 0 text) ≤ most_line = subst (λ l. length l ≤ most_line) head written.3 in
+    subst (λ t. IsPrintable t × IsPrintedAt line t later) (ap (Logged run text) (sym none_left.1) ∙ found.2)
+    ((written.0, omega arith, written.2, fits, All-nil IsLogLine), inr (none_left.2, inl (head ∙ sym (append-nil (logs_head run 0 text)))))
 
 -- ---- every statement
 
@@ -141,6 +175,10 @@ goes_on (Call name text) day can rest = All-cons IsPrintable (Call name text) da
 goes_on (Ask request) day can rest = All-cons IsPrintable (Ask request) day.statements can rest
 goes_on Next day can rest = All-cons IsPrintable Next day.statements can rest
 goes_on (Answer run text) day can rest = All-cons IsPrintable (Answer run text) day.statements can rest
+goes_on (Logged run text logs) day can rest = All-cons IsPrintable (Logged run text logs) day.statements can rest
+goes_on (Exit run code) day can rest = All-cons IsPrintable (Exit run code) day.statements can rest
+goes_on (NoStart run text) day can rest = All-cons IsPrintable (NoStart run text) day.statements can rest
+goes_on (Fault run) day can rest = All-cons IsPrintable (Fault run) day.statements can rest
 goes_on Drain day can rest = All-cons IsPrintable Drain day.statements can rest
 
 step_by : (more : Bool) (n : ℕ) (bytes : List ℕ) (f : First) (then' : List ℕ → Day) → first_statement more bytes ≡ f → ((rest : List ℕ) → All IsPrintable (then' rest).statements)

@@ -2,8 +2,7 @@
 use Rattle.std.specs.Prelude.{◌+◌, ◌++◌, ◌==◌, ◌&&◌, ℕ, Bool, true, false, not, nat_lt, List, [], ◌∷◌, Option, Some, None, if◌then◌else◌, length, take, drop, position, slice_index}
 use Rattle.std.proofs.Common.{zero, suc}
 use Rattle.ow_day.specs.Limits.{most_bytes, most_line}
-use Rattle.ow_day.specs.Input.{is_newline}
-use Rattle.ow_day.specs.Statement.{Statement, Ask, End, Reading, Whole, Asks, line_of}
+use Rattle.ow_day.specs.Statement.{Statement, Ask, Logged, End, Reading, Whole, Asks, Logs, is_newline, line_of, utf8_text}
 
 pub data DayEnd : Type 0 where
   Finished : DayEnd
@@ -36,6 +35,54 @@ abbrev pub line_at : Bool → List ℕ → Option ℕ → Option (List ℕ × Li
 line_at more bytes (Some k) = Some (take k bytes, drop (k + 1) bytes)
 line_at more bytes None = if not (nat_lt most_line (length bytes)) && more then None else Some (bytes, [])
 
+-- ---- lines of logs
+
+-- the first line of logs that stands in bytes, and what follows it; or that there is none; or that it is cut
+pub data FirstLine : Type 0 where
+  LineIs : (line rest : List ℕ) → FirstLine
+  NoLine : FirstLine
+  CutLine : FirstLine
+
+-- so many lines of logs and what follows them; or that one of them is none; or that they are cut
+pub data Lines : Type 0 where
+  LinesAre : (lines : List (List ℕ)) (rest : List ℕ) → Lines
+  NoLines : Lines
+  CutLines : Lines
+
+-- a line is UTF-8, and no longer than any line
+abbrev pub log_text : List ℕ → Option (List ℕ)
+log_text line = if nat_lt most_line (length line) then None else utf8_text line
+
+abbrev pub line_with : Option (List ℕ) → List ℕ → FirstLine
+line_with None rest = NoLine
+line_with (Some line) rest = LineIs line rest
+
+abbrev pub line_in : Option (List ℕ × List ℕ) → FirstLine
+line_in None = CutLine
+line_in (Some parts) = line_with (log_text parts.0) parts.1
+
+-- a newline ends a line, or the end of the day, in front of which the line has at least a byte
+unfoldable pub first_line : Bool → List ℕ → FirstLine
+first_line more bytes = if length bytes == 0 then (if more then CutLine else NoLine)
+    else line_in (line_at more bytes (position is_newline bytes))
+
+abbrev pub with_line : List ℕ → Lines → Lines
+with_line line (LinesAre lines rest) = LinesAre (line ∷ lines) rest
+with_line line NoLines = NoLines
+with_line line CutLines = CutLines
+
+abbrev pub lines_step : FirstLine → (List ℕ → Lines) → Lines
+lines_step CutLine then' = CutLines
+lines_step NoLine then' = NoLines
+lines_step (LineIs line rest) then' = with_line line (then' rest)
+
+-- the first lines of bytes, so many
+unfoldable pub lines_in : Bool → ℕ → List ℕ → Lines
+lines_in more zero bytes = LinesAre [] bytes
+lines_in more (suc count) bytes = lines_step (first_line more bytes) (λ rest. lines_in more count rest)
+
+-- ---- statements
+
 -- what is so only at the end of the day
 abbrev pub at_end : Bool → First → First
 at_end true first = Cut
@@ -47,11 +94,18 @@ asked more count bytes = if nat_lt (length bytes) count then at_end more Wrong
     else (if length bytes == count then at_end more (Found (Ask bytes) [])
     else (if slice_index bytes count == 10 then Found (Ask (take count bytes)) (drop (count + 1) bytes) else Wrong))
 
+-- these lines are told beside a runner's answer
+abbrev pub logged : ℕ → List ℕ → Lines → First
+logged run text (LinesAre lines rest) = Found (Logged run text lines) rest
+logged run text NoLines = Wrong
+logged run text CutLines = Cut
+
 -- what a line and the bytes behind it begin with
 abbrev pub behind_line : Bool → Option Reading → List ℕ → First
 behind_line more None rest = Wrong
 behind_line more (Some (Whole statement)) rest = Found statement rest
 behind_line more (Some (Asks count)) rest = asked more count rest
+behind_line more (Some (Logs run count text)) rest = logged run text (lines_in more count rest)
 
 abbrev pub first_in : Bool → Option (List ℕ × List ℕ) → First
 first_in more None = Cut

@@ -1,7 +1,9 @@
 -- What was read of a day and isn't carried out yet.
-use Rattle.std.specs.Prelude.{◌≡◌, ◌==◌, ◌≤◌, ◌<◌, ◌+◌, ◌-◌, ◌++◌, ℕ, Bool, List, [], Option, Some, None, Result, Ok, Err, IfSome, length, take, drop, position}
+use Rattle.std.specs.Prelude.{◌≡◌, ◌≤◌, ◌<◌, ◌+◌, ◌-◌, ◌++◌, ℕ, List, [], Option, Some, None, Result, Ok, Err, IfSome, length, drop}
 use Rattle.std.specs.Option.{option_map}
 use Rattle.ow_day.specs.Limits.{most_bytes, most_piece}
+use Rattle.ow_day.specs.Search.{IsSearched}
+use Rattle.ow_day.specs.declared.search.Search.{Search}
 use Rattle.ow_day.specs.declared.input.Filled.{Filled}
 use Rattle.ow_day.specs.declared.input.Filled.TheVariants.{More, End, Past}
 use Rattle.ow_day.specs.declared.input.FillError.{FillError}
@@ -11,14 +13,10 @@ pub record InputView : Type 0 where
   pub pending : List ℕ
   pub taken : ℕ
 
-abbrev pub is_newline : ℕ → Bool
-is_newline c = c == 10
-
--- the bytes from `start` on wait, and up to `searched` no newline stands among them
-pub record IsInput (bytes : List ℕ) (start searched taken : ℕ) (room : List ℕ) : Type 0 where
-  pub begins : start ≤ searched
-  pub within : searched ≤ length bytes
-  pub none : position is_newline (take (searched - start) (drop start bytes)) ≡ None
+-- the bytes from `start` on wait, and were searched so far
+pub record IsInput (bytes : List ℕ) (start : ℕ) (search : Search) (taken : ℕ) (room : List ℕ) : Type 0 where
+  pub within : start ≤ length bytes
+  pub searched : IsSearched (drop start bytes) search
   pub read : length bytes - start ≤ taken
   pub most : taken ≤ most_bytes
   pub piece : length room ≡ most_piece

@@ -1,6 +1,9 @@
 pub mod Limits
 pub mod Statement
+pub mod Day
 pub mod Line
+pub mod Logs
+pub mod Search
 pub mod Input
 pub mod Status
 pub mod Words
@@ -8,7 +11,6 @@ pub mod Texts
 pub mod CallWords
 pub mod Machine
 pub mod Session
-pub mod Day
 pub mod Printed
 pub mod First
 pub mod Office

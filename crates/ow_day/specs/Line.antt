@@ -1,9 +1,20 @@
 -- A line and a statement of the code as the day's definition has them.
+use Rattle.std.specs.Prelude.{ℕ, List, [], false}
 use Rattle.ow_day.specs.declared.line.Statement as code
 use Rattle.ow_day.specs.declared.line.Statement.TheVariants as statements
 use Rattle.ow_day.specs.declared.line.Line.{Line}
 use Rattle.ow_day.specs.declared.line.Line.TheVariants as lines
-use Rattle.ow_day.specs.Statement.{Statement, At, Call, Ask, Next, Answer, Drain, End, Reading, Whole, Asks}
+use Rattle.ow_day.specs.Statement.{Statement, At, Call, Ask, Next, Answer, Logged, Exit, NoStart, Fault, Drain, End, Reading, Whole, Asks, Logs}
+use Rattle.ow_day.specs.Day.{Lines, LinesAre, NoLines, CutLines, lines_in}
+
+abbrev pub read_lines : Lines → List (List ℕ)
+read_lines (LinesAre lines rest) = lines
+read_lines NoLines = []
+read_lines CutLines = []
+
+-- the lines of logs at the front of bytes, so many
+abbrev pub lines_of : ℕ → List ℕ → List (List ℕ)
+lines_of count bytes = read_lines (lines_in false count bytes)
 
 abbrev pub statement : code.Statement → Statement
 statement (statements.At moment) = At moment
@@ -11,9 +22,14 @@ statement (statements.Call name text) = Call name.now text.now
 statement (statements.Ask request) = Ask request.now
 statement statements.Next = Next
 statement (statements.Answer run text) = Answer run text.now
+statement (statements.Logged run text count logs) = Logged run text.now (lines_of count logs.now)
+statement (statements.Exit run code) = Exit run code
+statement (statements.NoStart run text) = NoStart run text.now
+statement (statements.Fault run) = Fault run
 statement statements.Drain = Drain
 statement statements.End = End
 
 abbrev pub reading : Line → Reading
 reading (lines.Whole s) = Whole (statement s)
 reading (lines.Asks count) = Asks count
+reading (lines.Logs run count text) = Logs run count text.now

@@ -1,5 +1,5 @@
 -- The plain machine of a day: what comes of each statement over the book so far, what is written for it, and what is booked.
-use Rattle.std.specs.Prelude.{◌≡◌, ◌++◌, ℕ, List, [], ◌∷◌, None, Result, Ok, Err}
+use Rattle.std.specs.Prelude.{◌≡◌, ◌++◌, ℕ, pos, List, [], ◌∷◌, None, Result, Ok, Err}
 use Rattle.ow_traits.specs.declared.replies.RunReply.TheVariants as runs
 use Rattle.ow_http.specs.Read.{IsRead}
 use Rattle.ow_http.specs.Refused.{refusal_of}
@@ -22,7 +22,7 @@ use Rattle.ow_day.specs.declared.call_words.CallWords.TheVariants as calls
 use Rattle.ow_day.specs.declared.done.Done.{Done}
 use Rattle.ow_day.specs.declared.done.Done.TheVariants.{Silent, Refused, Asked, Called, Ordered, Answered, NoRun, Drained}
 use Rattle.ow_day.specs.CallWords.{called}
-use Rattle.ow_day.specs.Statement.{Statement, At, Call, Ask, Next, Answer, Drain, End}
+use Rattle.ow_day.specs.Statement.{Statement, At, Call, Ask, Next, Answer, Logged, Exit, NoStart, Fault, Drain, End}
 use Rattle.ow_day.specs.Texts.{lines_of}
 
 -- the office table, the book so far, and the moment that the day gave last
@@ -80,6 +80,10 @@ Does M (Call name text) done N = Calls M (called (is_full (counted M.ledger.entr
 Does M (Ask bytes) done N = (read : Result Request HttpRefusal) × IsRead bytes read × Asks M read done N
 Does M Next done N = Meets M events.Next done N
 Does M (Answer run text) done N = Meets M (events.Answered run (runs.Answer text [])) done N
+Does M (Logged run text logs) done N = Meets M (events.Answered run (runs.Answer text logs)) done N
+Does M (Exit run code) done N = Meets M (events.Answered run (runs.Exit (pos code) [])) done N
+Does M (NoStart run text) done N = Meets M (events.Answered run (runs.NoStart text)) done N
+Does M (Fault run) done N = Meets M (events.Answered run runs.Fault) done N
 Does M Drain done N = Meets M events.Drain done N
 Does M End done N = (done ≡ Silent) × (N ≡ M)
 

@@ -5,8 +5,17 @@ use Rattle.std.specs.List.{All, flat_map}
 use Rattle.std.specs.Str.{IsUtf8}
 use Rattle.ow_hall.specs.History.{greatest_moment}
 use Rattle.ow_day.specs.Limits.{most_line}
-use Rattle.ow_day.specs.Statement.{Statement, At, Call, Ask, Next, Answer, Drain, End}
+use Rattle.ow_day.specs.Statement.{Statement, At, Call, Ask, Next, Answer, Logged, Exit, NoStart, Fault, Drain, End}
 use Rattle.ow_day.specs.Day.{Finished, Found, first_statement, day_of}
+
+-- the lines of logs, each with a newline in front
+abbrev pub printed_logs : List (List ℕ) → List ℕ
+printed_logs [] = []
+printed_logs (line ∷ lines) = codes "\n" ++ (line ++ printed_logs lines)
+
+-- the line in front of so many lines of logs
+abbrev pub logs_head : ℕ → ℕ → List ℕ → List ℕ
+logs_head run count text = codes "logged " ++ (decimal run ++ (codes " " ++ (decimal count ++ (codes " " ++ text))))
 
 -- a statement, without the newline behind it
 unfoldable pub printed : Statement → List ℕ
@@ -15,6 +24,10 @@ printed (Call name text) = codes "call " ++ (name ++ (codes " " ++ text))
 printed (Ask request) = codes "ask " ++ (decimal (length request) ++ (codes "\n" ++ request))
 printed Next = codes "next"
 printed (Answer run text) = codes "answer " ++ (decimal run ++ (codes " " ++ text))
+printed (Logged run text logs) = logs_head run (length logs) text ++ printed_logs logs
+printed (Exit run code) = codes "exit " ++ (decimal run ++ (codes " " ++ decimal code))
+printed (NoStart run text) = codes "nostart " ++ (decimal run ++ (codes " " ++ text))
+printed (Fault run) = codes "fault " ++ decimal run
 printed Drain = codes "drain"
 printed End = codes "end"
 
@@ -38,21 +51,41 @@ pub record IsWord (word : List ℕ) : Type 0 where
   pub space : HasNo 32 word
   pub some : 0 < length word
 
+-- such a text that is no longer than a line
+pub record IsLogLine (line : List ℕ) : Type 0 where
+  pub text : IsLineText line
+  pub most : length line ≤ most_line
+
 abbrev pub IsPrintable : Statement → Type 0
 IsPrintable (At moment) = moment ≤ greatest_moment
 IsPrintable (Call name text) = IsWord name × IsLineText text × (length (printed (Call name text)) ≤ most_line)
 IsPrintable (Ask request) = length request ≤ most_line
 IsPrintable Next = Unit {0}
 IsPrintable (Answer run text) = (run < 2 ^ 64) × IsLineText text × (length (printed (Answer run text)) ≤ most_line)
+IsPrintable (Logged run text logs) = (run < 2 ^ 64) × (length logs < 2 ^ 64) × IsLineText text × (length (logs_head run (length logs) text) ≤ most_line) × All IsLogLine logs
+IsPrintable (Exit run code) = (run < 2 ^ 64) × (code ≤ 255)
+IsPrintable (NoStart run text) = (run < 2 ^ 64) × IsLineText text × (length (printed (NoStart run text)) ≤ most_line)
+IsPrintable (Fault run) = run < 2 ^ 64
 IsPrintable Drain = Unit {0}
 IsPrintable End = Unit {0}
 
 -- ---- what is printed is read back
 
+-- there are no lines of logs, or the last has a byte: without a newline an empty one isn't there
+abbrev pub EndsInByte : List (List ℕ) → Type 0
+EndsInByte [] = Unit {0}
+EndsInByte (line ∷ []) = 0 < length line
+EndsInByte (line ∷ next ∷ lines) = EndsInByte (next ∷ lines)
+
+-- the statement may end a day that has no newline behind it
+abbrev pub MayEndDay : Statement → Type 0
+MayEndDay (Logged run text logs) = EndsInByte logs
+MayEndDay other = Unit {0}
+
 -- the statement is found where it is printed, before other lines and as the last of a day
 pub record IsReadBack (s : Statement) : Type 0 where
   pub first : (more : Bool) (later : List ℕ) → first_statement more (printed s ++ (codes "\n" ++ later)) ≡ Found s later
-  pub last : first_statement false (printed s) ≡ Found s []
+  pub last : MayEndDay s → first_statement false (printed s) ≡ Found s []
 
 -- the bytes are the statement as it is printed, a newline and what comes later; or they are the last of a day. The line
 -- of a last `ask` of no bytes may end there without its newline

@@ -1,5 +1,5 @@
 -- The statements of a day file, and what its lines are.
-use Rattle.std.specs.Prelude.{◌==◌, ◌+◌, ℕ, nat_lt, List, Option, Some, None, if◌then◌else◌, length, take, drop, position, codes}
+use Rattle.std.specs.Prelude.{◌==◌, ◌+◌, ℕ, Bool, nat_lt, List, Option, Some, None, if◌then◌else◌, length, take, drop, position, codes}
 use Rattle.std.specs.Str.{bytes_eq, is_utf8}
 use Rattle.ow_value.specs.Decimal.{decimal_of}
 use Rattle.ow_hall.specs.History.{greatest_moment}
@@ -11,13 +11,22 @@ pub data Statement : Type 0 where
   Ask : (request : List ℕ) → Statement
   Next : Statement
   Answer : (run : ℕ) (text : List ℕ) → Statement
+  Logged : (run : ℕ) (text : List ℕ) (logs : List (List ℕ)) → Statement
+  Exit : (run code : ℕ) → Statement
+  NoStart : (run : ℕ) (text : List ℕ) → Statement
+  Fault : (run : ℕ) → Statement
   Drain : Statement
   End : Statement
 
--- what a line is: a whole statement, or the head of one that asks by so many bytes behind it
+-- what a line is: a whole statement, or the head of one that asks by so many bytes behind it, or tells so many lines of
+-- logs there
 pub data Reading : Type 0 where
   Whole : (statement : Statement) → Reading
   Asks : (count : ℕ) → Reading
+  Logs : (run count : ℕ) (text : List ℕ) → Reading
+
+abbrev pub is_newline : ℕ → Bool
+is_newline c = c == 10
 
 abbrev pub parted_at : List ℕ → Option ℕ → Option (List ℕ × List ℕ)
 parted_at line None = None
@@ -44,18 +53,77 @@ call_in (Some parts) = if length parts.0 == 0 then None else called (utf8_text p
 unfoldable pub call_of : List ℕ → Option Reading
 call_of rest = call_in (parted rest)
 
-abbrev pub answered : Option ℕ → Option (List ℕ) → Option Reading
-answered None text = None
-answered (Some run) None = None
-answered (Some run) (Some text) = Some (Whole (Answer run text))
+abbrev pub with_number : Option ℕ → List ℕ → Option (ℕ × List ℕ)
+with_number None text = None
+with_number (Some n) text = Some (n, text)
 
-abbrev pub answer_in : Option (List ℕ × List ℕ) → Option Reading
+abbrev pub numbered_in : Option (List ℕ × List ℕ) → Option (ℕ × List ℕ)
+numbered_in None = None
+numbered_in (Some parts) = with_number (decimal_of parts.0) parts.1
+
+-- the number in front of the first space, and what follows the space
+unfoldable pub numbered : List ℕ → Option (ℕ × List ℕ)
+numbered rest = numbered_in (parted rest)
+
+abbrev pub answered : ℕ → Option (List ℕ) → Option Reading
+answered run None = None
+answered run (Some text) = Some (Whole (Answer run text))
+
+abbrev pub answer_in : Option (ℕ × List ℕ) → Option Reading
 answer_in None = None
-answer_in (Some parts) = answered (decimal_of parts.0) (utf8_text parts.1)
+answer_in (Some parts) = answered parts.0 (utf8_text parts.1)
 
 -- `answer RUN TEXT`
 unfoldable pub answer_of : List ℕ → Option Reading
-answer_of rest = answer_in (parted rest)
+answer_of rest = answer_in (numbered rest)
+
+abbrev pub unstarted : ℕ → Option (List ℕ) → Option Reading
+unstarted run None = None
+unstarted run (Some text) = Some (Whole (NoStart run text))
+
+abbrev pub no_start_in : Option (ℕ × List ℕ) → Option Reading
+no_start_in None = None
+no_start_in (Some parts) = unstarted parts.0 (utf8_text parts.1)
+
+-- `nostart RUN TEXT`
+unfoldable pub no_start_of : List ℕ → Option Reading
+no_start_of rest = no_start_in (numbered rest)
+
+abbrev pub logged : ℕ → ℕ → Option (List ℕ) → Option Reading
+logged run count None = None
+logged run count (Some text) = Some (Logs run count text)
+
+abbrev pub logs_in : ℕ → Option (ℕ × List ℕ) → Option Reading
+logs_in run None = None
+logs_in run (Some parts) = logged run parts.0 (utf8_text parts.1)
+
+abbrev pub logged_in : Option (ℕ × List ℕ) → Option Reading
+logged_in None = None
+logged_in (Some parts) = logs_in parts.0 (numbered parts.1)
+
+-- `logged RUN COUNT TEXT`
+unfoldable pub logged_of : List ℕ → Option Reading
+logged_of rest = logged_in (numbered rest)
+
+abbrev pub exited : ℕ → Option ℕ → Option Reading
+exited run None = None
+exited run (Some code) = if nat_lt 255 code then None else Some (Whole (Exit run code))
+
+abbrev pub exit_in : Option (ℕ × List ℕ) → Option Reading
+exit_in None = None
+exit_in (Some parts) = exited parts.0 (decimal_of parts.1)
+
+-- `exit RUN CODE`: a program's status, up to 255
+unfoldable pub exit_of : List ℕ → Option Reading
+exit_of rest = exit_in (numbered rest)
+
+abbrev pub failed : Option ℕ → Option Reading
+failed None = None
+failed (Some run) = Some (Whole (Fault run))
+
+-- `fault RUN`
+unfoldable pub fault_of : List ℕ → Option Reading
+fault_of rest = failed (decimal_of rest)
 
 abbrev pub at_moment : Option ℕ → Option Reading
 at_moment None = None
@@ -73,12 +141,19 @@ asks_for (Some count) = if nat_lt most_line count then None else Some (Asks coun
 unfoldable pub ask_of : List ℕ → Option Reading
 ask_of rest = asks_for (decimal_of rest)
 
+-- the line of another reply of a runner
+unfoldable pub reply_of : List ℕ → List ℕ → Option Reading
+reply_of word rest = if bytes_eq word (codes "logged") then logged_of rest
+    else (if bytes_eq word (codes "exit") then exit_of rest
+    else (if bytes_eq word (codes "nostart") then no_start_of rest
+    else (if bytes_eq word (codes "fault") then fault_of rest else None)))
+
 -- the line that begins with this word, and goes on with the rest
 unfoldable pub worded : List ℕ → List ℕ → Option Reading
 worded word rest = if bytes_eq word (codes "call") then call_of rest
     else (if bytes_eq word (codes "answer") then answer_of rest
     else (if bytes_eq word (codes "at") then at_of rest
-    else (if bytes_eq word (codes "ask") then ask_of rest else None)))
+    else (if bytes_eq word (codes "ask") then ask_of rest else reply_of word rest)))
 
 abbrev pub worded_in : Option (List ℕ × List ℕ) → Option Reading
 worded_in None = None

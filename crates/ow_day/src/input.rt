@@ -1,8 +1,11 @@
 // The bytes of a day as they come: read in pieces, kept until they are carried out.
-ghost use Rattle.std.specs.Prelude.{◌≡◌, ◌==◌, ◌≤◌, ◌<◌, ◌+◌, ◌-◌, [], length, drop, position, vec_capacity, vec_len, IfOk, OnOk, OnErr, Err, ◌++◌};
+ghost use Rattle.std.specs.Prelude.{◌≡◌, ◌≤◌, ◌<◌, ◌+◌, ◌-◌, [], length, drop, position, vec_capacity, vec_len, IfOk, OnOk, OnErr, Err, ◌++◌};
 ghost use Rattle.ow_traits.specs.Streams.{Rose};
-ghost use Rattle.ow_day.specs.Input.{Fills, IsPast, ReadsBehind, is_newline};
+ghost use Rattle.ow_day.specs.Input.{Fills, IsPast, ReadsBehind};
+ghost use Rattle.ow_day.specs.Search.{Awaits, IsCut};
+ghost use Rattle.ow_day.specs.Statement.{is_newline};
 
+use crate::search::{Search, go_over, search_lines, search_on};
 use ow_traits::{Source, read_some};
 use std::alloc::Global;
 use std::marker::Model;
@@ -19,8 +22,8 @@ pub struct Input {
     // Those that wait, behind the first `start`, which are carried out.
     bytes: Vec<u8>,
     start: usize,
-    // Between `start` and this place no newline stands.
-    searched: usize,
+    // How far those that wait were searched.
+    search: Search,
     // How many bytes were read in all.
     taken: usize,
     // Each piece is read into it.
@@ -35,7 +38,7 @@ impl Model for Input {
 
     ghost view = { λ i. record { pending = drop i.start i.bytes.items; taken = i.taken } };
 
-    ghost invariant = { λ i. IsInput i.bytes.items i.start i.searched i.taken i.room.items };
+    ghost invariant = { λ i. IsInput i.bytes.items i.start i.search i.taken i.room.items };
 }
 
 /// What a read found.
@@ -70,7 +73,7 @@ impl Input {
         Ok(Input {
             bytes: Vec::new(alloc),
             start: 0,
-            searched: 0,
+            search: Search::new(),
             taken: 0,
             room,
         })
@@ -95,13 +98,32 @@ impl Input {
         ensures place { result ≡ position is_newline self.old.pending }
         ensures same { self.new ≡ self.old }
     {
-        match newline_in(&self.bytes[self.searched..]) {
-            Some(place) => Some(self.searched - self.start + place),
-            None => {
-                self.searched = self.bytes.len();
-                None
-            }
+        let (place, search) = search_on(&self.bytes[self.start..], self.search);
+        self.search = search;
+        place
+    }
+
+    /// The first statement awaits so many lines of logs, of which the first begins at this place.
+    pub fn await_lines(&mut self, line: usize, left: u64)
+        requires within { line ≤ length self.old.pending }
+        requires awaits { Awaits self.old.pending line left }
+        ensures same { self.new ≡ self.old }
+    {
+        self.search = search_lines(&self.bytes[self.start..], line, left);
+    }
+
+    /// Whether the first statement is known to be cut, where `more` bytes may come. No byte of the lines that it awaits
+    /// is searched again.
+    pub fn is_cut(&mut self, more: bool) -> bool
+        ensures cut { IsCut more self.old.pending result }
+        ensures same { self.new ≡ self.old }
+    {
+        if !more {
+            return false;
         }
+        let (cut, search) = go_over(&self.bytes[self.start..], self.search);
+        self.search = search;
+        cut
     }
 
     /// Lets go of the first `n` bytes that wait.
@@ -111,7 +133,7 @@ impl Input {
         ensures taken { self.new.taken ≡ self.old.taken }
     {
         self.start += n;
-        self.searched = self.start;
+        self.search = Search::new();
     }
 
     // Moves the bytes that wait to the front of their memory.
@@ -121,10 +143,8 @@ impl Input {
         if self.start == 0 {
             return;
         }
-        let searched = self.searched - self.start;
         drop_front(&mut self.bytes, self.start);
         self.start = 0;
-        self.searched = searched;
     }
 
     /// Reads a piece of what is left of the day, in one call of the source.
@@ -194,12 +214,6 @@ fn read_past<S: Source>(source: &mut S, room: &mut [u8]) -> Result<Filled, FillE
         Ok(_) => Ok(Filled::Past),
         Err(_) => Err(FillError::Failed),
     }
-}
-
-fn newline_in(bytes: &[u8]) -> Option<usize>
-    ensures { result ≡ position is_newline bytes.now }
-{
-    bytes.iter().position(|c| *c == b'\n')
 }
 
 // Takes the first `n` bytes out.

@@ -1,7 +1,7 @@
 // The lines of a day, and the statements that they are.
 ghost use Rattle.std.specs.Prelude.{◌≡◌, ◌==◌, position};
 ghost use Rattle.std.specs.Option.{option_map};
-ghost use Rattle.ow_day.specs.Statement.{answer_of, ask_of, at_of, call_of, line_of, parted, utf8_text, worded};
+ghost use Rattle.ow_day.specs.Statement.{answer_of, ask_of, at_of, call_of, exit_of, fault_of, line_of, logged_of, no_start_of, numbered, parted, reply_of, utf8_text, worded};
 ghost use Rattle.ow_day.specs.Line.{reading};
 
 use ow_hall::GREATEST_MOMENT;
@@ -26,6 +26,14 @@ pub enum Statement<'a> {
     Next,
     /// A runner's answer to the run of this number.
     Answer(u64, &'a str),
+    /// The same, with so many lines of logs at the front of these bytes.
+    Logged(u64, &'a str, u64, &'a [u8]),
+    /// The program of the run of this number ended with this status, and told nothing.
+    Exit(u64, u8),
+    /// What the run of this number was to run did not start, for the reason in the text.
+    NoStart(u64, &'a str),
+    /// The runner of the run of this number failed.
+    Fault(u64),
     /// No more calls are taken from now on.
     Drain,
     /// The day ends.
@@ -39,6 +47,8 @@ pub enum Line<'a> {
     Whole(Statement<'a>),
     /// A request of so many bytes stands behind it.
     Asks(usize),
+    /// An answer of the run of this number, with so many lines of logs behind it.
+    Logs(u64, u64, &'a str),
 }
 
 /// What a line is, which has no newline.
@@ -79,6 +89,26 @@ fn worded<'a>(word: &[u8], rest: &'a [u8]) -> Option<Line<'a>>
     if word == b"ask".as_slice() {
         return ask_of(rest);
     }
+    reply_of(word, rest)
+}
+
+// The line of another reply of a runner.
+#[tactic(auto, unfolding(crate::specs::Statement::reply_of))]
+fn reply_of<'a>(word: &[u8], rest: &'a [u8]) -> Option<Line<'a>>
+    ensures { option_map reading result ≡ reply_of word.now rest.now }
+{
+    if word == b"logged".as_slice() {
+        return logged_of(rest);
+    }
+    if word == b"exit".as_slice() {
+        return exit_of(rest);
+    }
+    if word == b"nostart".as_slice() {
+        return no_start_of(rest);
+    }
+    if word == b"fault".as_slice() {
+        return fault_of(rest);
+    }
     None
 }
 
@@ -99,10 +129,48 @@ fn call_of(rest: &[u8]) -> Option<Line<'_>>
 fn answer_of(rest: &[u8]) -> Option<Line<'_>>
     ensures { option_map reading result ≡ answer_of rest.now }
 {
-    let (number, text) = parted(rest)?;
-    let run = decimal_of(number)?;
+    let (run, text) = numbered(rest)?;
     let text = text_of(text)?;
     Some(Line::Whole(Statement::Answer(run, text)))
+}
+
+#[tactic(auto, unfolding(crate::specs::Statement::no_start_of))]
+fn no_start_of(rest: &[u8]) -> Option<Line<'_>>
+    ensures { option_map reading result ≡ no_start_of rest.now }
+{
+    let (run, text) = numbered(rest)?;
+    let text = text_of(text)?;
+    Some(Line::Whole(Statement::NoStart(run, text)))
+}
+
+#[tactic(auto, unfolding(crate::specs::Statement::logged_of))]
+fn logged_of(rest: &[u8]) -> Option<Line<'_>>
+    ensures { option_map reading result ≡ logged_of rest.now }
+{
+    let (run, rest) = numbered(rest)?;
+    let (count, text) = numbered(rest)?;
+    let text = text_of(text)?;
+    Some(Line::Logs(run, count, text))
+}
+
+#[tactic(auto, unfolding(crate::specs::Statement::exit_of))]
+fn exit_of(rest: &[u8]) -> Option<Line<'_>>
+    ensures { option_map reading result ≡ exit_of rest.now }
+{
+    let (run, code) = numbered(rest)?;
+    let code = decimal_of(code)?;
+    if code > 255 {
+        return None;
+    }
+    Some(Line::Whole(Statement::Exit(run, code as u8)))
+}
+
+#[tactic(auto, unfolding(crate::specs::Statement::fault_of))]
+fn fault_of(rest: &[u8]) -> Option<Line<'_>>
+    ensures { option_map reading result ≡ fault_of rest.now }
+{
+    let run = decimal_of(rest)?;
+    Some(Line::Whole(Statement::Fault(run)))
 }
 
 #[tactic(auto, unfolding(crate::specs::Statement::at_of))]
@@ -127,14 +195,24 @@ fn ask_of(rest: &[u8]) -> Option<Line<'_>>
     Some(Line::Asks(count as usize))
 }
 
-// The bytes as text, where they are UTF-8.
-fn text_of(bytes: &[u8]) -> Option<&str>
+/// The bytes as text, where they are UTF-8.
+pub fn text_of(bytes: &[u8]) -> Option<&str>
     ensures { option_map (λ s. s.now) result ≡ utf8_text bytes.now }
 {
     match std::str::from_utf8(bytes) {
         Ok(text) => Some(text),
         Err(_) => None,
     }
+}
+
+// The number in front of the first space, and what follows the space.
+#[tactic(auto, unfolding(crate::specs::Statement::numbered))]
+fn numbered(rest: &[u8]) -> Option<(u64, &[u8])>
+    ensures { option_map (λ p. (p.0, p.1.now)) result ≡ numbered rest.now }
+{
+    let (number, rest) = parted(rest)?;
+    let number = decimal_of(number)?;
+    Some((number, rest))
 }
 
 // The word up to the first space, and what follows the space.

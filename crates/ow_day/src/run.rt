@@ -59,6 +59,9 @@ impl<P: Keeper + Drop> Run<P> {
         if self.input.len() == 0 {
             return self.without_bytes();
         }
+        if self.input.is_cut(!self.ended) {
+            return Step::Cut;
+        }
         let newline = self.input.newline();
         match first_statement(!self.ended, self.input.pending(), newline) {
             First::Found { statement, used } => {
@@ -71,6 +74,10 @@ impl<P: Keeper + Drop> Run<P> {
             }
             First::Wrong => Step::Bad,
             First::Cut => Step::Cut,
+            First::Awaits { line, left } => {
+                self.input.await_lines(line, left);
+                Step::Cut
+            }
         }
     }
 

@@ -1,16 +1,17 @@
 // A day under way: statements carried out over the hall.
-ghost use Rattle.std.specs.Prelude.{◌≡◌, [], IfOk};
+ghost use Rattle.std.specs.Prelude.{◌≡◌, pos, [], IfOk};
 ghost use Rattle.ow_hall.specs.declared.entry.Event.TheVariants as events;
 ghost use Rattle.ow_http.specs.Read.{IsRead};
 ghost use Rattle.ow_traits.specs.declared.replies.RunReply.TheVariants as replies;
-ghost use Rattle.ow_day.specs.Line.{statement};
+ghost use Rattle.ow_day.specs.Line.{lines_of, statement};
 ghost use Rattle.ow_day.specs.Machine.{Calls, Does, Meets, start, unread};
 ghost use Rattle.ow_day.specs.Session.{CarriesOut, Denies, machine_of};
-ghost use Rattle.ow_day.specs.Statement.{Answer, Ask, At, Call};
+ghost use Rattle.ow_day.specs.Statement.{Answer, Ask, At, Call, Exit, Fault, Logged, NoStart};
 
 use crate::call_words::{CallWords, call_words};
 use crate::done::Done;
 use crate::line::Statement;
+use crate::logs::lines_of;
 use crate::texts::push_done;
 use ow_floor::AnswerRefusal;
 use ow_hall::{Hall, Reply};
@@ -97,6 +98,12 @@ impl<P: Keeper + Drop> Session<P> {
             Statement::Ask(request) => self.ask(alloc, request),
             Statement::Next => self.next(alloc),
             Statement::Answer(run, text) => self.answer(alloc, run, text),
+            Statement::Logged(run, text, count, logs) => {
+                self.logged(alloc, run, text, count, logs)
+            }
+            Statement::Exit(run, code) => self.exit(alloc, run, code),
+            Statement::NoStart(run, text) => self.no_start(alloc, run, text),
+            Statement::Fault(run) => self.reply(alloc, run, RunReply::Fault),
             Statement::Drain => self.drain(alloc),
             Statement::End => Ok(Done::Silent),
         }
@@ -172,6 +179,38 @@ impl<P: Keeper + Drop> Session<P> {
         self.reply(alloc, run, RunReply::Answer { text, logs })
     }
 
+    fn logged(
+        &mut self,
+        alloc: Global,
+        run: u64,
+        text: &str,
+        count: u64,
+        logs: &[u8],
+    ) -> Result<Done, NoMemory>
+        ensures does { IfOk result (λ done. Does (machine_of self.old) (Logged run text.now (lines_of count logs.now)) done (machine_of self.new)) }
+        ensures store { self.new.hall.store ≡ self.old.hall.store }
+    {
+        let text = Str::of(alloc, text)?;
+        let logs = lines_of(alloc, count, logs)?;
+        self.reply(alloc, run, RunReply::Answer { text, logs })
+    }
+
+    fn exit(&mut self, alloc: Global, run: u64, code: u8) -> Result<Done, NoMemory>
+        ensures does { IfOk result (λ done. Does (machine_of self.old) (Exit run code) done (machine_of self.new)) }
+        ensures store { self.new.hall.store ≡ self.old.hall.store }
+    {
+        let ended = exited(code);
+        self.reply(alloc, run, ended)
+    }
+
+    fn no_start(&mut self, alloc: Global, run: u64, text: &str) -> Result<Done, NoMemory>
+        ensures does { IfOk result (λ done. Does (machine_of self.old) (NoStart run text.now) done (machine_of self.new)) }
+        ensures store { self.new.hall.store ≡ self.old.hall.store }
+    {
+        let text = Str::of(alloc, text)?;
+        self.reply(alloc, run, RunReply::NoStart { text })
+    }
+
     fn reply(&mut self, alloc: Global, run: u64, reply: RunReply) -> Result<Done, NoMemory>
         ensures meets { IfOk result (λ done. Meets (machine_of self.old) (events.Answered run reply) done (machine_of self.new)) }
         ensures store { self.new.hall.store ≡ self.old.hall.store }
@@ -216,6 +255,15 @@ fn unread(alloc: Global, refused: HttpRefusal) -> Result<Done, NoMemory>
 {
     let answer = refusal(alloc, &Reason::Http(refused))?;
     Ok(Done::Asked(Reply::Now(answer)))
+}
+
+// The reply of a program that ended with this status, and told nothing.
+fn exited(code: u8) -> RunReply
+    ensures { result ≡ replies.Exit (pos code) [] }
+{
+    let code = i32::from(code);
+    let logs = Lines::new();
+    RunReply::Exit { code, logs }
 }
 
 // Why a runner's reply isn't taken.

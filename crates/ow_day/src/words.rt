@@ -39,6 +39,14 @@ Below each statement stand the forms of its answer.
   answer RUN TEXT    is a runner's answer to that run, of at most 1048576 bytes
                        recorded ID CODE      0 success, 1 it has the name error, 2 no such object
                        refused 29 WHY        no such run is under way
+  logged RUN K TEXT  is such an answer with logs: K lines follow, of at most 8388608 bytes each
+                       recorded, refused     as below answer
+  exit RUN CODE      tells that the run's program ended with this status, up to 255, and no answer
+                       recorded ID 2         or refused, as below answer
+  nostart RUN TEXT   tells why what was to run did not start
+                       recorded ID 3         or refused, as below answer
+  fault RUN          tells that the run's runner failed
+                       recorded ID 3         or refused, as below answer
   drain              takes no more calls from now on
                        drained N             all N that were accepted have ended
                        open N                N have not ended
@@ -47,7 +55,8 @@ Below each statement stand the forms of its answer.
 
 exit status, and its line on standard error:
   0  none            all was carried out
-  1  bad day at N    what stands at the Nth place is no statement; an ask and its bytes are one
+  1  bad day at N    what stands at the Nth place is no statement; an ask and its bytes are one,
+                     as are a logged and its lines
   2  bad words       the command line is none of the three above
   3  read fault      the day could not be read on
   4  write fault     an answer could not be written

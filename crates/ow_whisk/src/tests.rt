@@ -466,6 +466,83 @@ Content-Length: 47\r
     (b"ask\n", b"", Status::BadDay { statement: 1 }),
 ];
 
+// The replies of runners to the runs of one day, and bad ones.
+const RUNS: [(&[u8], &[u8], Status); 14] = [
+    (
+        b"call /whisk.system/utils/echo {}
+call /whisk.system/utils/echo {}
+call /whisk.system/utils/echo {}
+call /whisk.system/utils/echo {}
+next
+next
+next
+next
+exit 4 3
+logged 3 2 {\"error\":1}
+next
+
+nostart 2 no such program
+fault 1
+fault 1
+drain
+",
+        b"accepted 00000000000000000000000000000001
+accepted 00000000000000000000000000000002
+accepted 00000000000000000000000000000003
+accepted 00000000000000000000000000000004
+run 1 00000000000000000000000000000001
+run 2 00000000000000000000000000000002
+run 3 00000000000000000000000000000003
+run 4 00000000000000000000000000000004
+recorded 00000000000000000000000000000004 2
+recorded 00000000000000000000000000000003 1
+recorded 00000000000000000000000000000002 3
+recorded 00000000000000000000000000000001 3
+refused 29 No run 1.
+drained 4
+",
+        Status::Ok,
+    ),
+    (
+        b"logged 7 1 {}\nend\nexit 8 255\nnostart 9 \nfault 10\nlogged 11 0 x",
+        b"refused 29 No run 7.
+refused 29 No run 8.
+refused 29 No run 9.
+refused 29 No run 10.
+refused 29 No run 11.
+",
+        Status::Ok,
+    ),
+    (
+        b"logged 1 2 {}\n\nx",
+        b"refused 29 No run 1.\n",
+        Status::Ok,
+    ),
+    (
+        b"next\nlogged 1 1 {}",
+        b"nothing empty\n",
+        Status::BadDay { statement: 2 },
+    ),
+    (b"logged 1 1 {}\n", b"", Status::BadDay { statement: 1 }),
+    (b"logged 1 2 {}\nx\n", b"", Status::BadDay { statement: 1 }),
+    (
+        b"logged 1 18446744073709551615 {}\nx\n",
+        b"",
+        Status::BadDay { statement: 1 },
+    ),
+    (
+        b"logged 1 1 {}\n\xff\n",
+        b"",
+        Status::BadDay { statement: 1 },
+    ),
+    (b"logged 1 1\nx\n", b"", Status::BadDay { statement: 1 }),
+    (b"logged 1 01 {}\nx\n", b"", Status::BadDay { statement: 1 }),
+    (b"exit 1 256\n", b"", Status::BadDay { statement: 1 }),
+    (b"exit 1\n", b"", Status::BadDay { statement: 1 }),
+    (b"nostart 1\n", b"", Status::BadDay { statement: 1 }),
+    (b"fault 1 \n", b"", Status::BadDay { statement: 1 }),
+];
+
 #[test]
 fn days_are_answered(rt: HostRuntime) -> Result<(), Fail> {
     for (number, (day, text, status)) in CASES.iter().enumerate() {
@@ -485,6 +562,40 @@ fn requests_are_answered(rt: HostRuntime) -> Result<(), Fail> {
             "day {number}"
         );
     }
+    Ok(())
+}
+
+#[test]
+fn runs_are_replied_to(rt: HostRuntime) -> Result<(), Fail> {
+    for (number, (day, text, status)) in RUNS.iter().enumerate() {
+        assert!(rt;
+            is_answered(rt.alloc(), day, text, *status)?,
+            "day {number}"
+        );
+    }
+    Ok(())
+}
+
+// A log line may have 8,388,608 bytes, and one that has more is known before its end.
+#[test]
+fn a_line_of_logs_is_no_longer_than_a_line(rt: HostRuntime) -> Result<(), Fail> {
+    let day = long_day(rt.alloc(), b"logged 1 2 {}\nx\n", 8_388_608, b"\n")?;
+    assert!(rt; ends_in(rt.alloc(), &day, b"refused 29 No run 1.\n")?);
+    let day = long_day(rt.alloc(), b"logged 1 2 {}\nx\n", 8_500_000, b"\n")?;
+    let told = office_over(rt.alloc(), "day", &day, &[], &[])?;
+    assert!(rt; told.status == Status::BadDay { statement: 1 });
+    assert!(rt; told.left > 0);
+    Ok(())
+}
+
+#[test]
+fn many_lines_of_logs_are_read_in_pieces(rt: HostRuntime) -> Result<(), Fail> {
+    let mut day = Vec::from_slice(rt.alloc(), b"logged 1 100000 {}\n")?;
+    for _ in 0..100_000 {
+        day.extend_from_slice(b"a line\n")?;
+    }
+    day.extend_from_slice(b"next\n")?;
+    assert!(rt; is_answered(rt.alloc(), &day, b"refused 29 No run 1.\nnothing empty\n", Status::Ok)?);
     Ok(())
 }
 
@@ -566,6 +677,14 @@ Below each statement stand the forms of its answer.
   answer RUN TEXT    is a runner's answer to that run, of at most 1048576 bytes
                        recorded ID CODE      0 success, 1 it has the name error, 2 no such object
                        refused 29 WHY        no such run is under way
+  logged RUN K TEXT  is such an answer with logs: K lines follow, of at most 8388608 bytes each
+                       recorded, refused     as below answer
+  exit RUN CODE      tells that the run's program ended with this status, up to 255, and no answer
+                       recorded ID 2         or refused, as below answer
+  nostart RUN TEXT   tells why what was to run did not start
+                       recorded ID 3         or refused, as below answer
+  fault RUN          tells that the run's runner failed
+                       recorded ID 3         or refused, as below answer
   drain              takes no more calls from now on
                        drained N             all N that were accepted have ended
                        open N                N have not ended
@@ -574,7 +693,8 @@ Below each statement stand the forms of its answer.
 
 exit status, and its line on standard error:
   0  none            all was carried out
-  1  bad day at N    what stands at the Nth place is no statement; an ask and its bytes are one
+  1  bad day at N    what stands at the Nth place is no statement; an ask and its bytes are one,
+                     as are a logged and its lines
   2  bad words       the command line is none of the three above
   3  read fault      the day could not be read on
   4  write fault     an answer could not be written

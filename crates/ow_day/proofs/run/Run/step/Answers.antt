@@ -9,7 +9,7 @@ returns-then-len-eq0-clause-steps g c = idle_steps c.args.self.now c.without_byt
 
 pub returns-in-Done-clause-steps : goal.returns-in-Done-clause-steps
 returns-in-Done-clause-steps g c =
-    let same = c.newline-newline.ensures.same in
+    let same = c.newline-newline.ensures.same ∙ c.is_cut.ensures.same in
     let within = rw (c.pending.ensures, same) at c.in-Found.ensures.within in
     let some : 0 < length c.args.self.now.input.pending = omega (arith, c.len.ensures, c.if-len-eq0.false) in
     found_steps c.args.self.now _ (statement c.in-Found.statement) c.in-Found.used c.carry_out-step.result c.requires some
@@ -18,7 +18,7 @@ returns-in-Done-clause-steps g c =
 
 pub returns-in_default : goal.returns-in_default
 returns-in_default g c =
-    let same = c.newline-newline.ensures.same in
+    let same = c.newline-newline.ensures.same ∙ c.is_cut.ensures.same in
     let within = rw (c.pending.ensures, same) at c.in-Found.ensures.within in
     let some : 0 < length c.args.self.now.input.pending = omega (arith, c.len.ensures, c.if-len-eq0.false) in
     record {
@@ -32,11 +32,26 @@ returns-in_default g c =
 
 pub returns-in-Wrong-clause-steps : goal.returns-in-Wrong-clause-steps
 returns-in-Wrong-clause-steps g c =
+    let same = c.newline-newline.ensures.same ∙ c.is_cut.ensures.same in
     let some : 0 < length c.args.self.now.input.pending = omega (arith, c.len.ensures, c.if-len-eq0.false) in
-    wrong_ends c.args.self.now _ c.requires.most some (rw (c.pending.ensures, c.newline-newline.ensures.same) at c.in-Wrong.ensures.first) refl refl refl
+    wrong_ends c.args.self.now _ c.requires.most some (rw (c.pending.ensures, same) at c.in-Wrong.ensures.first) refl refl refl
+
+pub returns-then-is_cut-clause-steps : goal.returns-then-is_cut-clause-steps
+returns-then-is_cut-clause-steps g c =
+    let r = c.args.self.now in
+    cut_steps r _ (sym (c.is_cut.ensures.cut c.if-is_cut.true))
+    (ap (λ (i : InputView). record { session = r.session; input = i; ended = r.ended; answers = r.answers; number = r.number }) c.is_cut.ensures.same)
 
 pub returns-in-Cut-clause-steps : goal.returns-in-Cut-clause-steps
 returns-in-Cut-clause-steps g c =
     let r = c.args.self.now in
-    cut_steps c.args.self.now _ (rw (c.pending.ensures, c.newline-newline.ensures.same) at c.in-Cut.ensures.first)
-    (ap (λ (i : InputView). record { session = r.session; input = i; ended = r.ended; answers = r.answers; number = r.number }) c.newline-newline.ensures.same)
+    let same = c.newline-newline.ensures.same ∙ c.is_cut.ensures.same in
+    cut_steps r _ (rw (c.pending.ensures, same) at c.in-Cut.ensures.first)
+    (ap (λ (i : InputView). record { session = r.session; input = i; ended = r.ended; answers = r.answers; number = r.number }) same)
+
+pub returns-in-Awaits-clause-steps : goal.returns-in-Awaits-clause-steps
+returns-in-Awaits-clause-steps g c =
+    let r = c.args.self.now in
+    let same = c.newline-newline.ensures.same ∙ c.is_cut.ensures.same in
+    cut_steps r _ (rw (c.pending.ensures, same) at c.in-Awaits.ensures.first)
+    (ap (λ (i : InputView). record { session = r.session; input = i; ended = r.ended; answers = r.answers; number = r.number }) (c.await_lines.ensures.same ∙ same))

@@ -1,0 +1,13 @@
+use Rattle.std.proofs.Common.{◌≡◌, refl, subst, IfOk}
+use Rattle.ow_traits.specs.declared.replies.RunReply.{RunReply}
+use Rattle.ow_traits.specs.declared.replies.RunReply.TheVariants as runs
+use Rattle.ow_hall.specs.declared.entry.Event.TheVariants as events
+use Rattle.ow_day.specs.Line.{lines_of}
+use Rattle.ow_day.specs.Machine.{Meets}
+use Rattle.ow_day.specs.Session.{machine_of}
+use Rattle.ow_day.proofs.session.Session.logged.Goals as goal
+
+pub returns-clause-does : goal.returns-clause-does
+returns-clause-does g c =
+    let same : runs.Answer c.in_ok-text.text c.in_ok-logs.logs ≡ runs.Answer c.args.text.now (lines_of c.args.count c.args.logs.now) = rw (c.in_ok-text.ensures, c.in_ok-logs.ensures) refl in
+    subst (λ (r : RunReply). IfOk c.reply.result (λ done. Meets (machine_of c.args.self.now) (events.Answered c.args.run r) done (machine_of c.reply.new.self))) same c.reply.ensures.meets
