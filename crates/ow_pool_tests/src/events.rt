@@ -121,9 +121,9 @@ pub(crate) fn key_of(
     version: u32,
     memory: u32,
 ) -> Result<Key, Fail> {
-    let action = name_of(alloc, action)?;
-    let namespace = read_name(alloc, namespace.as_bytes())?;
     let code = PlainCode::read(alloc, "{\"cases\":[]}")?;
+    let namespace = read_name(alloc, namespace.as_bytes())?;
+    let action = name_of(alloc, action)?;
     Ok(Key {
         namespace,
         action,

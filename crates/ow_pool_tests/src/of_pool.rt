@@ -132,16 +132,40 @@ fn next(
     wants: &[Prewarm],
     pool: u32,
 ) -> Result<String, Fail> {
-    let head = match waits {
-        Some((namespace, action, version, memory)) => Some(Head {
-            key: key_of(alloc, namespace, action, version, memory)?,
-        }),
-        None => None,
-    };
-    if !can_place(slots, head.as_ref(), wants, pool) {
+    match waits {
+        Some((namespace, action, version, memory)) => {
+            let head = head_of(alloc, namespace, action, version, memory)?;
+            answer(alloc, slots, Some(&*head), wants, pool)
+        }
+        None => answer(alloc, slots, None, wants, pool),
+    }
+}
+
+fn answer(
+    alloc: Global,
+    slots: &Slots,
+    head: Option<&Head>,
+    wants: &[Prewarm],
+    pool: u32,
+) -> Result<String, Fail> {
+    if !can_place(slots, head, wants, pool) {
         return Err(Fail::from("the pool is too small"));
     }
-    Ok(shown(alloc, &place(slots, head.as_ref(), wants, pool))?)
+    Ok(shown(alloc, &place(slots, head, wants, pool))?)
+}
+
+fn head_of(
+    alloc: Global,
+    namespace: &str,
+    action: char,
+    version: u32,
+    memory: u32,
+) -> Result<Box<Head>, Fail> {
+    let key = key_of(alloc, namespace, action, version, memory)?;
+    match Box::new(alloc, Head { key }) {
+        Ok(head) => Ok(head),
+        Err(_) => Err("no memory")?,
+    }
 }
 
 #[test]

@@ -1,6 +1,6 @@
 // What happens to slots.
 use crate::events::{Event, happen, key_of, shown};
-use ow_slots::{SlotRefusal, Slots};
+use ow_slots::{Key, SlotRefusal, Slots};
 use ow_value::PlainData;
 use std::alloc::Global;
 use std::test::Fail;
@@ -84,20 +84,26 @@ fn no_run(run: u64) -> Result<Option<u64>, SlotRefusal> {
     Err(SlotRefusal::NoRun { run })
 }
 
-// Whether a slot that was changed is the same again once it is restored.
+// Whether a slot that is restored is as it was.
 fn is_restored(alloc: Global) -> Result<bool, Fail> {
-    let mut slots = Slots::new(alloc, 1)?;
+    let mut slots = Slots::new(alloc, 2)?;
     happen(alloc, &mut slots, 5, Event::Cold(0, 1, 'a', 256))?.map_err(|_| "refused")?;
+    happen(alloc, &mut slots, 6, Event::Answered(1))?.map_err(|_| "refused")?;
+    restore_copy(alloc, &mut slots)?;
+    Ok(shown_at(alloc, &slots, 1)?.as_str() == "1 idle 6")
+}
+
+// Puts a copy of slot 0 into slot 1.
+fn restore_copy(alloc: Global, slots: &mut Slots) -> Result<(), Fail> {
+    if slots.as_slice().len() < 2 {
+        return Err(Fail::from("no slot"));
+    }
     let Some(slot) = slots.get(0) else {
-        return Ok(false);
+        return Err(Fail::from("no slot"));
     };
     let old = slot.copy(alloc)?;
-    slots.lost(1).map_err(|_| "refused")?;
-    if slots.as_slice().is_empty() {
-        return Ok(false);
-    }
-    slots.restore(0, old);
-    Ok(shown_at(alloc, &slots, 0)?.as_str() == "1 busy 1 0 0")
+    slots.restore(1, old);
+    Ok(())
 }
 
 #[test]
@@ -110,7 +116,6 @@ fn a_slot_is_restored(rt: HostRuntime) -> Result<(), Fail> {
 #[test]
 fn keys_are_told_apart(rt: HostRuntime) -> Result<(), Fail> {
     let alloc = rt.alloc();
-    let key = key_of(alloc, "guest", 'a', 1, 256)?;
     for (namespace, action, version, memory, same) in [
         ("guest", 'a', 1, 256, true),
         ("other", 'a', 1, 256, false),
@@ -118,7 +123,8 @@ fn keys_are_told_apart(rt: HostRuntime) -> Result<(), Fail> {
         ("guest", 'a', 2, 256, false),
         ("guest", 'a', 1, 512, false),
     ] {
-        let other = key_of(alloc, namespace, action, version, memory)?;
+        let key = boxed_key(alloc, "guest", 'a', 1, 256)?;
+        let other = boxed_key(alloc, namespace, action, version, memory)?;
         assert_eq!(rt;
             key.is_same(&other),
             same,
@@ -126,4 +132,17 @@ fn keys_are_told_apart(rt: HostRuntime) -> Result<(), Fail> {
         );
     }
     Ok(())
+}
+
+fn boxed_key(
+    alloc: Global,
+    namespace: &str,
+    action: char,
+    version: u32,
+    memory: u32,
+) -> Result<Box<Key>, Fail> {
+    match Box::new(alloc, key_of(alloc, namespace, action, version, memory)?) {
+        Ok(key) => Ok(key),
+        Err(_) => Err("no memory")?,
+    }
 }
