@@ -10,7 +10,7 @@ use Rattle.ow_hall.specs.History.{greatest_moment}
 use Rattle.ow_day.specs.Limits.{most_line}
 use Rattle.ow_day.specs.Statement.{Statement, At, Call, Ask, Next, Answer, Logged, Exit, NoStart, Fault, Drain, End, Whole, Asks, Logs, answer_of, ask_of, at_of, call_of, exit_of, fault_of, line_of, logged_of, no_start_of, numbered, reply_of, utf8_text, worded}
 use Rattle.ow_day.specs.Day.{Found, asked, behind_line, first_statement, lines_in, logged}
-use Rattle.ow_day.specs.Printed.{EndsInByte, IsLineText, IsLogLine, IsPrintable, IsReadBack, IsWord, logs_head, printed, printed_logs}
+use Rattle.ow_day.specs.Printed.{EndsInByte, IsLineText, IsPrintable, IsReadBack, IsWord, logs_head, printed, printed_logs}
 use Rattle.ow_day.proofs.Choices.{is_apart, is_short}
 use Rattle.ow_day.proofs.PrintedLogs.{logs_before, logs_last, rest_of, tail_of}
 use Rattle.ow_day.proofs.Numbers.{decimal_of-decimal}
