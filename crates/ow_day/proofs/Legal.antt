@@ -16,6 +16,7 @@ use Rattle.ow_hall.specs.declared.entry.Event.TheVariants as events
 use Rattle.ow_hall.specs.declared.entry.Told.{Told}
 use Rattle.ow_hall.specs.declared.entry.Entry.{Entry}
 use Rattle.ow_hall.specs.declared.entry.Told.TheVariants as told
+use Rattle.ow_hall.specs.declared.replies.HallCollected.TheVariants as collected
 use Rattle.ow_hall.specs.declared.replies.Called.TheVariants as called
 use Rattle.ow_hall.specs.declared.tenants.Tenants.{Tenants}
 use Rattle.ow_day.specs.declared.call_words.CallWords.{CallWords}
@@ -40,6 +41,7 @@ opens_so (events.Asked r) B b later = refl
 opens_so (events.Called name params) B b later = refl
 opens_so events.Next B b later = refl
 opens_so (events.Answered run reply) B b later = refl
+opens_so (events.Collected id) B b later = refl
 opens_so events.Drain B b later = refl
 
 -- ---- an answer that is posted behind a legal book
@@ -78,6 +80,9 @@ posted_so t L at event (told.Next (orders.Run order)) n = booked t L.entries _ n
 posted_so t L at event (told.Next (orders.Nothing idle)) n = idle_so t L at event idle (is_idle L.entries) refl n
 posted_so t L at event (told.Answered answered) n = booked t L.entries _ n (n.is, refl, n.late, n.most, n.legal.answered)
 posted_so t L at event (told.NoRun run reply) n = n.legal
+posted_so t L at event (told.Collected (collected.Reply answer)) n = booked t L.entries _ n (n.is, refl, n.late, n.most, n.legal.answered)
+posted_so t L at event (told.Collected collected.NotYet) n = n.legal
+posted_so t L at event (told.Collected collected.Unknown) n = n.legal
 posted_so t L at event (told.Drain drain) n = booked t L.entries _ n (n.is, refl, n.late, n.most, n.legal.answered)
 
 -- ---- the book behind a statement

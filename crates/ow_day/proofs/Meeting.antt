@@ -34,6 +34,7 @@ reply_done (tells.Called called) reply is = cc
 reply_done (tells.Next order) reply is = cc
 reply_done (tells.Answered answered) reply is = cc
 reply_done (tells.NoRun run back) reply is = cc
+reply_done (tells.Collected collected) reply is = cc
 reply_done (tells.Drain drain) reply is = cc
 
 asked_by : {P : Type 0} (rows : P → KeptRows) (faults : P → ℕ) (old : Session P) (hall : HallView P) (event : Event) (reply : Reply) (o : Outcome) → Replies (Ok reply) o

@@ -50,6 +50,8 @@ done_of (told.Called c) = Called c
 done_of (told.Next order) = Ordered order
 done_of (told.Answered answered) = Answered answered
 done_of (told.NoRun run reply) = NoRun run
+-- no statement collects yet
+done_of (told.Collected collected) = Silent
 done_of (told.Drain drain) = Drained drain
 
 -- the hall meets an event at the moment that the day gave last, and this comes of it

@@ -1,16 +1,18 @@
 -- What a body says of each field, the table of the fields, and the draft that a body gives.
-use Rattle.std.specs.Prelude.{ℕ, ℤ, pos, negsuc, List, [], ◌∷◌, Bool, true, false, map, filter, codes, if◌then◌else◌, Option, Some, None, Result, Ok, Err}
+use Rattle.std.specs.Prelude.{◌==◌, ℕ, ℤ, pos, negsuc, List, [], ◌∷◌, Bool, true, false, map, filter, codes, if◌then◌else◌, Option, Some, None, Result, Ok, Err}
 use Rattle.std.specs.Result.{result_err, result_unwrap_or}
 use Rattle.std.specs.Str.{bytes_eq}
 use Rattle.ow_value.specs.Value.{V, boolean, whole, text, object}
 use Rattle.ow_value.specs.Field.{field}
 use Rattle.ow_names.specs.declared.full.FullName.{FullName}
+use Rattle.ow_names.specs.declared.refusal.NameRefusal.{NameRefusal}
+use Rattle.ow_names.specs.Path.{named_in}
 use Rattle.ow_entity.specs.declared.kinds.EntityKind.{EntityKind}
 use Rattle.ow_entity.specs.declared.kinds.EntityKind.TheVariants as kinds
 use Rattle.ow_entity.specs.declared.field_name.FieldName.{FieldName}
 use Rattle.ow_entity.specs.declared.field_name.FieldName.TheVariants as fields
 use Rattle.ow_entity.specs.declared.refusal.EntityRefusal.{EntityRefusal}
-use Rattle.ow_entity.specs.declared.refusal.EntityRefusal.TheVariants.{MissingField, WrongType, OutOfRange, UnknownKind}
+use Rattle.ow_entity.specs.declared.refusal.EntityRefusal.TheVariants.{MissingField, WrongType, OutOfRange, UnknownKind, BadName}
 use Rattle.ow_entity.specs.declared.bounds.GivenLimits.{GivenLimits}
 use Rattle.ow_entity.specs.declared.bounds.TheConstants.{LEAST_TIMEOUT, MOST_TIMEOUT, LEAST_MEMORY, MOST_MEMORY, LEAST_LOGS, MOST_LOGS}
 use Rattle.ow_entity.specs.declared.exec.Exec.{Exec}
@@ -21,6 +23,7 @@ use Rattle.ow_entity.specs.Chain.{and_then, first_some, result_map}
 use Rattle.ow_entity.specs.FieldName.{field_name}
 use Rattle.ow_entity.specs.Pairs.{pairs_field}
 use Rattle.ow_entity.specs.Bounds.{number_within}
+use Rattle.ow_entity.specs.PlainCode.{name_count}
 use Rattle.ow_entity.specs.Code.{plain_code, program_name}
 
 -- ---- fields of a plain type
@@ -103,12 +106,38 @@ limits_given (Some v) = Err (WrongType fields.Limits)
 abbrev pub limits_field : V → Result GivenLimits EntityRefusal
 limits_field body = limits_given (field (codes "limits") body)
 
+-- ---- what a package binds
+
+abbrev pub or_bad_name : Result FullName NameRefusal → Result FullName EntityRefusal
+or_bad_name (Ok name) = Ok name
+or_bad_name (Err e) = Err (BadName e)
+
+-- the package that an object names for one who stands in the namespace, which `_` stands for
+abbrev pub bound_in : List ℕ → V → Result FullName EntityRefusal
+bound_in home v =
+    and_then (text_field fields.BoundNamespace v) (λ namespace.
+    and_then (text_field fields.BoundName v) (λ name.
+    or_bad_name (named_in home namespace None name)))
+
+-- an object without members names none
+abbrev pub binding_in : List ℕ → V → Result (Option FullName) EntityRefusal
+binding_in home v = if name_count v == 0 then Ok None else result_map Some (bound_in home v)
+
+abbrev pub binding_given : List ℕ → Option V → Result (Option (Option FullName)) EntityRefusal
+binding_given home None = Ok None
+binding_given home (Some (object ps)) = result_map Some (binding_in home (object ps))
+binding_given home (Some v) = Err (WrongType fields.Binding)
+
+-- the package that is bound, or that none is
+abbrev pub binding_field : List ℕ → V → Result (Option (Option FullName)) EntityRefusal
+binding_field home body = binding_given home (field (codes "binding") body)
+
 -- ---- the table
 
--- a field: the kinds that have it, and what is wrong with it in a body
+-- a field: the kinds that have it, and what is wrong with it in a body, for a path of this namespace
 pub record Field : Type 0 where
   pub of : EntityKind → Bool
-  pub fault : V → Option EntityRefusal
+  pub fault : List ℕ → V → Option EntityRefusal
 
 abbrev pub is_any : EntityKind → Bool
 is_any kind = true
@@ -121,19 +150,24 @@ abbrev pub is_action : EntityKind → Bool
 is_action kinds.Action = true
 is_action kind = false
 
+abbrev pub is_package : EntityKind → Bool
+is_package kinds.Package = true
+is_package kind = false
+
 -- the fields, in the order in which they are looked at
 abbrev pub field_table : List Field
 field_table =
-    record { of = is_any; fault = λ body. result_err (pairs_field fields.Annotations body) }
-    ∷ record { of = is_no_rule; fault = λ body. result_err (pairs_field fields.Parameters body) }
-    ∷ record { of = is_any; fault = λ body. result_err (bool_field fields.Publish body) }
-    ∷ record { of = is_action; fault = λ body. result_err (exec_field body) }
-    ∷ record { of = is_action; fault = λ body. result_err (limits_field body) }
+    record { of = is_any; fault = λ home body. result_err (pairs_field fields.Annotations body) }
+    ∷ record { of = is_no_rule; fault = λ home body. result_err (pairs_field fields.Parameters body) }
+    ∷ record { of = is_any; fault = λ home body. result_err (bool_field fields.Publish body) }
+    ∷ record { of = is_action; fault = λ home body. result_err (exec_field body) }
+    ∷ record { of = is_action; fault = λ home body. result_err (limits_field body) }
+    ∷ record { of = is_package; fault = λ home body. result_err (binding_field home body) }
     ∷ []
 
 -- what is wrong with the first wrong field
-abbrev pub first_refusal : EntityKind → V → Option EntityRefusal
-first_refusal kind body = first_some (map (λ f. f.fault body) (filter (λ f. f.of kind) field_table))
+abbrev pub first_refusal : EntityKind → List ℕ → V → Option EntityRefusal
+first_refusal kind home body = first_some (map (λ f. f.fault home body) (filter (λ f. f.of kind) field_table))
 
 -- ---- the draft
 
@@ -152,8 +186,18 @@ action_draft name body = drafts.Action (record {
   limits = result_unwrap_or (limits_field body) no_limits;
 })
 
+abbrev pub package_draft : FullName → V → Draft
+package_draft name body = drafts.Package (record {
+  name = name;
+  publish = result_unwrap_or (bool_field fields.Publish body) None;
+  params = result_unwrap_or (pairs_field fields.Parameters body) None;
+  notes = result_unwrap_or (pairs_field fields.Annotations body) None;
+  binding = result_unwrap_or (binding_field name.namespace body) None;
+})
+
 abbrev pub draft_of : EntityKind → FullName → V → Result Draft EntityRefusal
-draft_of kinds.Action name body = draft_unless (first_refusal kinds.Action body) (action_draft name body)
+draft_of kinds.Action name body = draft_unless (first_refusal kinds.Action name.namespace body) (action_draft name body)
+draft_of kinds.Package name body = draft_unless (first_refusal kinds.Package name.namespace body) (package_draft name body)
 draft_of kind name body = Err UnknownKind
 
 -- the entity that a body gives, or what is wrong with it

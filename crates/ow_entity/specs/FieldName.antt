@@ -1,7 +1,7 @@
 -- How a body writes the names of its fields.
 use Rattle.std.specs.Prelude.{ℕ, List, codes}
 use Rattle.ow_entity.specs.declared.field_name.FieldName.{FieldName}
-use Rattle.ow_entity.specs.declared.field_name.FieldName.TheVariants.{Body, Annotations, Parameters, Publish, Exec, Kind, Code, Limits, Timeout, Memory, Logs}
+use Rattle.ow_entity.specs.declared.field_name.FieldName.TheVariants.{Body, Annotations, Parameters, Publish, Exec, Kind, Code, Limits, Timeout, Memory, Logs, Binding, BoundNamespace, BoundName}
 
 abbrev pub field_name : FieldName → List ℕ
 field_name Body = codes "body"
@@ -15,3 +15,6 @@ field_name Limits = codes "limits"
 field_name Timeout = codes "timeout"
 field_name Memory = codes "memory"
 field_name Logs = codes "logs"
+field_name Binding = codes "binding"
+field_name BoundNamespace = codes "namespace"
+field_name BoundName = codes "name"

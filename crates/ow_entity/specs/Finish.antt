@@ -15,10 +15,14 @@ use Rattle.ow_entity.specs.declared.finishing.TheConstants.{FIRST_VERSION, LAST_
 use Rattle.ow_entity.specs.declared.exec.Exec.{Exec}
 use Rattle.ow_entity.specs.declared.actions.Action.{Action}
 use Rattle.ow_entity.specs.declared.actions.ActionDraft.{ActionDraft}
+use Rattle.ow_entity.specs.declared.packages.Package.{Package}
+use Rattle.ow_entity.specs.declared.packages.PackageDraft.{PackageDraft}
 use Rattle.ow_entity.specs.declared.rows.Row.{Row}
 use Rattle.ow_entity.specs.declared.rows.Row.TheVariants as rows
 use Rattle.ow_entity.specs.declared.rows.Draft.{Draft}
 use Rattle.ow_entity.specs.declared.rows.Draft.TheVariants as drafts
+
+-- ---- actions
 
 abbrev pub limits_over : GivenLimits → Limits → Limits
 limits_over given old = record {
@@ -71,8 +75,49 @@ abbrev pub action_made : ActionDraft → Option Action → Result Action EntityR
 action_made d None = new_action d d.exec
 action_made d (Some old) = next_action d old
 
+-- ---- packages
+
+abbrev pub package_over : PackageDraft → Package → ℕ → Package
+package_over d old version = record {
+  name = d.name;
+  version = version;
+  publish = unwrap_or d.publish old.publish;
+  params = unwrap_or d.params old.params;
+  notes = unwrap_or d.notes old.notes;
+  binding = unwrap_or d.binding old.binding;
+}
+
+-- the defaults: nothing but a name
+abbrev pub default_package : FullName → Package
+default_package name = record {
+  name = name;
+  version = 0;
+  publish = false;
+  params = [];
+  notes = [];
+  binding = None;
+}
+
+abbrev pub new_package : PackageDraft → Package
+new_package d = package_over d (default_package d.name) FIRST_VERSION
+
+abbrev pub next_package : PackageDraft → Package → Result Package EntityRefusal
+next_package d old = if old.version == LAST_VERSION then Err LastVersion else Ok (package_over d old (old.version + 1))
+
+-- the package that a draft of a package is put over
+abbrev pub old_package : Option Row → Option Package
+old_package (Some (rows.Package old)) = Some old
+old_package old = None
+
+abbrev pub package_made : PackageDraft → Option Package → Result Package EntityRefusal
+package_made d None = Ok (new_package d)
+package_made d (Some old) = next_package d old
+
+-- ---- rows
+
 unfoldable pub finished_row : Draft → Option Row → Result Row EntityRefusal
 finished_row (drafts.Action d) old = result_map rows.Action (action_made d (old_action old))
+finished_row (drafts.Package d) old = result_map rows.Package (package_made d (old_package old))
 
 -- the row that a body makes over no row
 unfoldable pub row_of_body : EntityKind → FullName → V → Result Row EntityRefusal

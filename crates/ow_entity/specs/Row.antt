@@ -22,6 +22,8 @@ version_of (rows.Package p) = p.version
 
 abbrev pub draft_kind : Draft → EntityKind
 draft_kind (drafts.Action d) = kinds.Action
+draft_kind (drafts.Package d) = kinds.Package
 
 abbrev pub draft_name : Draft → FullName
 draft_name (drafts.Action d) = d.name
+draft_name (drafts.Package d) = d.name

@@ -74,3 +74,15 @@ summary_of name notes publish version = object (members_of (
 unfoldable pub summary_value : Row → V
 summary_value (rows.Action a) = summary_of a.name a.notes a.publish a.version
 summary_value (rows.Package p) = summary_of p.name p.notes p.publish p.version
+
+-- what a package shows of a row that lies in it
+abbrev pub entry_of : FullName → Pairs → ℕ → V
+entry_of name notes version = object (members_of (
+    (codes "annotations", pairs_value notes)
+    ∷ (codes "name", text name.name)
+    ∷ (codes "version", text (shown_version version))
+    ∷ []))
+
+unfoldable pub package_entry : Row → V
+package_entry (rows.Action a) = entry_of a.name a.notes a.version
+package_entry (rows.Package p) = entry_of p.name p.notes p.version

@@ -11,6 +11,7 @@ use crate::bounds::{Bounded, GivenLimits};
 use crate::exec::{Exec, ProgramName};
 use crate::field_name::FieldName;
 use crate::kinds::EntityKind;
+use crate::package_body::read_package;
 use crate::pairs::pairs_field;
 use crate::plain_code::PlainCode;
 use crate::refusal::EntityRefusal;
@@ -38,6 +39,7 @@ pub fn read_entity(
     };
     match kind {
         EntityKind::Action => read_action(alloc, name, fields),
+        EntityKind::Package => read_package(alloc, name, fields),
         _ => Err(EntityRefusal::UnknownKind),
     }
 }
@@ -61,7 +63,7 @@ fn read_action(alloc: Global, name: &FullName, body: &Params) -> Result<Draft, E
     }))
 }
 
-fn bool_field(body: &Params, name: FieldName) -> Result<Option<bool>, EntityRefusal>
+pub(crate) fn bool_field(body: &Params, name: FieldName) -> Result<Option<bool>, EntityRefusal>
     ensures { result ≡ bool_field name (object (members_of body.now)) }
 {
     match body.find(name.as_str()) {
@@ -119,7 +121,7 @@ fn read_program(alloc: Global, exec: &Params) -> Result<Exec, EntityRefusal>
 }
 
 // A text that must be there.
-fn text_field(fields: &Params, name: FieldName) -> Result<&str, EntityRefusal>
+pub(crate) fn text_field(fields: &Params, name: FieldName) -> Result<&str, EntityRefusal>
     ensures { result_map (λ s. s.now) result ≡ text_field name (object (members_of fields.now)) }
 {
     match fields.find(name.as_str()) {

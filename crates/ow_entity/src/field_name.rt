@@ -27,6 +27,12 @@ pub enum FieldName {
     Memory,
     /// A number of MB.
     Logs,
+    /// What a package binds: an object of the next two.
+    Binding,
+    /// The namespace of the bound package.
+    BoundNamespace,
+    /// What the bound package is called there.
+    BoundName,
 }
 
 impl FieldName {
@@ -46,6 +52,9 @@ impl FieldName {
             FieldName::Timeout => "timeout",
             FieldName::Memory => "memory",
             FieldName::Logs => "logs",
+            FieldName::Binding => "binding",
+            FieldName::BoundNamespace => "namespace",
+            FieldName::BoundName => "name",
         }
     }
 }

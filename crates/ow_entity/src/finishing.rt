@@ -2,11 +2,13 @@
 ghost use Rattle.std.specs.Prelude.{◌≡◌, ◌≢◌, unwrap_or, Some, None, Ok, Err, IfOk, MatchResult};
 ghost use Rattle.std.specs.Option.{option_copied};
 ghost use Rattle.ow_entity.specs.declared.rows.Row.TheVariants as rows;
-ghost use Rattle.ow_entity.specs.Finish.{finished_row, new_action, next_action, limits_over};
+ghost use Rattle.ow_entity.specs.Chain.{result_map};
+ghost use Rattle.ow_entity.specs.Finish.{finished_row, action_made, old_action, new_action, next_action, limits_over};
 
 use crate::actions::{Action, ActionDraft};
 use crate::bounds::{GivenLimits, Limits};
 use crate::field_name::FieldName;
+use crate::package_finishing::finish_package;
 use crate::params::EntityParams;
 use crate::refusal::EntityRefusal;
 use crate::rows::{Draft, Row};
@@ -16,8 +18,8 @@ use std::alloc::Global;
 /// The version of a new entity.
 pub const FIRST_VERSION: u32 = 1;
 
-// The version that can't be raised.
-const LAST_VERSION: u32 = u32::MAX;
+/// The version that can't be raised.
+pub(crate) const LAST_VERSION: u32 = u32::MAX;
 
 /// The row that a draft makes: over an old row of its kind, whose values stand where the draft has none, or over
 /// none, with the defaults.
@@ -26,7 +28,16 @@ pub fn finish(alloc: Global, draft: Draft, old: Option<&Row>) -> Result<Row, Ent
     ensures { MatchResult result (λ r. finished_row draft (option_copied old.entry) ≡ Ok r)
         (λ e. e ≢ EntityRefusal.NoMemory → finished_row draft (option_copied old.entry) ≡ Err e) }
 {
-    let Draft::Action(draft) = draft;
+    match draft {
+        Draft::Action(draft) => finish_action(alloc, draft, old),
+        Draft::Package(draft) => finish_package(alloc, draft, old),
+    }
+}
+
+fn finish_action(alloc: Global, draft: ActionDraft, old: Option<&Row>) -> Result<Row, EntityRefusal>
+    ensures { MatchResult result (λ r. result_map rows.Action (action_made draft (old_action (option_copied old.entry))) ≡ Ok r)
+        (λ e. e ≢ EntityRefusal.NoMemory → result_map rows.Action (action_made draft (old_action (option_copied old.entry))) ≡ Err e) }
+{
     match old {
         Some(Row::Action(old)) => action_row(alloc, next_action(alloc, draft, old.get())?),
         _ => action_row(alloc, new_action(draft)?),
@@ -92,8 +103,12 @@ fn next_action(alloc: Global, draft: ActionDraft, old: &Action) -> Result<Action
     })
 }
 
-// What is given, or else the old value.
-fn value_over<T: PlainData + Drop>(alloc: Global, given: Option<T>, old: &T) -> Result<T, NoMemory>
+/// What is given, or else the old value.
+pub(crate) fn value_over<T: PlainData + Drop>(
+    alloc: Global,
+    given: Option<T>,
+    old: &T,
+) -> Result<T, NoMemory>
     ensures { IfOk result (λ x. x ≡ unwrap_or given old.now) }
 {
     match given {

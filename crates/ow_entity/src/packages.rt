@@ -1,4 +1,4 @@
-// Packages as they stand.
+// Packages: as they stand, and as bodies give them.
 
 use crate::params::EntityParams;
 use ow_names::FullName;
@@ -22,6 +22,21 @@ pub struct Package {
     pub binding: Option<FullName>,
 }
 
+/// A package as a body gives it: each field, or none where the body leaves it out.
+#[derive(Drop)]
+pub struct PackageDraft {
+    /// This comes from the path, and not from the body.
+    pub name: FullName,
+    /// Whether it is shared.
+    pub publish: Option<bool>,
+    /// The parameters.
+    pub params: Option<EntityParams>,
+    /// The annotations.
+    pub notes: Option<EntityParams>,
+    /// The package that it is to stand for, or none where it is to be no binding.
+    pub binding: Option<Option<FullName>>,
+}
+
 impl PlainData for Package {
     fn same(&self, other: &Package) -> bool {
         self.name.same(&other.name)
@@ -40,6 +55,30 @@ impl PlainData for Package {
         Ok(Package {
             name,
             version: self.version,
+            publish: self.publish,
+            params,
+            notes,
+            binding,
+        })
+    }
+}
+
+impl PlainData for PackageDraft {
+    fn same(&self, other: &PackageDraft) -> bool {
+        self.name.same(&other.name)
+            && self.publish == other.publish
+            && self.params.same(&other.params)
+            && self.notes.same(&other.notes)
+            && self.binding.same(&other.binding)
+    }
+
+    fn copy(&self, alloc: Global) -> Result<PackageDraft, NoMemory> {
+        let name = self.name.copy(alloc)?;
+        let params = self.params.copy(alloc)?;
+        let notes = self.notes.copy(alloc)?;
+        let binding = self.binding.copy(alloc)?;
+        Ok(PackageDraft {
+            name,
             publish: self.publish,
             params,
             notes,

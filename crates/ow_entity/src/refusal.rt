@@ -3,6 +3,7 @@ ghost use Rattle.std.specs.Prelude.{◌≡◌};
 ghost use Rattle.ow_entity.specs.Refusal.{refusal_number};
 
 use crate::field_name::FieldName;
+use ow_names::NameRefusal;
 use ow_value::NoMemory;
 
 /// Why a body gives no entity.
@@ -18,6 +19,8 @@ pub enum EntityRefusal {
     UnknownKind,
     /// A list of pairs, or a code, has over 1 MB.
     TooLarge,
+    /// A name in the body is none.
+    BadName(NameRefusal),
     /// The version of the old entity can't be raised.
     LastVersion,
     /// This says nothing of the body.
@@ -36,6 +39,7 @@ impl EntityRefusal {
             EntityRefusal::OutOfRange { .. } => 11,
             EntityRefusal::UnknownKind => 12,
             EntityRefusal::TooLarge => 13,
+            EntityRefusal::BadName(refusal) => refusal.number(),
             EntityRefusal::LastVersion => 18,
         }
     }

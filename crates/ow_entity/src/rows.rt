@@ -6,7 +6,7 @@ ghost use Rattle.ow_entity.specs.declared.kinds.EntityKind.{EntityKind};
 
 use crate::actions::{Action, ActionDraft};
 use crate::kinds::EntityKind;
-use crate::packages::Package;
+use crate::packages::{Package, PackageDraft};
 use ow_names::FullName;
 use ow_value::{NoMemory, PlainData, Shared};
 use std::alloc::Global;
@@ -25,6 +25,8 @@ pub enum Row {
 pub enum Draft {
     /// Of an action.
     Action(ActionDraft),
+    /// Of a package.
+    Package(PackageDraft),
 }
 
 /// Where entities stand, at most one under each kind and name.
@@ -101,6 +103,7 @@ impl Draft {
     {
         match self {
             Draft::Action(_) => EntityKind::Action,
+            Draft::Package(_) => EntityKind::Package,
         }
     }
 
@@ -110,6 +113,7 @@ impl Draft {
     {
         match self {
             Draft::Action(draft) => &draft.name,
+            Draft::Package(draft) => &draft.name,
         }
     }
 }
@@ -118,12 +122,15 @@ impl PlainData for Draft {
     fn same(&self, other: &Draft) -> bool {
         match (self, other) {
             (Draft::Action(a), Draft::Action(b)) => a.same(b),
+            (Draft::Package(a), Draft::Package(b)) => a.same(b),
+            _ => false,
         }
     }
 
     fn copy(&self, alloc: Global) -> Result<Draft, NoMemory> {
         match self {
             Draft::Action(draft) => Ok(Draft::Action(draft.copy(alloc)?)),
+            Draft::Package(draft) => Ok(Draft::Package(draft.copy(alloc)?)),
         }
     }
 }

@@ -7,7 +7,7 @@ ghost use Rattle.ow_entity.specs.declared.kinds.EntityKind.TheVariants as kinds;
 ghost use Rattle.ow_entity.specs.declared.actions.Action.{Action};
 ghost use Rattle.ow_entity.specs.declared.rows.Row.TheVariants as rows;
 ghost use Rattle.ow_entity.specs.Finish.{row_of_body};
-ghost use Rattle.ow_entity.specs.Written.{exec_value, limits_value, shown_namespace, shown_version, action_value, binding_value, package_value, row_value, summary_of, summary_value};
+ghost use Rattle.ow_entity.specs.Written.{exec_value, limits_value, shown_namespace, shown_version, action_value, binding_value, package_value, row_value, summary_of, summary_value, entry_of, package_entry};
 
 use crate::actions::Action;
 use crate::bounds::Limits;
@@ -71,6 +71,23 @@ pub fn summary(alloc: Global, row: &Row) -> Result<Val, NoMemory>
                 package.publish,
                 package.version,
             )
+        }
+    }
+}
+
+/// What a package shows of a row that lies in it.
+#[tactic(auto, unfolding(crate::specs::Written::package_entry))]
+pub fn package_entry(alloc: Global, row: &Row) -> Result<Val, NoMemory>
+    ensures { IfOk result (λ v. view v ≡ package_entry row.now) }
+{
+    match row {
+        Row::Action(action) => {
+            let action = action.get();
+            entry_of(alloc, &action.name, action.notes.get(), action.version)
+        }
+        Row::Package(bundle) => {
+            let bundle = bundle.get();
+            entry_of(alloc, &bundle.name, bundle.notes.get(), bundle.version)
         }
     }
 }
@@ -167,6 +184,22 @@ fn summary_of(
         shown_namespace(alloc, name)?,
     )?;
     put(alloc, &mut fields, "publish", Val::Bool(publish))?;
+    put(
+        alloc,
+        &mut fields,
+        "version",
+        shown_version(alloc, version)?,
+    )?;
+    Ok(Val::Object(fields.into_params()?))
+}
+
+fn entry_of(alloc: Global, name: &FullName, notes: &Params, version: u32) -> Result<Val, NoMemory>
+    ensures { IfOk result (λ v. view v ≡ entry_of name.now notes.now version) }
+{
+    let mut fields = Fields::new(alloc);
+    let notes = listed(alloc, notes)?;
+    put(alloc, &mut fields, "annotations", Val::List(notes))?;
+    put(alloc, &mut fields, "name", text(alloc, name.name.as_str())?)?;
     put(
         alloc,
         &mut fields,

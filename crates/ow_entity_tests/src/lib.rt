@@ -6,4 +6,6 @@ mod held;
 #[cfg(test)]
 mod of_entity;
 #[cfg(test)]
+mod of_packages;
+#[cfg(test)]
 mod of_tables;

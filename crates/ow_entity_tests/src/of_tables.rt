@@ -115,7 +115,7 @@ fn removals_are_refused_where_no_row_stands(rt: HostRuntime) -> Result<(), Fail>
         (EntityKind::Action, "b", 14),
         (EntityKind::Action, "a", 0),
         (EntityKind::Action, "a", 14),
-        (EntityKind::Package, "/whisk.system/utils", 0),
+        (EntityKind::Package, "/whisk.system/utils", 21),
     ];
     for (kind, path, number) in removals.iter() {
         assert_eq!(rt; told_of_removal(&mut tables, alloc, *kind, path)?, *number);

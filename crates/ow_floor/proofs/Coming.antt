@@ -1,23 +1,24 @@
 -- The items of each call may come.
-use Rattle.std.proofs.Common.{◌≡◌, ◌+◌, ◌++◌, ℕ, Bool, true, false, cond, List, [], ◌∷◌, Option, Some, None, refl, sym, ap, ◌∙◌, subst}
+use Rattle.std.proofs.Common.{◌≡◌, ◌≤◌, ◌+◌, ◌++◌, ℕ, Bool, true, false, cond, List, [], ◌∷◌, Option, Some, None, refl, sym, ap, ◌∙◌, subst}
 use Rattle.std.specs.Prelude.{is_some}
-use Rattle.std.specs.List.{find}
+use Rattle.std.specs.List.{find, AllByRecursion}
 use Rattle.ow_records.specs.declared.ids.Id.{Id}
 use Rattle.ow_records.specs.declared.outcomes.Ending.{Ending}
 use Rattle.ow_records.specs.declared.outcomes.Ending.TheVariants.{Replied, Overran, Abandoned}
 use Rattle.ow_traits.specs.declared.replies.RunReply.{RunReply}
 use Rattle.ow_floor.specs.declared.activations.Open.{Open}
-use Rattle.ow_floor.specs.declared.activations.Ended.{Ended as Record}
+use Rattle.ow_records.specs.declared.record.Record.{Record}
 use Rattle.ow_floor.specs.declared.runs.Run.{Run}
 use Rattle.ow_floor.specs.View.{Shown, is_of, is_number, is_end_of, remove_first, waits}
-use Rattle.ow_floor.specs.Trace.{Trace, End, Answered, Begun, Drained, Ended, Gone, Lost, Reopened, Swept, end_of, live_run, open_items, record_of, records, shown}
-use Rattle.ow_floor.specs.Growth.{grow, grown, IsRight, AreRight}
-use Rattle.ow_floor.specs.Laws.{IsSound}
+use Rattle.ow_floor.specs.Trace.{Trace, End, Answered, Begun, Drained, Ended, Gone, Lost, Reopened, Swept, end_of, live, live_run, open_items, record_of, records, shown}
+use Rattle.ow_floor.specs.Growth.{grow, grown, IsLive, IsRight, AreRight}
+use Rattle.ow_floor.specs.Laws.{IsSound, bearers}
 use Rattle.ow_floor.specs.Calls.{KeepSound, abandoned_items, accept_items, answered_items, begins, goes, end_items, ended_by, is_late, items_if, late_items, leaves_alive, next_items, order_items, overrun_items, reply_items, reopened_items, swept_items}
 use Rattle.ow_floor.proofs.Alters.{same_id_refl}
 use Rattle.ow_floor.proofs.Drawn.{drawn_last}
 use Rattle.ow_floor.proofs.Tallies.{eq_of}
 use Rattle.ow_floor.proofs.Firsts.{find_passes, find_push, or_new}
+use Rattle.ow_floor.proofs.Numbers.{each_found, found_by_own}
 use Rattle.ow_floor.proofs.Soundness.{sound_items, sound_start}
 use Rattle.ow_floor.proofs.Standing.{ended_not_open, open_ended}
 
@@ -65,12 +66,12 @@ found_id id o os found =
     let same : o.task.id ≡ id = eq_of o.task.id id (find_passes (is_of id) o os found) in
     subst (λ (x : Id). find (is_of x) os ≡ Some o) (sym same) found
 
-end_at : (at : ℕ) (ending : Ending) (run : Option ℕ) (id : Id) (o : Option Open) (v : Shown) → find (is_of id) v.open_items ≡ o → AreRight (end_items at ending run o) v
-end_at at ending run id None v found = tt
-end_at at ending run id (Some o) v found = ((o, found_id id o v.open_items found, refl), tt)
+end_at : (at : ℕ) (ending : Ending) (run : Option Run) (id : Id) (o : Option Open) (v : Shown) → IsLive run v.live → find (is_of id) v.open_items ≡ o → AreRight (end_items at ending run o) v
+end_at at ending run id None v live found = tt
+end_at at ending run id (Some o) v live found = ((o, found_id id o v.open_items found, refl, live), tt)
 
-pub right_end : (at : ℕ) (ending : Ending) (run : Option ℕ) (id : Id) (v : Shown) → AreRight (end_items at ending run (find (is_of id) v.open_items)) v
-right_end at ending run id v = end_at at ending run id (find (is_of id) v.open_items) v refl
+pub right_end : (at : ℕ) (ending : Ending) (id : Id) (v : Shown) → AreRight (end_items at ending None (find (is_of id) v.open_items)) v
+right_end at ending id v = end_at at ending None id (find (is_of id) v.open_items) v tt refl
 
 -- ---- replies
 
@@ -87,17 +88,17 @@ open_gone e o T found is sound =
     subst (λ (os : List Open). find (is_of e.task.id) os ≡ None) (open_ended e o T found is sound) none
 
 reply_open : (at run : ℕ) (reply : RunReply) (r : Run) (o : Option Open) (T : Trace) → live_run T run ≡ Some r → find (is_of r.id) (open_items T) ≡ o → IsSound T
-    → AreRight (Answered run (leaves_alive reply) at ∷ end_items at (Replied reply) (Some run) o) (shown T)
+    → AreRight (Answered run (leaves_alive reply) at ∷ end_items at (Replied reply) (Some r) o) (shown T)
 reply_open at run reply r None T found none sound = ((r, found, none), tt)
 reply_open at run reply r (Some o) T found here sound =
     let same : o.task.id ≡ r.id = eq_of o.task.id r.id (find_passes (is_of r.id) o (open_items T) here) in
-    let e = ended_by at (Replied reply) (Some run) o.task in
+    let e = ended_by at (Replied reply) (Some r) o.task in
     let there = found_id r.id o (open_items T) here in
     let none = subst (λ (x : Id). find (is_of x) (remove_first (is_of o.task.id) (open_items T)) ≡ None) same (open_gone e o T there refl sound) in
     ((r, found, none), right_some)
   where
-    right_some : AreRight (end_items at (Replied reply) (Some run) (Some o)) (shown T)
-    right_some = end_at at (Replied reply) (Some run) r.id (Some o) (shown T) here
+    right_some : AreRight (end_items at (Replied reply) (Some r) (Some o)) (shown T)
+    right_some = end_at at (Replied reply) (Some r) r.id (Some o) (shown T) (found_by_own run r (live T) found) here
 
 reply_at : (at run : ℕ) (reply : RunReply) (r : Option Run) (T : Trace) → live_run T run ≡ r → IsSound T → AreRight (reply_items at run reply (shown T) r) (shown T)
 reply_at at run reply None T found sound = tt
@@ -108,23 +109,33 @@ right_reply at run reply T sound = reply_at at run reply (live_run T run) T refl
 
 -- ---- sweeps
 
-late_by : (at : ℕ) (r : Run) (o : Open) (b : Bool) (v : Shown) → find (is_of r.id) v.open_items ≡ Some o
-    → AreRight (cond b (end_items at Overran (Some r.number) (Some o)) []) v
-late_by at r o true v found = end_at at Overran (Some r.number) r.id (Some o) v found
-late_by at r o false v found = tt
+late_by : (at : ℕ) (r : Run) (o : Open) (b : Bool) (v : Shown) → find (is_number r.number) v.live ≡ Some r → find (is_of r.id) v.open_items ≡ Some o
+    → AreRight (cond b (end_items at Overran (Some r) (Some o)) []) v
+late_by at r o true v live found = end_at at Overran (Some r) r.id (Some o) v live found
+late_by at r o false v live found = tt
 
-late_at : (at : ℕ) (r : Run) (o : Option Open) (v : Shown) → find (is_of r.id) v.open_items ≡ o → AreRight (late_items at r o) v
-late_at at r None v found = tt
-late_at at r (Some o) v found = late_by at r o (is_late at r o.task) v found
+late_at : (at : ℕ) (r : Run) (o : Option Open) (v : Shown) → find (is_number r.number) v.live ≡ Some r → find (is_of r.id) v.open_items ≡ o → AreRight (late_items at r o) v
+late_at at r None v live found = tt
+late_at at r (Some o) v live found = late_by at r o (is_late at r o.task) v live found
 
-right_overrun : (at : ℕ) (rs : List Run) (v : Shown) → AreRight (overrun_items at rs v) v
-right_overrun at [] v = tt
-right_overrun at (r ∷ rs) v =
+-- an end leaves the live runs
+live_by : (at : ℕ) (r : Run) (o : Open) (b : Bool) (v : Shown) → (grown (cond b (end_items at Overran (Some r) (Some o)) []) v).live ≡ v.live
+live_by at r o true v = refl
+live_by at r o false v = refl
+
+live_late : (at : ℕ) (r : Run) (o : Option Open) (v : Shown) → (grown (late_items at r o) v).live ≡ v.live
+live_late at r None v = refl
+live_late at r (Some o) v = live_by at r o (is_late at r o.task) v
+
+right_overrun : (at : ℕ) (rs : List Run) (v : Shown) → AllByRecursion (λ r. find (is_number r.number) v.live ≡ Some r) rs → AreRight (overrun_items at rs v) v
+right_overrun at [] v live = tt
+right_overrun at (r ∷ rs) v live =
     let late = late_items at r (find (is_of r.id) v.open_items) in
-    right_append (overrun_items at rs (grown late v)) late v (right_overrun at rs (grown late v)) (late_at at r (find (is_of r.id) v.open_items) v refl)
+    let left = subst (λ (ls : List Run). AllByRecursion (λ r. find (is_number r.number) ls ≡ Some r) rs) (sym (live_late at r (find (is_of r.id) v.open_items) v)) live.1 in
+    right_append (overrun_items at rs (grown late v)) late v (right_overrun at rs (grown late v) left) (late_at at r (find (is_of r.id) v.open_items) v live.0 refl)
 
-pub right_swept : (at : ℕ) (v : Shown) → AreRight (Swept at ∷ overrun_items at v.live v) v
-right_swept at v = (tt, right_overrun at v.live v)
+pub right_swept : (at : ℕ) (v : Shown) → ((run : ℕ) → bearers run v.live ≤ 1) → AreRight (Swept at ∷ overrun_items at v.live v) v
+right_swept at v single = (tt, right_overrun at v.live v (each_found v.live single))
 
 -- ---- openings
 
@@ -143,7 +154,7 @@ right_abandoned at (o ∷ os) v is =
     let found : find (is_of o.task.id) v.open_items ≡ Some o = ap (find (is_of o.task.id)) is ∙ first_found o os in
     let left : (grown last v).open_items ≡ os = ap (remove_first (is_of o.task.id)) is ∙ first_removed o os in
     let rest = right_abandoned at os (grown last v) left in (
-      right_append (abandoned_items at os) last v rest.0 (end_at at Abandoned None o.task.id (Some o) v found),
+      right_append (abandoned_items at os) last v rest.0 (end_at at Abandoned None o.task.id (Some o) v tt found),
       ap (λ (u : Shown). u.open_items) (grown_append (abandoned_items at os) last v) ∙ rest.1,
     )
 
@@ -161,8 +172,8 @@ calls_keep_sound = record {
   answered = λ at run reply T sound. (sound_items _ T (right_reply at run reply T sound) sound).0;
   lost = λ at run T sound. (sound_items _ T (right_lost at run (shown T)) sound).0;
   gone = λ at slot generation T sound. (sound_items _ T (right_gone at slot generation (goes slot generation T) (shown T)) sound).0;
-  end = λ at id ending T sound. (sound_items _ T (right_end at ending None id (shown T)) sound).0;
-  sweep = λ at T sound. (sound_items (swept_items at T) T (right_swept at (shown T)) sound).0;
+  end = λ at id ending T sound. (sound_items _ T (right_end at ending id (shown T)) sound).0;
+  sweep = λ at T sound. (sound_items (swept_items at T) T (right_swept at (shown T) sound.single) sound).0;
   drain = λ at T sound. (sound_items (Drained at ∷ []) T (tt, tt) sound).0;
   reopen = λ at T sound. (sound_items (reopened_items at T) T (right_reopened at (shown T)) sound).0;
 }

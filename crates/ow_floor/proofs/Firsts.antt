@@ -170,6 +170,15 @@ pub tally_none : {X : Type 0} (q : X → Bool) (xs : List X) → find q xs ≡ N
 tally_none q [] none = refl
 tally_none q (x ∷ xs) none = counted_at q x xs (q x) refl none (tally_none q xs)
 
+some_at : {X : Type 0} (q : X → Bool) (r x : X) (xs : List X) (b : Bool) → q x ≡ b → (find q xs ≡ Some r → 1 ≤ tally q xs) → find q (x ∷ xs) ≡ Some r → 1 ≤ tally q (x ∷ xs)
+some_at q r x xs true e rest found = rw e (omega arith)
+some_at q r x xs false e rest found = let h = rest (rw e at found) in rw e (omega (arith, h))
+
+-- where one is found, one passes
+pub tally_some : {X : Type 0} (q : X → Bool) (r : X) (xs : List X) → find q xs ≡ Some r → 1 ≤ tally q xs
+tally_some q r [] found = cc
+tally_some q r (x ∷ xs) found = some_at q r x xs (q x) refl (tally_some q r xs) found
+
 -- where one at most passes, none does once that one is taken out
 pub none_left : {X : Type 0} (p q : X → Bool) (r : X) (xs : List X) → q r ≡ true → tally q xs ≤ 1 → find p xs ≡ Some r → find q (remove_first p xs) ≡ None
 none_left p q r xs here one found =

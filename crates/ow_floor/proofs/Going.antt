@@ -1,10 +1,10 @@
 -- Places at which nothing stands any more.
-use Rattle.std.proofs.Common.{◌≡◌, ◌<◌, ◌≤◌, ◌+◌, ℕ, zero, suc, Bool, true, false, List, [], ◌∷◌, ◌++◌, Option, Some, None, length, get_or, take, refl, sym, ap, ◌∙◌, arith}
+use Rattle.std.proofs.Common.{◌≡◌, ◌<◌, ◌≤◌, ◌+◌, ℕ, zero, suc, Bool, true, false, List, [], ◌∷◌, ◌++◌, Option, Some, None, length, get_or, take, refl, ap, ◌∙◌, arith}
 use mathlib.Core.Logic.{dite}
 use native.Mathlib.Decide.{ℕ_discrete}
 use Rattle.std.specs.Prelude.{slice_set}
 use Rattle.std.specs.List.{find}
-use Rattle.ow_floor.specs.declared.activations.Activation.{Activation}
+use Rattle.ow_records.specs.declared.activations.Activation.{Activation}
 use Rattle.ow_floor.specs.declared.activations.Open.{Open}
 use Rattle.ow_floor.specs.declared.lists.Spot.{Spot}
 use Rattle.ow_floor.specs.Store.{AreGone, IsCell, empty_of, opens, there}

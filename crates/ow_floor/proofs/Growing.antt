@@ -2,12 +2,11 @@
 use Rattle.std.proofs.Common.{◌≡◌, ◌+◌, ◌-◌, ◌++◌, ℕ, Bool, true, false, cond, List, [], ◌∷◌, Option, Some, None, length, get_or, refl, sym, ap, ◌∙◌, arith, subst, length-append, inl, inr}
 use Rattle.std.specs.List.{find}
 use Rattle.std.specs.Prelude.{is_err, is_some, IsSome, IsOk, OnOk, Result, Ok, Err}
-use Rattle.std.proofs.lemmas.Bool.Decides.{nat_tests}
 use Rattle.ow_records.specs.declared.ids.Id.{Id}
 use Rattle.ow_records.specs.declared.outcomes.Ending.{Ending}
 use Rattle.ow_records.specs.declared.outcomes.Ending.TheVariants.{Replied, Overran}
 use Rattle.ow_traits.specs.declared.replies.RunReply.{RunReply}
-use Rattle.ow_floor.specs.declared.activations.Activation.{Activation}
+use Rattle.ow_records.specs.declared.activations.Activation.{Activation}
 use Rattle.ow_floor.specs.declared.activations.Plan.{Plan}
 use Rattle.ow_floor.specs.declared.activations.Open.{Open}
 use Rattle.ow_floor.specs.declared.answers.Answered.{Answered}
@@ -24,7 +23,6 @@ use Rattle.ow_floor.specs.Store.{IsCell, IsGood, IsGoodPast, IsSpot, Store, at_m
 use Rattle.ow_floor.specs.Ends.{IsEndedAt, IsEndedRun, IsFreed, IsMade, abandons, sweeps}
 use Rattle.ow_floor.proofs.Coming.{right_begun, right_end, right_gone, right_lost, right_next, right_reopened, right_reply, right_swept}
 use Rattle.ow_floor.proofs.Drawn.{drawn_last}
-use Rattle.ow_floor.proofs.Firsts.{find_passes}
 use Rattle.ow_floor.proofs.Making.{ended_made, happened_append}
 use Rattle.ow_floor.proofs.Showing.{good_begun, good_freed, good_gone, good_left, good_marked, good_ordered, good_reopened, show_answered, show_begun, show_freed, show_gone, show_lost, show_ordered, show_reopened}
 use Rattle.ow_floor.proofs.Soundness.{grows}
@@ -93,19 +91,15 @@ grows_gone R S at slot generation b is made =
 
 -- ---- replies
 
-number_is : (R : Store) (run k : ℕ) (c : IsCell run_in (is_number run) R.runs k) → c.item.run.number ≡ run
-number_is R run k c = let h = find_passes (is_number run) c.item.run (there run_in R.runs) c.found in grind (arith, nat_tests)
-
 pub made_reply : (R S : Store) (at run k : ℕ) (reply : RunReply) (a : Answered) (c : IsCell run_in (is_number run) R.runs k) → IsEndedRun at c.item.run reply R S a
     → Makes R (run_put at (S.marks.owed - owed_run c.item.run) k None S) (λ T. answered_items at run reply T)
     × ((T : Trace) → Stands (show R) T → Some a ≡ answer_to at run reply T)
 made_reply R S at run k reply a c e =
-    let number = number_is R run k c in
     let there' : IsCell run_in (is_number run) S.runs k = subst (λ rs. IsCell run_in (is_number run) rs k) (sym e.runs) c in
     let same : there'.item ≡ c.item = cell_same R S run k c e.runs in
     let items : reply_items at run reply (show R) (find (is_number run) (there run_in R.runs))
-    ≡ replied run (leaves_alive reply) at ∷ end_items at (Replied reply) (Some c.item.run.number) (find (is_of c.item.run.id) (opens R.spots R.tasks))
-    = rw (c.found, number) refl in
+    ≡ replied run (leaves_alive reply) at ∷ end_items at (Replied reply) (Some c.item.run) (find (is_of c.item.run.id) (opens R.spots R.tasks))
+    = rw c.found refl in
     let shows : show (run_put at (S.marks.owed - owed_run c.item.run) k None S) ≡ grown (reply_items at run reply (show R) (find (is_number run) (there run_in R.runs))) (show R)
     = show_answered S at run (S.marks.owed - owed_run c.item.run) k (leaves_alive reply) there' ∙ (ap (grow (replied run (leaves_alive reply) at)) e.shows ∙ ap (λ items. grown items (show R)) (sym items)) in (
       (
@@ -113,7 +107,7 @@ made_reply R S at run k reply a c e =
             (λ T st. right_reply at run reply T st.sound) shows,
         subst (λ (b : Berth). IsGood (run_put at (S.marks.owed - owed_run b.run) k None S)) same (good_left S at run k there' e.good),
       ),
-      λ T st. ap Some e.tells ∙ (rw (c.found, number) refl ∙ ap (λ (v : Shown). answer_by at run reply v (find (is_number run) v.live)) st.is),
+      λ T st. ap Some e.tells ∙ (rw c.found refl ∙ ap (λ (v : Shown). answer_by at run reply v (find (is_number run) v.live)) st.is),
     )
   where
     cell_same : (R S : Store) (run k : ℕ) (c : IsCell run_in (is_number run) R.runs k) (e : S.runs ≡ R.runs)
@@ -128,11 +122,11 @@ made_reply R S at run k reply a c e =
 pub made_end : (R S : Store) (at : ℕ) (ending : Ending) (id : Id) (told : List Happening) → IsMade (end_items at ending None (find (is_of id) (opens R.spots R.tasks))) R S told
     → Grows (show R) (show S) (λ T. end_items at ending None (find (is_of id) (shown T).open_items))
 made_end R S at ending id told made =
-    grows (λ v. end_items at ending None (find (is_of id) v.open_items)) (show R) (show S) (λ T st. right_end at ending None id (shown T)) made.shows
+    grows (λ v. end_items at ending None (find (is_of id) v.open_items)) (show R) (show S) (λ T st. right_end at ending id (shown T)) made.shows
 
 pub made_sweep : (R S : Store) (at : ℕ) (told : List Happening) → IsMade (sweeps at R) R S told → Makes R (at_moment at S) (λ T. swept_items at T)
 made_sweep R S at told made = (
-  grows (λ v. Swept at ∷ overrun_items at v.live v) (show R) (show (at_moment at S)) (λ T st. right_swept at (shown T)) (ap (grow (Swept at)) made.shows),
+  grows (λ v. Swept at ∷ overrun_items at v.live v) (show R) (show (at_moment at S)) (λ T st. right_swept at (shown T) st.sound.single) (ap (grow (Swept at)) made.shows),
   (good_marked S at made.good).0,
 )
 
@@ -169,16 +163,16 @@ last_told v n k is T st = is ∙ (ap (λ (u : Shown). last_of u.drawn k) st.is �
 same_berth : (R : Store) (run k : ℕ) (c : IsCell run_in (is_number run) R.runs k) (b : Berth) → get_or R.runs k None ≡ Some b → b ≡ c.item
 same_berth R run k c b here = let e : Some b ≡ Some c.item = sym here ∙ c.here None in cc
 
-pub made_begun : (R S : Store) (at run owed k : ℕ) (b : Berth) (c : IsCell run_in (is_number run) R.runs k) → get_or R.runs k None ≡ Some b → b.run.begun ≡ false → owed ≡ R.marks.owed - 1
-    → S ≡ run_put at owed k (Some (record { run = begun b.run; place = b.place })) R → IsGood R → Makes R S (λ T. begun_items at run T)
+pub made_begun : (R S : Store) (at run owed k : ℕ) (b : Berth) (c : IsCell run_in (is_number run) R.runs k) → get_or R.runs k None ≡ Some b → is_some b.run.begun ≡ false → owed ≡ R.marks.owed - 1
+    → S ≡ run_put at owed k (Some (record { run = begun at b.run; place = b.place })) R → IsGood R → Makes R S (λ T. begun_items at run T)
 made_begun R S at run owed k b c here new less is good =
     let same = same_berth R run k c b here in
-    let fresh : c.item.run.begun ≡ false = subst (λ (x : Berth). x.run.begun ≡ false) same new in
-    let put : S ≡ run_put at (R.marks.owed - 1) k (Some (record { run = begun c.item.run; place = c.item.place })) R
-    = is ∙ (ap (λ n. run_put at n k (Some (record { run = begun b.run; place = b.place })) R) less ∙ ap (λ (x : Berth). run_put at (R.marks.owed - 1) k (Some (record { run = begun x.run; place = x.place })) R) same) in
+    let fresh : is_some c.item.run.begun ≡ false = subst (λ (x : Berth). is_some x.run.begun ≡ false) same new in
+    let put : S ≡ run_put at (R.marks.owed - 1) k (Some (record { run = begun at c.item.run; place = c.item.place })) R
+    = is ∙ (ap (λ n. run_put at n k (Some (record { run = begun at b.run; place = b.place })) R) less ∙ ap (λ (x : Berth). run_put at (R.marks.owed - 1) k (Some (record { run = begun at x.run; place = x.place })) R) same) in
     let told : true ≡ is_new (find (is_number run) (there run_in R.runs)) = rw c.found (rw fresh refl) in (
-      grows_begun R S at run true told (ap show put ∙ show_begun R at run (R.marks.owed - 1) k (record { run = begun c.item.run; place = c.item.place }) c refl),
-      subst (λ (U : Store). IsGood U) (sym put) (good_begun R at run k (record { run = begun c.item.run; place = c.item.place }) c refl fresh good),
+      grows_begun R S at run true told (ap show put ∙ show_begun R at run (R.marks.owed - 1) k (record { run = begun at c.item.run; place = c.item.place }) c refl),
+      subst (λ (U : Store). IsGood U) (sym put) (good_begun R at run k (record { run = begun at c.item.run; place = c.item.place }) c refl fresh good),
     )
 
 pub made_lost : (R S : Store) (at run owed k : ℕ) (b : Berth) (c : IsCell run_in (is_number run) R.runs k) → get_or R.runs k None ≡ Some b → owed ≡ R.marks.owed - owed_run b.run
@@ -244,7 +238,7 @@ made_order R S at place n r task spot same is run put good =
     let put' : S ≡ ordered_in place (run_of n at spot.item.task.id) R = put ∙ ap (λ (x : Run). ordered_in place x R) run' in
     subst (λ (V : Store). Makes R V (λ T. next_items at T)) (sym put') (made_next R at place n spot is good)
 
-pub made_ending : (R S : Store) (at place : ℕ) (ending : Ending) (id : Id) (h : Happening) → IsGood R → IsSpot (is_of id) R.spots R.tasks place → IsEndedAt at ending place R S h
+pub made_ending : (R S : Store) (at place : ℕ) (ending : Ending) (id : Id) (h : Happening) → IsGood R → IsSpot (is_of id) R.spots R.tasks place → IsEndedAt at ending None place R S h
     → Grows (show R) (show S) (λ T. end_items at ending None (find (is_of id) (shown T).open_items))
 made_ending R S at place ending id h good spot x =
     let made = ended_made at ending place None id R S h good spot x in
@@ -261,7 +255,7 @@ happened_length at (r ∷ rs) v =
     let e : length (rest ++ late) ≡ length rest + length late = length-append rest late in
     omega (arith, a, b, d, e)
   where
-    late_by : (at : ℕ) (r : Run) (o : Open) (b : Bool) → length (happened (cond b (end_items at Overran (Some r.number) (Some o)) [])) ≡ length (cond b (end_items at Overran (Some r.number) (Some o)) [])
+    late_by : (at : ℕ) (r : Run) (o : Open) (b : Bool) → length (happened (cond b (end_items at Overran (Some r) (Some o)) [])) ≡ length (cond b (end_items at Overran (Some r) (Some o)) [])
     late_by at r o true = refl
     late_by at r o false = refl
 

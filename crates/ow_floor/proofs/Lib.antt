@@ -3,6 +3,8 @@ pub mod Finding
 pub mod Going
 pub mod Undoing
 pub mod Drawn
+pub mod Blocking
+pub mod Numbers
 pub mod Alters
 pub mod Tallies
 pub mod Among

@@ -8,7 +8,7 @@ use Rattle.ow_records.specs.declared.outcomes.Ending.{Ending}
 use Rattle.ow_records.specs.declared.outcomes.Ending.TheVariants.{Replied, Overran, Abandoned}
 use Rattle.ow_records.specs.Outcome.{outcome}
 use Rattle.ow_traits.specs.declared.replies.RunReply.{RunReply}
-use Rattle.ow_floor.specs.declared.activations.Activation.{Activation}
+use Rattle.ow_records.specs.declared.activations.Activation.{Activation}
 use Rattle.ow_floor.specs.declared.activations.Open.{Open}
 use Rattle.ow_floor.specs.declared.answers.Answered.TheVariants as answers
 use Rattle.ow_floor.specs.declared.answers.Happening.{Happening}
@@ -40,34 +40,34 @@ same_task R p place spot a here =
     let e : Some a ≡ Some spot.item.task = sym here ∙ spot.task None in
     cc
 
-pub ended_made : (at : ℕ) (ending : Ending) (place : ℕ) (run : Option ℕ) (id : Id) (R S : Store) (h : Happening) → IsGood R → (spot : IsSpot (is_of id) R.spots R.tasks place)
-    → IsEndedAt at ending place R S h → IsMade (end_items at ending run (Some spot.item)) R S (h ∷ [])
+pub ended_made : (at : ℕ) (ending : Ending) (place : ℕ) (run : Option Run) (id : Id) (R S : Store) (h : Happening) → IsGood R → (spot : IsSpot (is_of id) R.spots R.tasks place)
+    → IsEndedAt at ending run place R S h → IsMade (end_items at ending run (Some spot.item)) R S (h ∷ [])
 ended_made at ending place run id R S h good spot x =
     let task = same_task R (is_of id) place spot x.task x.here in
     let e = ended_by at ending run spot.item.task in
-    let now : S ≡ ended_in place (record_of e) R = x.now ∙ ap (λ a. ended_in place (record_of (ended_by at ending run a)) R) task in
+    let now : S ≡ ended_in at place (record_of e) R = x.now ∙ ap (λ a. ended_in at place (record_of (ended_by at ending run a)) R) task in
     let same : e.task.id ≡ id = eq_of e.task.id id (find_passes (is_of id) spot.item (opens R.spots R.tasks) spot.found) in
     record {
       shows = ap show now ∙ show_ended R place id e same spot;
-      good = subst (λ (U : Store). IsGood U) (sym now) (good_ended R (is_of id) place (record_of e) spot good);
+      good = subst (λ (U : Store). IsGood U) (sym now) (good_ended R (is_of id) at place (record_of e) spot good);
       runs = ap (λ (U : Store). U.runs) now;
       tells = ap (λ (y : Happening). y ∷ []) (x.told ∙ ap (λ (a : Activation). happenings.Recorded a.id (outcome ending a.action.limits).code) task);
     }
 
-owed_same : (at : ℕ) (ending : Ending) (place : ℕ) (R S : Store) (h : Happening) → IsEndedAt at ending place R S h → S.marks.owed ≡ R.marks.owed
-owed_same at ending place R S h x = ap (λ (U : Store). U.marks.owed) x.now
+owed_same : (at : ℕ) (ending : Ending) (run : Option Run) (place : ℕ) (R S : Store) (h : Happening) → IsEndedAt at ending run place R S h → S.marks.owed ≡ R.marks.owed
+owed_same at ending run place R S h x = ap (λ (U : Store). U.marks.owed) x.now
 
 -- ---- replies
 
 pub run_ended : (at : ℕ) (r : Run) (reply : RunReply) (place : ℕ) (R S : Store) (h : Happening) → IsGood R → IsSpot (is_of r.id) R.spots R.tasks place
-    → IsEndedAt at (Replied reply) place R S h → IsEndedRun at r reply R S (answers.Recorded (h ∷ []))
+    → IsEndedAt at (Replied reply) (Some r) place R S h → IsEndedRun at r reply R S (answers.Recorded (h ∷ []))
 run_ended at r reply place R S h good spot x =
-    let made = ended_made at (Replied reply) place (Some r.number) r.id R S h good spot x in
+    let made = ended_made at (Replied reply) place (Some r) r.id R S h good spot x in
     record {
       shows = rw spot.found made.shows;
       good = made.good;
       runs = made.runs;
-      marks = owed_same at (Replied reply) place R S h x;
+      marks = owed_same at (Replied reply) (Some r) place R S h x;
       tells = rw spot.found (ap answers.Recorded made.tells);
     }
 
@@ -88,11 +88,11 @@ swept_in_time at b R told good late =
     ([], subst (λ (items : Trace). IsMade items R R []) (sym late) (made_none R good), sym (append-nil told))
 
 pub swept_late : (at : ℕ) (b : Berth) (place : ℕ) (R S : Store) (h : Happening) (told after : List Happening) → IsGood R → IsLateEnd at b.run R (Some place)
-    → IsEndedAt at Overran place R S h → after ≡ told ++ h ∷ [] → IsSweptOne at (Some b) R S told after
+    → IsEndedAt at Overran (Some b.run) place R S h → after ≡ told ++ h ∷ [] → IsSweptOne at (Some b) R S told after
 swept_late at b place R S h told after good late x is =
     let spot = late.0 in
-    let items : late_of at (Some b) R ≡ end_items at Overran (Some b.run.number) (Some spot.item) = rw spot.found (rw late.1 refl) in
-    (h ∷ [], subst (λ (items : Trace). IsMade items R S (h ∷ [])) (sym items) (ended_made at Overran place (Some b.run.number) b.run.id R S h good spot x), is)
+    let items : late_of at (Some b) R ≡ end_items at Overran (Some b.run) (Some spot.item) = rw spot.found (rw late.1 refl) in
+    (h ∷ [], subst (λ (items : Trace). IsMade items R S (h ∷ [])) (sym items) (ended_made at Overran place (Some b.run) b.run.id R S h good spot x), is)
 
 overrun_on : (at : ℕ) (c : Option Berth) (cells : List (Option Berth)) (R : Store)
     → overrun_items at (there run_in (c ∷ cells)) (show R) ≡ overrun_items at (there run_in cells) (grown (late_of at c R) (show R)) ++ late_of at c R
@@ -160,15 +160,15 @@ spot_of_id R place spot =
     let all = first_there (opens R.spots R.tasks) spot.item spot.found in
     spot.removed ∙ (sym (first_cut spot.item (remove_first always (opens R.spots R.tasks))) ∙ ap (remove_first (is_of spot.item.task.id)) (sym all))
 
-pub abandoned_made : (at place : ℕ) (R S : Store) (h : Happening) → IsGood R → (spot : IsSpot always R.spots R.tasks place) → IsEndedAt at Abandoned place R S h
+pub abandoned_made : (at place : ℕ) (R S : Store) (h : Happening) → IsGood R → (spot : IsSpot always R.spots R.tasks place) → IsEndedAt at Abandoned None place R S h
     → IsMade (end_items at Abandoned None (Some spot.item)) R S (h ∷ [])
 abandoned_made at place R S h good spot x =
     let task = same_task R always place spot x.task x.here in
     let e = ended_by at Abandoned None spot.item.task in
-    let now : S ≡ ended_in place (record_of e) R = x.now ∙ ap (λ a. ended_in place (record_of (ended_by at Abandoned None a)) R) task in
+    let now : S ≡ ended_in at place (record_of e) R = x.now ∙ ap (λ a. ended_in at place (record_of (ended_by at Abandoned None a)) R) task in
     record {
       shows = ap show now ∙ rw (spot_of_id R place spot) refl;
-      good = subst (λ (U : Store). IsGood U) (sym now) (good_ended R always place (record_of e) spot good);
+      good = subst (λ (U : Store). IsGood U) (sym now) (good_ended R always at place (record_of e) spot good);
       runs = ap (λ (U : Store). U.runs) now;
       tells = ap (λ (y : Happening). y ∷ []) (x.told ∙ ap (λ (a : Activation). happenings.Recorded a.id (outcome Abandoned a.action.limits).code) task);
     }
@@ -201,7 +201,7 @@ none_cut R place lt paired none =
 
 -- what stands at this place ends
 pub abandons_on : (at : ℕ) (old now new : Store) (i : ℕ) (a : Activation) (told after : List Happening) (h : Happening) → i < length now.spots → get_or now.tasks i None ≡ Some a
-    → IsEndedAt at Abandoned i now new h → after ≡ told ++ h ∷ [] → IsAbandoning at old now i told → IsAbandoning at old new (i + 1) after
+    → IsEndedAt at Abandoned None i now new h → after ≡ told ++ h ∷ [] → IsAbandoning at old now i told → IsAbandoning at old new (i + 1) after
 abandons_on at old now new i a told after h lt here x is before =
     let next : suc i ≡ i + 1 = omega arith in
     let spot = spot_at always now.spots now.tasks i (record { state = Waiting }) None lt before.good.paired before.none (rw here refl) in

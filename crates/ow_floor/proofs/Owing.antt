@@ -10,19 +10,19 @@ use Rattle.ow_floor.specs.View.{Shown, begun, is_number, is_of, is_slot, update_
 use Rattle.ow_floor.specs.Trace.{Trace, Item, Accepted, Ordered, Begun, Answered, Lost, Gone, Ended, Swept, Drained, Reopened, live, live_run, open_items, shown, slots}
 use Rattle.ow_floor.specs.Growth.{grown}
 use Rattle.ow_floor.specs.Calls.{abandoned_items, begins, end_items, goes, is_late, is_new, late_items, loses, overrun_items, reopened_items, swept_items}
-use Rattle.ow_floor.specs.Owed.{owed_run, owed_runs, owed, rise, rises}
+use Rattle.ow_floor.specs.Owed.{owed_by, owed_run, owed_runs, owed, rise, rises}
 
 pub runs_push : (r : Run) (rs : List Run) → owed_runs (rs ++ r ∷ []) ≡ owed_runs rs + owed_run r
 runs_push r [] = omega arith
 runs_push r (x ∷ rs) = let h = runs_push r rs in omega (arith, h)
 
-run_small : (b : Bool) → cond b 1 2 ≤ 2
-run_small true = omega arith
-run_small false = omega arith
+run_small : (o : Option ℕ) → owed_by o ≤ 2
+run_small None = omega arith
+run_small (Some at) = omega arith
 
-run_some : (b : Bool) → 1 ≤ cond b 1 2
-run_some true = omega arith
-run_some false = omega arith
+run_some : (o : Option ℕ) → 1 ≤ owed_by o
+run_some None = omega arith
+run_some (Some at) = omega arith
 
 cut_at : (p : Run → Bool) (r x : Run) (xs : List Run) (b : Bool) → p x ≡ b → (find p xs ≡ Some r → owed_runs (remove_first p xs) + owed_run r ≡ owed_runs xs)
     → find p (x ∷ xs) ≡ Some r → owed_runs (remove_first p (x ∷ xs)) + owed_run r ≡ owed_runs (x ∷ xs)
@@ -46,28 +46,28 @@ unfolding remove_first
 runs_fewer p [] = omega arith
 runs_fewer p (x ∷ xs) = less_at p x xs (p x) (runs_fewer p xs)
 
-mark_at : (p : Run → Bool) (r x : Run) (xs : List Run) (b : Bool) → p x ≡ b → (find p xs ≡ Some r → owed_runs (update_first p begun xs) + owed_run r ≡ owed_runs xs + 1)
-    → find p (x ∷ xs) ≡ Some r → owed_runs (update_first p begun (x ∷ xs)) + owed_run r ≡ owed_runs (x ∷ xs) + 1
+mark_at : (at : ℕ) (p : Run → Bool) (r x : Run) (xs : List Run) (b : Bool) → p x ≡ b → (find p xs ≡ Some r → owed_runs (update_first p (begun at) xs) + owed_run r ≡ owed_runs xs + 1)
+    → find p (x ∷ xs) ≡ Some r → owed_runs (update_first p (begun at) (x ∷ xs)) + owed_run r ≡ owed_runs (x ∷ xs) + 1
 unfolding update_first
-mark_at p r x xs true e rest found =
+mark_at at p r x xs true e rest found =
     let h : Some x ≡ Some r = rw e at found in
     let same : x ≡ r = cc in
     rw e (subst (λ (z : Run). (1 + owed_runs xs) + owed_run z ≡ (owed_run x + owed_runs xs) + 1) same (omega arith))
-mark_at p r x xs false e rest found = let h = rest (rw e at found) in rw e (omega (arith, h))
+mark_at at p r x xs false e rest found = let h = rest (rw e at found) in rw e (omega (arith, h))
 
-pub runs_begun : (p : Run → Bool) (r : Run) (xs : List Run) → find p xs ≡ Some r → owed_runs (update_first p begun xs) + owed_run r ≡ owed_runs xs + 1
-runs_begun p r [] found = cc
-runs_begun p r (x ∷ xs) found = mark_at p r x xs (p x) refl (runs_begun p r xs) found
+pub runs_begun : (at : ℕ) (p : Run → Bool) (r : Run) (xs : List Run) → find p xs ≡ Some r → owed_runs (update_first p (begun at) xs) + owed_run r ≡ owed_runs xs + 1
+runs_begun at p r [] found = cc
+runs_begun at p r (x ∷ xs) found = mark_at at p r x xs (p x) refl (runs_begun at p r xs) found
 
-same_at : (p : Run → Bool) (x : Run) (xs : List Run) (b : Bool) → owed_runs (update_first p begun xs) ≤ owed_runs xs
-    → owed_runs (cond b (begun x ∷ xs) (x ∷ update_first p begun xs)) ≤ owed_runs (x ∷ xs)
-same_at p x xs true rest = let k = run_some x.begun in omega (arith, k)
-same_at p x xs false rest = omega (arith, rest)
+same_at : (at : ℕ) (p : Run → Bool) (x : Run) (xs : List Run) (b : Bool) → owed_runs (update_first p (begun at) xs) ≤ owed_runs xs
+    → owed_runs (cond b (begun at x ∷ xs) (x ∷ update_first p (begun at) xs)) ≤ owed_runs (x ∷ xs)
+same_at at p x xs true rest = let k = run_some x.begun in omega (arith, k)
+same_at at p x xs false rest = omega (arith, rest)
 
-begun_fewer : (p : Run → Bool) (xs : List Run) → owed_runs (update_first p begun xs) ≤ owed_runs xs
+begun_fewer : (at : ℕ) (p : Run → Bool) (xs : List Run) → owed_runs (update_first p (begun at) xs) ≤ owed_runs xs
 unfolding update_first
-begun_fewer p [] = omega arith
-begun_fewer p (x ∷ xs) = same_at p x xs (p x) (begun_fewer p xs)
+begun_fewer at p [] = omega arith
+begun_fewer at p (x ∷ xs) = same_at at p x xs (p x) (begun_fewer at p xs)
 
 shorter_at : (p : Slot → Bool) (s x : Slot) (xs : List Slot) (b : Bool) → p x ≡ b → (find p xs ≡ Some s → length (remove_first p xs) + 1 ≡ length xs)
     → find p (x ∷ xs) ≡ Some s → length (remove_first p (x ∷ xs)) + 1 ≡ length (x ∷ xs)
@@ -97,7 +97,7 @@ owed_item (Ordered r) T =
     let b = run_small r.begun in
     let d = length-append (slots T) (record { place = r.slot; generation = r.generation } ∷ []) in
     omega (arith, a, b, d)
-owed_item (Begun run at) T = let d = begun_fewer (is_number run) (live T) in omega (arith, d)
+owed_item (Begun run at) T = let d = begun_fewer at (is_number run) (live T) in omega (arith, d)
 owed_item (Answered run alive at) T = let d = runs_fewer (is_number run) (live T) in omega (arith, d)
 owed_item (Lost run at) T = let d = runs_fewer (is_number run) (live T) in omega (arith, d)
 owed_item (Gone slot generation at) T = let d = slots_fewer (is_slot slot generation) (slots T) in omega (arith, d)
@@ -112,14 +112,14 @@ owed_items (item ∷ items) T = let a = owed_item item (items ++ T) in let b = o
 
 -- ---- what is booked without memory was owed
 
-fresh : (b : Bool) → not b ≡ true → ◌≡◌ {A = ℕ} (cond b 1 2) 2
-fresh true h = cc
-fresh false h = refl
+fresh : (o : Option ℕ) → not (is_some o) ≡ true → owed_by o ≡ 2
+fresh None h = refl
+fresh (Some at) h = cc
 
 begun_by : (run at : ℕ) (T : Trace) (o : Option Run) → live_run T run ≡ o → is_new o ≡ true → owed (Begun run at ∷ T) + 1 ≤ owed T
 begun_by run at T None found new = cc
 begun_by run at T (Some r) found new =
-    let d = runs_begun (is_number run) r (live T) found in
+    let d = runs_begun at (is_number run) r (live T) found in
     let two : owed_run r ≡ 2 = fresh r.begun new in
     omega (arith, d, two)
 
@@ -149,7 +149,7 @@ rises_append : (xs ys : Trace) → rises (xs ++ ys) ≡ rises xs + rises ys
 rises_append [] ys = omega arith
 rises_append (x ∷ xs) ys = let h = rises_append xs ys in omega (arith, h)
 
-rises_by : (at : ℕ) (r : Run) (o : Open) (b : Bool) → rises (cond b (end_items at Overran (Some r.number) (Some o)) []) ≡ 0
+rises_by : (at : ℕ) (r : Run) (o : Open) (b : Bool) → rises (cond b (end_items at Overran (Some r) (Some o)) []) ≡ 0
 rises_by at r o true = refl
 rises_by at r o false = refl
 

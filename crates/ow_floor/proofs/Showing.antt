@@ -1,12 +1,12 @@
 -- What changes of the kept lists show.
-use Rattle.std.proofs.Common.{◌≡◌, ◌≤◌, ◌+◌, ◌-◌, ◌++◌, ℕ, zero, suc, Bool, false, cond, List, [], ◌∷◌, Option, Some, None, length, get_or, refl, sym, ap, ◌∙◌, arith, length-append}
+use Rattle.std.proofs.Common.{◌≡◌, ◌≤◌, ◌+◌, ◌-◌, ◌++◌, ℕ, zero, suc, Bool, false, List, [], ◌∷◌, Option, Some, None, length, get_or, refl, sym, ap, ◌∙◌, arith, length-append}
 use Rattle.std.specs.List.{find}
-use Rattle.std.specs.Prelude.{slice_set}
+use Rattle.std.specs.Prelude.{is_some, slice_set}
 use Rattle.std.proofs.lemmas.List.{length-set}
 use Rattle.ow_records.specs.declared.ids.Id.{Id}
-use Rattle.ow_floor.specs.declared.activations.Activation.{Activation}
+use Rattle.ow_records.specs.declared.activations.Activation.{Activation}
 use Rattle.ow_floor.specs.declared.activations.Open.{Open}
-use Rattle.ow_floor.specs.declared.activations.Ended.{Ended as Record}
+use Rattle.ow_records.specs.declared.record.Record.{Record}
 use Rattle.ow_floor.specs.declared.activations.State.TheVariants.{Waiting, Running}
 use Rattle.ow_floor.specs.declared.lists.Berth.{Berth}
 use Rattle.ow_floor.specs.declared.lists.Spot.{Spot}
@@ -14,7 +14,7 @@ use Rattle.ow_floor.specs.declared.runs.Run.{Run}
 use Rattle.ow_floor.specs.View.{begun, is_number, is_of, is_slot, slot_of, waits, with_state}
 use Rattle.ow_floor.specs.Trace.{End, Accepted, Answered, Begun, Drained, Ended, Gone, Lost, Ordered, Reopened, Swept, record_of}
 use Rattle.ow_floor.specs.Growth.{grow}
-use Rattle.ow_floor.specs.Owed.{owed_of, owed_run, owed_runs}
+use Rattle.ow_floor.specs.Owed.{owed_by, owed_of, owed_run, owed_runs}
 use Rattle.ow_floor.specs.Store.{Store, IsCell, IsGood, IsSpot, accepted_in, at_moment, drained_in, ended_in, freed_in, empty_of, opens, ordered_in, reopened_in, run_in, run_put, show, slot_cut, slot_in, there}
 use Rattle.ow_floor.proofs.Firsts.{update_none}
 use Rattle.ow_floor.proofs.Owing.{runs_begun, runs_push, runs_removed, slots_removed}
@@ -81,11 +81,11 @@ show_ordered R k r spot =
       length-set R.spots k (record { state = Running r.number }),
     ) refl
 
-pub good_ordered : (R : Store) (k : ℕ) (r : Run) → r.begun ≡ false → IsSpot waits R.spots R.tasks k → IsGood R → IsGood (ordered_in k r R)
+pub good_ordered : (R : Store) (k : ℕ) (r : Run) → r.begun ≡ None → IsSpot waits R.spots R.tasks k → IsGood R → IsGood (ordered_in k r R)
 good_ordered R k r new spot good =
     let s : Spot = record { state = Running r.number } in
     let len : length (slice_set R.spots k s) ≡ length R.spots = length-set R.spots k s in
-    let owes : owed_runs (there run_in R.runs ++ r ∷ []) ≡ owed_runs (there run_in R.runs) + 2 = runs_push r (there run_in R.runs) ∙ ap (λ b. owed_runs (there run_in R.runs) + cond b 1 2) new in
+    let owes : owed_runs (there run_in R.runs ++ r ∷ []) ≡ owed_runs (there run_in R.runs) + 2 = runs_push r (there run_in R.runs) ∙ ap (λ b. owed_runs (there run_in R.runs) + owed_by b) new in
     let more : length (there slot_in R.slots ++ slot_of r ∷ []) ≡ length (there slot_in R.slots) + 1 = length-append (there slot_in R.slots) (slot_of r ∷ []) in
     record {
       paired = good.paired ∙ sym len;
@@ -96,8 +96,12 @@ good_ordered R k r new spot good =
 
 -- ---- runs
 
-pub show_begun : (R : Store) (at run owed k : ℕ) (b : Berth) (c : IsCell run_in (is_number run) R.runs k) → b.run ≡ begun c.item.run → show (run_put at owed k (Some b) R) ≡ grow (Begun run at) (show R)
-show_begun R at run owed k b c is = rw (c.changed begun b is, length-set R.runs k (Some b)) refl
+owed_new : (o : Option ℕ) → is_some o ≡ false → owed_by o ≡ 2
+owed_new None new = refl
+owed_new (Some at) new = cc
+
+pub show_begun : (R : Store) (at run owed k : ℕ) (b : Berth) (c : IsCell run_in (is_number run) R.runs k) → b.run ≡ begun at c.item.run → show (run_put at owed k (Some b) R) ≡ grow (Begun run at) (show R)
+show_begun R at run owed k b c is = rw (c.changed (begun at) b is, length-set R.runs k (Some b)) refl
 
 pub show_answered : (R : Store) (at run owed k : ℕ) (alive : Bool) → IsCell run_in (is_number run) R.runs k → show (run_put at owed k None R) ≡ grow (Answered run alive at) (show R)
 show_answered R at run owed k alive c = rw (c.removed, length-set R.runs k None) refl
@@ -105,12 +109,12 @@ show_answered R at run owed k alive c = rw (c.removed, length-set R.runs k None)
 good_run : (R : Store) (at owed k : ℕ) (cell : Option Berth) → IsGood R → owed ≡ owed_of (show (run_put at owed k cell R)) → IsGood (run_put at owed k cell R)
 good_run R at owed k cell good owes = record { paired = good.paired; opened = good.opened; number = good.number; owed = owes }
 
-pub good_begun : (R : Store) (at run k : ℕ) (b : Berth) (c : IsCell run_in (is_number run) R.runs k) → b.run ≡ begun c.item.run → c.item.run.begun ≡ false → IsGood R
+pub good_begun : (R : Store) (at run k : ℕ) (b : Berth) (c : IsCell run_in (is_number run) R.runs k) → b.run ≡ begun at c.item.run → is_some c.item.run.begun ≡ false → IsGood R
     → IsGood (run_put at (R.marks.owed - 1) k (Some b) R)
 good_begun R at run k b c is new good =
-    let less = runs_begun (is_number run) c.item.run (there run_in R.runs) c.found in
-    let two : owed_run c.item.run ≡ 2 = ap (λ b. cond b 1 2) new in
-    good_run R at (R.marks.owed - 1) k (Some b) good (rw (c.changed begun b is) (omega (arith, less, two, good.owed)))
+    let less = runs_begun at (is_number run) c.item.run (there run_in R.runs) c.found in
+    let two : owed_run c.item.run ≡ 2 = owed_new c.item.run.begun new in
+    good_run R at (R.marks.owed - 1) k (Some b) good (rw (c.changed (begun at) b is) (omega (arith, less, two, good.owed)))
 
 pub good_left : (R : Store) (at run k : ℕ) (c : IsCell run_in (is_number run) R.runs k) → IsGood R → IsGood (run_put at (R.marks.owed - owed_run c.item.run) k None R)
 good_left R at run k c good =
@@ -152,11 +156,11 @@ good_gone R at slot generation k c good =
 
 -- ---- ends
 
-pub show_ended : (R : Store) (k : ℕ) (id : Id) (e : End) → e.task.id ≡ id → IsSpot (is_of id) R.spots R.tasks k → show (ended_in k (record_of e) R) ≡ grow (Ended e) (show R)
+pub show_ended : (R : Store) (k : ℕ) (id : Id) (e : End) → e.task.id ≡ id → IsSpot (is_of id) R.spots R.tasks k → show (ended_in e.at k (record_of e) R) ≡ grow (Ended e) (show R)
 show_ended R k id e is spot = rw (spot.removed, ← is) refl
 
-pub good_ended : (R : Store) (p : Open → Bool) (k : ℕ) (e : Record) → IsSpot p R.spots R.tasks k → IsGood R → IsGood (ended_in k e R)
-good_ended R p k e spot good =
+pub good_ended : (R : Store) (p : Open → Bool) (at k : ℕ) (e : Record) → IsSpot p R.spots R.tasks k → IsGood R → IsGood (ended_in at k e R)
+good_ended R p at k e spot good =
     let len : length (slice_set R.tasks k None) ≡ length R.tasks = length-set R.tasks k None in
     let less = length-removed p (opens R.spots R.tasks) spot.item spot.found in
     let more : length (R.ended ++ e ∷ []) ≡ length R.ended + 1 = length-append R.ended (e ∷ []) in
@@ -196,8 +200,8 @@ cut_length (s ∷ ss) (None ∷ ts) zero a same here = cc
 cut_length (s ∷ ss) (Some b ∷ ts) zero a same here = omega arith
 cut_length (s ∷ ss) (t ∷ ts) (suc k) a same here = cut_at s t ss ts (slice_set ts k None) (cut_length ss ts k a (omega (arith, same)) here)
 
-pub good_cut : (R : Store) (k : ℕ) (a : Activation) (e : Record) → get_or R.tasks k None ≡ Some a → IsGood R → IsGood (ended_in k e R)
-good_cut R k a e here good =
+pub good_cut : (R : Store) (at k : ℕ) (a : Activation) (e : Record) → get_or R.tasks k None ≡ Some a → IsGood R → IsGood (ended_in at k e R)
+good_cut R at k a e here good =
     let len : length (slice_set R.tasks k None) ≡ length R.tasks = length-set R.tasks k None in
     let less = cut_length R.spots R.tasks k a good.paired here in
     let more : length (R.ended ++ e ∷ []) ≡ length R.ended + 1 = length-append R.ended (e ∷ []) in

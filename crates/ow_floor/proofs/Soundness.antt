@@ -4,9 +4,9 @@ use Rattle.std.specs.List.{find, AllByRecursion}
 use Rattle.std.proofs.lemmas.Bool.Decides.{nat_tests}
 use Rattle.ow_records.specs.declared.ids.Id.{Id}
 use Rattle.ow_records.specs.Id.{same_id}
-use Rattle.ow_floor.specs.declared.activations.Activation.{Activation}
+use Rattle.ow_records.specs.declared.activations.Activation.{Activation}
 use Rattle.ow_floor.specs.declared.activations.Open.{Open}
-use Rattle.ow_floor.specs.declared.activations.Ended.{Ended as Record}
+use Rattle.ow_records.specs.declared.record.Record.{Record}
 use Rattle.ow_floor.specs.declared.activations.State.TheVariants.{Waiting, Running}
 use Rattle.ow_floor.specs.declared.answers.Drain.TheVariants as drains
 use Rattle.ow_floor.specs.declared.runs.Run.{Run}
@@ -195,12 +195,12 @@ sound_begun run at T sound = record {
   apart = sound.apart;
   drawn = sound.drawn;
   ended_drawn = sound.ended_drawn;
-  live_drawn = all_updated _ (is_number run) begun (live T) (λ x le. le) sound.live_drawn;
+  live_drawn = all_updated _ (is_number run) (begun at) (live T) (λ x le. le) sound.live_drawn;
   once = λ id. rw (open_begun run at T) (sound.once id);
   known = sound.known;
-  one = λ id. rw (tally_updated (is_number run) (carries id) begun (live T) (λ x. refl)) (sound.one id);
-  single = λ n. rw (tally_updated (is_number run) (is_number n) begun (live T) (λ x. refl)) (sound.single n);
-  numbered = all_updated _ (is_number run) begun (live T) (λ x le. le) sound.numbered;
+  one = λ id. rw (tally_updated (is_number run) (carries id) (begun at) (live T) (λ x. refl)) (sound.one id);
+  single = λ n. rw (tally_updated (is_number run) (is_number n) (begun at) (live T) (λ x. refl)) (sound.single n);
+  numbered = all_updated _ (is_number run) (begun at) (live T) (λ x le. le) sound.numbered;
 }
 
 sound_gone : (slot generation at : ℕ) (T : Trace) → IsSound T → IsSound (Gone slot generation at ∷ T)

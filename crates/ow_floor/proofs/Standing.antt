@@ -4,9 +4,9 @@ use Rattle.std.specs.List.{find, AllByRecursion}
 use Rattle.std.proofs.lemmas.Bool.Decides.{nat_tests}
 use Rattle.ow_records.specs.declared.ids.Id.{Id}
 use Rattle.ow_records.specs.Id.{same_id}
-use Rattle.ow_floor.specs.declared.activations.Activation.{Activation}
+use Rattle.ow_records.specs.declared.activations.Activation.{Activation}
 use Rattle.ow_floor.specs.declared.activations.Open.{Open}
-use Rattle.ow_floor.specs.declared.activations.Ended.{Ended as Record}
+use Rattle.ow_records.specs.declared.record.Record.{Record}
 use Rattle.ow_floor.specs.declared.activations.State.{State}
 use Rattle.ow_floor.specs.declared.activations.State.TheVariants.{Waiting, Running}
 use Rattle.ow_floor.specs.declared.runs.Run.{Run}
@@ -163,32 +163,32 @@ open_lost run at r o T found here sound =
 
 -- ---- behind a beginning
 
-begun_at : (id : Id) (p : Run → Bool) (x : Run) (xs : List Run) (b : Bool) → p x ≡ b
-    → state_by (find (carries id) (update_first p begun xs)) ≡ state_by (find (carries id) xs)
-    → state_by (find (carries id) (update_first p begun (x ∷ xs))) ≡ state_by (find (carries id) (x ∷ xs))
+begun_at : (at : ℕ) (id : Id) (p : Run → Bool) (x : Run) (xs : List Run) (b : Bool) → p x ≡ b
+    → state_by (find (carries id) (update_first p (begun at) xs)) ≡ state_by (find (carries id) xs)
+    → state_by (find (carries id) (update_first p (begun at) (x ∷ xs))) ≡ state_by (find (carries id) (x ∷ xs))
 unfolding update_first
-begun_at id p x xs true e rest = rw e (here (carries id x) refl)
+begun_at at id p x xs true e rest = rw e (here (carries id x) refl)
   where
-    here : (b : Bool) → carries id x ≡ b → state_by (find (carries id) (begun x ∷ xs)) ≡ state_by (find (carries id) (x ∷ xs))
+    here : (b : Bool) → carries id x ≡ b → state_by (find (carries id) (begun at x ∷ xs)) ≡ state_by (find (carries id) (x ∷ xs))
     here true f = rw f refl
     here false f = rw f refl
-begun_at id p x xs false e rest = rw e (here (carries id x) refl)
+begun_at at id p x xs false e rest = rw e (here (carries id x) refl)
   where
-    here : (b : Bool) → carries id x ≡ b → state_by (find (carries id) (x ∷ update_first p begun xs)) ≡ state_by (find (carries id) (x ∷ xs))
+    here : (b : Bool) → carries id x ≡ b → state_by (find (carries id) (x ∷ update_first p (begun at) xs)) ≡ state_by (find (carries id) (x ∷ xs))
     here true f = rw f refl
     here false f = rw f rest
 
-pub state_begun : (id : Id) (p : Run → Bool) (xs : List Run) → state_by (find (carries id) (update_first p begun xs)) ≡ state_by (find (carries id) xs)
+pub state_begun : (at : ℕ) (id : Id) (p : Run → Bool) (xs : List Run) → state_by (find (carries id) (update_first p (begun at) xs)) ≡ state_by (find (carries id) xs)
 unfolding update_first
-state_begun id p [] = refl
-state_begun id p (x ∷ xs) = begun_at id p x xs (p x) refl (state_begun id p xs)
+state_begun at id p [] = refl
+state_begun at id p (x ∷ xs) = begun_at at id p x xs (p x) refl (state_begun at id p xs)
 
 standing_state : (e : Option Record) (c d : Option Run) → state_by c ≡ state_by d → standing_by e c ≡ standing_by e d
 standing_state None c d h = ap Some h
 standing_state (Some e) c d h = refl
 
 pub open_begun : (run at : ℕ) (T : Trace) → open_items (Begun run at ∷ T) ≡ open_items T
-open_begun run at T = opens_same (standing (Begun run at ∷ T)) (standing T) (accepted T) (λ y. standing_state (end_of T y) _ _ (state_begun y (is_number run) (live T)))
+open_begun run at T = opens_same (standing (Begun run at ∷ T)) (standing T) (accepted T) (λ y. standing_state (end_of T y) _ _ (state_begun at y (is_number run) (live T)))
 
 -- ---- behind a reopening
 

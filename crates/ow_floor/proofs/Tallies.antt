@@ -4,7 +4,7 @@ use Rattle.std.specs.List.{find, filter}
 use Rattle.std.proofs.lemmas.Bool.Decides.{nat_tests}
 use Rattle.ow_records.specs.declared.ids.Id.{Id}
 use Rattle.ow_records.specs.Id.{same_id}
-use Rattle.ow_floor.specs.declared.activations.Activation.{Activation}
+use Rattle.ow_records.specs.declared.activations.Activation.{Activation}
 use Rattle.ow_floor.specs.declared.activations.Open.{Open}
 use Rattle.ow_floor.specs.declared.activations.State.{State}
 use Rattle.ow_floor.specs.View.{waits, runs_now, ids_of, with_state, update_first, remove_first}

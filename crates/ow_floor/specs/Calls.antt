@@ -8,9 +8,9 @@ use Rattle.ow_records.specs.declared.outcomes.Ending.{Ending}
 use Rattle.ow_records.specs.declared.outcomes.Ending.TheVariants.{Replied, Overran, Abandoned}
 use Rattle.ow_records.specs.Outcome.{outcome}
 use Rattle.ow_floor.specs.declared.activations.Plan.{Plan}
-use Rattle.ow_floor.specs.declared.activations.Activation.{Activation}
+use Rattle.ow_records.specs.declared.activations.Activation.{Activation}
 use Rattle.ow_floor.specs.declared.activations.Open.{Open}
-use Rattle.ow_floor.specs.declared.activations.Ended.{Ended as Record}
+use Rattle.ow_records.specs.declared.record.Record.{Record}
 use Rattle.ow_floor.specs.declared.runs.Run.{Run}
 use Rattle.ow_floor.specs.declared.answers.Order.{Order}
 use Rattle.ow_floor.specs.declared.answers.Order.TheVariants as orders
@@ -78,7 +78,7 @@ order_of run (Some o) = orders.Run (order_for run o.task)
 
 -- a run has a new slot for itself
 abbrev pub run_of : ℕ → ℕ → Id → Run
-run_of run at id = record { number = run; slot = run; generation = 1; at = at; id = id; begun = false }
+run_of run at id = record { number = run; slot = run; generation = 1; at = at; id = id; begun = None }
 
 abbrev pub order_items : ℕ → ℕ → Option Open → Trace
 order_items run at None = []
@@ -99,7 +99,7 @@ items_if b item = if b then item ∷ [] else []
 
 abbrev pub is_new : Option Run → Bool
 is_new None = false
-is_new (Some r) = not r.begun
+is_new (Some r) = not (is_some r.begun)
 
 -- the run is live and hasn't begun
 abbrev pub begins : ℕ → Trace → Bool
@@ -125,11 +125,11 @@ gone_items at slot generation T = items_if (goes slot generation T) (trace.Gone 
 -- ---- ends
 
 -- the end of an activation at this moment
-abbrev pub ended_by : ℕ → Ending → Option ℕ → Activation → End
+abbrev pub ended_by : ℕ → Ending → Option Run → Activation → End
 ended_by at ending run task = record { task = task; ending = ending; run = run; at = at }
 
 -- its end, where it is open
-abbrev pub end_items : ℕ → Ending → Option ℕ → Option Open → Trace
+abbrev pub end_items : ℕ → Ending → Option Run → Option Open → Trace
 end_items at ending run None = []
 end_items at ending run (Some o) = trace.Ended (ended_by at ending run o.task) ∷ []
 
@@ -137,7 +137,7 @@ end_items at ending run (Some o) = trace.Ended (ended_by at ending run o.task) �
 
 abbrev pub since : Option Record → ℕ
 since None = 0
-since (Some e) = e.at
+since (Some e) = e.span.end
 
 -- the container can be used again behind an answer
 abbrev pub leaves_alive : RunReply → Bool
@@ -145,18 +145,18 @@ leaves_alive (runs.Answer text logs) = true
 leaves_alive reply = false
 
 -- what becomes of a reply to a live run: its activation ends, or has ended before
-abbrev pub answer_open : ℕ → ℕ → RunReply → Option Open → Option Record → Answered
-answer_open at run reply None ended = answers.Late run (since ended)
-answer_open at run reply (Some o) ended = answers.Recorded (happened (end_items at (Replied reply) (Some run) (Some o)))
+abbrev pub answer_open : ℕ → Run → RunReply → Option Open → Option Record → Answered
+answer_open at r reply None ended = answers.Late r.number (since ended)
+answer_open at r reply (Some o) ended = answers.Recorded (happened (end_items at (Replied reply) (Some r) (Some o)))
 
 -- and of any reply: none where the run isn't live
 abbrev pub answer_by : ℕ → ℕ → RunReply → Shown → Option Run → Option Answered
 answer_by at run reply v None = None
-answer_by at run reply v (Some r) = Some (answer_open at run reply (find (is_of r.id) v.open_items) (find (is_end_of r.id) v.ended))
+answer_by at run reply v (Some r) = Some (answer_open at r reply (find (is_of r.id) v.open_items) (find (is_end_of r.id) v.ended))
 
 abbrev pub reply_items : ℕ → ℕ → RunReply → Shown → Option Run → Trace
 reply_items at run reply v None = []
-reply_items at run reply v (Some r) = trace.Answered run (leaves_alive reply) at ∷ end_items at (Replied reply) (Some run) (find (is_of r.id) v.open_items)
+reply_items at run reply v (Some r) = trace.Answered run (leaves_alive reply) at ∷ end_items at (Replied reply) (Some r) (find (is_of r.id) v.open_items)
 
 -- what a runner's reply is answered
 abbrev pub answer_to : ℕ → ℕ → RunReply → Trace → Option Answered
@@ -198,7 +198,7 @@ is_late at r task = nat_lt task.action.limits.timeout (at - r.at)
 
 abbrev pub late_items : ℕ → Run → Option Open → Trace
 late_items at r None = []
-late_items at r (Some o) = if is_late at r o.task then end_items at Overran (Some r.number) (Some o) else []
+late_items at r (Some o) = if is_late at r o.task then end_items at Overran (Some r) (Some o) else []
 
 -- the ends of what these runs carry, where they are late, one behind another
 abbrev pub overrun_items : ℕ → List Run → Shown → Trace

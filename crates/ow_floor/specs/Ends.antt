@@ -5,7 +5,7 @@ use Rattle.ow_records.specs.declared.outcomes.Ending.{Ending}
 use Rattle.ow_records.specs.declared.outcomes.Ending.TheVariants.{Abandoned, Replied}
 use Rattle.ow_traits.specs.declared.replies.RunReply.{RunReply}
 use Rattle.ow_records.specs.Outcome.{outcome}
-use Rattle.ow_floor.specs.declared.activations.Activation.{Activation}
+use Rattle.ow_records.specs.declared.activations.Activation.{Activation}
 use Rattle.ow_floor.specs.declared.activations.Open.{Open}
 use Rattle.ow_floor.specs.declared.answers.Answered.{Answered}
 use Rattle.ow_floor.specs.declared.answers.Happening.{Happening}
@@ -19,10 +19,10 @@ use Rattle.ow_floor.specs.Calls.{abandoned_items, answer_open, end_items, ended_
 use Rattle.ow_floor.specs.Store.{IsGood, IsSpot, Store, ended_in, freed_in, opens, run_in, show, there}
 
 -- what stands there has ended, and it is told so
-pub record IsEndedAt (at : ℕ) (ending : Ending) (place : ℕ) (old new : Store) (h : Happening) : Type 0 where
+pub record IsEndedAt (at : ℕ) (ending : Ending) (run : Option Run) (place : ℕ) (old new : Store) (h : Happening) : Type 0 where
   pub task : Activation
   pub here : slice_index_or old.tasks place None ≡ Some task
-  pub now : new ≡ ended_in place (record_of (ended_by at ending None task)) old
+  pub now : new ≡ ended_in at place (record_of (ended_by at ending run task)) old
   pub told : h ≡ happenings.Recorded task.id (outcome ending task.action.limits).code
 
 -- what the run carries is late and stands there, or isn't late
@@ -39,11 +39,11 @@ pub record IsMade (items : Trace) (old new : Store) (told : List Happening) : Ty
 
 -- what the run carries has ended by a reply, or had ended before
 pub record IsEndedRun (at : ℕ) (r : Run) (reply : RunReply) (old new : Store) (a : Answered) : Type 0 where
-  pub shows : show new ≡ grown (end_items at (Replied reply) (Some r.number) (find (is_of r.id) (opens old.spots old.tasks))) (show old)
+  pub shows : show new ≡ grown (end_items at (Replied reply) (Some r) (find (is_of r.id) (opens old.spots old.tasks))) (show old)
   pub good : IsGood new
   pub runs : new.runs ≡ old.runs
   pub marks : new.marks.owed ≡ old.marks.owed
-  pub tells : a ≡ answer_open at r.number reply (find (is_of r.id) (opens old.spots old.tasks)) (find (is_end_of r.id) old.ended)
+  pub tells : a ≡ answer_open at r reply (find (is_of r.id) (opens old.spots old.tasks)) (find (is_end_of r.id) old.ended)
 
 -- the end of what this run carries, where it is late
 abbrev pub late_of : ℕ → Option Berth → Store → Trace
@@ -82,7 +82,7 @@ pub record IsAbandoning (at : ℕ) (old now : Store) (place : ℕ) (told : List 
 
 abbrev pub IsAbandonedAt : ℕ → ℕ → Option Activation → Store → Store → List Happening → List Happening → Type 0
 IsAbandonedAt at place None old new before after = (new ≡ old) × (after ≡ before)
-IsAbandonedAt at place (Some a) old new before after = (h : Happening) × IsEndedAt at Abandoned place old new h × (after ≡ before ++ h ∷ [])
+IsAbandonedAt at place (Some a) old new before after = (h : Happening) × IsEndedAt at Abandoned None place old new h × (after ≡ before ++ h ∷ [])
 
 -- what the run carries waits again at its place, or isn't open
 abbrev pub IsFreed : Run → Store → Store → Type 0

@@ -3,7 +3,7 @@ use Rattle.std.specs.Prelude.{◌≡◌, ◌⊎◌, ◌+◌, ◌++◌, ◌≤◌
 use Rattle.std.specs.List.{AllByRecursion}
 use Rattle.ow_records.specs.declared.ids.Id.{Id}
 use Rattle.ow_records.specs.Id.{same_id}
-use Rattle.ow_floor.specs.declared.activations.Activation.{Activation}
+use Rattle.ow_records.specs.declared.activations.Activation.{Activation}
 use Rattle.ow_floor.specs.declared.runs.Run.{Run}
 use Rattle.ow_floor.specs.View.{Shown, carries, ids_of, is_number, recorded_of, running_of, waiting_of}
 use Rattle.ow_floor.specs.Trace.{Trace, accepted, accepted_ids, ends, last, live, open_items, records, recorded, run_count, running, shown, waiting}

@@ -4,6 +4,7 @@ pub mod Trace
 pub mod Growth
 pub mod Laws
 pub mod Calls
+pub mod Collecting
 pub mod Owed
 pub mod Store
 pub mod Places

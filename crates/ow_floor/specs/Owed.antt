@@ -1,12 +1,16 @@
 -- How many entries a trace still owes the book that take no memory: of each live run the beginning, unless it has begun, and the
 -- reply or the loss; of each slot the going of its container.
-use Rattle.std.specs.Prelude.{◌+◌, ℕ, List, [], ◌∷◌, length, if◌then◌else◌}
+use Rattle.std.specs.Prelude.{◌+◌, ℕ, List, [], ◌∷◌, Option, None, Some, length}
 use Rattle.ow_floor.specs.declared.runs.Run.{Run}
 use Rattle.ow_floor.specs.View.{Shown}
 use Rattle.ow_floor.specs.Trace.{Trace, Item, Ordered, shown}
 
+abbrev pub owed_by : Option ℕ → ℕ
+owed_by None = 2
+owed_by (Some at) = 1
+
 abbrev pub owed_run : Run → ℕ
-owed_run r = if r.begun then 1 else 2
+owed_run r = owed_by r.begun
 
 abbrev pub owed_runs : List Run → ℕ
 owed_runs [] = 0

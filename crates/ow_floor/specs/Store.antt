@@ -3,16 +3,18 @@ use Rattle.std.specs.Prelude.{◌≡◌, ◌+◌, ◌-◌, ◌++◌, ◌<◌, �
 use Rattle.std.proofs.Common.{zero, suc}
 use Rattle.std.specs.List.{find, cons_option}
 use Rattle.ow_records.specs.declared.ids.Id.{Id}
-use Rattle.ow_floor.specs.declared.activations.Activation.{Activation}
-use Rattle.ow_floor.specs.declared.activations.Ended.{Ended as Record}
+use Rattle.ow_records.specs.declared.activations.Activation.{Activation}
+use Rattle.ow_records.specs.declared.record.Record.{Record}
 use Rattle.ow_floor.specs.declared.activations.Open.{Open}
 use Rattle.ow_floor.specs.declared.activations.State.TheVariants.{Waiting, Running}
 use Rattle.ow_floor.specs.declared.lists.Berth.{Berth}
+use Rattle.ow_floor.specs.declared.lists.Blocking.{Blocking}
 use Rattle.ow_floor.specs.declared.lists.Marks.{Marks}
 use Rattle.ow_floor.specs.declared.lists.Spot.{Spot}
 use Rattle.ow_floor.specs.declared.runs.Run.{Run}
 use Rattle.ow_floor.specs.declared.runs.Slot.{Slot}
 use Rattle.ow_floor.specs.Owed.{owed_of}
+use Rattle.ow_floor.specs.Trace.{blocked_by}
 use Rattle.ow_floor.specs.View.{Shown, put_id, remove_first, slot_of, update_first, with_state}
 
 -- the lists as they are kept
@@ -23,6 +25,7 @@ pub record Store : Type 0 where
   pub slots : List (Option Slot)
   pub ended : List Record
   pub drawn : List Id
+  pub blocking : List Blocking
   pub marks : Marks
 
 -- the lists now, and as they were at the hold
@@ -31,10 +34,10 @@ pub record StoreView : Type 0 where
   pub past : Option Store
 
 -- all the parts as they were, where they are held
-abbrev pub past_of : Option (List Spot) → Option (List (Option Activation)) → Option (List (Option Berth)) → Option (List (Option Slot)) → Option (List Record) → Option (List Id) → Option Marks → Option Store
-past_of (Some spots) (Some tasks) (Some runs) (Some slots) (Some ended) (Some drawn) (Some marks) =
-    Some (record { spots = spots; tasks = tasks; runs = runs; slots = slots; ended = ended; drawn = drawn; marks = marks })
-past_of spots tasks runs slots ended drawn marks = None
+abbrev pub past_of : Option (List Spot) → Option (List (Option Activation)) → Option (List (Option Berth)) → Option (List (Option Slot)) → Option (List Record) → Option (List Id) → Option (List Blocking) → Option Marks → Option Store
+past_of (Some spots) (Some tasks) (Some runs) (Some slots) (Some ended) (Some drawn) (Some blocking) (Some marks) =
+    Some (record { spots = spots; tasks = tasks; runs = runs; slots = slots; ended = ended; drawn = drawn; blocking = blocking; marks = marks })
+past_of spots tasks runs slots ended drawn blocking marks = None
 
 -- what was before, where they are held
 abbrev pub taken_back : Option Store → Store → Store
@@ -74,6 +77,7 @@ show R = record {
   drawn = R.drawn;
   runs = length R.runs;
   count = length R.spots - R.marks.opened;
+  blocking = R.blocking;
   latest = R.marks.latest;
   draining = R.marks.draining;
 }
@@ -151,6 +155,7 @@ accepted_in a R = record {
   slots = R.slots;
   ended = R.ended;
   drawn = put_id a.id R.drawn;
+  blocking = blocked_by a.id a.until R.blocking;
   marks = with_latest a.at R.marks;
 }
 
@@ -163,6 +168,7 @@ ordered_in place r R = record {
   slots = R.slots ++ Some (slot_of r) ∷ [];
   ended = R.ended;
   drawn = R.drawn;
+  blocking = R.blocking;
   marks = with_owed r.at (R.marks.owed + 3) R.marks;
 }
 
@@ -178,16 +184,17 @@ freed_in place R = record R { spots = slice_set R.spots place (record { state = 
 abbrev pub slot_cut : ℕ → ℕ → Store → Store
 slot_cut at place R = record R { slots = slice_set R.slots place None; marks = with_owed at (R.marks.owed - 1) R.marks }
 
--- what stands at this place has ended
-abbrev pub ended_in : ℕ → Record → Store → Store
-ended_in place e R = record {
+-- what stands at this place has ended at this moment
+abbrev pub ended_in : ℕ → ℕ → Record → Store → Store
+ended_in at place e R = record {
   spots = R.spots;
   tasks = slice_set R.tasks place None;
   runs = R.runs;
   slots = R.slots;
   ended = R.ended ++ e ∷ [];
   drawn = R.drawn;
-  marks = with_latest e.at R.marks;
+  blocking = R.blocking;
+  marks = with_latest at R.marks;
 }
 
 abbrev pub drained_in : ℕ → Store → Store
@@ -203,5 +210,6 @@ abbrev pub reopened_in : ℕ → Store → Store
 reopened_in at R = record R {
   runs = empty_of R.runs;
   slots = empty_of R.slots;
+  blocking = [];
   marks = record { latest = at; opened = length R.spots; owed = 0; draining = false };
 }

@@ -4,21 +4,23 @@ use Rattle.std.specs.Prelude.{◌==◌, ◌+◌, ◌++◌, ℕ, Bool, true, fals
 use Rattle.std.specs.List.{find, filter, filter_map}
 use Rattle.ow_records.specs.declared.ids.Id.{Id}
 use Rattle.ow_records.specs.declared.outcomes.Ending.{Ending}
-use Rattle.ow_records.specs.Outcome.{outcome}
-use Rattle.ow_floor.specs.declared.activations.Activation.{Activation}
+use Rattle.ow_records.specs.Id.{same_id}
+use Rattle.ow_records.specs.Record.{record_of as leaf_record}
+use Rattle.ow_records.specs.declared.activations.Activation.{Activation}
 use Rattle.ow_floor.specs.declared.activations.Open.{Open}
-use Rattle.ow_floor.specs.declared.activations.Ended.{Ended as Record}
+use Rattle.ow_records.specs.declared.record.Record.{Record}
 use Rattle.ow_floor.specs.declared.activations.State.{State}
 use Rattle.ow_floor.specs.declared.activations.State.TheVariants.{Waiting, Running}
+use Rattle.ow_floor.specs.declared.lists.Blocking.{Blocking}
 use Rattle.ow_floor.specs.declared.runs.Run.{Run}
 use Rattle.ow_floor.specs.declared.runs.Slot.{Slot}
-use Rattle.ow_floor.specs.View.{Shown, begun, carries, ids_of, is_end_of, is_number, is_of, is_slot, put_id, remove_first, runs_now, slot_of, update_first, waits}
+use Rattle.ow_floor.specs.View.{Shown, begun, carries, ids_of, is_end_of, is_number, is_of, is_slot, newest, put_id, remove_first, runs_now, slot_of, update_first, waits}
 
--- the end of an activation: what ended it, the run that carried it then, and the moment
+-- the end of an activation: what ended it, the run that carried it then as it was then, and the moment
 pub record End : Type 0 where
   pub task : Activation
   pub ending : Ending
-  pub run : Option ℕ
+  pub run : Option Run
   pub at : ℕ
 
 -- one thing that happened on a floor. A reply tells whether the container can be used again
@@ -63,6 +65,31 @@ abbrev pub count : Trace → ℕ
 count [] = 0
 count (item ∷ T) = count_after item (count T)
 
+-- with one more, where its request waits
+abbrev pub blocked_by : Id → Option ℕ → List Blocking → List Blocking
+blocked_by id None bs = bs
+blocked_by id (Some until) bs = bs ++ record { id = id; until = until } ∷ []
+
+abbrev pub blocking_after : Item → List Blocking → List Blocking
+blocking_after (Accepted a) bs = blocked_by a.id a.until bs
+blocking_after (Reopened at) bs = []
+blocking_after item bs = bs
+
+-- the activations accepted since the last opening for whose end a request waits, by acceptance
+abbrev pub blocking : Trace → List Blocking
+blocking [] = []
+blocking (item ∷ T) = blocking_after item (blocking T)
+
+abbrev pub wait_after : Item → Id → Option ℕ → Option ℕ
+wait_after (Accepted a) id wait = newest (if same_id a.id id then a.until else None) wait
+wait_after (Reopened at) id wait = None
+wait_after item id wait = wait
+
+-- the until of this activation: none where none of this id was accepted with one since the last opening
+abbrev pub wait_of : Trace → Id → Option ℕ
+wait_of [] id = None
+wait_of (item ∷ T) id = wait_after item id (wait_of T id)
+
 abbrev pub ends_after : Item → List End → List End
 ends_after (Ended end) xs = xs ++ end ∷ []
 ends_after item xs = xs
@@ -72,9 +99,14 @@ abbrev pub ends : Trace → List End
 ends [] = []
 ends (item ∷ T) = ends_after item (ends T)
 
--- the record of an end: the response is the outcome of what ended it
+-- the moment of a run's order, where there is a run
+abbrev pub started : Option Run → Option ℕ
+started None = None
+started (Some r) = Some r.at
+
+-- the record of an end
 abbrev pub record_of : End → Record
-record_of e = record { id = e.task.id; at = e.at; response = outcome e.ending e.task.action.limits }
+record_of e = leaf_record e.task e.ending (started e.run) e.at
 
 abbrev pub records_after : Item → List Record → List Record
 records_after (Ended end) xs = xs ++ record_of end ∷ []
@@ -115,7 +147,7 @@ run_count (item ∷ T) = run_count_after item (run_count T)
 -- a run is live from its order until its own reply or its loss
 abbrev pub live_after : Item → List Run → List Run
 live_after (Ordered run) rs = rs ++ run ∷ []
-live_after (Begun run at) rs = update_first (is_number run) begun rs
+live_after (Begun run at) rs = update_first (is_number run) (begun at) rs
 live_after (Answered run alive at) rs = remove_first (is_number run) rs
 live_after (Lost run at) rs = remove_first (is_number run) rs
 live_after (Reopened at) rs = []
@@ -231,6 +263,7 @@ shown T = record {
   drawn = drawn T;
   runs = run_count T;
   count = count T;
+  blocking = blocking T;
   latest = latest T;
   draining = is_draining T;
 }

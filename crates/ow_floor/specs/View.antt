@@ -8,11 +8,12 @@ use Rattle.ow_entity.specs.declared.exec.Exec.TheVariants.{Plain, Program}
 use Rattle.ow_entity.specs.Exec.{exec_code}
 use Rattle.ow_records.specs.declared.ids.Id.{Id}
 use Rattle.ow_records.specs.Id.{same_id}
-use Rattle.ow_floor.specs.declared.activations.Activation.{Activation}
+use Rattle.ow_records.specs.declared.activations.Activation.{Activation}
 use Rattle.ow_floor.specs.declared.activations.Open.{Open}
-use Rattle.ow_floor.specs.declared.activations.Ended.{Ended}
+use Rattle.ow_records.specs.declared.record.Record.{Record}
 use Rattle.ow_floor.specs.declared.activations.State.{State}
 use Rattle.ow_floor.specs.declared.activations.State.TheVariants.{Waiting}
+use Rattle.ow_floor.specs.declared.lists.Blocking.{Blocking}
 use Rattle.ow_floor.specs.declared.runs.Run.{Run}
 use Rattle.ow_floor.specs.declared.runs.Slot.{Slot}
 use Rattle.ow_floor.specs.declared.answers.Order.{Order}
@@ -21,15 +22,17 @@ use Rattle.ow_floor.specs.declared.answers.RunOrder.{RunOrder}
 
 -- the activations that have not ended, by acceptance; the live runs, by their orders; the slots whose container isn't gone, by
 -- their orders; the records of the activations that have ended, by their ends; the last id of each namespace; how many runs were
--- ordered; how many were accepted since the last opening; the moment of the newest thing; whether it drains
+-- ordered; how many were accepted since the last opening; which of these a request waits for; the moment of the newest thing; whether
+-- it drains
 pub record Shown : Type 0 where
   pub open_items : List Open
   pub live : List Run
   pub slots : List Slot
-  pub ended : List Ended
+  pub ended : List Record
   pub drawn : List Id
   pub runs : ℕ
   pub count : ℕ
+  pub blocking : List Blocking
   pub latest : ℕ
   pub draining : Bool
 
@@ -65,7 +68,7 @@ abbrev pub carries : Id → Run → Bool
 carries id r = same_id r.id id
 
 -- whether a record is that of this id
-abbrev pub is_end_of : Id → Ended → Bool
+abbrev pub is_end_of : Id → Record → Bool
 is_end_of id e = same_id e.id id
 
 -- whether a slot has this number and generation
@@ -123,9 +126,9 @@ put_id id (x ∷ xs) = if is_in id.namespace x then id ∷ xs else x ∷ put_id 
 abbrev pub with_state : State → Open → Open
 with_state s o = record { task = o.task; state = s }
 
--- a run that has begun
-abbrev pub begun : Run → Run
-begun r = record { number = r.number; slot = r.slot; generation = r.generation; at = r.at; id = r.id; begun = true }
+-- a run that began at this moment
+abbrev pub begun : ℕ → Run → Run
+begun at r = record { number = r.number; slot = r.slot; generation = r.generation; at = r.at; id = r.id; begun = Some at }
 
 -- the slot of a run
 abbrev pub slot_of : Run → Slot
@@ -153,3 +156,15 @@ order_for run a = record {
   params = a.params;
   timeout = a.action.limits.timeout;
 }
+
+-- ---- waits for the end
+
+-- the newer of two, where there is one
+abbrev pub newest : {X : Type 0} → Option X → Option X → Option X
+newest None old = old
+newest (Some new) old = Some new
+
+-- up to which moment the request waits that made this activation, by the newest of that id
+abbrev pub wait_in : Id → List Blocking → Option ℕ
+wait_in id [] = None
+wait_in id (b ∷ bs) = newest (wait_in id bs) (if same_id b.id id then Some b.until else None)

@@ -1,9 +1,9 @@
-// Activations: as planned, as accepted, as open, and as ended.
+// Activations: as planned, and as open.
 ghost use Rattle.std.specs.Prelude.{◌≡◌, ◌↔◌, IsTrue, IfOk};
 
 use ow_entity::Action;
 use ow_names::EntityName;
-use ow_records::{Id, Response};
+use ow_records::{Activation, Id};
 use ow_value::{NoMemory, Params, PlainData, Shared, Str};
 use std::alloc::Global;
 
@@ -15,27 +15,6 @@ pub struct Plan {
     /// The namespace that is charged for it.
     pub namespace: EntityName,
     /// The action as it stands at the acceptance.
-    pub action: Shared<Action>,
-    /// The merged parameters, with which it is run.
-    pub params: Params,
-    /// In whose name it is run.
-    pub subject: Str,
-    /// The activation that it is a part of.
-    pub cause: Option<Id>,
-    /// Up to which moment, in milliseconds, the request that made it waits for the end.
-    pub until: Option<u64>,
-}
-
-/// What was accepted.
-#[derive(Drop)]
-pub struct Activation {
-    /// That of its plan, as all but the moment.
-    pub id: Id,
-    /// The moment of the acceptance, in milliseconds.
-    pub at: u64,
-    /// The namespace that is charged for it.
-    pub namespace: EntityName,
-    /// The action as it stood at the acceptance.
     pub action: Shared<Action>,
     /// The merged parameters, with which it is run.
     pub params: Params,
@@ -63,17 +42,6 @@ pub struct Open {
     pub task: Activation,
     /// Whether it waits or runs.
     pub state: State,
-}
-
-/// The record of an activation that has ended.
-#[derive(Drop)]
-pub struct Ended {
-    /// The activation.
-    pub id: Id,
-    /// The moment of its end, in milliseconds.
-    pub at: u64,
-    /// The outcome of what ended it.
-    pub response: Response,
 }
 
 impl PlainData for Plan {
@@ -104,36 +72,6 @@ impl PlainData for Plan {
     }
 }
 
-impl PlainData for Activation {
-    fn same(&self, other: &Activation) -> bool {
-        self.id == other.id
-            && self.at == other.at
-            && self.namespace.same(&other.namespace)
-            && self.action.same(&other.action)
-            && self.params.same(&other.params)
-            && self.subject.same(&other.subject)
-            && self.cause == other.cause
-            && self.until == other.until
-    }
-
-    fn copy(&self, alloc: Global) -> Result<Activation, NoMemory> {
-        let namespace = self.namespace.copy(alloc)?;
-        let action = self.action.copy(alloc)?;
-        let params = self.params.copy(alloc)?;
-        let subject = self.subject.copy(alloc)?;
-        Ok(Activation {
-            id: self.id,
-            at: self.at,
-            namespace,
-            action,
-            params,
-            subject,
-            cause: self.cause,
-            until: self.until,
-        })
-    }
-}
-
 impl PlainData for Open {
     fn same(&self, other: &Open) -> bool {
         self.state == other.state && self.task.same(&other.task)
@@ -143,20 +81,6 @@ impl PlainData for Open {
         Ok(Open {
             task: self.task.copy(alloc)?,
             state: self.state,
-        })
-    }
-}
-
-impl PlainData for Ended {
-    fn same(&self, other: &Ended) -> bool {
-        self.id == other.id && self.at == other.at && self.response.same(&other.response)
-    }
-
-    fn copy(&self, alloc: Global) -> Result<Ended, NoMemory> {
-        Ok(Ended {
-            id: self.id,
-            at: self.at,
-            response: self.response.copy(alloc)?,
         })
     }
 }

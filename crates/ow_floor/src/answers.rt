@@ -2,9 +2,8 @@
 ghost use Rattle.std.specs.Prelude.{◌≡◌, ◌↔◌, [], ◌∷◌, IsTrue, IfOk};
 ghost use Rattle.ow_floor.specs.View.{kind_of};
 
-use crate::Activation;
 use ow_entity::Exec;
-use ow_records::Id;
+use ow_records::{Activation, Id, Record};
 use ow_traits::{Kind, RunReply};
 use ow_value::{Items, NoMemory, Params, PlainData, Str};
 use std::alloc::Global;
@@ -97,6 +96,24 @@ pub enum AnswerRefusal {
     NoMemory(RunReply),
 }
 
+/// What is told of the end of an activation for which a request waits.
+#[derive(Clone, Copy)]
+pub enum Collected<'a> {
+    /// It has ended: its record.
+    Recorded(&'a Record),
+    /// It hasn't ended, and its request still waits.
+    NotYet,
+    /// It hasn't ended, and its request waits no longer.
+    Elapsed,
+}
+
+/// Why a call of a floor does nothing.
+#[derive(Clone, Copy, Debug, PartialEq, Eq)]
+pub enum FloorRefusal {
+    /// No request waits for the end of an activation of this id that was accepted since the last opening.
+    NotFound,
+}
+
 /// Whether all activations have ended.
 #[derive(Clone, Copy, Debug, PartialEq, Eq)]
 pub enum Drain {
@@ -116,6 +133,19 @@ impl AnswerRefusal {
         match self {
             AnswerRefusal::NoRun { .. } => 29,
             AnswerRefusal::NoMemory(_) => 0,
+        }
+    }
+}
+
+impl FloorRefusal {
+    ghost use Rattle.ow_floor.specs.Collecting.{refusal_number};
+
+    /// By which a client tells the refusals apart.
+    pub fn number(&self) -> u32
+        ensures { result ≡ refusal_number self.now }
+    {
+        match self {
+            FloorRefusal::NotFound => 14,
         }
     }
 }

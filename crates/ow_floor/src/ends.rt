@@ -1,16 +1,16 @@
 // Ends of activations.
 ghost use Rattle.std.specs.Prelude.{◌≡◌, ◌<◌, ◌++◌, ◌∷◌, [], length, None, Some, slice_index_or, is_some, IfOk, OnOk};
-ghost use Rattle.ow_floor.specs.declared.activations.Activation.{Activation};
+ghost use Rattle.ow_records.specs.declared.activations.Activation.{Activation};
 ghost use Rattle.std.specs.List.{find};
 ghost use Rattle.ow_floor.specs.View.{is_end_of};
+ghost use Rattle.ow_floor.specs.Trace.{started};
 ghost use Rattle.ow_floor.specs.Calls.{is_late, since};
 ghost use Rattle.ow_floor.specs.Ends.{IsAbandonedAt, IsEndedAt, IsEndedRun, IsFreed, IsLateEnd, IsMade, IsSweptOne, abandons, sweeps};
 ghost use Rattle.ow_floor.specs.Store.{IsGood};
 
 use crate::lists::Lists;
-use crate::places::record_place;
-use crate::{Activation, Answered, Ended, Happened, Happening, Run};
-use ow_records::{Ending, outcome_in};
+use crate::{Answered, Happened, Happening, Run};
+use ow_records::{Activation, Ending, ReadyRecord, record_of};
 use ow_traits::RunReply;
 use ow_value::{NoMemory, PlainData, Scratch, Shared};
 use std::alloc::Global;
@@ -23,11 +23,12 @@ pub(crate) fn end_at(
     at: u64,
     place: usize,
     ending: &Ending,
+    run: Option<Run>,
 ) -> Result<Happening, NoMemory>
     requires place { place < length lists.old.now.tasks }
     requires good { IsGood lists.old.now }
     ensures good { IsGood lists.new.now }
-    ensures made { IfOk result (λ h. IsEndedAt at ending.now place lists.old.now lists.new.now h) }
+    ensures made { IfOk result (λ h. IsEndedAt at ending.now run place lists.old.now lists.new.now h) }
     ensures past { lists.new.past ≡ lists.old.past }
 {
     let Some(task) = &lists.tasks()[place] else {
@@ -35,13 +36,11 @@ pub(crate) fn end_at(
     };
     let task = task.get();
     let id = task.id;
-    let response = outcome_in(alloc, scratch, ending, &task.action.get().limits)?;
-    let happening = Happening::Recorded {
-        id,
-        code: response.code(),
-    };
-    lists.end(place, Ended { id, at, response })?;
-    Ok(happening)
+    let record = record_of(alloc, scratch, task, ending, started(run), at)?;
+    let code = record.response.code();
+    let ready = ReadyRecord::new(alloc, record)?;
+    lists.end(at, place, ready)?;
+    Ok(Happening::Recorded { id, code })
 }
 
 fn is_late(at: u64, run: Run, task: &Activation) -> bool
@@ -66,12 +65,22 @@ fn late_place(lists: &Lists, at: u64, run: Run) -> Option<usize>
 }
 
 // The moment of the record of what the run carries, 0 where there is none.
-fn since(ended: &[Ended], run: Run) -> u64
-    ensures { result ≡ since (find (is_end_of run.id) ended.now) }
+fn since(lists: &Lists, run: Run) -> u64
+    ensures { result ≡ since (find (is_end_of run.id) lists.now.now.ended) }
 {
-    match record_place(ended, run.id) {
-        Some(place) => ended[place].at,
+    match lists.record_of(run.id) {
+        Some(record) => record.span.end(),
         None => 0,
+    }
+}
+
+// The moment of a run's order, where there is a run.
+fn started(run: Option<Run>) -> Option<u64>
+    ensures { result ≡ started run }
+{
+    match run {
+        Some(run) => Some(run.at),
+        None => None,
     }
 }
 
@@ -90,14 +99,14 @@ pub(crate) fn end_run(
     ensures past { lists.new.past ≡ lists.old.past }
 {
     let Some(place) = lists.open_place(run.id) else {
-        let at = since(lists.ended(), run);
+        let at = since(lists, run);
         return Ok(Answered::Late {
             run: run.number,
             at,
         });
     };
     let ending = Ending::Replied(reply.copy(alloc)?);
-    let ended = end_at(alloc, lists, scratch, at, place, &ending);
+    let ended = end_at(alloc, lists, scratch, at, place, &ending, Some(run));
     drop(ending);
     Ok(Answered::Recorded(Happened::one(alloc, ended?)?))
 }
@@ -121,7 +130,15 @@ fn end_late(
         return Ok(());
     };
     if let Some(spot) = late_place(lists, at, berth.run) {
-        let happening = end_at(alloc, lists, scratch, at, spot, &Ending::Overran)?;
+        let happening = end_at(
+            alloc,
+            lists,
+            scratch,
+            at,
+            spot,
+            &Ending::Overran,
+            Some(berth.run),
+        )?;
         happened.push(happening)?;
     }
     Ok(())
@@ -165,7 +182,7 @@ fn abandon_at(
     if !is_there(&lists.tasks()[place]) {
         return Ok(());
     }
-    let happening = end_at(alloc, lists, scratch, at, place, &Ending::Abandoned)?;
+    let happening = end_at(alloc, lists, scratch, at, place, &Ending::Abandoned, None)?;
     happened.push(happening)?;
     Ok(())
 }

@@ -1,8 +1,9 @@
 // The floor and its calls. Each adds items to the trace. What was before a hold is kept until it is settled.
-ghost use Rattle.std.specs.Prelude.{◌≡◌, ◌+◌, ◌-◌, ◌<◌, ◌≤◌, [], ◌∷◌, length, None, Some, true, false, IfOk, IfSome, OnOk, OnErr, IfErr, IsSome};
+ghost use Rattle.std.specs.Prelude.{◌≡◌, ◌+◌, ◌-◌, ◌<◌, ◌≤◌, [], ◌∷◌, length, None, Some, true, false, option_copied, IfOk, IfSome, OnOk, OnErr, IfErr, IsSome};
 ghost use Rattle.ow_floor.specs.View.{begun, last_of};
 ghost use Rattle.ow_floor.specs.Trace.{Drained, Trace, head, is_draining, last, latest, live_run, open_item, open_items};
 ghost use Rattle.ow_floor.specs.Laws.{Grows, Stands};
+ghost use Rattle.ow_floor.specs.Collecting.{collected, collected_by, collection_of};
 ghost use Rattle.ow_floor.specs.Owed.{owed, owed_of, owed_run};
 ghost use Rattle.ow_floor.specs.Calls.{AllRecorded, AnswersSo, GrowsBy, HandsBack, accept_items, activation_of, answer_to, answered_items, begins, begun_items, drain_answer, drain_by, end_items, goes, gone_items, happened, happened_accepted, loses, lost_items, next_items, next_order, reopened_items, run_of, swept_ends, swept_items};
 
@@ -10,17 +11,18 @@ use crate::ends::{abandon, end_at, end_run, free_run, sweep};
 use crate::lists::{Berth, Lists};
 use crate::places::{last_of, slot_place};
 use crate::{
-    Activation, AnswerRefusal, Answered, Drain, Ended, Happened, Happening, Idle, Order, Plan, Run,
-    RunOrder, Swept,
+    AnswerRefusal, Answered, Collected, Drain, FloorRefusal, Happened, Happening, Idle, Order,
+    Plan, Run, RunOrder, Swept,
 };
-use ow_records::{Ending, Id};
+use ow_records::{Activation, Ending, Id, Record, Records};
 use ow_traits::RunReply;
 use ow_value::{NoMemory, Scratch, Shared};
 use std::alloc::Global;
 use std::marker::Model;
 
 /// What was accepted: the activations that have not ended, by acceptance, the live runs, and the records of the
-/// activations that have ended, by their ends. What it holds of an ended activation is its record alone.
+/// activations that have ended, by their ends. What it holds of an ended activation is its record alone, and up to which
+/// moment its request waits, where one does and it was accepted since the last opening.
 #[derive(Drop)]
 pub struct Floor {
     lists: Lists,
@@ -84,7 +86,7 @@ impl Floor {
         ensures value { result ≡ length self.now.now.open_items }
         ensures trace { (T : Trace) → Stands self.now.now T → result ≡ length (open_items T) }
     {
-        (self.lists.spots().len() - self.lists.ended().len()) as u64
+        (self.lists.spots().len() - self.lists.records().len()) as u64
     }
 
     /// How many entries are owed: how many beginnings, replies or losses, and goings may still come.
@@ -96,10 +98,17 @@ impl Floor {
     }
 
     /// The records of the activations that have ended, by their ends.
-    pub fn records(&self) -> &[Ended]
-        ensures { result.now ≡ self.now.now.ended }
+    pub fn records(&self) -> &Records
+        ensures { result.now.items ≡ self.now.now.ended }
     {
-        self.lists.ended()
+        self.lists.records()
+    }
+
+    /// The end of an activation for which a request waits: its record, where it has ended. It takes no memory.
+    pub fn collect(&self, at: u64, id: &Id) -> Result<Collected<'_>, FloorRefusal>
+        ensures { (T : Trace) → Stands self.now.now T → collection_of result ≡ collected at id.now T }
+    {
+        collected_by(at, self.lists.until(*id), self.lists.record_of(*id))
     }
 
     /// From now on the state of this moment is kept. It takes no memory, and nothing is copied.
@@ -176,11 +185,11 @@ impl Floor {
         let Some(berth) = self.lists.runs()[place] else {
             return false;
         };
-        if berth.run.begun {
+        if berth.run.begun.is_some() {
             return false;
         }
         let owed = self.lists.marks().owed.saturating_sub(1);
-        let _ = self.lists.put_run(at, owed, place, Some(begun(berth)));
+        let _ = self.lists.put_run(at, owed, place, Some(begun(at, berth)));
         true
     }
 
@@ -287,7 +296,15 @@ impl Floor {
         let Some(place) = self.lists.open_place(id) else {
             return Ok(Happened::none());
         };
-        let happening = end_at(alloc, &mut self.lists, &mut self.scratch, at, place, ending)?;
+        let happening = end_at(
+            alloc,
+            &mut self.lists,
+            &mut self.scratch,
+            at,
+            place,
+            ending,
+            None,
+        )?;
         Happened::one(alloc, happening)
     }
 
@@ -366,20 +383,36 @@ fn run_of(number: u64, at: u64, id: Id) -> Run
         generation: 1,
         at,
         id,
-        begun: false,
+        begun: None,
     }
 }
 
-// The run has begun.
-fn begun(berth: Berth) -> Berth
-    ensures { result ≡ record { run = begun berth.run; place = berth.place } }
+// The run has begun at this moment.
+fn begun(at: u64, berth: Berth) -> Berth
+    ensures { result ≡ record { run = begun at berth.run; place = berth.place } }
 {
     Berth {
         run: Run {
-            begun: true,
+            begun: Some(at),
             ..berth.run
         },
         place: berth.place,
+    }
+}
+
+// What is told of an activation whose request waits up to this moment, where one does.
+fn collected_by(
+    at: u64,
+    until: Option<u64>,
+    ended: Option<&Record>,
+) -> Result<Collected<'_>, FloorRefusal>
+    ensures { collection_of result ≡ collected_by at until (option_copied ended.entry) }
+{
+    match (until, ended) {
+        (None, _) => Err(FloorRefusal::NotFound),
+        (Some(_), Some(record)) => Ok(Collected::Recorded(record)),
+        (Some(until), None) if at < until => Ok(Collected::NotYet),
+        (Some(_), None) => Ok(Collected::Elapsed),
     }
 }
 
@@ -387,7 +420,7 @@ fn begun(berth: Berth) -> Berth
 fn left_owed(lists: &Lists, run: Run) -> usize
     ensures { result ≡ lists.now.now.marks.owed - owed_run run }
 {
-    let owed = if run.begun { 1 } else { 2 };
+    let owed = if run.begun.is_some() { 1 } else { 2 };
     lists.marks().owed.saturating_sub(owed)
 }
 

@@ -3,7 +3,7 @@
 ghost use Rattle.std.specs.Prelude.{◌≡◌, ◌≤◌, ◌+◌, ◌++◌, ◌∷◌, ℕ, Some, true};
 ghost use Rattle.ow_records.specs.declared.ids.Id.{Id};
 ghost use Rattle.ow_traits.specs.declared.replies.RunReply.{RunReply};
-ghost use Rattle.ow_floor.specs.declared.activations.Ended.{Ended as Record};
+ghost use Rattle.ow_records.specs.declared.record.Record.{Record};
 ghost use Rattle.ow_floor.specs.declared.answers.Answered.TheVariants.{Late};
 ghost use Rattle.ow_floor.specs.Trace.{Begun, Gone, Lost, Trace, end_of, live_run, shown};
 ghost use Rattle.ow_floor.specs.Growth.{AreRight};
@@ -45,7 +45,7 @@ pub fn when_drained_all_are_recorded()
 /// A reply of a live run whose activation has ended is late, with the moment of the end.
 pub fn replies_after_the_end_are_late()
     ensures { (at run : ℕ) (reply : RunReply) (T : Trace) (r : Run) (e : Record) → live_run T run ≡ Some r → end_of T r.id ≡ Some e
-        → answer_to at run reply T ≡ Some (Late run e.at) }
+        → answer_to at run reply T ≡ Some (Late run e.span.end) }
 {}
 
 /// What is owed is raised by orders alone, by three at most, and each beginning, loss and going was owed.

@@ -11,9 +11,10 @@ mod lists;
 mod places;
 mod runs;
 
-pub use activations::{Activation, Ended, Open, Plan, State};
+pub use activations::{Open, Plan, State};
 pub use answers::{
-    AnswerRefusal, Answered, Drain, Happened, Happening, Idle, Order, RunOrder, Swept,
+    AnswerRefusal, Answered, Collected, Drain, FloorRefusal, Happened, Happening, Idle, Order,
+    RunOrder, Swept,
 };
 pub use floor::Floor;
 pub use laws::{

@@ -1,13 +1,15 @@
 // The lists of a floor as they are kept. What is taken out leaves its place empty, so places stay.
-ghost use Rattle.std.specs.Prelude.{◌≡◌, ◌<◌, ◌≤◌, ◌+◌, [], ◌∷◌, length, None, Some, true, false, IfOk, IfSome, IsOk, OnOk, OnErr};
+ghost use Rattle.std.specs.Prelude.{◌≡◌, ◌<◌, ◌≤◌, ◌+◌, [], ◌∷◌, length, None, Some, true, false, option_copied, IfOk, IfSome, IsOk, OnOk, OnErr};
+ghost use Rattle.std.specs.List.{find};
 ghost use Rattle.ow_floor.specs.Kept.{past};
-ghost use Rattle.ow_floor.specs.View.{is_number, is_of, put_id, waits};
+ghost use Rattle.ow_floor.specs.View.{is_end_of, is_number, is_of, put_id, wait_in, waits};
+ghost use Rattle.ow_floor.specs.Trace.{blocked_by};
 ghost use Rattle.ow_floor.specs.Store.{AreGone, CellOf, SpotOf, Store, accepted_in, at_moment, drained_in, empty_of, ended_in, freed_in, ordered_in, reopened_in, run_in, run_put, slot_cut, taken_back};
 
 use crate::kept::Kept;
-use crate::places::{namespace_place, open_place, run_place, waiting_place};
-use crate::{Activation, Ended, Run, Slot, State};
-use ow_records::Id;
+use crate::places::{namespace_place, open_place, run_place, until, waiting_place};
+use crate::{Run, Slot, State};
+use ow_records::{Activation, Id, ReadyRecord, Record, Records};
 use ow_value::{NoMemory, Shared};
 use std::alloc::Global;
 use std::marker::Model;
@@ -23,6 +25,13 @@ pub(crate) struct Spot {
 pub(crate) struct Berth {
     pub(crate) run: Run,
     pub(crate) place: usize,
+}
+
+/// An activation for whose end a request waits, and up to which moment, in milliseconds.
+#[derive(Clone, Copy)]
+pub(crate) struct Blocking {
+    pub(crate) id: Id,
+    pub(crate) until: u64,
 }
 
 /// The moment of the newest thing, how many were accepted before the last opening, how many entries are owed, and whether it drains.
@@ -41,9 +50,13 @@ pub(crate) struct Lists {
     tasks: Kept<Option<Shared<Activation>>>,
     runs: Kept<Option<Berth>>,
     slots: Kept<Option<Slot>>,
-    ended: Kept<Ended>,
+    records: Records,
+    // How many records there were at the hold.
+    records_held: usize,
     // The last id of each namespace.
     drawn: Kept<Id>,
+    // Those that were accepted since the last opening.
+    blocking: Kept<Blocking>,
     marks: Marks,
     held: bool,
     // The marks at the hold.
@@ -54,6 +67,7 @@ pub(crate) struct Lists {
 }
 
 impl Model for Lists {
+    ghost use Rattle.std.specs.Prelude.{take};
     ghost use Rattle.std.specs.Coded.{codes};
     ghost use Rattle.ow_value.specs.Code.{value_code};
     ghost use Rattle.ow_floor.specs.Kept.{past};
@@ -69,17 +83,19 @@ impl Model for Lists {
         tasks = l.tasks.now;
         runs = l.runs.now;
         slots = l.slots.now;
-        ended = l.ended.now;
+        ended = l.records.items;
         drawn = l.drawn.now;
+        blocking = l.blocking.now;
         marks = l.marks;
       };
       past = past_of (past l.held l.spots.before) (past l.held l.tasks.before) (past l.held l.runs.before) (past l.held l.slots.before)
-          (past l.held l.ended.before) (past l.held l.drawn.before) (past l.held l.before);
+          (past l.held (take l.records_held l.records.items)) (past l.held l.drawn.before) (past l.held l.blocking.before) (past l.held l.before);
     } };
 
+    ghost use Rattle.std.specs.Prelude.{◌≤◌, length};
     ghost use Rattle.ow_floor.specs.Store.{AreGone};
 
-    ghost invariant = { λ l. AreGone l.tasks_gone l.tasks.now × AreGone l.runs_gone l.runs.now };
+    ghost invariant = { λ l. AreGone l.tasks_gone l.tasks.now × AreGone l.runs_gone l.runs.now × (l.records_held ≤ length l.records.items) };
 }
 
 const NO_MARKS: Marks = Marks {
@@ -92,7 +108,7 @@ const NO_MARKS: Marks = Marks {
 impl Lists {
     /// Nothing stands in them, and they aren't held.
     pub(crate) fn new(alloc: Global) -> Lists
-        ensures now { result.now ≡ record { spots = []; tasks = []; runs = []; slots = []; ended = []; drawn = []; marks = record { latest = 0; opened = 0; owed = 0; draining = false } } }
+        ensures now { result.now ≡ record { spots = []; tasks = []; runs = []; slots = []; ended = []; drawn = []; blocking = []; marks = record { latest = 0; opened = 0; owed = 0; draining = false } } }
         ensures past { result.past ≡ None }
     {
         Lists {
@@ -100,8 +116,10 @@ impl Lists {
             tasks: Kept::new(alloc),
             runs: Kept::new(alloc),
             slots: Kept::new(alloc),
-            ended: Kept::new(alloc),
+            records: Records::new(alloc),
+            records_held: 0,
             drawn: Kept::new(alloc),
+            blocking: Kept::new(alloc),
             marks: NO_MARKS,
             held: false,
             before: NO_MARKS,
@@ -157,16 +175,33 @@ impl Lists {
         self.slots.items()
     }
 
-    pub(crate) fn ended(&self) -> &[Ended]
-        ensures { result.now ≡ self.now.now.ended }
+    pub(crate) fn records(&self) -> &Records
+        ensures { result.now.items ≡ self.now.now.ended }
     {
-        self.ended.items()
+        &self.records
+    }
+
+    /// The record of an activation that has ended.
+    pub(crate) fn record_of(&self, id: Id) -> Option<&Record>
+        ensures { option_copied result ≡ find (is_end_of id) self.now.now.ended }
+    {
+        match self.records.get(&id) {
+            Ok(ended) => Some(ended),
+            Err(_) => None,
+        }
     }
 
     pub(crate) fn drawn(&self) -> &[Id]
         ensures { result.now ≡ self.now.now.drawn }
     {
         self.drawn.items()
+    }
+
+    /// Up to which moment the request waits that made this activation, where one does.
+    pub(crate) fn until(&self, id: Id) -> Option<u64>
+        ensures { result ≡ wait_in id self.now.now.blocking }
+    {
+        until(self.blocking.items(), id)
     }
 
     pub(crate) fn marks(&self) -> Marks
@@ -183,8 +218,9 @@ impl Lists {
         self.tasks.hold();
         self.runs.hold();
         self.slots.hold();
-        self.ended.hold();
+        self.records_held = self.records.len();
         self.drawn.hold();
+        self.blocking.hold();
         self.before = self.marks;
         self.held = true;
     }
@@ -206,8 +242,9 @@ impl Lists {
             self.tasks.take_back();
             self.runs.take_back();
             self.slots.take_back();
-            self.ended.take_back();
+            self.records.cut(self.records_held);
             self.drawn.take_back();
+            self.blocking.take_back();
             self.marks = self.before;
             self.tasks_gone = 0;
             self.runs_gone = 0;
@@ -226,6 +263,18 @@ fn note_id(drawn: &mut Kept<Id>, held: bool, id: Id)
     match namespace_place(drawn.items(), id.namespace) {
         Some(place) => drawn.set(held, place, id),
         None => drawn.push(held, id),
+    }
+}
+
+// A request waits for the end of this activation from now on, where it has an until. There is room.
+fn note_until(blocking: &mut Kept<Blocking>, held: bool, id: Id, until: Option<u64>)
+    requires space { 1 ≤ blocking.old.space }
+    requires slack { held ≡ true → 1 ≤ blocking.old.slack }
+    ensures now { blocking.new.now ≡ blocked_by id until blocking.old.now }
+    ensures past { past held blocking.new.before ≡ past held blocking.old.before }
+{
+    if let Some(until) = until {
+        blocking.push(held, Blocking { id, until });
     }
 }
 
@@ -281,18 +330,21 @@ impl Lists {
         if make_room(&mut self.tasks, held).is_err()
             || make_room(&mut self.spots, held).is_err()
             || make_room(&mut self.drawn, held).is_err()
+            || make_room(&mut self.blocking, held).is_err()
         {
             drop(task);
             return Err(NoMemory);
         }
         let id = task.get().id;
         let at = task.get().at;
+        let until = task.get().until;
         let spot = Spot {
             state: State::Waiting,
         };
         self.tasks.push(held, Some(task));
         self.spots.push(held, spot);
         note_id(&mut self.drawn, held, id);
+        note_until(&mut self.blocking, held, id, until);
         self.marks.latest = at;
         Ok(())
     }
@@ -380,20 +432,20 @@ impl Lists {
         Ok(())
     }
 
-    /// What stands at this place has ended.
-    pub(crate) fn end(&mut self, place: usize, ended: Ended) -> Result<(), NoMemory>
+    /// What stands at this place has ended at this moment.
+    pub(crate) fn end(&mut self, at: u64, place: usize, ended: ReadyRecord) -> Result<(), NoMemory>
         requires { place < length self.old.now.tasks }
-        ensures now { OnOk result (self.new.now ≡ ended_in place ended self.old.now) }
+        ensures now { OnOk result (self.new.now ≡ ended_in at place ended self.old.now) }
         ensures err { OnErr result (self.new.now ≡ self.old.now) }
         ensures past { self.new.past ≡ self.old.past }
     {
         let held = self.held;
-        if make_room(&mut self.ended, held).is_err() || self.tasks.reserve_step(held).is_err() {
+        if self.records.reserve().is_err() || self.tasks.reserve_step(held).is_err() {
             drop(ended);
             return Err(NoMemory);
         }
-        self.marks.latest = ended.at;
-        self.ended.push(held, ended);
+        self.marks.latest = at;
+        self.records.add(ended);
         self.tasks.set(held, place, None);
         self.tasks_gone = further(self.tasks.items(), self.tasks_gone);
         Ok(())
@@ -424,6 +476,7 @@ impl Lists {
         let held = self.held;
         self.runs.reserve_step(held)?;
         self.slots.reserve_step(held)?;
+        self.blocking.reserve_step(held)?;
         let runs = empty_places(alloc, self.runs.items())?;
         let Ok(slots) = empty_places(alloc, self.slots.items()) else {
             drop(runs);
@@ -431,6 +484,7 @@ impl Lists {
         };
         self.runs.replace(held, runs);
         self.slots.replace(held, slots);
+        self.blocking.replace(held, Vec::new(alloc));
         self.marks = Marks {
             latest: at,
             opened: self.spots.items().len(),

@@ -1,13 +1,13 @@
 // Places in lists.
 ghost use Rattle.std.specs.Prelude.{◌≡◌, length, position};
 ghost use Rattle.std.specs.List.{find};
-ghost use Rattle.ow_floor.specs.View.{is_end_of, is_in, last_of, is_number, is_of, is_slot, waits};
+ghost use Rattle.ow_floor.specs.View.{is_in, last_of, is_number, is_of, is_slot, wait_in, waits};
 ghost use Rattle.ow_floor.specs.Store.{AreGone, CellOf, SpotOf, run_in, slot_in};
 ghost use Rattle.ow_floor.specs.Places.{PlaceOf, has, has_id, has_open};
 
-use crate::lists::{Berth, Spot};
-use crate::{Activation, Ended, Slot, State};
-use ow_records::Id;
+use crate::lists::{Berth, Blocking, Spot};
+use crate::{Slot, State};
+use ow_records::{Activation, Id};
 use ow_value::Shared;
 
 /// The place of the first id of the namespace.
@@ -21,19 +21,6 @@ fn namespace_position(ids: &[Id], namespace: u64) -> Option<usize>
     ensures { result ≡ position (is_in namespace) ids.now }
 {
     ids.iter().position(|id| id.namespace == namespace)
-}
-
-/// The place of the record of an activation.
-pub(crate) fn record_place(ended: &[Ended], id: Id) -> Option<usize>
-    ensures { PlaceOf (is_end_of id) ended.now result }
-{
-    record_position(ended, id)
-}
-
-fn record_position(ended: &[Ended], id: Id) -> Option<usize>
-    ensures { result ≡ position (is_end_of id) ended.now }
-{
-    ended.iter().position(|e| e.id == id)
 }
 
 /// The place of the live run of this number. At the first `from` places no run stands.
@@ -127,6 +114,18 @@ fn is_at(task: &Option<Shared<Activation>>, id: Id) -> bool
         Some(task) => task.get().id == id,
         None => false,
     }
+}
+
+/// Up to which moment the request waits that made this activation, by the newest of its id.
+pub(crate) fn until(blocking: &[Blocking], id: Id) -> Option<u64>
+    ensures { result ≡ wait_in id blocking.now }
+{
+    for i in (0..blocking.len()).rev() {
+        if blocking[i].id == id {
+            return Some(blocking[i].until);
+        }
+    }
+    None
 }
 
 /// The last count of the namespace, 0 where it has none.

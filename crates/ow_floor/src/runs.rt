@@ -14,8 +14,8 @@ pub struct Run {
     pub at: u64,
     /// The activation that it carries.
     pub id: Id,
-    /// Whether it has begun.
-    pub begun: bool,
+    /// The moment at which it began, in milliseconds.
+    pub begun: Option<u64>,
 }
 
 /// A slot whose container isn't gone.

@@ -8,7 +8,6 @@ use Rattle.ow_floor.specs.Calls.{answer_by, order_items, order_of, reply_items}
 use Rattle.ow_floor.specs.Laws.{Stands}
 use Rattle.ow_floor.specs.declared.activations.Open.{Open}
 use Rattle.ow_floor.specs.declared.activations.Plan.{Plan}
-use Rattle.ow_floor.specs.declared.answers.Answered.{Answered}
 use Rattle.ow_floor.specs.declared.runs.Run.{Run}
 use Rattle.ow_http.specs.Request.{parts_of}
 use Rattle.ow_http.specs.declared.reason.Reason.{Reason}
@@ -23,16 +22,17 @@ use Rattle.ow_hall.specs.declared.replies.Called.TheVariants as called
 use Rattle.ow_hall.specs.declared.step.Now.{Now}
 use Rattle.ow_hall.specs.declared.step.Step.{Step}
 use Rattle.ow_hall.specs.declared.tenants.Tenants.{Tenants}
-use Rattle.ow_hall.specs.declared.waits.Wait.{Wait}
 use Rattle.ow_hall.specs.declared.waits.Waits.{Waits}
 use Rattle.ow_hall.specs.declared.waits.Waits.TheVariants.{Keep}
 use Rattle.ow_hall.specs.Sight.{Sight}
 use Rattle.ow_hall.specs.Decision.{Decision, adds, tells}
-use Rattle.ow_hall.specs.Asking.{Done, Shown as ShownDone, Changed, ask_decision, refusal_told, request_done}
+use Rattle.ow_hall.specs.Asking.{Done, Shown as ShownDone, Changed, Invoked, ask_decision, refusal_told, request_done}
 use Rattle.ow_hall.specs.Calling.{call_decision, call_plan}
 use Rattle.ow_hall.specs.Decisions.{decide, reply_told}
+use Rattle.ow_hall.specs.Waiting.{collected_told, shows_for}
+use Rattle.ow_floor.specs.Collecting.{collected}
 use Rattle.ow_hall.specs.Posting.{posting_by}
-use Rattle.ow_hall.specs.History.{AreAnswered, History, IsLegal, Seen, after, all_changed, answer, counted, decision, greatest_moment, is_idle, is_opening, last_moment, moment, opens_here, posting, seen, sight, waits_after}
+use Rattle.ow_hall.specs.History.{AreAnswered, History, IsLegal, after, all_changed, answer, counted, decision, greatest_moment, is_idle, is_opening, last_moment, moment, opens_here, posting, seen, sight, waits_after}
 use Rattle.ow_hall.specs.Ledger.{Ledger, no_entries, posted, posted_as}
 use Rattle.ow_hall.specs.State.{Carries, Does, IsAt, Keeps, StateView, changes_of}
 
@@ -57,10 +57,11 @@ unless_any Unbooked X x = x
 tells_so : (idle : Bool) (t : Told) → Unbooks idle (tells t)
 tells_so idle t = unless_any (posting_by idle t) (Leaves (tells t)) (refl, refl, refl)
 
-ask_so : (idle : Bool) (d : Result Done Reason) → Unbooks idle (ask_decision d)
-ask_so idle (Ok (ShownDone value)) = tt
-ask_so idle (Ok (Changed change)) = tt
-ask_so idle (Err reason) = tells_so idle (refusal_told reason)
+ask_so : (idle : Bool) (at : ℕ) (d : Result Done Reason) → Unbooks idle (ask_decision at d)
+ask_so idle at (Ok (ShownDone value)) = tt
+ask_so idle at (Ok (Changed change)) = tt
+ask_so idle at (Ok (Invoked plan shows)) = tt
+ask_so idle at (Err reason) = tells_so idle (refusal_told reason)
 
 call_so : (idle : Bool) (S : Sight) (p : Result Plan Reason) → Unbooks idle (call_decision S p)
 call_so idle S (Ok plan) = tt
@@ -77,10 +78,11 @@ reply_so idle at run reply v (Some r) = tt
 
 pub unbooked : (idle : Bool) (S : Sight) (event : Event) → Unbooks idle (decide S event)
 unbooked idle S (events.Opened rows) = tt
-unbooked idle S (events.Asked r) = ask_so idle (request_done S (parts_of r))
+unbooked idle S (events.Asked r) = ask_so idle S.moment (request_done S (parts_of r))
 unbooked idle S (events.Called name params) = call_so idle S (call_plan S name params)
 unbooked idle S events.Next = order_so idle (run_count S.trace + 1) S.moment (head S.trace)
 unbooked idle S (events.Answered run reply) = reply_so idle S.moment run reply (shown S.trace) (live_run S.trace run)
+unbooked idle S (events.Collected id) = tells_so idle (told.Collected (collected_told id (shows_for S.waits id) (collected S.moment id S.trace)))
 unbooked idle S events.Drain = tt
 
 -- ---- moments
@@ -103,6 +105,7 @@ opens_so (events.Asked r) B b later = refl
 opens_so (events.Called name params) B b later = refl
 opens_so events.Next B b later = refl
 opens_so (events.Answered run reply) B b later = refl
+opens_so (events.Collected id) B b later = refl
 opens_so events.Drain B b later = refl
 
 left : (t : Tenants) (L : Ledger) (new : StateView) (at : ℕ) (event : Event) → IsAt new (after (decision t L.entries at event) (seen t L.entries))

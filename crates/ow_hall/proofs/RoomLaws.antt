@@ -1,5 +1,5 @@
 -- Room that was taken is enough behind an answer.
-use Rattle.std.proofs.Common.{◌≡◌, ◌+◌, ◌*◌, ◌^◌, ◌<◌, ◌≤◌, ◌++◌, ℕ, List, [], ◌∷◌, refl, sym, subst, arith}
+use Rattle.std.proofs.Common.{◌≡◌, ◌+◌, ◌≤◌, ◌++◌, ℕ, [], refl, sym, subst, arith}
 use Rattle.ow_floor.specs.Owed.{owed}
 use Rattle.ow_hall.specs.declared.entry.Event.{Event}
 use Rattle.ow_hall.specs.declared.entry.Event.TheVariants as events
@@ -8,7 +8,7 @@ use Rattle.ow_hall.specs.declared.entry.Told.TheVariants as told
 use Rattle.ow_hall.specs.declared.posting.Posting.{Posting}
 use Rattle.ow_hall.specs.declared.posting.Posting.TheVariants.{Booked, Quiet, Denied, Unbooked}
 use Rattle.ow_hall.specs.declared.tenants.Tenants.{Tenants}
-use Rattle.ow_hall.specs.History.{History, counted, decision, posting, seen}
+use Rattle.ow_hall.specs.History.{History, decision, posting, seen}
 use Rattle.ow_hall.specs.Ledger.{HasRoom, IsReady, Ledger, cost, no_entries, posted, posted_as}
 
 -- more room is room

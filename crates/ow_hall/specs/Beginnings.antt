@@ -1,5 +1,5 @@
 -- What is kept of every activation, by every legal book and each of its beginnings.
-use Rattle.std.specs.Prelude.{List, [], ◌∷◌}
+use Rattle.std.specs.Prelude.{[], ◌∷◌}
 use Rattle.ow_floor.specs.Trace.{Trace}
 use Rattle.ow_floor.specs.Laws.{EndedWereAccepted, IsParted, RunOnce}
 use Rattle.ow_floor.specs.Calls.{AllRecorded, drain_answer}

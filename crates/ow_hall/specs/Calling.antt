@@ -1,5 +1,5 @@
--- The office's own invocation of an action.
-use Rattle.std.specs.Prelude.{◌+◌, ℕ, nat_lt, List, Bool, if◌then◌else◌, Option, Some, None, Result, Ok, Err}
+-- Invocations of actions: by requests, and the office's own.
+use Rattle.std.specs.Prelude.{◌+◌, ℕ, nat_lt, min, List, Bool, true, false, if◌then◌else◌, Option, Some, None, Result, Ok, Err}
 use Rattle.ow_value.specs.Value.{Pairs}
 use Rattle.ow_value.specs.Size.{megabyte}
 use Rattle.ow_value.specs.declared.val.Val.{Val}
@@ -67,27 +67,36 @@ merged a params = or_else (fitting a params) too_large
 abbrev pub next_id : Sight → ℕ → Id
 next_id S number = record { namespace = number; count = last S.trace number + 1 }
 
--- what is to be accepted under an id: the action as it stands, with merged parameters, in the name of the office
-abbrev pub plan_for : Tenants → Id → FullName → Action → Pairs → Plan
-plan_for t id name action params = record {
+-- up to which moment a blocking invocation waits: a minute, or the action's time limit where that is less
+abbrev pub until_of : ℕ → Bool → Action → Option ℕ
+until_of at true action = Some (at + min 60000 action.limits.timeout)
+until_of at false action = None
+
+-- what is to be accepted under an id: the action as it stands, with merged parameters, in the name of a subject
+abbrev pub plan_for : List ℕ → Option ℕ → Id → FullName → Action → Pairs → Plan
+plan_for subject until id name action params = record {
   id = id;
   namespace = name.namespace;
   action = action;
   params = params;
-  subject = t.office;
+  subject = subject;
   cause = None;
-  until = None;
+  until = until;
 }
 
--- what is to be accepted by a call, whose refusals stand in the order of their places: the book, the action, the merged
--- parameters, and the drain
-abbrev pub call_plan : Sight → FullName → Pairs → Result Plan Reason
-call_plan S name params = do
-  room ← room_for S 0
+-- what is to be accepted, whose refusals stand in the order of their places: the action, the merged parameters, and the drain
+abbrev pub invocation_plan : Sight → List ℕ → Bool → FullName → Pairs → Result Plan Reason
+invocation_plan S subject blocking name params = do
   c ← callee S name
   given ← merged c.action params
   taken ← takes_calls S
-  Ok (plan_for S.tenants (next_id S c.number) name c.action given)
+  Ok (plan_for subject (until_of S.moment blocking c.action) (next_id S c.number) name c.action given)
+
+-- what is to be accepted by a call of the office, in its own name
+abbrev pub call_plan : Sight → FullName → Pairs → Result Plan Reason
+call_plan S name params = do
+  room ← room_for S 0
+  invocation_plan S S.tenants.office false name params
 
 -- what is done at a call
 abbrev pub call_decision : Sight → Result Plan Reason → Decision

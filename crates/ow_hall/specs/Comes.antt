@@ -15,6 +15,7 @@ use Rattle.ow_hall.specs.declared.entry.Event.{Event}
 use Rattle.ow_hall.specs.declared.entry.Told.{Told}
 use Rattle.ow_hall.specs.declared.entry.Told.TheVariants as told
 use Rattle.ow_hall.specs.declared.replies.Called.{Called}
+use Rattle.ow_hall.specs.declared.replies.HallCollected.{HallCollected}
 use Rattle.ow_hall.specs.declared.replies.Reply.{Reply}
 use Rattle.ow_hall.specs.declared.replies.Reply.TheVariants as replies
 use Rattle.ow_hall.specs.declared.tenants.Tenants.{Tenants}
@@ -99,6 +100,11 @@ reply_outcome (Err (NoMemory reply)) = Wants
 abbrev pub drain_outcome : Result Drain Want → Outcome
 drain_outcome (Ok drain) = Answers (told.Drain drain)
 drain_outcome (Err e) = Wants
+
+-- an activation that is collected
+abbrev pub collect_outcome : Result HallCollected Want → Outcome
+collect_outcome (Ok c) = Answers (told.Collected c)
+collect_outcome (Err e) = Wants
 
 -- what a request is answered by what it is told: an answer that the book is full looks as any other
 abbrev pub reply_in : Told → Option Reply

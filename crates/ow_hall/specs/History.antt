@@ -14,6 +14,8 @@ use Rattle.ow_hall.specs.declared.entry.Told.{Told}
 use Rattle.ow_hall.specs.declared.entry.Told.TheVariants as told
 use Rattle.ow_hall.specs.declared.posting.Posting.{Posting}
 use Rattle.ow_hall.specs.declared.posting.Posting.TheVariants.{Booked}
+use Rattle.ow_hall.specs.declared.replies.HallCollected.{HallCollected}
+use Rattle.ow_hall.specs.declared.replies.HallCollected.TheVariants as collected
 use Rattle.ow_hall.specs.declared.replies.Reply.{Reply}
 use Rattle.ow_hall.specs.declared.replies.Reply.TheVariants as replies
 use Rattle.ow_hall.specs.declared.tenants.Tenants.{Tenants}
@@ -49,9 +51,15 @@ abbrev pub reply_body : Reply → ℕ
 reply_body (replies.Now answer) = length answer.body
 reply_body reply = 0
 
+-- of what is collected likewise
+abbrev pub collected_body : HallCollected → ℕ
+collected_body (collected.Reply answer) = length answer.body
+collected_body other = 0
+
 -- of an answer those of its body, where it answers a request
 abbrev pub told_bytes : Told → ℕ
 told_bytes (told.Asked reply) = reply_body reply
+told_bytes (told.Collected c) = collected_body c
 told_bytes t = 0
 
 -- 64 for each entry, the bytes of its request or of its runner's reply, and those of the body of its answer

@@ -6,7 +6,6 @@ use Rattle.ow_hall.specs.declared.entry.Entry.{Entry}
 use Rattle.ow_hall.specs.declared.entry.Event.{Event}
 use Rattle.ow_hall.specs.declared.entry.Event.TheVariants as events
 use Rattle.ow_hall.specs.declared.entry.Told.{Told}
-use Rattle.ow_hall.specs.declared.entry.Told.TheVariants as told
 use Rattle.ow_hall.specs.declared.posting.Posting.{Posting}
 use Rattle.ow_hall.specs.declared.posting.Posting.TheVariants.{Booked, Quiet, Denied, Unbooked}
 use Rattle.ow_hall.specs.declared.tenants.Tenants.{Tenants}

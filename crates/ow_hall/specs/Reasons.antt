@@ -41,6 +41,8 @@ tells_full reason = false
 -- a refusal of the tables
 abbrev pub table_reason : TableRefusal → Reason
 table_reason tables.NotFound = not_found
+table_reason tables.BindsABinding = Service services.BindsABinding
 table_reason tables.Exists = Service services.Exists
+table_reason tables.NotEmpty = Service services.NotEmpty
 table_reason (tables.Entity e) = Call (calls.BadEntity e)
 table_reason tables.NoMemory = Call calls.NoMemory

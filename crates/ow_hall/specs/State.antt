@@ -1,13 +1,16 @@
 -- What stands behind the book, as the code has it.
-use Rattle.std.specs.Prelude.{◌≡◌, ◌≤◌, ◌+◌, ◌++◌, ℕ, List, [], ◌∷◌, Bool, false, Option, Some, None, Result, Ok, Err}
+use Rattle.std.specs.Prelude.{◌≡◌, ◌≤◌, ◌+◌, ◌++◌, ℕ, List, [], ◌∷◌, false, Option, Some, None, Result, Ok, Err}
 use Rattle.ow_value.specs.View.{view}
 use Rattle.ow_entity.specs.declared.rows.Row.{Row}
 use Rattle.ow_floor.specs.Laws.{Stands}
-use Rattle.ow_floor.specs.View.{FloorView, Shown}
+use Rattle.ow_floor.specs.View.{FloorView, Shown, last_of}
+use Rattle.ow_records.specs.declared.ids.Id.{Id}
 use Rattle.ow_http.specs.declared.reason.Reason.{Reason}
 use Rattle.ow_tables.specs.Contents.{Change}
 use Rattle.ow_hall.specs.declared.done.Done.{Done}
 use Rattle.ow_hall.specs.declared.done.Done.TheVariants as codes
+use Rattle.ow_hall.specs.declared.done.Served.{Served}
+use Rattle.ow_hall.specs.declared.done.Served.TheVariants as served
 use Rattle.ow_hall.specs.declared.step.Now.{Now}
 use Rattle.ow_hall.specs.declared.step.Step.{Step}
 use Rattle.ow_hall.specs.declared.tenants.Tenants.{Tenants}
@@ -25,6 +28,10 @@ done_of (codes.Refused reason) = Err reason
 done_of (codes.Shown value) = Ok (asking.Shown (view value))
 done_of (codes.Changed ready) = Ok (asking.Changed ready)
 
+abbrev pub served_of : Served → Result asking.Done Reason
+served_of (served.Done done) = done_of done
+served_of (served.Accepts plan shows) = Ok (asking.Invoked plan shows)
+
 -- there is room for a change
 abbrev pub HasPlace : Option Change → ℕ → Type 0
 HasPlace None room = Unit {0}
@@ -33,6 +40,15 @@ HasPlace (Some change) room = change.removes ≡ false → 1 ≤ room
 abbrev pub change_of : Done → Option Change
 change_of (codes.Changed ready) = Some ready
 change_of done = None
+
+abbrev pub served_change : Served → Option Change
+served_change (served.Done done) = change_of done
+served_change (served.Accepts plan shows) = None
+
+-- the id of what is to be accepted is the next of its namespace
+abbrev pub IsNextOf : List Id → Served → Type 0
+IsNextOf drawn (served.Done done) = Unit {0}
+IsNextOf drawn (served.Accepts plan shows) = plan.id.count ≡ last_of drawn plan.id.namespace + 1
 
 -- ---- floor, rows and waits
 
@@ -79,6 +95,10 @@ pub record Carries (step : Step) (d : Decision) : Type 0 where
 -- over a floor and rows: a step has what is decided of what is seen, and the floor has its items
 abbrev pub Makes : Tenants → List Row → Now → Shown → Shown → (Sight → Decision) → Step → Type 0
 Makes t rs now old new decided step = (S : Sight) → IsSeen S t rs old now → Carries step (decided S) × Stands new ((decided S).items ++ S.trace)
+
+-- over those who wait too
+abbrev pub MakesFor : List Wait → Tenants → List Row → Now → Shown → Shown → (Sight → Decision) → Step → Type 0
+MakesFor ws t rs now old new decided step = (S : Sight) → IsSeen S t rs old now → S.waits ≡ ws → Carries step (decided S) × Stands new ((decided S).items ++ S.trace)
 
 -- over floor, rows and waits
 abbrev pub Does : StateView → Shown → Tenants → Now → (Sight → Decision) → Step → Type 0

@@ -1,66 +1,73 @@
 // What comes of a request: its first refusal, in the order of their places, or what it reads and changes.
-ghost use Rattle.std.specs.Prelude.{◌≡◌, ℕ, IfOk};
+ghost use Rattle.std.specs.Prelude.{◌≡◌, None, IfOk};
+ghost use Rattle.ow_floor.specs.Laws.{Stands};
 ghost use Rattle.ow_http.specs.Request.{parts_of};
-ghost use Rattle.ow_hall.specs.Asking.{act_done, ask_decision, grant_for, namespace_of, put_done, request_done};
+ghost use Rattle.ow_hall.specs.Asking.{ask_decision, called_done, change_done, grant_for, granted_call, put_done, request_done};
+ghost use Rattle.ow_hall.specs.Reading.{namespace_of};
 ghost use Rattle.ow_hall.specs.Sight.{Sight, room_for};
-ghost use Rattle.ow_hall.specs.State.{HasPlace, Makes, change_of, done_of};
+ghost use Rattle.ow_hall.specs.State.{HasPlace, IsNextOf, IsSeen, Makes, change_of, done_of, served_change, served_of};
 
 use crate::acts::{Act, act_of};
 use crate::book::is_full;
-use crate::done::Done;
+use crate::call_steps::invocation_plan;
+use crate::done::{Done, Served, accepted};
+use crate::reads::read;
 use crate::reasons::table_reason;
 use crate::step::{Now, Step};
 use crate::tenants::Tenants;
-use ow_entity::{Draft, EntityKind, write_entity};
+use crate::waits::shows_of;
+use ow_entity::{Draft, EntityKind};
 use ow_floor::Floor;
 use ow_http::{Call, CallRefusal, HttpRefusal, Reason, Request, Route, ServiceRefusal, read_call};
 use ow_tables::{TableRefusal, Tables};
-use ow_value::{NoMemory, Val};
+use ow_value::NoMemory;
 use std::alloc::Global;
 
 /// What is done at a request. A change is made ready and not made yet.
 pub(crate) fn ask(
     alloc: Global,
     tenants: &Tenants,
-    floor: &Floor,
+    floor: &mut Floor,
     tables: &mut Tables,
     now: Now,
     request: &Request,
 ) -> Result<Step, NoMemory>
-    ensures ok { IfOk result (Makes tenants.now tables.old.rows now floor.now.now floor.now.now (λ S. ask_decision (request_done S (parts_of request.now)))) }
+    ensures ok { IfOk result (Makes tenants.now tables.old.rows now floor.old.now floor.new.now (λ S. ask_decision S.moment (request_done S (parts_of request.now)))) }
+    ensures before { floor.new.before ≡ floor.old.before }
     ensures rows { tables.new.rows ≡ tables.old.rows }
     ensures place { IfOk result (λ s. HasPlace s.change tables.new.room) }
 {
-    let done = request_done(alloc, tenants, tables, now.counted, request)?;
-    done.step(alloc)
+    match request_served(alloc, tenants, floor, tables, now, request)? {
+        Served::Done(done) => done.step(alloc),
+        Served::Accepts { plan, shows } => accepted(alloc, floor, now.at, plan, shows),
+    }
 }
 
-// What comes of a request, over these rows and a book that counts so many bytes.
-fn request_done(
+// What comes of a request, over this floor and these rows.
+fn request_served(
     alloc: Global,
     tenants: &Tenants,
+    floor: &Floor,
     tables: &mut Tables,
-    counted: u64,
+    now: Now,
     request: &Request,
-) -> Result<Done, NoMemory>
-    ensures done { IfOk result (λ d. (S : Sight) → S.tenants ≡ tenants.now → S.rows ≡ tables.old.rows → S.counted ≡ counted
-        → done_of d ≡ request_done S (parts_of request.now)) }
+) -> Result<Served, NoMemory>
+    ensures done { IfOk result (λ d. (S : Sight) → IsSeen S tenants.now tables.old.rows floor.now.now now → served_of d ≡ request_done S (parts_of request.now)) }
     ensures rows { tables.new.rows ≡ tables.old.rows }
-    ensures place { IfOk result (λ d. HasPlace (change_of d) tables.new.room) }
+    ensures place { IfOk result (λ d. HasPlace (served_change d) tables.new.room) }
+    ensures next { IfOk result (IsNextOf floor.now.now.drawn) }
 {
     let Some(act) = act_of(&request.route, request.method) else {
-        return Ok(Done::Refused(Reason::Http(HttpRefusal::NoRoute)));
+        return Ok(Served::Done(Done::Refused(Reason::Http(HttpRefusal::NoRoute))));
     };
-    if let Err(reason) = room_for(counted, request.size) {
-        return Ok(Done::Refused(reason));
+    if let Err(reason) = room_for(now.counted, request.size) {
+        return Ok(Served::Done(Done::Refused(reason)));
     }
-    if let Err(reason) = grant_for(tenants, request) {
-        return Ok(Done::Refused(reason));
-    }
-    match read_call(alloc, request, &tenants.home) {
-        Ok(call) => act_done(alloc, tenants, tables, act, call),
-        Err(CallRefusal::NoMemory) => Err(NoMemory),
-        Err(refusal) => Ok(Done::Refused(Reason::Call(refusal))),
+    match act {
+        Act::Reads(reading) => Ok(Served::Done(read(
+            alloc, tenants, floor, tables, reading, request,
+        )?)),
+        act => called_served(alloc, tenants, floor, tables, now.at, act, request),
     }
 }
 
@@ -88,61 +95,116 @@ fn namespace_of(route: &Route) -> &[u8]
     ensures { result.now ≡ namespace_of route.now }
 {
     match route {
-        Route::List { namespace, .. } | Route::Entity { namespace, .. } => namespace.as_slice(),
+        Route::List { namespace, .. }
+        | Route::Entity { namespace, .. }
+        | Route::Activations { namespace }
+        | Route::Activation { namespace, .. } => namespace.as_slice(),
         _ => b"".as_slice(),
     }
 }
 
-// What comes of an act, of what the request wants.
-fn act_done(
+/// The call that a request makes, where whoever asks may make it.
+pub(crate) fn granted_call(
     alloc: Global,
     tenants: &Tenants,
-    tables: &mut Tables,
-    act: Act,
-    call: Call,
-) -> Result<Done, NoMemory>
-    ensures done { IfOk result (λ d. (S : Sight) → S.tenants ≡ tenants.now → S.rows ≡ tables.old.rows → done_of d ≡ act_done S act call) }
-    ensures rows { tables.new.rows ≡ tables.old.rows }
-    ensures place { IfOk result (λ d. HasPlace (change_of d) tables.new.room) }
+    request: &Request,
+) -> Result<Result<Call, Reason>, NoMemory>
+    ensures { IfOk result (λ r. (S : Sight) → S.tenants ≡ tenants.now → r ≡ granted_call S (parts_of request.now)) }
 {
-    match act {
-        Act::Lists(kind) => listed(alloc, tenants, tables, kind, &call),
-        Act::Gets(kind) => shown(alloc, tables, kind, &call),
-        Act::Puts => put(alloc, tables, call),
-        Act::Removes(kind) => removed(alloc, tables, kind, &call),
+    if let Err(reason) = grant_for(tenants, request) {
+        return Ok(Err(reason));
+    }
+    match read_call(alloc, request, &tenants.home) {
+        Ok(call) => Ok(Ok(call)),
+        Err(CallRefusal::NoMemory) => Err(NoMemory),
+        Err(refusal) => Ok(Err(Reason::Call(refusal))),
     }
 }
 
-fn listed(
+// What comes of a change or an invocation.
+fn called_served(
     alloc: Global,
     tenants: &Tenants,
-    tables: &Tables,
-    kind: EntityKind,
-    call: &Call,
-) -> Result<Done, NoMemory>
-    ensures done { IfOk result (λ d. (S : Sight) → S.tenants ≡ tenants.now → S.rows ≡ tables.now.rows
-        → done_of d ≡ act_done S (Act.Lists kind) call.now) }
-    ensures place { IfOk result (λ d. (room : ℕ) → HasPlace (change_of d) room) }
+    floor: &Floor,
+    tables: &mut Tables,
+    at: u64,
+    act: Act,
+    request: &Request,
+) -> Result<Served, NoMemory>
+    ensures done { IfOk result (λ d. (S : Sight) → S.tenants ≡ tenants.now → S.rows ≡ tables.old.rows → Stands floor.now.now S.trace → S.moment ≡ at
+        → served_of d ≡ called_done S act (parts_of request.now)) }
+    ensures rows { tables.new.rows ≡ tables.old.rows }
+    ensures place { IfOk result (λ d. HasPlace (served_change d) tables.new.room) }
+    ensures next { IfOk result (IsNextOf floor.now.now.drawn) }
 {
-    let listed = tables.list(alloc, kind, &tenants.home, call.skip, call.limit)?;
-    Ok(Done::Shown(Val::List(listed)))
+    match granted_call(alloc, tenants, request)? {
+        Ok(call) => call_served(alloc, tenants, floor, tables, at, act, call),
+        Err(reason) => Ok(Served::Done(Done::Refused(reason))),
+    }
 }
 
-fn shown(alloc: Global, tables: &Tables, kind: EntityKind, call: &Call) -> Result<Done, NoMemory>
-    ensures done { IfOk result (λ d. (S : Sight) → S.rows ≡ tables.now.rows → done_of d ≡ act_done S (Act.Gets kind) call.now) }
-    ensures place { IfOk result (λ d. (room : ℕ) → HasPlace (change_of d) room) }
+fn call_served(
+    alloc: Global,
+    tenants: &Tenants,
+    floor: &Floor,
+    tables: &mut Tables,
+    at: u64,
+    act: Act,
+    call: Call,
+) -> Result<Served, NoMemory>
+    ensures done { IfOk result (λ d. (S : Sight) → S.tenants ≡ tenants.now → S.rows ≡ tables.old.rows → Stands floor.now.now S.trace → S.moment ≡ at
+        → served_of d ≡ change_done S act call) }
+    ensures rows { tables.new.rows ≡ tables.old.rows }
+    ensures place { IfOk result (λ d. HasPlace (served_change d) tables.new.room) }
+    ensures next { IfOk result (IsNextOf floor.now.now.drawn) }
+{
+    match act {
+        Act::Reads(_) => Ok(Served::Done(Done::Refused(Reason::Http(HttpRefusal::NoRoute)))),
+        Act::Puts => Ok(Served::Done(put(alloc, tables, call)?)),
+        Act::Removes(kind) => Ok(Served::Done(removed(alloc, tables, kind, &call)?)),
+        Act::Invokes => invoked(alloc, tenants, floor, tables, at, &call),
+    }
+}
+
+// What is to be accepted, or why it is not.
+fn invoked(
+    alloc: Global,
+    tenants: &Tenants,
+    floor: &Floor,
+    tables: &Tables,
+    at: u64,
+    call: &Call,
+) -> Result<Served, NoMemory>
+    ensures done { IfOk result (λ d. (S : Sight) → S.tenants ≡ tenants.now → S.rows ≡ tables.now.rows → Stands floor.now.now S.trace → S.moment ≡ at
+        → served_of d ≡ change_done S Act.Invokes call.now) }
+    ensures change { IfOk result (λ d. served_change d ≡ None) }
+    ensures next { IfOk result (IsNextOf floor.now.now.drawn) }
 {
     let Some(name) = &call.name else {
-        return Ok(Done::Refused(Reason::Http(HttpRefusal::NoRoute)));
+        return Ok(Served::Done(Done::Refused(Reason::Http(HttpRefusal::NoRoute))));
     };
-    match tables.get(kind, name) {
-        Ok(row) => Ok(Done::Shown(write_entity(alloc, row)?)),
-        Err(_) => Ok(Done::Refused(Reason::Service(ServiceRefusal::NotFound))),
+    let plan = invocation_plan(
+        alloc,
+        tenants,
+        floor,
+        tables,
+        at,
+        &tenants.subject,
+        call.blocking,
+        name,
+        &call.params,
+    )?;
+    match plan {
+        Ok(plan) => Ok(Served::Accepts {
+            plan,
+            shows: shows_of(call.result_only),
+        }),
+        Err(reason) => Ok(Served::Done(Done::Refused(reason))),
     }
 }
 
 fn put(alloc: Global, tables: &mut Tables, call: Call) -> Result<Done, NoMemory>
-    ensures done { IfOk result (λ d. (S : Sight) → S.rows ≡ tables.old.rows → done_of d ≡ act_done S Act.Puts call) }
+    ensures done { IfOk result (λ d. (S : Sight) → S.rows ≡ tables.old.rows → done_of d ≡ change_done S Act.Puts call) }
     ensures rows { tables.new.rows ≡ tables.old.rows }
     ensures place { IfOk result (λ d. HasPlace (change_of d) tables.new.room) }
 {
@@ -180,7 +242,7 @@ fn removed(
     kind: EntityKind,
     call: &Call,
 ) -> Result<Done, NoMemory>
-    ensures done { IfOk result (λ d. (S : Sight) → S.rows ≡ tables.old.rows → done_of d ≡ act_done S (Act.Removes kind) call.now) }
+    ensures done { IfOk result (λ d. (S : Sight) → S.rows ≡ tables.old.rows → done_of d ≡ change_done S (Act.Removes kind) call.now) }
     ensures rows { tables.new.rows ≡ tables.old.rows }
     ensures place { IfOk result (λ d. HasPlace (change_of d) tables.new.room) }
 {

@@ -3,7 +3,7 @@ ghost use Rattle.std.specs.Prelude.{◌≡◌, ◌+◌, ◌<◌, ◌^◌, length
 ghost use Rattle.ow_hall.specs.History.{event_bytes, reply_bytes, told_bytes};
 
 use crate::entry::{Event, Told};
-use crate::replies::Reply;
+use crate::replies::{HallCollected, Reply};
 use ow_traits::RunReply;
 use ow_value::Str;
 
@@ -28,7 +28,9 @@ fn told_bytes(told: &Told) -> u64
     ensures { result ≡ told_bytes told.now }
 {
     match told {
-        Told::Asked(Reply::Now(answer)) => answer.body.as_slice().len() as u64,
+        Told::Asked(Reply::Now(answer)) | Told::Collected(HallCollected::Reply(answer)) => {
+            answer.body.as_slice().len() as u64
+        }
         _ => 0,
     }
 }

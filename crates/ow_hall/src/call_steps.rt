@@ -1,8 +1,8 @@
-// The office's own invocation of an action.
+// Invocations of actions: by requests, and the office's own.
 ghost use Rattle.std.specs.Prelude.{◌≡◌, ◌+◌, None, IfOk, option_map};
 ghost use Rattle.ow_floor.specs.View.{last_of};
 ghost use Rattle.ow_floor.specs.Laws.{Stands};
-ghost use Rattle.ow_hall.specs.Calling.{call_decision, call_plan, callee_in, fitting, pairs_of, plan_for};
+ghost use Rattle.ow_hall.specs.Calling.{call_decision, call_plan, callee_in, fitting, invocation_plan, pairs_of, plan_for, until_of};
 ghost use Rattle.ow_hall.specs.Sight.{Sight};
 ghost use Rattle.ow_hall.specs.State.{IsSeen, Makes};
 
@@ -17,8 +17,11 @@ use ow_http::{CallRefusal, Reason, ServiceRefusal};
 use ow_names::FullName;
 use ow_records::Id;
 use ow_tables::Tables;
-use ow_value::{MEGABYTE, NoMemory, Params, PlainData, Shared, Val, merge, size};
+use ow_value::{MEGABYTE, NoMemory, Params, PlainData, Shared, Str, Val, merge, size};
 use std::alloc::Global;
+
+/// How long a blocking invocation waits at most, in milliseconds.
+const MOST_WAITED: u64 = 60_000;
 
 /// What is done at a call: the action is accepted, unless the call is refused.
 pub(crate) fn call(
@@ -43,7 +46,7 @@ pub(crate) fn call(
     }
 }
 
-// What is to be accepted, or why not. Nothing is done yet.
+// What is to be accepted by a call of the office, or why not. Nothing is done yet.
 fn call_plan(
     alloc: Global,
     tenants: &Tenants,
@@ -59,9 +62,39 @@ fn call_plan(
     if let Err(reason) = room_for(now.counted, 0) {
         return Ok(Err(reason));
     }
+    invocation_plan(
+        alloc,
+        tenants,
+        floor,
+        tables,
+        now.at,
+        &tenants.office,
+        false,
+        name,
+        params,
+    )
+}
+
+/// What is to be accepted in the name of a subject, or why not. Nothing is done yet.
+pub(crate) fn invocation_plan(
+    alloc: Global,
+    tenants: &Tenants,
+    floor: &Floor,
+    tables: &Tables,
+    at: u64,
+    subject: &Str,
+    blocking: bool,
+    name: &FullName,
+    params: &Params,
+) -> Result<Result<Plan, Reason>, NoMemory>
+    ensures plan { IfOk result (λ p. (S : Sight) → S.tenants ≡ tenants.now → S.rows ≡ tables.now.rows → Stands floor.now.now S.trace → S.moment ≡ at
+        → p ≡ invocation_plan S subject.now blocking name.now params.now) }
+    ensures next { IfOk result (λ p. IfOk p (λ plan. plan.id.count ≡ last_of floor.now.now.drawn plan.id.namespace + 1)) }
+{
     let Some((number, action)) = callee(tenants, tables, name) else {
         return Ok(Err(Reason::Service(ServiceRefusal::NotFound)));
     };
+    let until = until_of(at, blocking, action.get())?;
     let Some(params) = merged(alloc, action.get(), params)? else {
         return Ok(Err(Reason::Call(CallRefusal::BadEntity(EntityRefusal::TooLarge))));
     };
@@ -75,21 +108,36 @@ fn call_plan(
         namespace: number,
         count,
     };
-    Ok(Ok(plan_for(alloc, tenants, id, name, action, params)?))
+    Ok(Ok(plan_for(alloc, subject, until, id, name, action, params)?))
 }
 
-// The plan of a call under this id, with these merged parameters.
+// Up to which moment a blocking invocation waits. A moment that would pass its type is answered as want of memory.
+fn until_of(at: u64, blocking: bool, action: &Action) -> Result<Option<u64>, NoMemory>
+    ensures { IfOk result (λ until. until ≡ until_of at blocking action.now) }
+{
+    if !blocking {
+        return Ok(None);
+    }
+    let wait = MOST_WAITED.min(u64::from(action.limits.timeout.get()));
+    match at.checked_add(wait) {
+        Some(until) => Ok(Some(until)),
+        None => Err(NoMemory),
+    }
+}
+
+// The plan of an invocation under this id, with these merged parameters.
 fn plan_for(
     alloc: Global,
-    tenants: &Tenants,
+    subject: &Str,
+    until: Option<u64>,
     id: Id,
     name: &FullName,
     action: &Shared<Action>,
     params: Params,
 ) -> Result<Plan, NoMemory>
-    ensures { IfOk result (λ p. p ≡ plan_for tenants.now id name.now action.now params) }
+    ensures { IfOk result (λ p. p ≡ plan_for subject.now until id name.now action.now params) }
 {
-    let subject = tenants.office.copy(alloc)?;
+    let subject = subject.copy(alloc)?;
     let namespace = name.namespace.copy(alloc)?;
     let action = action.copy(alloc)?;
     Ok(Plan {
@@ -99,7 +147,7 @@ fn plan_for(
         params,
         subject,
         cause: None,
-        until: None,
+        until,
     })
 }
 

@@ -1,8 +1,9 @@
 // What the book holds.
-use crate::replies::{Called, Reply};
+use crate::replies::{Called, HallCollected, Reply};
 use ow_floor::{Answered, Drain, Happened, Order};
 use ow_http::{Answer, Request};
 use ow_names::FullName;
+use ow_records::Id;
 use ow_traits::{Rows, RunReply};
 use ow_value::{NoMemory, Params, PlainData, Shared};
 use std::alloc::Global;
@@ -20,6 +21,8 @@ pub enum Event {
     Next,
     /// A runner replies to a run.
     Answered { run: u64, reply: RunReply },
+    /// What became of an activation, for whose end a request waits, is asked for.
+    Collected(Id),
     /// The office asks whether all has ended, and takes no more calls.
     Drain,
 }
@@ -41,6 +44,8 @@ pub enum Told {
     Answered(Answered),
     /// To the reply of a runner to a run that isn't live, which is handed back. It isn't booked.
     NoRun { run: u64, reply: RunReply },
+    /// To one who asks what became of an activation. It isn't booked where there is no answer yet.
+    Collected(HallCollected),
     /// To the office that drains.
     Drain(Drain),
 }
@@ -75,6 +80,7 @@ impl PlainData for Event {
                     reply: other_reply,
                 },
             ) => run == other_run && reply.same(other_reply),
+            (Event::Collected(a), Event::Collected(b)) => a == b,
             (Event::Next, Event::Next) | (Event::Drain, Event::Drain) => true,
             _ => false,
         }
@@ -94,6 +100,7 @@ impl PlainData for Event {
                 run: *run,
                 reply: reply.copy(alloc)?,
             }),
+            Event::Collected(id) => Ok(Event::Collected(*id)),
             Event::Drain => Ok(Event::Drain),
         }
     }
@@ -115,6 +122,7 @@ impl PlainData for Told {
                     reply: other_reply,
                 },
             ) => run == other_run && reply.same(other_reply),
+            (Told::Collected(a), Told::Collected(b)) => a.same(b),
             (Told::Drain(a), Told::Drain(b)) => a == b,
             _ => false,
         }
@@ -132,6 +140,7 @@ impl PlainData for Told {
                 run: *run,
                 reply: reply.copy(alloc)?,
             }),
+            Told::Collected(collected) => Ok(Told::Collected(collected.copy(alloc)?)),
             Told::Drain(drain) => Ok(Told::Drain(*drain)),
         }
     }

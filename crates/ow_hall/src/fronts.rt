@@ -4,7 +4,7 @@ ghost use Rattle.ow_hall.specs.Comes.{Answers, replied_in, reply_in, reply_outco
 ghost use Rattle.ow_traits.specs.declared.replies.RunReply.{RunReply};
 
 use crate::entry::{Event, Told};
-use crate::replies::{Called, Reply};
+use crate::replies::{Called, HallCollected, Reply};
 use ow_floor::{AnswerRefusal, Answered, Drain, Order};
 use ow_traits::RunReply;
 
@@ -50,6 +50,17 @@ pub(crate) fn answered_in(told: Told) -> Result<Answered, AnswerRefusal>
     match told {
         Told::Answered(answered) => Ok(answered),
         Told::NoRun { run, reply } => Err(AnswerRefusal::NoRun { run, reply }),
+        _ => unreachable!(),
+    }
+}
+
+/// What is answered of an activation that is collected.
+pub(crate) fn collected_in(told: Told) -> HallCollected
+    requires { (c : HallCollected) × (told ≡ Told.Collected c) }
+    ensures { told ≡ Told.Collected result }
+{
+    match told {
+        Told::Collected(collected) => collected,
         _ => unreachable!(),
     }
 }

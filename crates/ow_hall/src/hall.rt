@@ -3,7 +3,7 @@ ghost use Rattle.std.specs.Prelude.{◌≡◌, ◌≤◌, [], true, false, Ok, E
 ghost use Rattle.ow_floor.specs.Laws.{Stands};
 ghost use Rattle.ow_floor.specs.Owed.{owed};
 ghost use Rattle.ow_floor.specs.Trace.{Trace};
-ghost use Rattle.ow_hall.specs.Comes.{Answers, Comes, HandsBack, Outcome, Replies, call_outcome, drain_outcome, next_outcome, outcome, reply_outcome};
+ghost use Rattle.ow_hall.specs.Comes.{Answers, Comes, HandsBack, Outcome, Replies, call_outcome, collect_outcome, drain_outcome, next_outcome, outcome, reply_outcome};
 ghost use Rattle.ow_hall.specs.History.{IsLegal, is_opening, posting};
 ghost use Rattle.ow_hall.specs.Ledger.{IsReady, opened};
 ghost use Rattle.ow_hall.specs.Tenants.{standard};
@@ -11,15 +11,16 @@ ghost use Rattle.ow_hall.specs.declared.entry.Event.TheVariants as events;
 
 use crate::book::Book;
 use crate::entry::{Event, Told};
-use crate::fronts::{answered_in, called_in, drain_in, order_in, reply_in, reply_of};
+use crate::fronts::{answered_in, called_in, collected_in, drain_in, order_in, reply_in, reply_of};
 use crate::posting::Posting;
-use crate::replies::{Called, Reply};
+use crate::replies::{Called, HallCollected, Reply};
 use crate::state::HallState;
 use crate::step::{Now, Step};
 use crate::tenants::Tenants;
 use ow_floor::{AnswerRefusal, Answered, Drain, Happened, Order};
 use ow_http::Request;
 use ow_names::FullName;
+use ow_records::Id;
 use ow_traits::{Keeper, Rows, RunReply};
 use ow_value::{NoMemory, Params, PlainData, Shared};
 use std::alloc::Global;
@@ -154,6 +155,17 @@ impl<P: Keeper + Drop> Hall<P> {
         match self.perform(alloc, at, Event::Answered { run, reply }) {
             Ok(told) => answered_in(told),
             Err(Undone { event }) => Err(AnswerRefusal::NoMemory(reply_of(event))),
+        }
+    }
+
+    /// What became of an activation that a blocking request accepted: the answer to that request, once it has ended or the moment
+    /// is there up to which the request waits. Where there is no answer yet it isn't booked.
+    pub fn collect(&mut self, alloc: Global, at: u64, id: &Id) -> Result<HallCollected, NoMemory>
+        ensures { Comes P.rows P.faults self.old self.new at (events.Collected id.now) (collect_outcome result) }
+    {
+        match self.perform(alloc, at, Event::Collected(*id)) {
+            Ok(told) => Ok(collected_in(told)),
+            Err(_) => Err(NoMemory),
         }
     }
 

@@ -1,10 +1,10 @@
 // How an answer is posted.
 ghost use Rattle.std.specs.Prelude.{◌≡◌};
-ghost use Rattle.ow_hall.specs.Posting.{call_posting, posting_by};
+ghost use Rattle.ow_hall.specs.Posting.{call_posting, collected_posting, posting_by};
 
 use crate::entry::Told;
 use crate::reasons::tells_full;
-use crate::replies::Called;
+use crate::replies::{Called, HallCollected};
 use ow_floor::Order;
 
 /// What becomes of an answer in the book.
@@ -35,7 +35,17 @@ pub(crate) fn posting_of(idle: bool, told: &Told) -> Posting
         Told::NoRun { .. } => Posting::Denied,
         Told::Full(_) => Posting::Unbooked,
         Told::Called(called) => call_posting(called),
+        Told::Collected(collected) => collected_posting(collected),
         _ => Posting::Booked,
+    }
+}
+
+fn collected_posting(collected: &HallCollected) -> Posting
+    ensures { result ≡ collected_posting collected.now }
+{
+    match collected {
+        HallCollected::Reply(_) => Posting::Booked,
+        HallCollected::NotYet | HallCollected::Unknown => Posting::Unbooked,
     }
 }
 

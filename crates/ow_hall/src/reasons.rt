@@ -11,7 +11,9 @@ pub(crate) fn table_reason(refusal: TableRefusal) -> Reason
 {
     match refusal {
         TableRefusal::NotFound => Reason::Service(ServiceRefusal::NotFound),
+        TableRefusal::BindsABinding => Reason::Service(ServiceRefusal::BindsABinding),
         TableRefusal::Exists => Reason::Service(ServiceRefusal::Exists),
+        TableRefusal::NotEmpty => Reason::Service(ServiceRefusal::NotEmpty),
         TableRefusal::Entity(refusal) => Reason::Call(CallRefusal::BadEntity(refusal)),
         TableRefusal::NoMemory => Reason::Call(CallRefusal::NoMemory),
     }

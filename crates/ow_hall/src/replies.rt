@@ -23,6 +23,17 @@ pub enum Called {
     Refused(Reason),
 }
 
+/// What is answered of an activation that is collected.
+#[derive(Drop)]
+pub enum HallCollected {
+    /// What is answered to the request that waited for it.
+    Reply(Answer),
+    /// It hasn't ended, and the moment up to which the request waits isn't there.
+    NotYet,
+    /// Since the last opening no blocking request was accepted under this id: refusal 14.
+    Unknown,
+}
+
 impl PlainData for Reply {
     fn same(&self, other: &Reply) -> bool {
         match (self, other) {
@@ -45,6 +56,25 @@ impl PlainData for Reply {
                 id: *id,
                 until: *until,
             }),
+        }
+    }
+}
+
+impl PlainData for HallCollected {
+    fn same(&self, other: &HallCollected) -> bool {
+        match (self, other) {
+            (HallCollected::Reply(a), HallCollected::Reply(b)) => a.same(b),
+            (HallCollected::NotYet, HallCollected::NotYet)
+            | (HallCollected::Unknown, HallCollected::Unknown) => true,
+            _ => false,
+        }
+    }
+
+    fn copy(&self, alloc: Global) -> Result<HallCollected, NoMemory> {
+        match self {
+            HallCollected::Reply(answer) => Ok(HallCollected::Reply(answer.copy(alloc)?)),
+            HallCollected::NotYet => Ok(HallCollected::NotYet),
+            HallCollected::Unknown => Ok(HallCollected::Unknown),
         }
     }
 }

@@ -158,6 +158,7 @@ impl HallState {
             tenants,
             &mut self.floor,
             &mut self.tables,
+            &self.waits,
             now,
             event,
         )

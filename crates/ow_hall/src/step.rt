@@ -1,15 +1,16 @@
 // What is done at each event, over the floor and the rows.
 ghost use Rattle.std.specs.Prelude.{◌≡◌, [], None, IfOk};
 ghost use Rattle.ow_hall.specs.Decisions.{decide};
-ghost use Rattle.ow_hall.specs.State.{HasPlace, Makes};
+ghost use Rattle.ow_hall.specs.State.{HasPlace, MakesFor};
 ghost use Rattle.ow_hall.specs.declared.waits.Waits.TheVariants.{Keep};
 
 use crate::ask_steps::ask;
 use crate::call_steps::call;
+use crate::collect_steps::collect;
 use crate::entry::{Event, Told};
 use crate::floor_steps::{answered, drain, next};
 use crate::tenants::Tenants;
-use crate::waits::Waits;
+use crate::waits::{Wait, Waits};
 use ow_floor::{Floor, Happened};
 use ow_tables::{Ready, Tables};
 use ow_value::NoMemory;
@@ -49,10 +50,11 @@ pub(crate) fn step_for(
     tenants: &Tenants,
     floor: &mut Floor,
     tables: &mut Tables,
+    waits: &[Wait],
     now: Now,
     event: &Event,
 ) -> Result<Step, NoMemory>
-    ensures ok { IfOk result (Makes tenants.now tables.old.rows now floor.old.now floor.new.now (λ S. decide S event.now)) }
+    ensures ok { IfOk result (MakesFor waits.now tenants.now tables.old.rows now floor.old.now floor.new.now (λ S. decide S event.now)) }
     ensures before { floor.new.before ≡ floor.old.before }
     ensures rows { tables.new.rows ≡ tables.old.rows }
     ensures place { IfOk result (λ s. HasPlace s.change tables.new.room) }
@@ -63,6 +65,7 @@ pub(crate) fn step_for(
         Event::Called { name, params } => call(alloc, tenants, floor, tables, now, name, params),
         Event::Next => next(alloc, floor, now),
         Event::Answered { run, reply } => answered(alloc, floor, now, *run, reply),
+        Event::Collected(id) => collect(alloc, floor, waits, now, *id),
         Event::Drain => Ok(drain(floor, now)),
     }
 }

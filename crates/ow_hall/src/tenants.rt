@@ -1,4 +1,4 @@
-// The office table: who asks, in whose name the office itself calls, and which namespaces there are.
+// The office table: who asks, in whose name that runs, in whose name the office itself calls, and which namespaces there are.
 ghost use Rattle.std.specs.Prelude.{◌≡◌, IfOk};
 ghost use Rattle.ow_hall.specs.Tenants.{is_granted, number_of, standard};
 
@@ -7,6 +7,8 @@ use ow_value::{Items, NoMemory, Str};
 use std::alloc::Global;
 
 const HOME: &str = "guest";
+
+const SUBJECT: &str = "anna";
 
 const OFFICE: &str = "office";
 
@@ -26,6 +28,8 @@ pub struct Namespace {
 pub struct Tenants {
     /// The namespace of whoever asks.
     pub home: EntityName,
+    /// In whose name what is asked is run.
+    pub subject: Str,
     /// In whose name what the office itself calls is run.
     pub office: Str,
     /// The namespaces.
@@ -38,10 +42,12 @@ impl Tenants {
         ensures { IfOk result (λ t. t ≡ standard) }
     {
         let home = home(alloc)?;
+        let subject = Str::of(alloc, SUBJECT)?;
         let office = Str::of(alloc, OFFICE)?;
         let namespaces = namespaces(alloc)?;
         Ok(Tenants {
             home,
+            subject,
             office,
             namespaces,
         })

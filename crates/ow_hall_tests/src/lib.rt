@@ -5,3 +5,5 @@
 mod of_floor;
 #[cfg(test)]
 mod of_hall;
+#[cfg(test)]
+mod of_waits;

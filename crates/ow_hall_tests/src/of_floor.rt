@@ -55,8 +55,8 @@ fn copies<T: PlainData + Drop>(alloc: Global, value: &T) -> Result<bool, NoMemor
 
 // Whether an equal one is made of the first record.
 fn copies_record(alloc: Global, floor: &Floor) -> Result<bool, NoMemory> {
-    match floor.records().first() {
-        Some(ended) => copies(alloc, ended),
+    match floor.records().items().first() {
+        Some(ended) => copies(alloc, ended.get()),
         None => Ok(false),
     }
 }

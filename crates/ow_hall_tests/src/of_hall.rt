@@ -8,7 +8,7 @@ use ow_value::{Lines, Params, Str};
 use std::alloc::Global;
 use std::test::Fail;
 
-type Office = Hall<MemoryKeeper>;
+pub(crate) type Office = Hall<MemoryKeeper>;
 
 // The body of a put, and what is shown of the action in its first and second versions.
 const HELLO: &str =
@@ -30,7 +30,7 @@ GET /api/v1/namespaces/_/actions||200 OK|[{"annotations":[],"name":"hello","name
 GET /api/v1/namespaces/_/actions?limit=201||400 Bad Request|{"code":39,"error":"The query value limit is wrong."}
 GET /api/v1/namespaces/whisk.system/actions/hello||403 Forbidden|{"code":24,"error":"The namespace is not granted."}
 GET /api/v1/namespaces/whisk.system/actions?limit=201||403 Forbidden|{"code":24,"error":"The namespace is not granted."}
-POST /api/v1/namespaces/_/actions/hello||404 Not Found|{"code":36,"error":"There is no such route."}
+GET /api/v1/namespaces/_/packages||404 Not Found|{"code":36,"error":"There is no such route."}
 PUT /api/v1/namespaces/_/actions/other||400 Bad Request|{"code":9,"error":"The field exec is missing."}
 PUT /api/v1/namespaces/_/actions/hello|{"exec":1}|400 Bad Request|{"code":10,"error":"The field exec has a wrong type."}
 PUT /api/v1/namespaces/_/actions/hello?overwrite=true|HELLO|200 OK|SECOND
@@ -40,14 +40,15 @@ DELETE /api/v1/namespaces/guest/actions/hello||404 Not Found|{"code":14,"error":
 
 // What a full book still takes, and what it doesn't.
 const WHEN_FULL: &str =
-    r#"POST /api/v1/namespaces/_/actions/hello||404 Not Found|{"code":36,"error":"There is no such route."}
+    r#"GET /api/v1/namespaces/_/packages||404 Not Found|{"code":36,"error":"There is no such route."}
+POST /api/v1/namespaces/_/actions/hello||503 Service Unavailable|{"code":33,"error":"The book is full."}
 GET /api/v1/namespaces/_/actions/hello||503 Service Unavailable|{"code":33,"error":"The book is full."}
 "#;
 
 const GET: &str = "GET /api/v1/namespaces/_/actions/hello HTTP/1.1\r\n\r\n";
 
 // A text of the table: one of those by its name, or itself.
-fn text_of(word: &str) -> &str {
+pub(crate) fn text_of(word: &str) -> &str {
     if word == "HELLO" {
         HELLO
     } else if word == "FIRST" {
@@ -59,7 +60,7 @@ fn text_of(word: &str) -> &str {
     }
 }
 
-fn office(alloc: Global) -> Result<Office, Fail> {
+pub(crate) fn office(alloc: Global) -> Result<Office, Fail> {
     Ok(Hall::start(alloc, MemoryKeeper::new(alloc), 0)?)
 }
 
@@ -69,7 +70,7 @@ fn copies(alloc: Global, entries: &Entries) -> Result<bool, Fail> {
     Ok(copied.same(entries))
 }
 
-fn written(alloc: Global, answer: &Answer) -> Result<Vec<u8>, Fail> {
+pub(crate) fn written(alloc: Global, answer: &Answer) -> Result<Vec<u8>, Fail> {
     Ok(write_reply(alloc, answer)?)
 }
 
@@ -87,7 +88,7 @@ fn asked(alloc: Global, hall: &mut Office, request: &str) -> Result<Vec<u8>, Fai
 }
 
 // Whether a reply has this status line and this body.
-fn shows(alloc: Global, reply: &[u8], status: &str, body: &str) -> Result<bool, Fail> {
+pub(crate) fn shows(alloc: Global, reply: &[u8], status: &str, body: &str) -> Result<bool, Fail> {
     let length = body.len();
     let expected = format!(in alloc;
         "HTTP/1.1 {status}\r\nContent-Type: application/json\r\nContent-Length: {length}\r\n\r\n{body}"
@@ -107,7 +108,7 @@ fn is_answered(
 }
 
 // A request as curl sends it.
-fn request_of(alloc: Global, head: &str, body: &str) -> Result<String, Fail> {
+pub(crate) fn request_of(alloc: Global, head: &str, body: &str) -> Result<String, Fail> {
     let length = body.len();
     Ok(format!(in alloc;
         "{head} HTTP/1.1\r\nHost: localhost\r\nUser-Agent: curl/8.5.0\r\nAccept: */*\r\nX-Whisk-Key: k1\r\nContent-Type: application/json\r\nContent-Length: {length}\r\n\r\n{body}"
@@ -231,7 +232,7 @@ fn ordered(alloc: Global, hall: &mut Office, at: u64) -> Result<u64, Fail> {
 }
 
 // Whether an empty object as the answer of this run is recorded.
-fn ended(alloc: Global, hall: &mut Office, at: u64, run: u64) -> Result<bool, Fail> {
+pub(crate) fn ended(alloc: Global, hall: &mut Office, at: u64, run: u64) -> Result<bool, Fail> {
     let text = Str::of(alloc, "{}")?;
     let logs = Lines::new();
     Ok(

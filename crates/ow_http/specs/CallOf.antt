@@ -1,6 +1,7 @@
 -- What a request calls for, or why it is no call.
 use Rattle.std.specs.Prelude.{ℕ, List, [], ◌∷◌, false, codes, Option, Some, None, Result, Ok, Err}
-use Rattle.ow_value.specs.Value.{V, object, no_members}
+use Rattle.ow_value.specs.Value.{V, Pairs, object, no_members}
+use Rattle.ow_value.specs.Field.{pairs_in}
 use Rattle.ow_value.specs.Nesting.{most_nested}
 use Rattle.ow_value.specs.Read.{reading}
 use Rattle.ow_value.specs.declared.reader.ValueRefusal.{ValueRefusal}
@@ -8,7 +9,9 @@ use Rattle.ow_names.specs.Name.{first_fault}
 use Rattle.ow_names.specs.Path.{named_in}
 use Rattle.ow_names.specs.declared.full.FullName.{FullName}
 use Rattle.ow_entity.specs.Body.{entity_of}
+use Rattle.ow_entity.specs.declared.field_name.FieldName.TheVariants as fields
 use Rattle.ow_entity.specs.declared.kinds.EntityKind.{EntityKind}
+use Rattle.ow_entity.specs.declared.refusal.EntityRefusal.TheVariants.{WrongType}
 use Rattle.ow_entity.specs.declared.rows.Draft.{Draft}
 use Rattle.ow_http.specs.declared.call.Call.{Call}
 use Rattle.ow_http.specs.declared.call_kind.CallKind.{CallKind}
@@ -70,11 +73,27 @@ abbrev pub draft_of : CallKind → Option FullName → List ℕ → Result (Opti
 draft_of (PutEntity kind) (Some name) body = body_draft kind name body
 draft_of kind name body = Ok None
 
+-- the members of an object
+abbrev pub members_in : V → Result Pairs CallRefusal
+members_in (object ps) = Ok (pairs_in ps)
+members_in v = Err (BadEntity (WrongType fields.Body))
+
+-- the parameters that a body gives, which is to be an object
+abbrev pub body_params : List ℕ → Result Pairs CallRefusal
+body_params body = do
+  value ← as_call (λ v. v) BadValue (body_value body)
+  members_in value
+
+-- the parameters of an invocation
+abbrev pub params_of : CallKind → List ℕ → Result Pairs CallRefusal
+params_of Invoke body = body_params body
+params_of kind body = Ok []
+
 -- ---- the call
 
 -- what is called for, without what the query tells
-abbrev pub bare_call : CallKind → Option FullName → Option Draft → Call
-bare_call kind name draft = record {
+abbrev pub bare_call : CallKind → Option FullName → Option Draft → Pairs → Call
+bare_call kind name draft params = record {
   kind = kind;
   name = name;
   overwrite = false;
@@ -83,7 +102,7 @@ bare_call kind name draft = record {
   skip = 0;
   limit = 0;
   draft = draft;
-  params = [];
+  params = params;
   active = None;
 }
 
@@ -103,7 +122,8 @@ call_of_kind home kind p = do
   right ← checked_query kind p.query
   name ← name_of home p.route
   draft ← draft_of kind name p.body
-  Ok (filled_call kind p.query (bare_call kind name draft))
+  params ← params_of kind p.body
+  Ok (filled_call kind p.query (bare_call kind name draft params))
 
 -- the query is looked at first, then the names of the path, then the body
 abbrev pub call_of : List ℕ → Parts → Result Call CallRefusal

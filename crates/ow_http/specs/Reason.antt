@@ -60,6 +60,7 @@ entity_notice (entities.WrongType name) = field_row name (codes " has a wrong ty
 entity_notice (entities.OutOfRange name) = field_row name (codes " is out of range.")
 entity_notice entities.UnknownKind = row 400 (codes "The kind is unknown.")
 entity_notice entities.TooLarge = row 413 (codes "The value has too many bytes.")
+entity_notice (entities.BadName e) = name_notice e
 entity_notice entities.LastVersion = row 400 (codes "The version cannot be raised.")
 
 -- a request that is no call

@@ -26,7 +26,7 @@ pub struct Call {
     pub limit: u64,
     /// The entity that the body of a put gives.
     pub draft: Option<Draft>,
-    /// The parameters of an invocation. No kind has them yet.
+    /// The parameters that the body of an invocation gives.
     pub params: Params,
     /// Whether a rule is to be active. No kind has it yet.
     pub active: Option<bool>,

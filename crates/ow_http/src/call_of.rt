@@ -1,7 +1,7 @@
 // Requests as calls.
 ghost use Rattle.std.specs.Prelude.{◌≡◌, ◌≢◌, Ok, Err, MatchResult, option_copied};
 ghost use Rattle.ow_value.specs.View.{view};
-ghost use Rattle.ow_http.specs.CallOf.{bare_call, body_draft, body_value, call_of, checked_query, draft_of, filled_call, name_of};
+ghost use Rattle.ow_http.specs.CallOf.{bare_call, body_draft, body_params, body_value, call_of, checked_query, draft_of, filled_call, members_in, name_of, params_of};
 ghost use Rattle.ow_http.specs.Request.{parts_of};
 
 use crate::call::Call;
@@ -10,7 +10,7 @@ use crate::call_refusal::CallRefusal;
 use crate::request::Request;
 use crate::route::Route;
 use crate::values::{first_wrong, flag_of, limit_of, skip_of};
-use ow_entity::{Draft, EntityKind, EntityRefusal, read_entity};
+use ow_entity::{Draft, EntityKind, EntityRefusal, FieldName, read_entity};
 use ow_names::{EntityName, FullName, NameRefusal, check_name, named_in};
 use ow_value::{Bytes, Params, PlainData, Str, Val, ValueRefusal, read_val};
 use std::alloc::Global;
@@ -28,7 +28,10 @@ pub fn read_call(alloc: Global, request: &Request, home: &EntityName) -> Result<
         Ok(draft) => draft,
         Err(e) => return Err(e),
     };
-    Ok(filled_call(kind, name, draft, query))
+    match params_of(alloc, kind, request.body.as_slice()) {
+        Ok(params) => Ok(filled_call(kind, name, draft, params, query)),
+        Err(e) => Err(e),
+    }
 }
 
 fn check_query(alloc: Global, kind: CallKind, query: &[(Str, Str)]) -> Result<(), CallRefusal>
@@ -47,9 +50,10 @@ fn filled_call(
     kind: CallKind,
     name: Option<FullName>,
     draft: Option<Draft>,
+    params: Params,
     query: &[(Str, Str)],
 ) -> Call
-    ensures { result ≡ filled_call kind query.now (bare_call kind name draft) }
+    ensures { result ≡ filled_call kind query.now (bare_call kind name draft params) }
 {
     let mut call = Call {
         kind,
@@ -60,7 +64,7 @@ fn filled_call(
         skip: 0,
         limit: 0,
         draft,
-        params: Params::new(),
+        params,
         active: None,
     };
     match kind {
@@ -153,6 +157,40 @@ fn body_draft(
         Ok(draft) => Ok(Some(draft)),
         Err(EntityRefusal::NoMemory) => Err(CallRefusal::NoMemory),
         Err(e) => Err(CallRefusal::BadEntity(e)),
+    }
+}
+
+// The parameters of an invocation.
+fn params_of(alloc: Global, kind: CallKind, body: &[u8]) -> Result<Params, CallRefusal>
+    ensures { MatchResult result (λ ps. params_of kind body.now ≡ Ok ps)
+        (λ e. e ≢ CallRefusal.NoMemory → params_of kind body.now ≡ Err e) }
+{
+    match kind {
+        CallKind::Invoke => body_params(alloc, body),
+        _ => Ok(Params::new()),
+    }
+}
+
+fn body_params(alloc: Global, body: &[u8]) -> Result<Params, CallRefusal>
+    ensures { MatchResult result (λ ps. body_params body.now ≡ Ok ps)
+        (λ e. e ≢ CallRefusal.NoMemory → body_params body.now ≡ Err e) }
+{
+    match body_value(alloc, body) {
+        Ok(value) => members_in(value),
+        Err(ValueRefusal::NoMemory) => Err(CallRefusal::NoMemory),
+        Err(e) => Err(CallRefusal::BadValue(e)),
+    }
+}
+
+// The members of an object.
+fn members_in(value: Val) -> Result<Params, CallRefusal>
+    ensures { result ≡ members_in (view value) }
+{
+    match value {
+        Val::Object(params) => Ok(params),
+        _ => Err(CallRefusal::BadEntity(EntityRefusal::WrongType {
+            name: FieldName::Body,
+        })),
     }
 }
 

@@ -102,6 +102,7 @@ fn entity_notice(alloc: Global, refusal: EntityRefusal) -> Result<Notice, NoMemo
         EntityRefusal::OutOfRange { name } => with_field(alloc, name, " is out of range."),
         EntityRefusal::UnknownKind => fixed(alloc, 400, "The kind is unknown."),
         EntityRefusal::TooLarge => fixed(alloc, 413, "The value has too many bytes."),
+        EntityRefusal::BadName(refusal) => name_notice(alloc, refusal),
         EntityRefusal::LastVersion => fixed(alloc, 400, "The version cannot be raised."),
     }
 }

@@ -1,7 +1,7 @@
 use ow_entity::EntityRefusal;
 use ow_http::{Call, CallRefusal, Request, Routes, read_call};
 use ow_names::{FullName, full_text, read_name};
-use ow_value::PlainData;
+use ow_value::{Params, PlainData, Val, write_val};
 use std::alloc::Global;
 use std::test::Fail;
 
@@ -113,7 +113,22 @@ fn push_call(alloc: Global, out: &mut String, call: &Call) -> Result<(), Fail> {
     push_flag(out, call.result_only)?;
     push_number(alloc, out, call.skip)?;
     push_number(alloc, out, call.limit)?;
-    push_flag(out, call.draft.is_some())
+    push_flag(out, call.draft.is_some())?;
+    push_params(alloc, out, &call.params)
+}
+
+// The parameters behind a space, where there are any.
+fn push_params(alloc: Global, out: &mut String, params: &Params) -> Result<(), Fail> {
+    if params.is_empty() {
+        return Ok(());
+    }
+    push_object(alloc, out, params)
+}
+
+fn push_object(alloc: Global, out: &mut String, params: &Params) -> Result<(), Fail> {
+    let object = Val::Object(params.copy(alloc)?);
+    let written = String::from_utf8(write_val(alloc, &object)?).map_err(|_| "no text")?;
+    push_text(out, written.as_str())
 }
 
 fn push_name(alloc: Global, out: &mut String, name: &Option<FullName>) -> Result<(), Fail> {
@@ -163,7 +178,7 @@ fn push_text(out: &mut String, text: &str) -> Result<(), Fail> {
 }
 
 // A request's method and path, its body behind a space, and what it calls for: the name, `overwrite`, `blocking`,
-// `result`, `skip`, `limit`, and whether there is a draft. Or the number of the refusal, and what it names.
+// `result`, `skip`, `limit`, whether there is a draft, and the parameters where there are any. Or the number of the refusal, and what it names.
 const CALLS: &str = "GET /_/actions  -> none false false false 0 30 false
 GET /_/actions?limit=0  -> none false false false 0 200 false
 GET /_/actions?limit=200&skip=4294967295  -> none false false false 4294967295 200 false
@@ -197,11 +212,22 @@ PUT /_/actions/n 1.5 -> 2
 PUT /_/actions/n [] -> 10 body
 PUT /_/actions/n {\"publish\":1,\"parameters\":2} -> 10 parameters
 PUT /_/actions/n {\"exec\":{\"kind\":\"x:1\"}} -> 12
+PUT /_/packages/p {} -> /guest/p false false false 0 0 true
+PUT /_/packages/p?overwrite=true {\"binding\":{\"namespace\":\"lib\",\"name\":\"q\"}} -> /guest/p true false false 0 0 true
+PUT /_/packages/p {\"binding\":[]} -> 10 binding
+PUT /_/packages/p {\"binding\":{\"namespace\":\"lib\",\"name\":\"\"}} -> 4
 GET /_/actions/n?overwrite=x [ -> /guest/n false false false 0 0 false
 DELETE /a%20b/actions/p/n [ -> /a b/p/n false false false 0 0 false
 DELETE /a%20/actions/n [ -> 7
-POST /_/actions/n?blocking=true&result=true [ -> /guest/n false true true 0 0 false
+POST /_/actions/n?blocking=true&result=true  -> /guest/n false true true 0 0 false
+POST /_/actions/n {\"b\":1,\"a\":[]} -> /guest/n false false false 0 0 false {\"a\":[],\"b\":1}
+POST /_/actions/n [ -> 1
+POST /_/actions/n {\"a\":1.5} -> 2
+POST /_/actions/n [] -> 10 body
+POST /_/actions/n null -> 10 body
 POST /_/actions/n?result=1&blocking=2 [ -> 39 result
+POST /_/actions/%20 [ -> 6
+POST /_/triggers/n [ -> /guest/n false false false 0 0 false
 ";
 
 #[test]

@@ -1,3 +1,12 @@
 pub mod Id
+pub mod Logs
+pub mod Notes
+pub mod Order
 pub mod Outcome
+pub mod Record
+pub mod RecordRefusal
+pub mod Records
 pub mod Response
+pub mod Span
+pub mod Written
+pub mod WrittenNotes

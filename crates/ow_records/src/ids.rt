@@ -1,8 +1,9 @@
 // The id of an activation.
-ghost use Rattle.std.specs.Prelude.{◌≡◌, ◌++◌, OnOk};
+ghost use Rattle.std.specs.Prelude.{◌≡◌, ◌++◌, IfOk, OnOk};
 
 use crate::digits::hex_16;
-use ow_value::NoMemory;
+use ow_value::{NoMemory, Str};
+use std::alloc::Global;
 
 /// The number of a namespace, and a count of its activations, of which the first is 1.
 #[derive(Clone, Copy, Debug, PartialEq, Eq)]
@@ -24,5 +25,16 @@ impl Id {
         bytes.extend_from_slice(&hex_16(self.namespace))?;
         bytes.extend_from_slice(&hex_16(self.count))?;
         Ok(())
+    }
+
+    /// Thirty-two hexadecimal digits.
+    #[tactic(auto, unfolding(crate::specs::Id::id_text))]
+    pub fn text(self, alloc: Global) -> Result<Str, NoMemory>
+        ensures { IfOk result (λ s. s ≡ id_text self) }
+    {
+        let mut text = hex::encode(alloc, self.namespace.to_be_bytes())?;
+        let count = hex::encode(alloc, self.count.to_be_bytes())?;
+        text.push_str(count.as_str())?;
+        Str::from_string(text)
     }
 }

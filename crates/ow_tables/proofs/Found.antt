@@ -17,7 +17,7 @@ finds k rows = find (λ r. bytes_eq k (key_of r)) rows
 -- ---- behind a put
 
 -- the row of the key is the one that was put, and any other is found as before
-put_finds : (k : List ℕ) (r : Row) (rows : List Row) → finds k (with_row r rows) ≡ cond (bytes_eq k (key_of r)) (Some r) (finds k rows)
+pub put_finds : (k : List ℕ) (r : Row) (rows : List Row) → finds k (with_row r rows) ≡ cond (bytes_eq k (key_of r)) (Some r) (finds k rows)
 put_finds k r [] = refl
 put_finds k r (x ∷ xs) = by_order (text_cmp (key_of r) (key_of x)) refl (put_finds k r xs)
   where

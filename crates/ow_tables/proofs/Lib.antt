@@ -1,3 +1,5 @@
 pub mod RowLaws
 pub mod RegionLaws
 pub mod Found
+pub mod InsideLaws
+pub mod PutLaws

@@ -1,5 +1,6 @@
 pub mod Contents
 pub mod Rows
 pub mod Builtin
+pub mod Inside
 pub mod Refusal
 pub mod Region

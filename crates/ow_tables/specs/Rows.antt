@@ -41,6 +41,10 @@ is_row kind name r = bytes_eq (key kind name) (key_of r)
 abbrev pub found : EntityKind → FullName → List Row → Option Row
 found kind name rows = find (is_row kind name) rows
 
+-- the rows as what stands under each kind and name
+abbrev pub standing : List Row → EntityKind → FullName → Option Row
+standing rows kind name = found kind name rows
+
 -- ---- changes
 
 -- the rows with this one in the place of the one of its kind and name, or else before the first that comes behind it

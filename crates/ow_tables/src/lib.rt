@@ -3,6 +3,7 @@
 //! The database of the entities that stand, in the order of their kinds and names. A change is made ready first,
 //! which may be refused and takes all the memory, and is made then, which does neither.
 mod builtin;
+mod inside;
 mod listing;
 mod ready;
 mod refusal;

@@ -29,8 +29,8 @@ pub(crate) fn listing(
     summaries(alloc, &rest[..many])
 }
 
-// The rows of the kind in the namespace, which stand together.
-fn part<'a>(rows: &'a [Row], kind: EntityKind, namespace: &EntityName) -> &'a [Row]
+/// The rows of the kind in the namespace, which stand together.
+pub(crate) fn part<'a>(rows: &'a [Row], kind: EntityKind, namespace: &EntityName) -> &'a [Row]
     requires { AreKept rows.now }
     ensures { result.now ≡ filter (stands_in kind namespace.now) rows.now }
 {

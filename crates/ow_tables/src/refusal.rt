@@ -3,6 +3,7 @@ ghost use Rattle.std.specs.Prelude.{◌≡◌};
 ghost use Rattle.ow_tables.specs.Refusal.{table_refusal_number};
 
 use ow_entity::EntityRefusal;
+use ow_packages::PackageRefusal;
 use ow_value::NoMemory;
 
 /// Why tables don't change, or have no such row.
@@ -10,8 +11,12 @@ use ow_value::NoMemory;
 pub enum TableRefusal {
     /// The entity doesn't stand, or the package in which it is to lie.
     NotFound,
+    /// The package is a binding: the one in which the entity lies or is to lie, or the one that is to be bound.
+    BindsABinding,
     /// An entity of the kind and the name stands, and it is not to be overwritten.
     Exists,
+    /// The package holds actions.
+    NotEmpty,
     /// The draft makes no entity. Want of memory is none of these.
     Entity(EntityRefusal),
     /// The rows stand as before.
@@ -26,7 +31,9 @@ impl TableRefusal {
         match self {
             TableRefusal::NoMemory => 0,
             TableRefusal::NotFound => 14,
+            TableRefusal::BindsABinding => 15,
             TableRefusal::Exists => 17,
+            TableRefusal::NotEmpty => 21,
             TableRefusal::Entity(refusal) => refusal.number(),
         }
     }
@@ -42,6 +49,21 @@ impl From<EntityRefusal> for TableRefusal {
         match refusal {
             EntityRefusal::NoMemory => TableRefusal::NoMemory,
             _ => TableRefusal::Entity(refusal),
+        }
+    }
+}
+
+impl From<PackageRefusal> for TableRefusal {
+    ghost use Rattle.std.specs.Prelude.{◌≡◌};
+    ghost use Rattle.ow_tables.specs.Refusal.{refusal_of_package};
+
+    ghost from_gives = { λ r e. e ≡ refusal_of_package r };
+
+    fn from(refusal: PackageRefusal) -> TableRefusal {
+        match refusal {
+            PackageRefusal::NoMemory => TableRefusal::NoMemory,
+            PackageRefusal::BindsABinding => TableRefusal::BindsABinding,
+            _ => TableRefusal::NotFound,
         }
     }
 }

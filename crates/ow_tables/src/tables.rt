@@ -1,20 +1,30 @@
 // The rows of the entities that stand.
-ghost use Rattle.std.specs.Prelude.{◌≡◌, ◌≢◌, ◌≤◌, [], ◌∷◌, true, false, Some, None, Ok, IfOk, OnOk, IfErr, OnErr, MatchResult};
+ghost use Rattle.std.specs.Prelude.{◌≡◌, ◌≢◌, ◌≤◌, is_some, map, Option, List, [], ◌∷◌, true, false, Some, None, Ok, IfOk, OnOk, IfErr, OnErr, MatchResult};
+ghost use Rattle.std.specs.Result.{result_err};
+ghost use Rattle.std.specs.Option.{option_copied};
 ghost use Rattle.ow_names.specs.declared.full.FullName.{FullName};
 ghost use Rattle.ow_entity.specs.Chain.{first_some};
 ghost use Rattle.ow_entity.specs.declared.kinds.EntityKind.{EntityKind};
 ghost use Rattle.ow_entity.specs.Finish.{finished_row};
+ghost use Rattle.ow_entity.specs.Row.{draft_name};
+ghost use Rattle.ow_entity.specs.declared.rows.Row.TheVariants as entities;
+ghost use Rattle.ow_entity.specs.Written.{package_entry};
+ghost use Rattle.ow_packages.specs.Access.{package_at, package_of, reached_package};
+ghost use Rattle.ow_tables.specs.declared.refusal.TableRefusal.{TableRefusal};
 ghost use Rattle.ow_tables.specs.Builtin.{builtin};
-ghost use Rattle.ow_tables.specs.Rows.{AreRows, found, found_after, with_row, changed, listing};
-ghost use Rattle.ow_tables.specs.Refusal.{package_of, package_refusal, exists_refusal, finish_refusal, old_row, put_refusal, remove_refusal};
+ghost use Rattle.ow_tables.specs.Rows.{AreRows, standing, found, found_after, with_row, changed, listing};
+ghost use Rattle.ow_tables.specs.Inside.{actions_behind, shown_actions};
+ghost use Rattle.ow_tables.specs.Refusal.{package_refusal, target_of, target_refusal, exists_refusal, finish_refusal, bound_refusal, holding_refusal, old_row, put_refusal, remove_refusal};
 
 use crate::builtin::{echo, utils};
+use crate::inside::{actions_in, holds_actions};
 use crate::listing::listing;
 use crate::ready::Ready;
 use crate::refusal::TableRefusal;
 use crate::row_order::{order, place};
-use ow_entity::{Draft, EntityKind, Lookup, Row, finish};
+use ow_entity::{Draft, EntityKind, Lookup, Package, Row, finish};
 use ow_names::{EntityName, FullName};
+use ow_packages::{check_binding, package_of, reached_package};
 use ow_value::{NoMemory, PlainData, Shared, Vals, copy_slice};
 use std::alloc::Global;
 use std::marker::Model;
@@ -84,12 +94,13 @@ impl Tables {
         kind: EntityKind,
         name: &FullName,
     ) -> Result<Ready, TableRefusal>
+        ensures unrefused { OnOk result (remove_refusal kind name.now self.old.rows ≡ None) }
         ensures refused { IfErr result (λ e. e ≢ TableRefusal.NoMemory → remove_refusal kind name.now self.old.rows ≡ Some e) }
         ensures row { IfOk result (λ r. found kind name.now self.old.rows ≡ Some r.row) }
         ensures removes { IfOk result (λ r. r.removes ≡ true) }
         ensures unchanged { self.new ≡ self.old }
     {
-        let row = self.get(kind, name)?.copy(alloc)?;
+        let row = self.removable(alloc, kind, name)?;
         Ok(Ready { row, removes: true })
     }
 
@@ -127,6 +138,30 @@ impl Tables {
         listing(alloc, &self.rows, kind, namespace, skip, limit)
     }
 
+    /// What the package shows of the actions that are called by its name: of a binding those of the package that it
+    /// binds, where its namespace reaches that.
+    pub fn actions_of(&self, alloc: Global, bundle: &Package) -> Result<Vals, NoMemory>
+        ensures { IfOk result (λ vs. vs ≡ shown_actions bundle.now self.now.rows) }
+    {
+        match &bundle.binding {
+            None => actions_in(alloc, &self.rows, &bundle.name),
+            Some(target) => match reached_package(self, target, &bundle.name.namespace) {
+                Some(_) => actions_in(alloc, &self.rows, target),
+                None => Ok(Vals::new()),
+            },
+        }
+    }
+
+    /// What the package will show of the actions that are called by its name once it is put.
+    pub fn actions_once_put(&self, alloc: Global, bundle: &Package) -> Result<Vals, NoMemory>
+        ensures { IfOk result (λ vs. vs ≡ shown_actions bundle.now (with_row (entities.Package bundle.now) self.now.rows)) }
+    {
+        match &bundle.binding {
+            None => actions_in(alloc, &self.rows, &bundle.name),
+            Some(target) => self.actions_bound(alloc, bundle, target),
+        }
+    }
+
     /// Equal tables. Both share their entities.
     pub fn copy(&self, alloc: Global) -> Result<Tables, NoMemory>
         ensures { IfOk result (λ t. t.rows ≡ self.now.rows) }
@@ -134,6 +169,30 @@ impl Tables {
         Ok(Tables {
             rows: copy_slice(alloc, &self.rows)?,
         })
+    }
+
+    // What a package that is to bind the target will show.
+    fn actions_bound(
+        &self,
+        alloc: Global,
+        bundle: &Package,
+        target: &FullName,
+    ) -> Result<Vals, NoMemory>
+        ensures { IfOk result (λ vs. vs ≡ map package_entry (actions_behind bundle.now (Some target.now) (with_row (entities.Package bundle.now) self.now.rows))) }
+    {
+        if self.reaches_once_put(bundle, target) {
+            return actions_in(alloc, &self.rows, target);
+        }
+        Ok(Vals::new())
+    }
+
+    // Whether the package will reach the target once it is put.
+    fn reaches_once_put(&self, bundle: &Package, target: &FullName) -> bool
+        ensures { result ≡ is_some (reached_package (standing (with_row (entities.Package bundle.now) self.now.rows)) target.now bundle.now.name.namespace) }
+    {
+        let order = target.compare(&bundle.name);
+        let reached = reached_package(self, target, &bundle.name.namespace).is_some();
+        order.is_eq() || reached
     }
 
     // Memory for one more row.
@@ -146,21 +205,85 @@ impl Tables {
         Ok(())
     }
 
-    // That the package in which the name lies stands.
+    // That the package in which the name lies, if any, stands and is no binding.
     fn check_package(&self, alloc: Global, name: &FullName) -> Result<(), TableRefusal>
         ensures { MatchResult result (λ _. package_refusal (package_of name.now) self.now.rows ≡ None)
             (λ e. e ≢ TableRefusal.NoMemory → package_refusal (package_of name.now) self.now.rows ≡ Some e) }
     {
-        let Some(package) = &name.package else {
+        let Some(bundle) = package_of(alloc, name)? else {
             return Ok(());
         };
-        let package = FullName {
-            namespace: name.namespace.copy(alloc)?,
-            package: None,
-            name: package.copy(alloc)?,
+        match self.package_at(&bundle) {
+            None => Err(TableRefusal::NotFound),
+            Some(bundle) if bundle.binding.is_some() => Err(TableRefusal::BindsABinding),
+            Some(_) => Ok(()),
+        }
+    }
+
+    // That the package which the draft gives to be bound, if any, can be bound.
+    fn check_target(&self, draft: &Draft) -> Result<(), TableRefusal>
+        ensures { result_err result ≡ target_refusal (target_of draft.now) (draft_name draft.now).namespace self.now.rows }
+    {
+        match target_of(draft) {
+            Some(target) => Ok(check_binding(self, target, &draft.name().namespace)?),
+            None => Ok(()),
+        }
+    }
+
+    // That the name, if it lies in a package, lies in none that is a binding.
+    fn check_unbound(&self, alloc: Global, name: &FullName) -> Result<(), TableRefusal>
+        ensures { MatchResult result (λ _. bound_refusal (package_of name.now) self.now.rows ≡ None)
+            (λ e. e ≢ TableRefusal.NoMemory → bound_refusal (package_of name.now) self.now.rows ≡ Some e) }
+    {
+        let Some(bundle) = package_of(alloc, name)? else {
+            return Ok(());
         };
-        self.get(EntityKind::Package, &package)?;
-        Ok(())
+        match self.package_at(&bundle) {
+            Some(bundle) if bundle.binding.is_some() => Err(TableRefusal::BindsABinding),
+            _ => Ok(()),
+        }
+    }
+
+    // That a package that is to be removed holds no action.
+    fn check_empty(&self, kind: EntityKind, name: &FullName) -> Result<(), TableRefusal>
+        ensures { result_err result ≡ holding_refusal kind name.now self.now.rows }
+    {
+        match kind {
+            EntityKind::Package => {
+                if holds_actions(&self.rows, name) {
+                    return Err(TableRefusal::NotEmpty);
+                }
+                Ok(())
+            }
+            _ => Ok(()),
+        }
+    }
+
+    // The package of the name.
+    fn package_at(&self, name: &FullName) -> Option<&Package>
+        ensures { option_copied result ≡ package_at (standing self.now.rows) name.now }
+    {
+        match self.row(EntityKind::Package, name) {
+            Some(Row::Package(bundle)) => Some(bundle.get()),
+            _ => None,
+        }
+    }
+
+    // The row of the kind and the name, where it may be removed.
+    fn removable(
+        &self,
+        alloc: Global,
+        kind: EntityKind,
+        name: &FullName,
+    ) -> Result<Row, TableRefusal>
+        ensures unrefused { OnOk result (remove_refusal kind name.now self.now.rows ≡ None) }
+        ensures refused { IfErr result (λ e. e ≢ TableRefusal.NoMemory → remove_refusal kind name.now self.now.rows ≡ Some e) }
+        ensures row { IfOk result (λ r. found kind name.now self.now.rows ≡ Some r) }
+    {
+        let row = self.get(kind, name)?;
+        self.check_unbound(alloc, name)?;
+        self.check_empty(kind, name)?;
+        Ok(row.copy(alloc)?)
     }
 
     // The row of the draft, where the package in which it is to lie stands.
@@ -169,8 +292,25 @@ impl Tables {
         ensures refused { IfErr result (λ e. e ≢ TableRefusal.NoMemory → put_refusal draft overwrite self.now.rows ≡ Some e) }
         ensures row { IfOk result (λ r. finished_row draft (old_row draft self.now.rows) ≡ Ok r) }
     {
+        match self.check_put(alloc, &draft) {
+            Ok(()) => self.finished(alloc, draft, overwrite),
+            Err(refusal) => {
+                drop(draft);
+                Err(refusal)
+            }
+        }
+    }
+
+    // That the draft can lie where it is to lie, and bind what it is to bind.
+    fn check_put(&self, alloc: Global, draft: &Draft) -> Result<(), TableRefusal>
+        ensures place { OnOk result (package_refusal (package_of (draft_name draft.now)) self.now.rows ≡ None) }
+        ensures target { OnOk result (target_refusal (target_of draft.now) (draft_name draft.now).namespace self.now.rows ≡ None) }
+        ensures refused { IfErr result (λ e. e ≢ TableRefusal.NoMemory → (rest : List (Option TableRefusal))
+            → first_some (package_refusal (package_of (draft_name draft.now)) self.now.rows
+            ∷ target_refusal (target_of draft.now) (draft_name draft.now).namespace self.now.rows ∷ rest) ≡ Some e) }
+    {
         self.check_package(alloc, draft.name())?;
-        self.finished(alloc, draft, overwrite)
+        self.check_target(draft)
     }
 
     // The row of the draft, over the one that stands, if any.
@@ -239,5 +379,18 @@ impl Lookup for Tables {
             }
             Err(_) => None,
         }
+    }
+}
+
+// The package that the draft gives to be bound.
+fn target_of(draft: &Draft) -> Option<&FullName>
+    ensures { option_copied result ≡ target_of draft.now }
+{
+    match draft {
+        Draft::Action(_) => None,
+        Draft::Package(draft) => match &draft.binding {
+            Some(Some(target)) => Some(target),
+            Some(None) | None => None,
+        },
     }
 }

@@ -2,4 +2,5 @@ pub mod Adapters
 pub mod Changes
 pub mod Keeper
 pub mod Rows
+pub mod Runner
 pub mod Streams

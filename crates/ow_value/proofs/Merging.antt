@@ -34,6 +34,12 @@ with_first k v (p ∷ ps) h = rw h.0
 merge_greater : (q : List ℕ × V) (a b : Pairs) → Above q.0 a → Above q.0 b → merge a (q ∷ b) ≡ q ∷ merge a b
 merge_greater q a b g h = with_first q.0 q.1 (merge a b) (above_merge q.0 a b g h)
 
+-- nothing is left over which b could stand
+pub merge_none : (b : Pairs) → AreParams b → merge [] b ≡ b
+unfolding IsStrictlySortedBy
+merge_none [] h = refl
+merge_none (q ∷ b) h = merge_greater q [] b tt h.0 ∙ ap (λ r. q ∷ r) (merge_none b h.1)
+
 merge_equal : (p q : List ℕ × V) (a b : Pairs) → text_cmp p.0 q.0 ≡ Equal → Above q.0 b → merge (p ∷ a) (q ∷ b) ≡ q ∷ merge a b
 merge_equal p q a b e h =
     let same = equal_texts p.0 q.0 e in

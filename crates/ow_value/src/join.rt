@@ -12,12 +12,20 @@ use crate::val::{Pair, Params};
 use std::alloc::Global;
 use std::cmp::Ordering;
 
-/// The members of b, and those of a whose name b lacks.
+/// The members of b, and those of a whose name b lacks. Where one has no members, the other is shared.
 pub fn merge(alloc: Global, a: &Params, b: &Params) -> Result<Params, NoMemory>
     ensures value { IfOk result (λ r. r ≡ merge a.now b.now) }
     ensures finds { IfOk result (λ r. (q : List ℕ) → find q r ≡ or_else (find q b.now) (find q a.now)) }
 {
-    let pairs = merged(alloc, held(&a.pairs), held(&b.pairs))?;
+    let xs = held(&a.pairs);
+    let ys = held(&b.pairs);
+    if xs.is_empty() {
+        return b.again();
+    }
+    if ys.is_empty() {
+        return a.again();
+    }
+    let pairs = merged(alloc, xs, ys)?;
     Ok(Params::of_pairs(pairs)?)
 }
 

@@ -513,11 +513,7 @@ refused 29 No run 11.
 ",
         Status::Ok,
     ),
-    (
-        b"logged 1 2 {}\n\nx",
-        b"refused 29 No run 1.\n",
-        Status::Ok,
-    ),
+    (b"logged 1 2 {}\n\nx", b"refused 29 No run 1.\n", Status::Ok),
     (
         b"next\nlogged 1 1 {}",
         b"nothing empty\n",
@@ -595,7 +591,14 @@ fn many_lines_of_logs_are_read_in_pieces(rt: HostRuntime) -> Result<(), Fail> {
         day.extend_from_slice(b"a line\n")?;
     }
     day.extend_from_slice(b"next\n")?;
-    assert!(rt; is_answered(rt.alloc(), &day, b"refused 29 No run 1.\nnothing empty\n", Status::Ok)?);
+    assert!(rt;
+        is_answered(
+            rt.alloc(),
+            &day,
+            b"refused 29 No run 1.\nnothing empty\n",
+            Status::Ok
+        )?
+    );
     Ok(())
 }
 

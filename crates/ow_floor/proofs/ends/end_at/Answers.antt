@@ -8,4 +8,4 @@ returns-clause-good c =
     let here : get_or c.args.lists.now.now.tasks c.args.place None ≡ Some c.in-Some.task =
     any_default c.args.lists.now.now.tasks c.args.place None c.index-tasks-place.result c.requires.place
     ∙ (ap (λ ts. get_or ts c.args.place c.index-tasks-place.result) (sym c.tasks.ensures) ∙ (sym c.index-tasks-place.is ∙ c.in-Some.is)) in
-    rw c.in_ok-end.ensures.now (good_cut c.args.lists.now.now c.args.place c.in-Some.task _ here c.requires.good)
+    rw c.in_ok-end.ensures.now (good_cut c.args.lists.now.now c.args.at c.args.place c.in-Some.task _ here c.requires.good)

@@ -1,5 +1,5 @@
 use Rattle.std.proofs.Common.{◌≡◌, Some, true, sym, ◌∙◌, ap, subst, get_or}
-use Rattle.ow_floor.specs.declared.activations.Activation.{Activation}
+use Rattle.ow_records.specs.declared.activations.Activation.{Activation}
 use Rattle.ow_floor.specs.View.{is_of}
 use Rattle.ow_floor.specs.Calls.{is_late}
 use Rattle.ow_floor.specs.Store.{IsSpot}

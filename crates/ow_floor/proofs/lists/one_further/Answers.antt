@@ -1,4 +1,4 @@
-use Rattle.std.proofs.Common.{◌≡◌, ◌+◌, ◌∙◌, suc, sym, subst, arith, rules, get_or, Option, None}
+use Rattle.std.proofs.Common.{◌≡◌, ◌+◌, ◌∙◌, suc, sym, subst, arith, rules, None}
 use Rattle.ow_floor.specs.Store.{AreGone}
 use Rattle.ow_floor.proofs.Going.{gone_one_more}
 use Rattle.ow_floor.proofs.lists.one_further.Goals as goal

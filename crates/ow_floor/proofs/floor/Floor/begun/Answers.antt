@@ -11,7 +11,7 @@ makes c =
     let free = held_none c.self.inside.lists.past (subst (λ (w : FloorView). w.before ≡ None) (sym c.self.view_is) c.requires) in
     let cell : IsCell run_in (is_number c.args.run) c.self.inside.lists.now.runs c.in-Some.place = c.in-Some.ensures in
     let here : get_or c.self.inside.lists.now.runs c.in-Some.place None ≡ Some c.in-Some-runs.berth = rw (← c.runs.ensures) c.in-Some-runs.is in
-    made_begun c.self.inside.lists.now c.put_run.new.self.now c.args.at c.args.run c.saturating_sub-owed.result c.in-Some.place c.in-Some-runs.berth cell here c.if-berth.false
+    made_begun c.self.inside.lists.now c.put_run.new.self.now c.args.at c.args.run c.saturating_sub-owed.result c.in-Some.place c.in-Some-runs.berth cell here (sym c.if-is_some.ensures)
     (c.saturating_sub-owed.ensures ∙ ap (λ m. m.owed - 1) c.marks.ensures) (certain c.put_run.result _ c.put_run.ensures.now (c.put_run.ensures.free free) ∙ rw c.begun.ensures refl) c.self.invariant.0
 
 pub invariant_of-self : goal.invariant_of-self

@@ -2,7 +2,7 @@ use Rattle.std.proofs.Common.{◌≡◌, ◌+◌, Some, sym, ◌∙◌, ap, subs
 use Rattle.ow_floor.specs.View.{FloorView, waits}
 use Rattle.ow_floor.specs.Laws.{Grows}
 use Rattle.ow_floor.specs.Calls.{next_items, run_of}
-use Rattle.ow_floor.specs.declared.activations.Activation.{Activation}
+use Rattle.ow_records.specs.declared.activations.Activation.{Activation}
 use Rattle.ow_floor.specs.Store.{IsSpot, show}
 use Rattle.ow_floor.proofs.Growing.{Makes, made_order, past_good, sure}
 use Rattle.ow_floor.proofs.floor.Floor.next.Goals as goal

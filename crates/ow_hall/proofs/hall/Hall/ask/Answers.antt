@@ -1,8 +1,8 @@
-use Rattle.std.proofs.Common.{◌≡◌, IsSome, sym, subst}
+use Rattle.std.proofs.Common.{IsSome, sym, subst}
 use Rattle.ow_hall.specs.declared.entry.Told.{Told}
 use Rattle.ow_hall.specs.Comes.{reply_in}
 use Rattle.ow_hall.proofs.AskLaws.{ask_replies}
 use Rattle.ow_hall.proofs.hall.Hall.ask.Goals as goal
 
 pub reply_in-requires : goal.reply_in-requires
-reply_in-requires g c = subst (λ (t : Told). IsSome (reply_in t)) (sym c.in-Ok.ensures.comes.0) (ask_replies _)
+reply_in-requires g c = subst (λ (t : Told). IsSome (reply_in t)) (sym c.in-Ok.ensures.comes.0) (ask_replies _ _)

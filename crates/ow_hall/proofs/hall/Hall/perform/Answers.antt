@@ -1,4 +1,4 @@
-use Rattle.std.proofs.Common.{◌≡◌, ◌∙◌, ◌++◌, ◌≤◌, refl, sym, ap, subst}
+use Rattle.std.proofs.Common.{◌∙◌, ◌++◌, ◌≤◌, refl, sym, ap, subst}
 use Rattle.ow_floor.specs.Owed.{owed}
 use Rattle.ow_floor.specs.View.{FloorView}
 use Rattle.ow_hall.specs.declared.step.Now.{Now}

@@ -1,0 +1,37 @@
+-- What collecting the end of an activation tells, for whose end a request waits.
+use Rattle.std.specs.Prelude.{ℕ, Option, Some, None, if◌then◌else◌, nat_lt, Result, Ok, Err}
+use Rattle.ow_records.specs.declared.ids.Id.{Id}
+use Rattle.ow_records.specs.declared.record.Record.{Record}
+use Rattle.ow_floor.specs.declared.answers.Collected.{Collected}
+use Rattle.ow_floor.specs.declared.answers.Collected.TheVariants as answers
+use Rattle.ow_floor.specs.declared.answers.FloorRefusal.{FloorRefusal}
+use Rattle.ow_floor.specs.declared.answers.FloorRefusal.TheVariants.{NotFound}
+use Rattle.ow_floor.specs.Trace.{Trace, end_of, wait_of}
+
+-- no request waits for it; its record; its request still waits; its request waits no longer
+pub data Collection : Type 0 where
+  Unknown : Collection
+  Recorded : (ended : Record) → Collection
+  NotYet : Collection
+  Elapsed : Collection
+
+-- over up to which moment the request waits, and the record
+abbrev pub collected_by : ℕ → Option ℕ → Option Record → Collection
+collected_by at None ended = Unknown
+collected_by at (Some until) (Some r) = Recorded r
+collected_by at (Some until) None = if nat_lt at until then NotYet else Elapsed
+
+-- at this moment
+abbrev pub collected : ℕ → Id → Trace → Collection
+collected at id T = collected_by at (wait_of T id) (end_of T id)
+
+-- what an answer of `collect` tells
+abbrev pub collection_of : Result Collected FloorRefusal → Collection
+collection_of (Err NotFound) = Unknown
+collection_of (Ok (answers.Recorded r)) = Recorded r.now
+collection_of (Ok answers.NotYet) = NotYet
+collection_of (Ok answers.Elapsed) = Elapsed
+
+-- the number of a refusal
+abbrev pub refusal_number : FloorRefusal → ℕ
+refusal_number NotFound = 14

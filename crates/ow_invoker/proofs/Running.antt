@@ -1,0 +1,41 @@
+-- What a runner's earlier and later calls keep of a reply.
+use Rattle.std.proofs.Common.{◌≤◌, ℕ, List, Result, Ok, Err, IfOk, ⊎_elim, arith}
+use Rattle.std.proofs.lemmas.Bool.{cases_lt}
+use Rattle.ow_value.specs.Value.{Pairs}
+use Rattle.ow_value.specs.declared.memory.NoMemory.{NoMemory as Want}
+use Rattle.ow_traits.specs.Runner.{Giving, RefusesStart, Replies, Steady}
+use Rattle.ow_traits.specs.Streams.{Rose}
+use Rattle.ow_traits.specs.declared.replies.Kind.{Kind}
+use Rattle.ow_traits.specs.declared.replies.RunReply.{RunReply}
+use Rattle.ow_traits.specs.declared.replies.RunReply.TheVariants.{Answer, Exit, NoStart, Fault}
+
+pub steady_trans : {f g h : Giving} {a b c : ℕ} → Steady f g a b → Steady g h b c → Steady f h a c
+steady_trans s t = record {
+  back = λ kind code params reply x. s.back kind code params reply (t.back kind code params reply x);
+  on = λ kind code params reply x. t.on kind code params reply (s.on kind code params reply x);
+  later = let x = s.later in let y = t.later in omega arith;
+}
+
+rose_within : (a b c d : ℕ) → a ≤ b → b ≤ c → c ≤ d → Rose b c → Rose a d
+rose_within a b c d x y z h lt = ⊎_elim (λ u. let v = h u in omega arith) (λ u. omega arith) (cases_lt b 18446744073709551615)
+
+-- a reply of one call is one of all the calls around it
+pub replied_within : {f g h : Giving} {a b c d : ℕ} (kind : Kind) (code : List ℕ) (params : Pairs) (reply : RunReply)
+    → Steady f g a b → Steady g h b c → c ≤ d → Replies g b c kind code params reply → Replies f a d kind code params reply
+replied_within kind code params (Answer text logs) s t le x = s.back kind code params (Answer text logs) x
+replied_within kind code params (Exit status logs) s t le x = s.back kind code params (Exit status logs) x
+replied_within kind code params (NoStart text) s t le x = s.back kind code params (NoStart text) x
+replied_within {a = a} {b = b} {c = c} {d = d} kind code params Fault s t le x = rose_within a b c d s.later t.later le x
+
+pub replied_if : {f g h : Giving} {a b c d : ℕ} (kind : Kind) (code : List ℕ) (params : Pairs) (result : Result RunReply Want)
+    → Steady f g a b → Steady g h b c → c ≤ d → IfOk result (Replies g b c kind code params) → IfOk result (Replies f a d kind code params)
+replied_if kind code params (Ok reply) s t le x = replied_within kind code params reply s t le x
+replied_if kind code params (Err e) s t le x = tt
+
+-- a reply in place of a start is one to each code
+pub down_replied : (f : Giving) (a b : ℕ) (kind : Kind) (code : List ℕ) (params : Pairs) (reply : RunReply)
+    → RefusesStart f a b kind reply → Replies f a b kind code params reply
+down_replied f a b kind code params (NoStart text) x = x code params
+down_replied f a b kind code params Fault x = x
+down_replied f a b kind code params (Answer text logs) x = absurd x
+down_replied f a b kind code params (Exit status logs) x = absurd x

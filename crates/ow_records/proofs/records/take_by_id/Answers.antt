@@ -1,0 +1,12 @@
+use Rattle.std.proofs.Common.{◌≤◌, List, length, refl, subst}
+use Rattle.ow_records.specs.declared.record.Record.{Record}
+use Rattle.ow_records.specs.Records.{id_key}
+use Rattle.ow_records.proofs.Sorting.{taken_between}
+use Rattle.ow_records.proofs.records.take_by_id.Goals as goal
+
+pub returns : goal.returns
+returns c before put =
+    let place = c.place_by_id-place in
+    let within = subst (λ (xs : List Record). place.result ≤ length xs) c.deref.ensures.value place.ensures.bound in
+    taken_between id_key (id_key c.args.added.now) c.args.list.now.items c.deref.result.now c.take_before.new.list.items before c.args.added.now place.result
+    c.deref.ensures.value refl c.take_before.ensures within place.ensures.place put

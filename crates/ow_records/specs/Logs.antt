@@ -1,0 +1,30 @@
+-- The logs of an activation that has ended.
+use Rattle.std.specs.Prelude.{◌+◌, ◌-◌, ◌*◌, ℕ, List, [], ◌∷◌, length, nat_lt, if◌then◌else◌, codes}
+use Rattle.ow_traits.specs.declared.replies.RunReply.{RunReply}
+use Rattle.ow_traits.specs.declared.replies.RunReply.TheVariants.{Answer, Exit, NoStart, Fault}
+use Rattle.ow_value.specs.Size.{megabyte}
+use Rattle.ow_records.specs.declared.outcomes.Ending.{Ending}
+use Rattle.ow_records.specs.declared.outcomes.Ending.TheVariants.{Replied, Overran, Abandoned}
+
+-- the lines of a run's reply; what a run that did not start tells is one line
+abbrev pub reply_lines : RunReply → List (List ℕ)
+reply_lines (Answer answer logs) = logs
+reply_lines (Exit status logs) = logs
+reply_lines (NoStart reason) = reason ∷ []
+reply_lines Fault = []
+
+-- the lines of what ended the activation
+abbrev pub lines_of : Ending → List (List ℕ)
+lines_of (Replied reply) = reply_lines reply
+lines_of Overran = []
+lines_of Abandoned = []
+
+-- the first lines, while the sum of their bytes, one more for each, is at most this; if any is left off, a line that tells it
+abbrev pub fitting : ℕ → List (List ℕ) → List (List ℕ)
+fitting room [] = []
+fitting room (line ∷ lines) =
+    if nat_lt (length line) room then line ∷ fitting (room - (length line + 1)) lines else codes "Logs were truncated." ∷ []
+
+-- the lines that a limit of so many MB lets stand
+abbrev pub kept_lines : ℕ → List (List ℕ) → List (List ℕ)
+kept_lines limit lines = fitting (limit * megabyte) lines

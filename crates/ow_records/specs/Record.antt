@@ -1,0 +1,59 @@
+-- What is kept of an activation that has ended.
+use Rattle.std.specs.Prelude.{◌-◌, ℕ, max, false, Option, Some, None}
+use Rattle.ow_records.specs.declared.activations.Activation.{Activation}
+use Rattle.ow_records.specs.declared.outcomes.Ending.{Ending}
+use Rattle.ow_records.specs.declared.outcomes.Ending.TheVariants.{Replied, Overran, Abandoned}
+use Rattle.ow_records.specs.declared.notes.Notes.{Notes}
+use Rattle.ow_records.specs.declared.record.Record.{Record}
+use Rattle.ow_records.specs.Logs.{kept_lines, lines_of}
+use Rattle.ow_records.specs.Notes.{kind_of}
+use Rattle.ow_records.specs.Outcome.{outcome}
+
+-- the moment when the last run was ordered, if there is one, or else that of the acceptance
+abbrev pub run_start : ℕ → Option ℕ → ℕ
+run_start accepted None = accepted
+run_start accepted (Some moment) = moment
+
+-- an activation that was abandoned counts from its acceptance
+abbrev pub start_of : ℕ → Ending → Option ℕ → ℕ
+start_of accepted (Replied reply) started = run_start accepted started
+start_of accepted Overran started = run_start accepted started
+start_of accepted Abandoned started = accepted
+
+-- how long the activation waited for its start, unless it was abandoned
+abbrev pub wait_of : ℕ → Ending → ℕ → Option ℕ
+wait_of accepted (Replied reply) start = Some (start - accepted)
+wait_of accepted Overran start = Some (start - accepted)
+wait_of accepted Abandoned start = None
+
+-- the annotations of an activation that ended so, and started at this moment
+abbrev pub notes_of : Activation → Ending → ℕ → Notes
+notes_of a ending start = record {
+  binding = None;
+  caused_by = false;
+  init_time = None;
+  kind = Some (kind_of a.action.exec);
+  limits = Some a.action.limits;
+  path = Some a.action.name;
+  topmost = false;
+  wait_time = wait_of a.at ending start;
+}
+
+-- the record of an activation that ended so at this moment, and started at that one
+abbrev pub record_from : Activation → Ending → ℕ → ℕ → Record
+record_from a ending start at = record {
+  id = a.id;
+  name = a.action.name.name;
+  namespace = a.namespace;
+  subject = a.subject;
+  version = a.action.version;
+  cause = a.cause;
+  span = record { start = start; end = max start at };
+  notes = notes_of a ending start;
+  logs = kept_lines a.action.limits.logs (lines_of ending);
+  response = outcome ending a.action.limits;
+}
+
+-- the record of an activation that ended so at this moment, and whose last run, if any, was ordered at that one
+abbrev pub record_of : Activation → Ending → Option ℕ → ℕ → Record
+record_of a ending started at = record_from a ending (start_of a.at ending started) at

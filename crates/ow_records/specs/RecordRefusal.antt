@@ -1,0 +1,7 @@
+-- By what number a client knows that there is no such record.
+use Rattle.std.specs.Prelude.{ℕ}
+use Rattle.ow_records.specs.declared.record_refusal.RecordRefusal.{RecordRefusal}
+use Rattle.ow_records.specs.declared.record_refusal.RecordRefusal.TheVariants.{NotFound}
+
+abbrev pub record_refusal_number : RecordRefusal → ℕ
+record_refusal_number NotFound = 14

@@ -1,0 +1,59 @@
+// Activations, as they were accepted.
+ghost use Rattle.std.specs.Prelude.{◌≡◌, ◌↔◌, IsTrue, IfOk};
+
+use crate::Id;
+use ow_entity::Action;
+use ow_names::EntityName;
+use ow_value::{NoMemory, Params, PlainData, Shared, Str};
+use std::alloc::Global;
+
+/// What was accepted.
+#[derive(Drop)]
+pub struct Activation {
+    /// The next id of its namespace.
+    pub id: Id,
+    /// The moment of the acceptance, in milliseconds.
+    pub at: u64,
+    /// The namespace that is charged for it.
+    pub namespace: EntityName,
+    /// The action as it stood at the acceptance.
+    pub action: Shared<Action>,
+    /// The merged parameters, with which it is run.
+    pub params: Params,
+    /// In whose name it is run.
+    pub subject: Str,
+    /// The activation that it is a part of.
+    pub cause: Option<Id>,
+    /// Up to which moment, in milliseconds, the request that made it waits for the end.
+    pub until: Option<u64>,
+}
+
+impl PlainData for Activation {
+    fn same(&self, other: &Activation) -> bool {
+        self.id == other.id
+            && self.at == other.at
+            && self.namespace.same(&other.namespace)
+            && self.action.same(&other.action)
+            && self.params.same(&other.params)
+            && self.subject.same(&other.subject)
+            && self.cause == other.cause
+            && self.until == other.until
+    }
+
+    fn copy(&self, alloc: Global) -> Result<Activation, NoMemory> {
+        let namespace = self.namespace.copy(alloc)?;
+        let action = self.action.copy(alloc)?;
+        let params = self.params.copy(alloc)?;
+        let subject = self.subject.copy(alloc)?;
+        Ok(Activation {
+            id: self.id,
+            at: self.at,
+            namespace,
+            action,
+            params,
+            subject,
+            cause: self.cause,
+            until: self.until,
+        })
+    }
+}

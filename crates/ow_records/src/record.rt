@@ -1,0 +1,144 @@
+// Records of activations that have ended.
+ghost use Rattle.std.specs.Prelude.{◌≡◌, ◌↔◌, IsTrue, IfOk};
+ghost use Rattle.ow_records.specs.Record.{notes_of, record_of, start_of, wait_of};
+
+use crate::logs::logs_of;
+use crate::{Activation, Ending, ExecKind, Id, Notes, Response, Span, outcome_in};
+use ow_names::EntityName;
+use ow_value::{Lines, NoMemory, PlainData, Scratch, Str};
+use std::alloc::Global;
+
+/// What is kept of an activation that has ended.
+#[derive(Drop)]
+pub struct Record {
+    /// The activation.
+    pub id: Id,
+    /// What the action is called.
+    pub name: EntityName,
+    /// The namespace that is charged for it.
+    pub namespace: EntityName,
+    /// In whose name it was run.
+    pub subject: Str,
+    /// The version of the action.
+    pub version: u32,
+    /// The activation that it is a part of.
+    pub cause: Option<Id>,
+    /// From its start to its end.
+    pub span: Span,
+    /// The annotations.
+    pub notes: Notes,
+    /// What was written beside the answer.
+    pub logs: Lines,
+    /// What it answers.
+    pub response: Response,
+}
+
+/// The record of an activation that ended so at this moment, and whose last run, if any, was ordered at that one. The
+/// scratch is for reading answers.
+pub fn record_of(
+    alloc: Global,
+    scratch: &mut Scratch,
+    task: &Activation,
+    ending: &Ending,
+    started: Option<u64>,
+    at: u64,
+) -> Result<Record, NoMemory>
+    ensures { IfOk result (λ r. r ≡ record_of task.now ending.now started at) }
+{
+    let action = task.action.get();
+    let start = start_of(task.at, ending, started);
+    let name = action.name.name.copy(alloc)?;
+    let namespace = task.namespace.copy(alloc)?;
+    let subject = task.subject.copy(alloc)?;
+    let notes = notes_of(alloc, task, ending, start)?;
+    let logs = logs_of(alloc, ending, action.limits.logs.get())?;
+    let response = outcome_in(alloc, scratch, ending, &action.limits)?;
+    Ok(Record {
+        id: task.id,
+        name,
+        namespace,
+        subject,
+        version: action.version,
+        cause: task.cause,
+        span: Span::new(start, start.max(at)),
+        notes,
+        logs,
+        response,
+    })
+}
+
+fn start_of(accepted: u64, ending: &Ending, started: Option<u64>) -> u64
+    ensures { result ≡ start_of accepted ending.now started }
+{
+    match (ending, started) {
+        (Ending::Replied(_) | Ending::Overran, Some(moment)) => moment,
+        _ => accepted,
+    }
+}
+
+fn notes_of(
+    alloc: Global,
+    task: &Activation,
+    ending: &Ending,
+    start: u64,
+) -> Result<Notes, NoMemory>
+    ensures { IfOk result (λ r. r ≡ notes_of task.now ending.now start) }
+{
+    let action = task.action.get();
+    let path = action.name.copy(alloc)?;
+    Ok(Notes {
+        binding: None,
+        caused_by: false,
+        init_time: None,
+        kind: Some(ExecKind::of(&action.exec)),
+        limits: Some(action.limits),
+        path: Some(path),
+        topmost: false,
+        wait_time: wait_of(task.at, ending, start),
+    })
+}
+
+fn wait_of(accepted: u64, ending: &Ending, start: u64) -> Option<u64>
+    ensures { result ≡ wait_of accepted ending.now start }
+{
+    match ending {
+        Ending::Replied(_) | Ending::Overran => Some(start.saturating_sub(accepted)),
+        Ending::Abandoned => None,
+    }
+}
+
+impl PlainData for Record {
+    fn same(&self, other: &Record) -> bool {
+        self.id == other.id
+            && self.name.same(&other.name)
+            && self.namespace.same(&other.namespace)
+            && self.subject.same(&other.subject)
+            && self.version == other.version
+            && self.cause == other.cause
+            && self.span == other.span
+            && self.notes.same(&other.notes)
+            && self.logs.same(&other.logs)
+            && self.response.same(&other.response)
+    }
+
+    fn copy(&self, alloc: Global) -> Result<Record, NoMemory> {
+        let name = self.name.copy(alloc)?;
+        let namespace = self.namespace.copy(alloc)?;
+        let subject = self.subject.copy(alloc)?;
+        let notes = self.notes.copy(alloc)?;
+        let logs = self.logs.copy(alloc)?;
+        let response = self.response.copy(alloc)?;
+        Ok(Record {
+            id: self.id,
+            name,
+            namespace,
+            subject,
+            version: self.version,
+            cause: self.cause,
+            span: self.span,
+            notes,
+            logs,
+            response,
+        })
+    }
+}

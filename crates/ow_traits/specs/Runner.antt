@@ -1,0 +1,44 @@
+-- What runners reply, and when they may fail.
+use Rattle.std.specs.Prelude.{◌≤◌, ℕ, List, Option, Some, None}
+use Rattle.ow_value.specs.Value.{Pairs}
+use Rattle.ow_traits.specs.Streams.{Rose}
+use Rattle.ow_traits.specs.declared.replies.Kind.{Kind}
+use Rattle.ow_traits.specs.declared.replies.RunReply.{RunReply}
+use Rattle.ow_traits.specs.declared.replies.RunReply.TheVariants.{Answer, Exit, NoStart, Fault}
+use Rattle.ow_traits.specs.declared.runners.Started.{Started}
+use Rattle.ow_traits.specs.declared.runners.Started.TheVariants.{Up, Down}
+
+-- which replies a runner gives to which code, of which kind, with which parameters
+abbrev pub Giving : Type 1
+Giving = Kind → List ℕ → Pairs → RunReply → Type 0
+
+-- a runner gives what it gave before, and its count of faults doesn't fall
+pub record Steady (old new : Giving) (before now : ℕ) : Type 0 where
+  pub back : (kind : Kind) (code : List ℕ) (params : Pairs) (reply : RunReply) → new kind code params reply → old kind code params reply
+  pub on : (kind : Kind) (code : List ℕ) (params : Pairs) (reply : RunReply) → old kind code params reply → new kind code params reply
+  pub later : before ≤ now
+
+-- a reply to a run: one that the runner gives, or a fault, where its count rose
+abbrev pub Replies : Giving → ℕ → ℕ → Kind → List ℕ → Pairs → RunReply → Type 0
+Replies gives before now kind code params Fault = Rose before now
+Replies gives before now kind code params reply = gives kind code params reply
+
+-- one to that code whatever the parameters
+abbrev pub RepliesToAny : Giving → ℕ → ℕ → Kind → List ℕ → RunReply → Type 0
+RepliesToAny gives before now kind code reply = (params : Pairs) → Replies gives before now kind code params reply
+
+-- an initialisation that succeeds, or a reply to that code whatever the parameters
+abbrev pub Initialises : Giving → ℕ → ℕ → Kind → List ℕ → Option RunReply → Type 0
+Initialises gives before now kind code None = Unit {0}
+Initialises gives before now kind code (Some reply) = RepliesToAny gives before now kind code reply
+
+-- a reply in place of a start: that nothing starts, to each code of that kind whatever the parameters, or a fault
+abbrev pub RefusesStart : Giving → ℕ → ℕ → Kind → RunReply → Type 0
+RefusesStart gives before now kind (NoStart text) = (code : List ℕ) (params : Pairs) → gives kind code params (NoStart text)
+RefusesStart gives before now kind Fault = Rose before now
+RefusesStart gives before now kind reply = ⊥
+
+-- a start that succeeds, or a reply in its place
+abbrev pub Starts : {B : Type 0} → Giving → ℕ → ℕ → Kind → Started B → Type 0
+Starts gives before now kind (Up container) = Unit {0}
+Starts gives before now kind (Down reply) = RefusesStart gives before now kind reply
