@@ -299,7 +299,12 @@ fn fixed_names_are_listed(rt: HostRuntime) -> Result<(), Fail> {
     assert!(rt; fixed_names(alloc, &e, false)?.is_empty());
     let names = fixed_names(alloc, &e, true)?;
     assert_eq!(rt; names.len(), 4);
-    assert!(rt; names.as_slice()[1].as_str() == "b");
+    assert!(rt;
+        names
+            .as_slice()
+            .get(1)
+            .is_some_and(|name| name.as_str() == "b")
+    );
     Ok(())
 }
 

@@ -10,7 +10,7 @@ use Rattle.ow_entity.specs.declared.refusal.EntityRefusal.{EntityRefusal}
 use Rattle.ow_entity.specs.declared.rows.Draft.{Draft}
 use Rattle.ow_entity.specs.declared.rows.Row.{Row}
 use Rattle.ow_tables.specs.Contents.{Change}
-use Rattle.ow_tables.specs.Refusal.{table_refusal, old_row, put_refusal}
+use Rattle.ow_tables.specs.Refusal.{table_refusal, old_row, put_refusal, remove_refusal}
 use Rattle.ow_tables.specs.Rows.{found}
 use Rattle.ow_floor.specs.Calls.{accept_items}
 use Rattle.ow_floor.specs.declared.activations.Plan.{Plan}
@@ -140,6 +140,7 @@ change_done S Puts c = do
   put_done S draft c.overwrite
 change_done S (Removes kind) c = do
   name ← name_in c
+  free ← unless_refused (remove_refusal kind name S.rows)
   row ← row_for S kind name
   Ok (Changed (record { row = row; removes = true }))
 change_done S Invokes c = do

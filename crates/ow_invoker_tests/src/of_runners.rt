@@ -121,13 +121,20 @@ fn the_plain_runner_answers_by_its_code(rt: HostRuntime) -> Result<(), Fail> {
     Ok(())
 }
 
+// Whether nothing started, since no program runs here.
+fn is_refused(started: &Started<PlainContainer>) -> bool {
+    match started {
+        Started::Down(RunReply::NoStart { text }) => text.as_str() == "no program runner",
+        _ => false,
+    }
+}
+
 #[test]
 fn the_plain_runner_starts_no_program(rt: HostRuntime) -> Result<(), Fail> {
     let mut runner = PlainRunner::new();
-    let refused = match runner.start(rt.alloc(), Kind::Program, 256)? {
-        Started::Down(RunReply::NoStart { text }) => text.as_str() == "no program runner",
-        _ => false,
-    };
+    let started = runner.start(rt.alloc(), Kind::Program, 256)?;
+    let refused = is_refused(&started);
+    drop(started);
     assert!(rt; refused);
     Ok(())
 }
@@ -171,21 +178,33 @@ fn follows_script(
     Ok(replies(alloc, runner, &mut container, &RunReply::Fault)? && runner.faults() == 2)
 }
 
-// Whether the first call, a start, fails, and the next two, a start and an initialisation, don't.
-fn fails_once(alloc: Global, runner: &mut ScriptRunner) -> Result<bool, Fail> {
-    let down = matches!(
-        runner.start(alloc, Kind::Program, 256)?,
-        Started::Down(RunReply::Fault)
-    );
-    let Started::Up(mut container) = runner.start(alloc, Kind::Program, 256)? else {
-        return Ok(false);
-    };
+fn is_fault(started: &Started<u64>) -> bool {
+    matches!(started, Started::Down(RunReply::Fault))
+}
+
+// Whether a start fails.
+fn faults(alloc: Global, runner: &mut ScriptRunner) -> Result<bool, Fail> {
+    let started = runner.start(alloc, Kind::Program, 256)?;
+    Ok(is_fault(&started))
+}
+
+// Whether a container is initialised.
+fn is_ready(alloc: Global, runner: &mut ScriptRunner) -> Result<bool, Fail> {
     let code = Str::empty();
-    let ready = runner
-        .init(alloc, &mut container, Kind::Program, &code)?
-        .is_none();
-    runner.stop(container);
-    Ok(down && ready && runner.faults() == 1)
+    let mut container = 0;
+    Ok(
+        runner
+            .init(alloc, &mut container, Kind::Program, &code)?
+            .is_none(),
+    )
+}
+
+// Whether the first start fails, and the next start and an initialisation don't.
+fn fails_once(alloc: Global, runner: &mut ScriptRunner) -> Result<bool, Fail> {
+    let starts = (faults(alloc, runner)?, faults(alloc, runner)?);
+    let ready = is_ready(alloc, runner)?;
+    runner.stop(0);
+    Ok(starts == (true, false) && ready && runner.faults() == 1)
 }
 
 #[test]
