@@ -22,7 +22,8 @@ use Rattle.ow_hall.specs.Sight.{Sight, room_for, takes_calls}
 use Rattle.ow_hall.specs.View.{view_of}
 use Rattle.ow_hall.specs.Reading.{name_in, read_done}
 use Rattle.ow_hall.specs.Calling.{call_decision, call_plan, callee, invocation_plan, merged}
-use Rattle.ow_hall.specs.Asking.{Done, Shown, Changed, Invoked, act_done, act_for, ask_decision, change_done, draft_in, granted_call, request_done, row_for, row_of, shown_done}
+use Rattle.ow_tables.specs.Refusal.{remove_refusal}
+use Rattle.ow_hall.specs.Asking.{Done, Shown, Changed, Invoked, act_done, act_for, ask_decision, change_done, draft_in, granted_call, request_done, row_for, row_of, shown_done, unless_refused}
 use Rattle.ow_hall.specs.Decisions.{decide}
 use Rattle.ow_hall.specs.History.{History, counted, seen, sight}
 use Rattle.ow_hall.specs.Beginnings.{IsKept, KeepsEach}
@@ -62,7 +63,8 @@ shown_next T (Err reason) = tt
 change_next : (S : Sight) (act : Act) (c : Call) → IfOk (change_done S act c) (IsNextDone S.trace)
 change_next S (Reads reading) c = tt
 change_next S Puts c = then_ok (IsNextDone S.trace) (draft_in c) _ (λ draft. then_ok (IsNextDone S.trace) (row_of S draft c.overwrite) _ (λ row. tt))
-change_next S (Removes kind) c = then_ok (IsNextDone S.trace) (name_in c) _ (λ name. then_ok (IsNextDone S.trace) (row_for S kind name) _ (λ row. tt))
+change_next S (Removes kind) c = then_ok (IsNextDone S.trace) (name_in c) _ (λ name.
+    then_ok (IsNextDone S.trace) (unless_refused (remove_refusal kind name S.rows)) _ (λ free. then_ok (IsNextDone S.trace) (row_for S kind name) _ (λ row. tt)))
 change_next S Invokes c = then_ok (IsNextDone S.trace) (name_in c) _ (λ name.
     then_from (IsNextIn S.trace) (IsNextDone S.trace) (invocation_plan S S.tenants.subject c.blocking name c.params) _ (planned_next S S.tenants.subject c.blocking name c.params) (λ plan next. next))
 
