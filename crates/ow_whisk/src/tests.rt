@@ -60,7 +60,7 @@ fn office_over(
 }
 
 // Whether the day is answered by this text, and ends so.
-fn is_answered(alloc: Global, day: &[u8], text: &[u8], status: Status) -> Result<bool, Fail> {
+pub fn is_answered(alloc: Global, day: &[u8], text: &[u8], status: Status) -> Result<bool, Fail> {
     let told = office_over(alloc, "day", day, &[], &[])?;
     Ok(told.status == status && told.out.bytes() == text)
 }
