@@ -1,5 +1,5 @@
 -- What is known of lines of logs that are awaited.
-use Rattle.std.proofs.Common.{◌≡◌, ◌≤◌, ◌<◌, ◌+◌, ◌++◌, ◌&&◌, ℕ, Bool, true, false, not, nat_lt, List, Option, Some, None, length, take, drop, position, refl, sym, ap, ◌∙◌, subst, arith}
+use Rattle.std.proofs.Common.{◌≡◌, ◌≤◌, ◌<◌, ◌+◌, ◌&&◌, ℕ, Bool, true, false, not, nat_lt, List, Option, Some, None, length, take, drop, position, refl, sym, ap, ◌∙◌, subst, arith}
 use Rattle.std.proofs.lemmas.Bool.{false≢true}
 use Rattle.std.proofs.lemmas.List.{drop-drop}
 use Rattle.std.proofs.lemmas.List.Quantifiers.{position-Some}
@@ -7,7 +7,7 @@ use Rattle.ow_day.specs.declared.first.First.{First as Code}
 use Rattle.ow_day.specs.declared.first.First.TheVariants as firsts
 use Rattle.ow_day.specs.Limits.{most_line}
 use Rattle.ow_day.specs.Statement.{Reading, Logged, Whole, Asks, Logs, is_newline, line_of}
-use Rattle.ow_day.specs.Day.{First, Found, LinesAre, lines_in, logged}
+use Rattle.ow_day.specs.Day.{Found, LinesAre, lines_in, logged}
 use Rattle.ow_day.specs.First.{AwaitsBehind, AwaitsLines, AwaitsNone, IsLogs}
 use Rattle.ow_day.specs.Line.{lines_of, read_lines}
 use Rattle.ow_day.specs.Search.{Awaits}

@@ -23,7 +23,7 @@ use Rattle.ow_day.specs.declared.call_words.CallWords.{CallWords}
 use Rattle.ow_day.specs.declared.call_words.CallWords.TheVariants as calls
 use Rattle.ow_day.specs.declared.done.Done.{Done}
 use Rattle.ow_day.specs.CallWords.{called as words_of}
-use Rattle.ow_day.specs.Statement.{Statement, At, Call, Ask, Next, Answer, Logged, Exit, NoStart, Fault, Drain, End}
+use Rattle.ow_day.specs.Statement.{Statement, At, Call, Ask, Next, Answer, Logged, Exit, NoStart, Fault, Collect, Drain, End}
 use Rattle.ow_day.specs.Machine.{Machine, Asks, Calls, CarriesOut, Does, Meets, start}
 use Rattle.ow_day.specs.Day.{day_of}
 use Rattle.ow_day.specs.Office.{HasLegalBooks}
@@ -112,6 +112,7 @@ done_so M N (Logged run text logs) done meets legal = met M N (events.Answered r
 done_so M N (Exit run code) done meets legal = met M N (events.Answered run (runs.Exit (pos code) [])) done refl meets legal
 done_so M N (NoStart run text) done meets legal = met M N (events.Answered run (runs.NoStart text)) done refl meets legal
 done_so M N (Fault run) done meets legal = met M N (events.Answered run runs.Fault) done refl meets legal
+done_so M N (Collect id) done meets legal = met M N (events.Collected id) done refl meets legal
 done_so M N Drain done meets legal = met M N events.Drain done refl meets legal
 done_so M N End done (is, same) legal = rw same legal
 

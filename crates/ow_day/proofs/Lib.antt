@@ -8,6 +8,7 @@ pub mod Searching
 pub mod Days
 pub mod Awaiting
 pub mod Numbers
+pub mod Identifying
 pub mod Parting
 pub mod PrintedLogs
 pub mod Printing

@@ -1,18 +1,20 @@
 -- What is read as a line was written as one.
-use Rattle.std.proofs.Common.{◌≡◌, ℕ, ◌==◌, ◌<◌, ◌≤◌, ◌^◌, Bool, true, false, nat_lt, List, ◌∷◌, ◌++◌, length, codes, Option, Some, None, if◌then◌else◌, refl, sym, ap, ◌∙◌, subst, arith}
+use Rattle.std.proofs.Common.{◌≡◌, ℕ, ◌==◌, ◌<◌, ◌≤◌, ◌^◌, Bool, true, false, nat_lt, List, ◌∷◌, ◌++◌, length, codes, Option, Some, None, if◌then◌else◌, refl, sym, ap, ◌∙◌, subst}
 use Rattle.std.specs.Fmt.{decimal}
 use Rattle.std.specs.Str.{bytes_eq, is_utf8, IsUtf8}
-use Rattle.std.proofs.lemmas.Bool.Decides.{nat_tests}
 use Rattle.std.proofs.lemmas.List.Elements.{All-tail}
 use Rattle.std.proofs.lemmas.Option.{none-some, same_Some, some_pair_parts}
 use Rattle.std.proofs.lemmas.Slice.Eq.{bytes_eq-Decides}
 use Rattle.std.proofs.lemmas.Str.{IsUtf8-from_is_utf8}
 use Rattle.ow_value.specs.Decimal.{decimal_of}
 use Rattle.ow_hall.specs.History.{greatest_moment}
+use Rattle.ow_records.specs.declared.ids.Id.{Id}
+use Rattle.ow_day.specs.Ids.{id_of}
 use Rattle.ow_day.specs.Limits.{most_line}
-use Rattle.ow_day.specs.Statement.{Statement, At, Call, Next, Answer, Logged, Exit, NoStart, Fault, Drain, End, Reading, Whole, Asks, Logs, answer_in, answer_of, answered, ask_of, asks_for, at_moment, at_of, call_in, call_of, called, exit_in, exit_of, exited, failed, fault_of, line_of, logged, logged_in, logged_of, logs_in, no_start_in, no_start_of, numbered, numbered_in, parted, reply_of, unstarted, with_number, worded, worded_in}
+use Rattle.ow_day.specs.Statement.{Statement, At, Call, Next, Answer, Exit, NoStart, Fault, Collect, Drain, End, Reading, Whole, Asks, Logs, answer_in, answer_of, answered, ask_of, asks_for, at_moment, at_of, call_in, call_of, called, collect_of, collected, exit_in, exit_of, exited, failed, fault_of, line_of, logged, logged_in, logged_of, logs_in, no_start_in, no_start_of, numbered, numbered_in, parted, reply_of, unstarted, with_number, worded, worded_in}
 use Rattle.ow_day.specs.Printed.{HasNo, IsLineText, IsPrintable, IsWord, logs_head, printed}
 use Rattle.ow_day.proofs.Choices.{either, fits_by, if_later, some_by}
+use Rattle.ow_day.proofs.Identifying.{id_known}
 use Rattle.ow_day.proofs.Numbers.{decimal_read}
 use Rattle.ow_day.proofs.Parting.{none_in_back, none_in_front, parted_read}
 
@@ -202,6 +204,19 @@ ask_written : (rest : List ℕ) (r : Reading) → ask_of rest ≡ Some r → IsW
 unfolding ask_of
 ask_written rest r e = ask_by rest (decimal_of rest) r refl e
 
+-- ---- `collect`
+
+collect_by : (rest : List ℕ) (o : Option Id) (r : Reading) → id_of rest ≡ o → collected o ≡ Some r → IsWritten (codes "collect " ++ rest) r
+unfolding printed
+collect_by rest None r is e = absurd (none-some r e)
+collect_by rest (Some id) r is e =
+    let k = id_known rest id is in
+    subst (λ s. IsWritten (codes "collect " ++ rest) s) (same_Some (Whole (Collect id)) r e) ((k.0, k.1), ap (λ d. codes "collect " ++ d) k.2)
+
+collect_written : (rest : List ℕ) (r : Reading) → collect_of rest ≡ Some r → IsWritten (codes "collect " ++ rest) r
+unfolding collect_of
+collect_written rest r e = collect_by rest (id_of rest) r refl e
+
 -- ---- every line
 
 -- the line begins with this word
@@ -227,7 +242,8 @@ worded_written word rest r none fits e =
     either (bytes_eq word (codes "answer")) _ _ _ e (λ is e. word_is word (codes "answer") rest r is fits (λ fits. answer_written rest r none fits e)) (λ _ e.
     either (bytes_eq word (codes "at")) _ _ _ e (λ is e. word_is word (codes "at") rest r is fits (λ _. at_written rest r e)) (λ _ e.
     either (bytes_eq word (codes "ask")) _ _ _ e (λ is e. word_is word (codes "ask") rest r is fits (λ _. ask_written rest r e)) (λ _ e.
-    reply_written word rest r none fits e))))
+    either (bytes_eq word (codes "collect")) _ _ _ e (λ is e. word_is word (codes "collect") rest r is fits (λ _. collect_written rest r e)) (λ _ e.
+    reply_written word rest r none fits e)))))
 
 words_by : (line : List ℕ) (o : Option (List ℕ × List ℕ)) (r : Reading) → parted line ≡ o → HasNo 10 line → length line ≤ most_line → worded_in o ≡ Some r → IsWritten line r
 words_by line None r is none fits e = absurd (none-some r e)

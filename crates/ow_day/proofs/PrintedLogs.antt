@@ -1,14 +1,14 @@
 -- Lines of logs as they are printed and read.
-use Rattle.std.proofs.Common.{◌≡◌, ◌⊎◌, ℕ, zero, suc, ◌==◌, ◌&&◌, ◌<◌, ◌≤◌, ◌+◌, ◌-◌, Bool, true, false, not, nat_lt, if◌then◌else◌, List, [], ◌∷◌, ◌++◌, length, take, drop, position, Option, Some, None, inl, inr, refl, sym, ap, ◌∙◌, subst, arith, append_assoc, append-nil, length-append}
+use Rattle.std.proofs.Common.{◌≡◌, ◌⊎◌, ℕ, zero, suc, ◌==◌, ◌&&◌, ◌<◌, ◌+◌, ◌-◌, Bool, true, false, not, nat_lt, if◌then◌else◌, List, [], ◌∷◌, ◌++◌, length, take, drop, position, Option, Some, None, inl, inr, refl, sym, ap, ◌∙◌, subst, arith, append_assoc, append-nil, length-append}
 use Rattle.std.specs.List.{All}
-use Rattle.std.specs.Str.{is_utf8, IsUtf8}
+use Rattle.std.specs.Str.{is_utf8}
 use Rattle.std.proofs.lemmas.List.Elements.{All-cons, All-head, All-nil, All-tail}
 use Rattle.std.proofs.lemmas.Str.{IsUtf8-from_is_utf8, is_utf8-from_IsUtf8}
 use Rattle.ow_day.specs.Limits.{most_line}
-use Rattle.ow_day.specs.Statement.{is_newline, utf8_text}
+use Rattle.ow_day.specs.Statement.{is_newline}
 use Rattle.ow_day.specs.Day.{FirstLine, LineIs, NoLine, CutLine, Lines, LinesAre, NoLines, CutLines, first_line, line_at, line_in, line_with, lines_in, lines_step, log_text, with_line}
-use Rattle.ow_day.specs.Printed.{EndsInByte, HasNo, IsLineText, IsLogLine, printed_logs}
-use Rattle.ow_day.proofs.Choices.{either, fits_by, if_later, is_apart, is_short, some_by}
+use Rattle.ow_day.specs.Printed.{EndsInByte, HasNo, IsLogLine, printed_logs}
+use Rattle.ow_day.proofs.Choices.{fits_by, is_apart, is_short}
 use Rattle.ow_day.proofs.Logging.{lines_more}
 use Rattle.ow_day.proofs.Parting.{back_of, first_behind, front_of, none_there, nowhere, split_at}
 

@@ -8,11 +8,14 @@ use Rattle.std.proofs.lemmas.List.{get_or_at}
 use Rattle.std.proofs.lemmas.Str.{is_utf8-from_IsUtf8}
 use Rattle.ow_hall.specs.History.{greatest_moment}
 use Rattle.ow_day.specs.Limits.{most_line}
-use Rattle.ow_day.specs.Statement.{Statement, At, Call, Ask, Next, Answer, Logged, Exit, NoStart, Fault, Drain, End, Whole, Asks, Logs, answer_of, ask_of, at_of, call_of, exit_of, fault_of, line_of, logged_of, no_start_of, numbered, reply_of, utf8_text, worded}
+use Rattle.ow_day.specs.Statement.{Statement, At, Call, Ask, Next, Answer, Logged, Exit, NoStart, Fault, Collect, Drain, End, Whole, Asks, Logs, answer_of, ask_of, at_of, call_of, collect_of, exit_of, fault_of, line_of, logged_of, no_start_of, numbered, reply_of, utf8_text, worded}
 use Rattle.ow_day.specs.Day.{Found, asked, behind_line, first_statement, lines_in, logged}
-use Rattle.ow_day.specs.Printed.{EndsInByte, IsLineText, IsLogLine, IsPrintable, IsReadBack, IsWord, logs_head, printed, printed_logs}
+use Rattle.ow_day.specs.Printed.{EndsInByte, IsLineText, IsPrintable, IsReadBack, IsWord, logs_head, printed, printed_logs}
 use Rattle.ow_day.proofs.Choices.{is_apart, is_short}
 use Rattle.ow_day.proofs.PrintedLogs.{logs_before, logs_last, rest_of, tail_of}
+use Rattle.ow_records.specs.Id.{id_text}
+use Rattle.ow_records.specs.declared.ids.Id.{Id}
+use Rattle.ow_day.proofs.Identifying.{id_back, length-id_text, no_newline}
 use Rattle.ow_day.proofs.Numbers.{decimal_of-decimal}
 use Rattle.ow_day.proofs.Parting.{back_of, first_behind, front_of, is_itself, none_in_both, none_in_decimal, none_there, parted_word}
 
@@ -48,6 +51,10 @@ logged_back run count text small few u = rw (numbered_back run (decimal count ++
 exit_back : (run code : ℕ) → run < 2 ^ 64 → code ≤ 255 → exit_of (decimal run ++ 32 ∷ decimal code) ≡ Some (Whole (Exit run code))
 unfolding exit_of
 exit_back run code small most = rw (numbered_back run (decimal code) small, decimal_of-decimal code (omega arith), is_short 255 code most) refl
+
+collect_back : (id : Id) → id.namespace < 2 ^ 64 → id.count < 2 ^ 64 → collect_of (id_text id) ≡ Some (Whole (Collect id))
+unfolding collect_of
+collect_back id small few = rw (id_back id small few) refl
 
 fault_back : (run : ℕ) → run < 2 ^ 64 → fault_of (decimal run) ≡ Some (Whole (Fault run))
 unfolding fault_of
@@ -90,6 +97,10 @@ exit_line rest fits = rw (is_short most_line (length (codes "exit " ++ rest)) fi
 no_start_line : (rest : List ℕ) → length (codes "nostart " ++ rest) ≤ most_line → line_of (codes "nostart " ++ rest) ≡ no_start_of rest
 unfolding line_of worded reply_of
 no_start_line rest fits = rw (is_short most_line (length (codes "nostart " ++ rest)) fits, parted_word (codes "nostart") rest refl) refl
+
+collect_line : (rest : List ℕ) → length (codes "collect " ++ rest) ≤ most_line → line_of (codes "collect " ++ rest) ≡ collect_of rest
+unfolding line_of worded
+collect_line rest fits = rw (is_short most_line (length (codes "collect " ++ rest)) fits, parted_word (codes "collect") rest refl) refl
 
 fault_line : (rest : List ℕ) → length (codes "fault " ++ rest) ≤ most_line → line_of (codes "fault " ++ rest) ≡ fault_of rest
 unfolding line_of worded reply_of
@@ -198,6 +209,15 @@ fault_run_back run small =
     (omega arith)
     (fault_line (decimal run) (omega arith) ∙ fault_back run small)
 
+id_read_back : (id : Id) → id.namespace < 2 ^ 64 → id.count < 2 ^ 64 → IsReadBack (Collect id)
+unfolding printed
+id_read_back id small few =
+    let short : length (id_text id) ≡ 32 = length-id_text id in
+    whole_back (Collect id)
+    (none_in_both 10 (codes "collect ") (id_text id) refl (none_there 10 (id_text id) (no_newline id)))
+    (omega arith)
+    (collect_line (id_text id) (omega arith) ∙ collect_back id small few)
+
 -- ---- lines of logs
 
 none_in_head : (run count : ℕ) (text : List ℕ) → run < 2 ^ 64 → count < 2 ^ 64 → IsLineText text → position (λ c. c == 10) (logs_head run count text) ≡ None
@@ -242,5 +262,6 @@ read_back (Logged run text logs) can = logs_back run text logs can
 read_back (Exit run code) can = code_back run code can.0 can.1
 read_back (NoStart run text) can = no_start_text_back run text can
 read_back (Fault run) can = fault_run_back run can
+read_back (Collect id) can = id_read_back id can.0 can.1
 read_back Drain can = whole_back Drain refl (omega arith) refl
 read_back End can = whole_back End refl (omega arith) refl

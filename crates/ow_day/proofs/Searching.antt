@@ -1,12 +1,12 @@
 -- How the search of bytes for newlines goes on.
-use Rattle.std.proofs.Common.{◌≡◌, ◌<◌, ◌≤◌, ◌+◌, ◌-◌, ◌++◌, ℕ, zero, suc, Bool, true, false, List, [], ◌∷◌, Option, Some, None, length, take, drop, position, refl, sym, ap, ◌∙◌, arith, append_assoc, append-nil, length-append, length-drop}
+use Rattle.std.proofs.Common.{◌≡◌, ◌<◌, ◌≤◌, ◌+◌, ◌-◌, ◌++◌, ℕ, true, List, [], Option, Some, None, length, take, drop, position, refl, sym, ap, ◌∙◌, arith, append_assoc, append-nil, length-append, length-drop}
 use Rattle.std.specs.Option.{option_map}
 use Rattle.std.proofs.Math.Seq.{take-length}
 use Rattle.std.proofs.lemmas.List.{drop-append-le, drop-drop, take-append-le, take_rest}
 use Rattle.std.proofs.lemmas.List.Quantifiers.{position-Some}
 use Rattle.ow_day.specs.Limits.{most_line}
 use Rattle.ow_day.specs.Statement.{Logs, is_newline, line_of}
-use Rattle.ow_day.specs.Day.{Cut, CutLines, LineIs, LinesAre, behind_line, first_line, first_statement, lines_in, logged, with_line}
+use Rattle.ow_day.specs.Day.{Cut, CutLines, LineIs, LinesAre, first_line, first_statement, lines_in, with_line}
 use Rattle.ow_day.specs.Search.{Awaits, IsSearched}
 use Rattle.ow_day.specs.declared.search.Search.{Search}
 use Rattle.ow_day.proofs.Logging.{line_cut, line_longer, lines_cut, lines_more}

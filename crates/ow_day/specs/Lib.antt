@@ -1,4 +1,5 @@
 pub mod Limits
+pub mod Ids
 pub mod Statement
 pub mod Day
 pub mod Line

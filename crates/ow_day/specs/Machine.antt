@@ -20,9 +20,9 @@ use Rattle.ow_hall.specs.declared.tenants.Tenants.{Tenants}
 use Rattle.ow_day.specs.declared.call_words.CallWords.{CallWords}
 use Rattle.ow_day.specs.declared.call_words.CallWords.TheVariants as calls
 use Rattle.ow_day.specs.declared.done.Done.{Done}
-use Rattle.ow_day.specs.declared.done.Done.TheVariants.{Silent, Refused, Asked, Called, Ordered, Answered, NoRun, Drained}
+use Rattle.ow_day.specs.declared.done.Done.TheVariants.{Silent, Refused, Asked, Called, Ordered, Answered, NoRun, Collected, Drained}
 use Rattle.ow_day.specs.CallWords.{called}
-use Rattle.ow_day.specs.Statement.{Statement, At, Call, Ask, Next, Answer, Logged, Exit, NoStart, Fault, Drain, End}
+use Rattle.ow_day.specs.Statement.{Statement, At, Call, Ask, Next, Answer, Logged, Exit, NoStart, Fault, Collect, Drain, End}
 use Rattle.ow_day.specs.Texts.{lines_of}
 
 -- the office table, the book so far, and the moment that the day gave last
@@ -50,8 +50,7 @@ done_of (told.Called c) = Called c
 done_of (told.Next order) = Ordered order
 done_of (told.Answered answered) = Answered answered
 done_of (told.NoRun run reply) = NoRun run
--- no statement collects yet
-done_of (told.Collected collected) = Silent
+done_of (told.Collected c) = Collected c
 done_of (told.Drain drain) = Drained drain
 
 -- the hall meets an event at the moment that the day gave last, and this comes of it
@@ -86,6 +85,7 @@ Does M (Logged run text logs) done N = Meets M (events.Answered run (runs.Answer
 Does M (Exit run code) done N = Meets M (events.Answered run (runs.Exit (pos code) [])) done N
 Does M (NoStart run text) done N = Meets M (events.Answered run (runs.NoStart text)) done N
 Does M (Fault run) done N = Meets M (events.Answered run runs.Fault) done N
+Does M (Collect id) done N = Meets M (events.Collected id) done N
 Does M Drain done N = Meets M events.Drain done N
 Does M End done N = (done ≡ Silent) × (N ≡ M)
 

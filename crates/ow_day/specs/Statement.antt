@@ -3,6 +3,8 @@ use Rattle.std.specs.Prelude.{◌==◌, ◌+◌, ℕ, Bool, nat_lt, List, Option
 use Rattle.std.specs.Str.{bytes_eq, is_utf8}
 use Rattle.ow_value.specs.Decimal.{decimal_of}
 use Rattle.ow_hall.specs.History.{greatest_moment}
+use Rattle.ow_records.specs.declared.ids.Id.{Id}
+use Rattle.ow_day.specs.Ids.{id_of}
 use Rattle.ow_day.specs.Limits.{most_line}
 
 pub data Statement : Type 0 where
@@ -15,6 +17,7 @@ pub data Statement : Type 0 where
   Exit : (run code : ℕ) → Statement
   NoStart : (run : ℕ) (text : List ℕ) → Statement
   Fault : (run : ℕ) → Statement
+  Collect : (id : Id) → Statement
   Drain : Statement
   End : Statement
 
@@ -141,6 +144,14 @@ asks_for (Some count) = if nat_lt most_line count then None else Some (Asks coun
 unfoldable pub ask_of : List ℕ → Option Reading
 ask_of rest = asks_for (decimal_of rest)
 
+abbrev pub collected : Option Id → Option Reading
+collected None = None
+collected (Some id) = Some (Whole (Collect id))
+
+-- `collect ID`
+unfoldable pub collect_of : List ℕ → Option Reading
+collect_of rest = collected (id_of rest)
+
 -- the line of another reply of a runner
 unfoldable pub reply_of : List ℕ → List ℕ → Option Reading
 reply_of word rest = if bytes_eq word (codes "logged") then logged_of rest
@@ -153,7 +164,8 @@ unfoldable pub worded : List ℕ → List ℕ → Option Reading
 worded word rest = if bytes_eq word (codes "call") then call_of rest
     else (if bytes_eq word (codes "answer") then answer_of rest
     else (if bytes_eq word (codes "at") then at_of rest
-    else (if bytes_eq word (codes "ask") then ask_of rest else reply_of word rest)))
+    else (if bytes_eq word (codes "ask") then ask_of rest
+    else (if bytes_eq word (codes "collect") then collect_of rest else reply_of word rest))))
 
 abbrev pub worded_in : Option (List ℕ × List ℕ) → Option Reading
 worded_in None = None

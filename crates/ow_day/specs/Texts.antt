@@ -20,6 +20,8 @@ use Rattle.ow_hall.specs.declared.replies.Reply.{Reply}
 use Rattle.ow_hall.specs.declared.replies.Reply.TheVariants.{Now, Waiting}
 use Rattle.ow_hall.specs.declared.replies.Called.{Called}
 use Rattle.ow_hall.specs.declared.replies.Called.TheVariants.{Happened, Refused}
+use Rattle.ow_hall.specs.declared.replies.HallCollected.{HallCollected}
+use Rattle.ow_hall.specs.declared.replies.HallCollected.TheVariants as collected
 use Rattle.ow_day.specs.declared.done.Done.{Done}
 use Rattle.ow_day.specs.declared.done.Done.TheVariants as done
 
@@ -76,6 +78,12 @@ abbrev pub asked_text : Reply → List ℕ
 asked_text (Now answer) = reply_text answer
 asked_text (Waiting id until) = codes "waiting " ++ (id_text id ++ codes "\n")
 
+-- what is answered of an activation that is collected
+abbrev pub collected_text : HallCollected → List ℕ
+collected_text (collected.Reply answer) = reply_text answer
+collected_text collected.NotYet = codes "not yet\n"
+collected_text collected.Unknown = codes "refused 14 The resource does not exist.\n"
+
 -- the lines of what comes of a statement
 abbrev pub lines_of : Done → List ℕ
 lines_of done.Silent = []
@@ -85,4 +93,5 @@ lines_of (done.Called called) = called_text called
 lines_of (done.Ordered order) = order_text order
 lines_of (done.Answered answered) = answered_text answered
 lines_of (done.NoRun run) = no_run_text run
+lines_of (done.Collected collected) = collected_text collected
 lines_of (done.Drained drain) = drain_text drain

@@ -1,6 +1,6 @@
 // What comes of statements.
 use ow_floor::{Answered, Drain, Order};
-use ow_hall::{Called, Reply};
+use ow_hall::{Called, HallCollected, Reply};
 use ow_http::Reason;
 
 /// What comes of a statement. Its lines are a function of this.
@@ -20,6 +20,8 @@ pub enum Done {
     Answered(Answered),
     /// No live run has the number to which a runner replies.
     NoRun(u64),
+    /// What is answered of an activation that is collected.
+    Collected(HallCollected),
     /// Whether all that was accepted has ended.
     Drained(Drain),
 }

@@ -6,6 +6,7 @@ mod call_words;
 mod commands;
 mod done;
 mod first;
+mod ids;
 mod input;
 mod laws;
 mod line;

@@ -1,10 +1,12 @@
 // The lines of a day, and the statements that they are.
 ghost use Rattle.std.specs.Prelude.{◌≡◌, ◌==◌, position};
 ghost use Rattle.std.specs.Option.{option_map};
-ghost use Rattle.ow_day.specs.Statement.{answer_of, ask_of, at_of, call_of, exit_of, fault_of, line_of, logged_of, no_start_of, numbered, parted, reply_of, utf8_text, worded};
+ghost use Rattle.ow_day.specs.Statement.{answer_of, ask_of, at_of, call_of, collect_of, exit_of, fault_of, line_of, logged_of, no_start_of, numbered, parted, reply_of, utf8_text, worded};
 ghost use Rattle.ow_day.specs.Line.{reading};
 
+use crate::ids::id_of;
 use ow_hall::GREATEST_MOMENT;
+use ow_records::Id;
 use ow_value::decimal_of;
 
 /// The most bytes of a line, without its newline.
@@ -34,6 +36,8 @@ pub enum Statement<'a> {
     NoStart(u64, &'a str),
     /// The runner of the run of this number failed.
     Fault(u64),
+    /// The answer to the request that waits for the activation of this id.
+    Collect(Id),
     /// No more calls are taken from now on.
     Drain,
     /// The day ends.
@@ -88,6 +92,9 @@ fn worded<'a>(word: &[u8], rest: &'a [u8]) -> Option<Line<'a>>
     }
     if word == b"ask".as_slice() {
         return ask_of(rest);
+    }
+    if word == b"collect".as_slice() {
+        return collect_of(rest);
     }
     reply_of(word, rest)
 }
@@ -171,6 +178,14 @@ fn fault_of(rest: &[u8]) -> Option<Line<'_>>
 {
     let run = decimal_of(rest)?;
     Some(Line::Whole(Statement::Fault(run)))
+}
+
+#[tactic(auto, unfolding(crate::specs::Statement::collect_of))]
+fn collect_of(rest: &[u8]) -> Option<Line<'_>>
+    ensures { option_map reading result ≡ collect_of rest.now }
+{
+    let id = id_of(rest)?;
+    Some(Line::Whole(Statement::Collect(id)))
 }
 
 #[tactic(auto, unfolding(crate::specs::Statement::at_of))]

@@ -17,6 +17,7 @@ use ow_floor::AnswerRefusal;
 use ow_hall::{Hall, Reply};
 use ow_http::{HttpRefusal, Reason, Request, Routes, refusal};
 use ow_names::FullName;
+use ow_records::Id;
 use ow_traits::{Keeper, RunReply};
 use ow_value::{Lines, NoMemory, Params, Scratch, Str};
 use std::alloc::Global;
@@ -104,6 +105,7 @@ impl<P: Keeper + Drop> Session<P> {
             Statement::Exit(run, code) => self.exit(alloc, run, code),
             Statement::NoStart(run, text) => self.no_start(alloc, run, text),
             Statement::Fault(run) => self.reply(alloc, run, RunReply::Fault),
+            Statement::Collect(id) => self.collect(alloc, id),
             Statement::Drain => self.drain(alloc),
             Statement::End => Ok(Done::Silent),
         }
@@ -219,6 +221,14 @@ impl<P: Keeper + Drop> Session<P> {
             Ok(answered) => Ok(Done::Answered(answered)),
             Err(refused) => unanswered(refused),
         }
+    }
+
+    fn collect(&mut self, alloc: Global, id: Id) -> Result<Done, NoMemory>
+        ensures meets { IfOk result (λ done. Meets (machine_of self.old) (events.Collected id) done (machine_of self.new)) }
+        ensures store { self.new.hall.store ≡ self.old.hall.store }
+    {
+        let collected = self.hall.collect(alloc, self.given, &id)?;
+        Ok(Done::Collected(collected))
     }
 
     fn drain(&mut self, alloc: Global) -> Result<Done, NoMemory>

@@ -2,12 +2,12 @@
 ghost use Rattle.std.specs.Prelude.{◌≡◌, ◌++◌, OnOk, codes};
 ghost use Rattle.std.specs.Fmt.{decimal};
 ghost use Rattle.ow_records.specs.Id.{id_text};
-ghost use Rattle.ow_day.specs.Texts.{answered_text, asked_text, called_text, drain_text, happening_text, happenings_text, late_text, lines_of, no_run_text, order_text, refused_text, reply_text, run_text};
+ghost use Rattle.ow_day.specs.Texts.{answered_text, asked_text, called_text, collected_text, drain_text, happening_text, happenings_text, late_text, lines_of, no_run_text, order_text, refused_text, reply_text, run_text};
 
 use crate::done::Done;
 use itoa::Buffer;
 use ow_floor::{Answered, Drain, Happened, Happening, Order, RunOrder};
-use ow_hall::{Called, Reply};
+use ow_hall::{Called, HallCollected, Reply};
 use ow_http::{Answer, Reason, reason_text, write_reply};
 use ow_records::Id;
 use ow_value::NoMemory;
@@ -25,6 +25,7 @@ pub fn push_done(alloc: Global, answers: &mut Vec<u8>, done: &Done) -> Result<()
         Done::Ordered(order) => push_order(answers, order),
         Done::Answered(answered) => push_answered(answers, answered),
         Done::NoRun(run) => push_no_run(answers, *run),
+        Done::Collected(collected) => push_collected(alloc, answers, collected),
         Done::Drained(drain) => push_drain(answers, *drain),
     }
 }
@@ -172,6 +173,21 @@ fn push_reply(alloc: Global, answers: &mut Vec<u8>, answer: &Answer) -> Result<(
     push(answers, b"\n")?;
     push(answers, &reply)?;
     push(answers, b"\n")
+}
+
+// Puts what is answered of an activation that is collected.
+fn push_collected(
+    alloc: Global,
+    answers: &mut Vec<u8>,
+    collected: &HallCollected,
+) -> Result<(), NoMemory>
+    ensures ok { OnOk result (answers.new.items ≡ answers.old.items ++ collected_text collected.now) }
+{
+    match collected {
+        HallCollected::Reply(answer) => push_reply(alloc, answers, answer),
+        HallCollected::NotYet => push(answers, b"not yet\n"),
+        HallCollected::Unknown => push(answers, b"refused 14 The resource does not exist.\n"),
+    }
 }
 
 fn push_waiting(answers: &mut Vec<u8>, id: Id) -> Result<(), NoMemory>

@@ -30,6 +30,7 @@ Below each statement stand the forms of its answer.
                        no answer
   ask N              is an HTTP request: N bytes, at most 8388608, follow the line, and a newline
                        reply M               on the lines behind it its M bytes, and a newline
+                       waiting ID            the request waits for this activation: see collect
   call NAME TEXT     calls an action with this object
                        accepted ID           it waits
                        refused NUMBER WHY    it was not accepted
@@ -47,6 +48,10 @@ Below each statement stand the forms of its answer.
                        recorded ID 3         or refused, as below answer
   fault RUN          tells that the run's runner failed
                        recorded ID 3         or refused, as below answer
+  collect ID         is how a request that waits for this activation is answered by now
+                       reply M               as below ask
+                       not yet               it has not ended, and its request still waits
+                       refused 14 WHY        no request waits for it
   drain              takes no more calls from now on
                        drained N             all N that were accepted have ended
                        open N                N have not ended
