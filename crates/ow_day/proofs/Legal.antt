@@ -1,7 +1,8 @@
 -- The book of a day is legal.
-use Rattle.std.proofs.Common.{◌≡◌, ◌≤◌, ℕ, pos, Bool, true, false, List, [], ◌∷◌, Result, Ok, Err, refl, ◌∙◌, arith, take}
+use Rattle.std.proofs.Common.{◌≡◌, ◌≤◌, ℕ, pos, Bool, true, false, List, [], ◌∷◌, Result, Ok, Err, refl, ap, ◌∙◌, arith, take}
 use Rattle.std.proofs.Math.Nat.{le-max_left, max-le, min-le_right}
 use Rattle.ow_floor.specs.declared.answers.Idle.{Idle}
+use Rattle.ow_floor.specs.declared.answers.Order.{Order}
 use Rattle.ow_floor.specs.declared.answers.Order.TheVariants as orders
 use Rattle.ow_http.specs.declared.http_refusal.HttpRefusal.{HttpRefusal}
 use Rattle.ow_http.specs.declared.reason.Reason.{Reason}
@@ -19,12 +20,14 @@ use Rattle.ow_hall.specs.declared.entry.Told.TheVariants as told
 use Rattle.ow_hall.specs.declared.replies.HallCollected.TheVariants as collected
 use Rattle.ow_hall.specs.declared.replies.Called.TheVariants as called
 use Rattle.ow_hall.specs.declared.tenants.Tenants.{Tenants}
+use Rattle.ow_invoker.specs.Plain.{PlainGives}
+use Rattle.ow_invoker.specs.Turns.{Exchange, Follows, IsTurn}
 use Rattle.ow_day.specs.declared.call_words.CallWords.{CallWords}
 use Rattle.ow_day.specs.declared.call_words.CallWords.TheVariants as calls
 use Rattle.ow_day.specs.declared.done.Done.{Done}
 use Rattle.ow_day.specs.CallWords.{called as words_of}
-use Rattle.ow_day.specs.Statement.{Statement, At, Call, Ask, Next, Answer, Logged, Exit, NoStart, Fault, Collect, Drain, End}
-use Rattle.ow_day.specs.Machine.{Machine, Asks, Calls, CarriesOut, Does, Meets, start}
+use Rattle.ow_day.specs.Statement.{Statement, At, Call, Ask, Next, Answer, Logged, Exit, NoStart, Fault, Turn, Collect, Drain, End}
+use Rattle.ow_day.specs.Machine.{Machine, Asks, Calls, CarriesOut, Does, Exchanges, ExchangesAll, Meets, done_of, start}
 use Rattle.ow_day.specs.Day.{day_of}
 use Rattle.ow_day.specs.Office.{HasLegalBooks}
 
@@ -94,6 +97,23 @@ met M N event done later (t, before, after, is, given, (told_is, ledger, tenants
     rw (tenants, ledger) (posted_so M.tenants L (moment L.entries M.given) event t
     (record { is = told_is; late = le-max_left _ _; most = most; later = later; legal = legal }))
 
+-- ---- turns
+
+exchanged : (M N : Machine) (x : Exchange) → is_opening x.event ≡ false → Exchanges M x N → HasLegalBook M → HasLegalBook N
+exchanged M N x later (before, after, given, comes) legal = met M N x.event (done_of x.answer) later (x.answer, before, after, refl, given, comes) legal
+
+run_so : (M N : Machine) (order : Order) (xs : List Exchange) → Follows PlainGives 0 0 order xs → ExchangesAll M xs N → HasLegalBook M → HasLegalBook N
+run_so M N order [] follows same legal = rw same legal
+run_so M N (orders.Nothing why) (x ∷ xs) none all legal = let never : x ∷ xs ≡ [] = none in cc
+run_so M N (orders.Run order) (x ∷ []) (carried, none) (K, first, same) legal = rw same (exchanged M K x (ap is_opening carried.event) first legal)
+run_so M N (orders.Run order) (x ∷ y ∷ ys) (carried, none) all legal = let never : y ∷ ys ≡ [] = none in cc
+
+turned_so : (M N : Machine) (order : Order) (xs : List Exchange) → IsTurn PlainGives 0 0 order xs → ExchangesAll M xs N → HasLegalBook M → HasLegalBook N
+turned_so M N order [] never all legal = absurd never
+turned_so M N order (x ∷ xs) (is, follows) (K, first, rest) legal = run_so K N order xs follows rest (exchanged M K x (ap (λ (e : Exchange). is_opening e.event) is) first legal)
+
+-- ---- statements
+
 called_so : (M N : Machine) (words : CallWords) (done : Done) → Calls M words done N → HasLegalBook M → HasLegalBook N
 called_so M N (calls.Refused reason) done (is, same) legal = rw same legal
 called_so M N (calls.Calls name params) done meets legal = met M N (events.Called name params) done refl meets legal
@@ -113,6 +133,7 @@ done_so M N (Exit run code) done meets legal = met M N (events.Answered run (run
 done_so M N (NoStart run text) done meets legal = met M N (events.Answered run (runs.NoStart text)) done refl meets legal
 done_so M N (Fault run) done meets legal = met M N (events.Answered run runs.Fault) done refl meets legal
 done_so M N (Collect id) done meets legal = met M N (events.Collected id) done refl meets legal
+done_so M N Turn done (turned, is, t) legal = turned_so M N turned.order t.exchanges t.turn t.met legal
 done_so M N Drain done meets legal = met M N events.Drain done refl meets legal
 done_so M N End done (is, same) legal = rw same legal
 

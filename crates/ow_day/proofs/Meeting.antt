@@ -1,5 +1,5 @@
 -- What comes of a statement where the hall meets an event.
-use Rattle.std.proofs.Common.{◌≡◌, ℕ, Some, Result, Ok, Err, IfOk, refl, sym, ap, ◌∙◌}
+use Rattle.std.proofs.Common.{◌≡◌, ℕ, List, [], ◌∷◌, Some, Result, Ok, Err, IfOk, refl, sym, ap, ◌∙◌}
 use Rattle.ow_value.specs.declared.memory.NoMemory.{NoMemory as Want}
 use Rattle.ow_floor.specs.declared.answers.AnswerRefusal.{AnswerRefusal}
 use Rattle.ow_floor.specs.declared.answers.AnswerRefusal.TheVariants.{NoRun, NoMemory}
@@ -11,12 +11,13 @@ use Rattle.ow_hall.specs.declared.replies.Reply.{Reply}
 use Rattle.ow_day.specs.declared.done.Done.{Done}
 use Rattle.ow_day.specs.declared.done.Done.TheVariants.{Asked}
 use Rattle.ow_day.specs.declared.session.Session.{Session}
-use Rattle.ow_day.specs.Machine.{Meets, done_of}
+use Rattle.ow_invoker.specs.Turns.{Chain, Exchange}
+use Rattle.ow_day.specs.Machine.{ExchangesAll, Meets, done_of}
 use Rattle.ow_day.specs.Session.{Denies, machine_of}
 
 -- the session over a hall
 abbrev over : {P : Type 0} → Session P → HallView P → Session P
-over s hall = record { hall = hall; given = s.given; scratch = s.scratch; routes = s.routes }
+over s hall = record { hall = hall; given = s.given; scratch = s.scratch; routes = s.routes; runner = s.runner; shelf = s.shelf }
 
 -- the hall tells something
 pub met : {P : Type 0} (rows : P → KeptRows) (faults : P → ℕ) (old : Session P) (hall : HallView P) (event : Event) (t : Told) → Comes rows faults old.hall hall old.given event (Answers t)
@@ -76,3 +77,19 @@ pub denied_stays : {P : Type 0} (rows : P → KeptRows) (faults : P → ℕ) (ol
     → Comes rows faults old hall at event (reply_outcome (Err refused)) → hall.store ≡ old.store
 denied_stays rows faults old hall at event (NoRun run reply) comes = comes.3
 denied_stays rows faults old hall at event (NoMemory reply) comes = comes.2
+
+-- ---- turns
+
+-- events that the hall met one after the other
+pub chained : {P : Type 0} (rows : P → KeptRows) (faults : P → ℕ) (old : Session P) (hall : HallView P) (xs : List Exchange) → Chain rows faults old.hall hall old.given xs → ExchangesAll (machine_of old) xs (machine_of (over old hall))
+chained rows faults old hall [] same = ap (λ h. machine_of (over old h)) same
+chained rows faults old hall (x ∷ xs) (middle, (comes, rest)) = (
+  machine_of (over old middle),
+  (faults old.hall.store, faults middle.store, refl, (comes.0, comes.1, comes.2, ap faults comes.3)),
+  chained rows faults (over old middle) hall xs rest,
+)
+
+-- the store is as it was
+pub chain_stays : {P : Type 0} (rows : P → KeptRows) (faults : P → ℕ) (old hall : HallView P) (at : ℕ) (xs : List Exchange) → Chain rows faults old hall at xs → hall.store ≡ old.store
+chain_stays rows faults old hall at [] same = ap (λ h. h.store) same
+chain_stays rows faults old hall at (x ∷ xs) (middle, (comes, rest)) = chain_stays rows faults middle hall at xs rest ∙ comes.3

@@ -4,7 +4,7 @@ use Rattle.std.specs.List.{All}
 use Rattle.std.proofs.lemmas.List.{take_all}
 use Rattle.std.proofs.lemmas.List.Elements.{All-head, All-tail}
 use Rattle.ow_day.specs.Limits.{most_bytes}
-use Rattle.ow_day.specs.Statement.{Statement, At, Call, Ask, Next, Answer, Logged, Exit, NoStart, Fault, Collect, Drain, End}
+use Rattle.ow_day.specs.Statement.{Statement, At, Call, Ask, Next, Answer, Logged, Exit, NoStart, Fault, Turn, Collect, Drain, End}
 use Rattle.ow_day.specs.Day.{Day, Finished, day_from, day_step, going_on, has_more, window}
 use Rattle.ow_day.specs.Printed.{DayIsReadBack, IsPrintable, before_end, printed, printed_day}
 use Rattle.ow_day.proofs.Choices.{is_short}
@@ -25,6 +25,7 @@ one_more (Exit run code) ss = refl
 one_more (NoStart run text) ss = refl
 one_more (Fault run) ss = refl
 one_more (Collect id) ss = refl
+one_more Turn ss = refl
 one_more Drain ss = refl
 one_more End ss = refl
 

@@ -8,7 +8,7 @@ use Rattle.std.proofs.lemmas.List.{get_or_at}
 use Rattle.std.proofs.lemmas.Str.{is_utf8-from_IsUtf8}
 use Rattle.ow_hall.specs.History.{greatest_moment}
 use Rattle.ow_day.specs.Limits.{most_line}
-use Rattle.ow_day.specs.Statement.{Statement, At, Call, Ask, Next, Answer, Logged, Exit, NoStart, Fault, Collect, Drain, End, Whole, Asks, Logs, answer_of, ask_of, at_of, call_of, collect_of, exit_of, fault_of, line_of, logged_of, no_start_of, numbered, reply_of, utf8_text, worded}
+use Rattle.ow_day.specs.Statement.{Statement, At, Call, Ask, Next, Answer, Logged, Exit, NoStart, Fault, Turn, Collect, Drain, End, Whole, Asks, Logs, answer_of, ask_of, at_of, call_of, collect_of, exit_of, fault_of, line_of, logged_of, no_start_of, numbered, reply_of, utf8_text, worded}
 use Rattle.ow_day.specs.Day.{Found, asked, behind_line, first_statement, lines_in, logged}
 use Rattle.ow_day.specs.Printed.{EndsInByte, IsLineText, IsPrintable, IsReadBack, IsWord, logs_head, printed, printed_logs}
 use Rattle.ow_day.proofs.Choices.{is_apart, is_short}
@@ -263,5 +263,6 @@ read_back (Exit run code) can = code_back run code can.0 can.1
 read_back (NoStart run text) can = no_start_text_back run text can
 read_back (Fault run) can = fault_run_back run can
 read_back (Collect id) can = id_read_back id can.0 can.1
+read_back Turn can = whole_back Turn refl (omega arith) refl
 read_back Drain can = whole_back Drain refl (omega arith) refl
 read_back End can = whole_back End refl (omega arith) refl

@@ -4,7 +4,7 @@ use Rattle.ow_day.specs.declared.line.Statement as code
 use Rattle.ow_day.specs.declared.line.Statement.TheVariants as statements
 use Rattle.ow_day.specs.declared.line.Line.{Line}
 use Rattle.ow_day.specs.declared.line.Line.TheVariants as lines
-use Rattle.ow_day.specs.Statement.{Statement, At, Call, Ask, Next, Answer, Logged, Exit, NoStart, Fault, Collect, Drain, End, Reading, Whole, Asks, Logs}
+use Rattle.ow_day.specs.Statement.{Statement, At, Call, Ask, Next, Answer, Logged, Exit, NoStart, Fault, Turn, Collect, Drain, End, Reading, Whole, Asks, Logs}
 use Rattle.ow_day.specs.Day.{Lines, LinesAre, NoLines, CutLines, lines_in}
 
 abbrev pub read_lines : Lines → List (List ℕ)
@@ -27,6 +27,7 @@ statement (statements.Exit run code) = Exit run code
 statement (statements.NoStart run text) = NoStart run text.now
 statement (statements.Fault run) = Fault run
 statement (statements.Collect id) = Collect id
+statement statements.Turn = Turn
 statement statements.Drain = Drain
 statement statements.End = End
 

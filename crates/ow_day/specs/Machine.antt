@@ -17,12 +17,16 @@ use Rattle.ow_hall.specs.declared.entry.Told.{Told}
 use Rattle.ow_hall.specs.declared.entry.Told.TheVariants as told
 use Rattle.ow_hall.specs.declared.replies.Reply.TheVariants as replies
 use Rattle.ow_hall.specs.declared.tenants.Tenants.{Tenants}
+use Rattle.ow_invoker.specs.Plain.{PlainGives}
+use Rattle.ow_invoker.specs.Turns.{Exchange, IsTurn, steps_in}
+use Rattle.ow_invoker.specs.declared.turn.Turned.{Turned}
 use Rattle.ow_day.specs.declared.call_words.CallWords.{CallWords}
 use Rattle.ow_day.specs.declared.call_words.CallWords.TheVariants as calls
 use Rattle.ow_day.specs.declared.done.Done.{Done}
+use Rattle.ow_day.specs.declared.done.Done.TheVariants as dones
 use Rattle.ow_day.specs.declared.done.Done.TheVariants.{Silent, Refused, Asked, Called, Ordered, Answered, NoRun, Collected, Drained}
 use Rattle.ow_day.specs.CallWords.{called}
-use Rattle.ow_day.specs.Statement.{Statement, At, Call, Ask, Next, Answer, Logged, Exit, NoStart, Fault, Collect, Drain, End}
+use Rattle.ow_day.specs.Statement.{Statement, At, Call, Ask, Next, Answer, Logged, Exit, NoStart, Fault, Turn, Collect, Drain, End}
 use Rattle.ow_day.specs.Texts.{lines_of}
 
 -- the office table, the book so far, and the moment that the day gave last
@@ -58,6 +62,23 @@ abbrev pub Meets : Machine → Event → Done → Machine → Type 0
 Meets M event done N = (t : Told) × (before : ℕ) × (later : ℕ) × (done ≡ done_of t) × (N.given ≡ M.given)
     × Comes (λ faults. None) (λ faults. faults) (hall_of M before) (hall_of N later) M.given event (Answers t)
 
+-- one such event, and what the hall told of it
+abbrev pub Exchanges : Machine → Exchange → Machine → Type 0
+Exchanges M x N = (before : ℕ) × (later : ℕ) × (N.given ≡ M.given)
+    × Comes (λ faults. None) (λ faults. faults) (hall_of M before) (hall_of N later) M.given x.event (Answers x.answer)
+
+-- such events one after the other, and the last leaves the machine so
+abbrev pub ExchangesAll : Machine → List Exchange → Machine → Type 0
+ExchangesAll M [] N = N ≡ M
+ExchangesAll M (x ∷ xs) N = (K : Machine) × Exchanges M x K × ExchangesAll K xs N
+
+-- a turn of the runner of plain code, which has no faults
+pub record TakesTurn (M : Machine) (turned : Turned) (N : Machine) : Type 0 where
+  pub exchanges : List Exchange
+  pub turn : IsTurn PlainGives 0 0 turned.order exchanges
+  pub met : ExchangesAll M exchanges N
+  pub steps : turned.steps ≡ steps_in exchanges
+
 -- ---- statements
 
 -- a call that is refused for its own words doesn't reach the hall
@@ -86,6 +107,7 @@ Does M (Exit run code) done N = Meets M (events.Answered run (runs.Exit (pos cod
 Does M (NoStart run text) done N = Meets M (events.Answered run (runs.NoStart text)) done N
 Does M (Fault run) done N = Meets M (events.Answered run runs.Fault) done N
 Does M (Collect id) done N = Meets M (events.Collected id) done N
+Does M Turn done N = (turned : Turned) × (done ≡ dones.Turned turned) × TakesTurn M turned N
 Does M Drain done N = Meets M events.Drain done N
 Does M End done N = (done ≡ Silent) × (N ≡ M)
 

@@ -6,7 +6,7 @@ use Rattle.std.specs.Str.{IsUtf8}
 use Rattle.ow_records.specs.Id.{id_text}
 use Rattle.ow_hall.specs.History.{greatest_moment}
 use Rattle.ow_day.specs.Limits.{most_line}
-use Rattle.ow_day.specs.Statement.{Statement, At, Call, Ask, Next, Answer, Logged, Exit, NoStart, Fault, Collect, Drain, End}
+use Rattle.ow_day.specs.Statement.{Statement, At, Call, Ask, Next, Answer, Logged, Exit, NoStart, Fault, Turn, Collect, Drain, End}
 use Rattle.ow_day.specs.Day.{Finished, Found, first_statement, day_of}
 
 -- the lines of logs, each with a newline in front
@@ -30,6 +30,7 @@ printed (Exit run code) = codes "exit " ++ (decimal run ++ (codes " " ++ decimal
 printed (NoStart run text) = codes "nostart " ++ (decimal run ++ (codes " " ++ text))
 printed (Fault run) = codes "fault " ++ decimal run
 printed (Collect id) = codes "collect " ++ id_text id
+printed Turn = codes "turn"
 printed Drain = codes "drain"
 printed End = codes "end"
 
@@ -69,6 +70,7 @@ IsPrintable (Exit run code) = (run < 2 ^ 64) × (code ≤ 255)
 IsPrintable (NoStart run text) = (run < 2 ^ 64) × IsLineText text × (length (printed (NoStart run text)) ≤ most_line)
 IsPrintable (Fault run) = run < 2 ^ 64
 IsPrintable (Collect id) = (id.namespace < 2 ^ 64) × (id.count < 2 ^ 64)
+IsPrintable Turn = Unit {0}
 IsPrintable Drain = Unit {0}
 IsPrintable End = Unit {0}
 

@@ -18,6 +18,7 @@ pub data Statement : Type 0 where
   NoStart : (run : ℕ) (text : List ℕ) → Statement
   Fault : (run : ℕ) → Statement
   Collect : (id : Id) → Statement
+  Turn : Statement
   Drain : Statement
   End : Statement
 
@@ -175,6 +176,7 @@ worded_in (Some parts) = worded parts.0 parts.1
 unfoldable pub line_of : List ℕ → Option Reading
 line_of line = if nat_lt most_line (length line) then None
     else (if bytes_eq line (codes "next") then Some (Whole Next)
+    else (if bytes_eq line (codes "turn") then Some (Whole Turn)
     else (if bytes_eq line (codes "drain") then Some (Whole Drain)
     else (if bytes_eq line (codes "end") then Some (Whole End)
-    else worded_in (parted line))))
+    else worded_in (parted line)))))

@@ -22,6 +22,9 @@ use Rattle.ow_hall.specs.declared.replies.Called.{Called}
 use Rattle.ow_hall.specs.declared.replies.Called.TheVariants.{Happened, Refused}
 use Rattle.ow_hall.specs.declared.replies.HallCollected.{HallCollected}
 use Rattle.ow_hall.specs.declared.replies.HallCollected.TheVariants as collected
+use Rattle.ow_invoker.specs.declared.turn.TurnStep.{TurnStep}
+use Rattle.ow_invoker.specs.declared.turn.TurnStep.TheVariants as steps
+use Rattle.ow_invoker.specs.declared.turn.Turned.{Turned}
 use Rattle.ow_day.specs.declared.done.Done.{Done}
 use Rattle.ow_day.specs.declared.done.Done.TheVariants as done
 
@@ -84,6 +87,21 @@ collected_text (collected.Reply answer) = reply_text answer
 collected_text collected.NotYet = codes "not yet\n"
 collected_text collected.Unknown = codes "refused 14 The resource does not exist.\n"
 
+-- one line for each thing that a turn tells behind its order
+abbrev pub step_text : TurnStep → List ℕ
+step_text (steps.Lost run) = codes "lost " ++ (decimal run ++ codes "\n")
+step_text (steps.Gone slot generation) = codes "gone " ++ (decimal slot ++ (codes " " ++ (decimal generation ++ codes "\n")))
+step_text (steps.Happened happened) = happenings_text happened
+step_text steps.StoreFault = codes "store fault\n"
+
+abbrev pub steps_text : List TurnStep → List ℕ
+steps_text [] = []
+steps_text (step ∷ rest) = step_text step ++ steps_text rest
+
+-- what was to run in a turn, and what came of it
+abbrev pub turned_text : Turned → List ℕ
+turned_text turned = order_text turned.order ++ steps_text turned.steps
+
 -- the lines of what comes of a statement
 abbrev pub lines_of : Done → List ℕ
 lines_of done.Silent = []
@@ -94,4 +112,5 @@ lines_of (done.Ordered order) = order_text order
 lines_of (done.Answered answered) = answered_text answered
 lines_of (done.NoRun run) = no_run_text run
 lines_of (done.Collected collected) = collected_text collected
+lines_of (done.Turned turned) = turned_text turned
 lines_of (done.Drained drain) = drain_text drain

@@ -2,6 +2,7 @@
 use ow_floor::{Answered, Drain, Order};
 use ow_hall::{Called, HallCollected, Reply};
 use ow_http::Reason;
+use ow_invoker::Turned;
 
 /// What comes of a statement. Its lines are a function of this.
 #[derive(Drop)]
@@ -16,6 +17,8 @@ pub enum Done {
     Called(Called),
     /// What is to run.
     Ordered(Order),
+    /// What was to run in a turn, and what came of it.
+    Turned(Turned),
     /// What became of a runner's reply.
     Answered(Answered),
     /// No live run has the number to which a runner replies.

@@ -38,6 +38,8 @@ pub enum Statement<'a> {
     Fault(u64),
     /// The answer to the request that waits for the activation of this id.
     Collect(Id),
+    /// What has waited longest is ordered to run, run and replied to.
+    Turn,
     /// No more calls are taken from now on.
     Drain,
     /// The day ends.
@@ -65,6 +67,9 @@ pub fn line_of(line: &[u8]) -> Option<Line<'_>>
     }
     if line == b"next".as_slice() {
         return Some(Line::Whole(Statement::Next));
+    }
+    if line == b"turn".as_slice() {
+        return Some(Line::Whole(Statement::Turn));
     }
     if line == b"drain".as_slice() {
         return Some(Line::Whole(Statement::Drain));

@@ -6,7 +6,7 @@ ghost use Rattle.ow_traits.specs.declared.replies.RunReply.TheVariants as replie
 ghost use Rattle.ow_day.specs.Line.{lines_of, statement};
 ghost use Rattle.ow_day.specs.Machine.{Calls, Does, Meets, start, unread};
 ghost use Rattle.ow_day.specs.Session.{CarriesOut, Denies, machine_of};
-ghost use Rattle.ow_day.specs.Statement.{Answer, Ask, At, Call, Exit, Fault, Logged, NoStart};
+ghost use Rattle.ow_day.specs.Statement.{Answer, Ask, At, Call, Exit, Fault, Logged, NoStart, Turn};
 
 use crate::call_words::{CallWords, call_words};
 use crate::done::Done;
@@ -16,6 +16,7 @@ use crate::texts::push_done;
 use ow_floor::AnswerRefusal;
 use ow_hall::{Hall, Reply};
 use ow_http::{HttpRefusal, Reason, Request, Routes, refusal};
+use ow_invoker::{PlainContainer, PlainRunner, Shelf, day_turn};
 use ow_names::FullName;
 use ow_records::Id;
 use ow_traits::{Keeper, RunReply};
@@ -31,6 +32,10 @@ pub struct Session<P: Keeper + Drop> {
     pub scratch: Scratch,
     /// By which requests are read.
     pub routes: Routes,
+    /// Which runs what a turn orders.
+    pub runner: PlainRunner,
+    /// Where containers lie between turns.
+    pub shelf: Shelf<PlainContainer>,
 }
 
 /// What became of the first statement of a day.
@@ -59,6 +64,8 @@ impl<P: Keeper + Drop> Session<P> {
             given: 0,
             scratch: Scratch::new(alloc),
             routes: Routes::new(alloc)?,
+            runner: PlainRunner::new(),
+            shelf: Shelf::new(alloc)?,
         })
     }
 
@@ -106,6 +113,7 @@ impl<P: Keeper + Drop> Session<P> {
             Statement::NoStart(run, text) => self.no_start(alloc, run, text),
             Statement::Fault(run) => self.reply(alloc, run, RunReply::Fault),
             Statement::Collect(id) => self.collect(alloc, id),
+            Statement::Turn => self.turn(alloc),
             Statement::Drain => self.drain(alloc),
             Statement::End => Ok(Done::Silent),
         }
@@ -229,6 +237,20 @@ impl<P: Keeper + Drop> Session<P> {
     {
         let collected = self.hall.collect(alloc, self.given, &id)?;
         Ok(Done::Collected(collected))
+    }
+
+    fn turn(&mut self, alloc: Global) -> Result<Done, NoMemory>
+        ensures does { IfOk result (λ done. Does (machine_of self.old) Turn done (machine_of self.new)) }
+        ensures store { self.new.hall.store ≡ self.old.hall.store }
+    {
+        let turned = day_turn(
+            alloc,
+            &mut self.hall,
+            &mut self.shelf,
+            &mut self.runner,
+            self.given,
+        )?;
+        Ok(Done::Turned(turned))
     }
 
     fn drain(&mut self, alloc: Global) -> Result<Done, NoMemory>

@@ -2,13 +2,14 @@
 ghost use Rattle.std.specs.Prelude.{◌≡◌, ◌++◌, OnOk, codes};
 ghost use Rattle.std.specs.Fmt.{decimal};
 ghost use Rattle.ow_records.specs.Id.{id_text};
-ghost use Rattle.ow_day.specs.Texts.{answered_text, asked_text, called_text, collected_text, drain_text, happening_text, happenings_text, late_text, lines_of, no_run_text, order_text, refused_text, reply_text, run_text};
+ghost use Rattle.ow_day.specs.Texts.{answered_text, asked_text, called_text, collected_text, drain_text, happening_text, happenings_text, late_text, lines_of, no_run_text, order_text, refused_text, reply_text, run_text, step_text, steps_text, turned_text};
 
 use crate::done::Done;
 use itoa::Buffer;
 use ow_floor::{Answered, Drain, Happened, Happening, Order, RunOrder};
 use ow_hall::{Called, HallCollected, Reply};
 use ow_http::{Answer, Reason, reason_text, write_reply};
+use ow_invoker::{TurnStep, Turned};
 use ow_records::Id;
 use ow_value::NoMemory;
 use std::alloc::Global;
@@ -26,6 +27,7 @@ pub fn push_done(alloc: Global, answers: &mut Vec<u8>, done: &Done) -> Result<()
         Done::Answered(answered) => push_answered(answers, answered),
         Done::NoRun(run) => push_no_run(answers, *run),
         Done::Collected(collected) => push_collected(alloc, answers, collected),
+        Done::Turned(turned) => push_turned(answers, turned),
         Done::Drained(drain) => push_drain(answers, *drain),
     }
 }
@@ -121,6 +123,52 @@ fn push_no_run(answers: &mut Vec<u8>, run: u64) -> Result<(), NoMemory>
     push(answers, b"refused 29 No run ")?;
     push_number(answers, run)?;
     push(answers, b".\n")
+}
+
+fn push_lost(answers: &mut Vec<u8>, run: u64) -> Result<(), NoMemory>
+    ensures ok { OnOk result (answers.new.items ≡ answers.old.items ++ (codes "lost " ++ (decimal run ++ codes "\n"))) }
+{
+    push_counted(answers, b"lost ", run)
+}
+
+fn push_gone(answers: &mut Vec<u8>, slot: u32, generation: u32) -> Result<(), NoMemory>
+    ensures ok { OnOk result (answers.new.items ≡ answers.old.items ++ (codes "gone " ++ (decimal slot ++ (codes " " ++ (decimal generation ++ codes "\n"))))) }
+{
+    push(answers, b"gone ")?;
+    push_number(answers, u64::from(slot))?;
+    push(answers, b" ")?;
+    push_number(answers, u64::from(generation))?;
+    push(answers, b"\n")
+}
+
+// Puts the line of one thing that a turn tells.
+fn push_step(answers: &mut Vec<u8>, step: &TurnStep) -> Result<(), NoMemory>
+    ensures ok { OnOk result (answers.new.items ≡ answers.old.items ++ step_text step.now) }
+{
+    match step {
+        TurnStep::Lost { run } => push_lost(answers, *run),
+        TurnStep::Gone { slot, generation } => push_gone(answers, *slot, *generation),
+        TurnStep::Happened(happened) => push_happened(answers, happened),
+        TurnStep::StoreFault => push(answers, b"store fault\n"),
+    }
+}
+
+// Puts a line for each of them.
+fn push_steps(answers: &mut Vec<u8>, steps: &[TurnStep]) -> Result<(), NoMemory>
+    ensures ok { OnOk result (answers.new.items ≡ answers.old.items ++ steps_text steps.now) }
+{
+    for step in steps {
+        push_step(answers, step)?;
+    }
+    Ok(())
+}
+
+// Puts the lines of a turn.
+fn push_turned(answers: &mut Vec<u8>, turned: &Turned) -> Result<(), NoMemory>
+    ensures ok { OnOk result (answers.new.items ≡ answers.old.items ++ turned_text turned.now) }
+{
+    push_order(answers, &turned.order)?;
+    push_steps(answers, turned.steps.as_slice())
 }
 
 // Puts the line of a drain.

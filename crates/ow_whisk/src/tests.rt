@@ -678,6 +678,10 @@ Below each statement stand the forms of its answer.
   next               orders what has waited longest to run
                        run RUN ID            RUN is its number, from 1
                        nothing empty         nothing waits
+  turn               orders what has waited longest to run, runs it, and replies to the run
+                       run RUN ID            and behind it
+                       recorded ID CODE      as below answer
+                       nothing empty         nothing waits
   answer RUN TEXT    is a runner's answer to that run, of at most 1048576 bytes
                        recorded ID CODE      0 success, 1 it has the name error, 2 no such object
                        refused 29 WHY        no such run is under way

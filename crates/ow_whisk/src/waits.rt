@@ -1,10 +1,10 @@
-// Days whose requests wait, and whose answers are collected.
+// Days whose requests wait, whose runs take a turn, and whose answers are collected.
 use crate::tests::is_answered;
 use ow_day::Status;
 use std::test::Fail;
 
 const WAITS: [(&[u8], &[u8], Status); 5] = [
-    // The result of an action, and the list of what was recorded.
+    // The result of an action that a turn runs, and the list of what was recorded.
     (
         b"ask 169
 PUT /api/v1/namespaces/_/actions/hello HTTP/1.1\r
@@ -15,8 +15,7 @@ ask 78
 POST /api/v1/namespaces/_/actions/hello?blocking=true&result=true HTTP/1.1\r
 \r
 
-next
-answer 1 {\"greeting\":\"Hello\"}
+turn
 collect 00000000000000010000000000000001
 ask 49
 GET /api/v1/namespaces/_/activations HTTP/1.1\r
@@ -62,8 +61,7 @@ at 99
 collect 00000000000000010000000000000001
 at 100
 collect 00000000000000010000000000000001
-next
-answer 1 {}
+turn
 collect 00000000000000010000000000000001
 ",
         b"reply 307
@@ -163,10 +161,15 @@ Content-Length: 120\r
         b"call /whisk.system/utils/echo {}
 collect 00000000000000000000000000000001
 collect 00000000000000000000000000000002
+turn
+turn
 ",
         b"accepted 00000000000000000000000000000001
 refused 14 The resource does not exist.
 refused 14 The resource does not exist.
+run 1 00000000000000000000000000000001
+recorded 00000000000000000000000000000001 0
+nothing empty
 ",
         Status::Ok,
     ),
