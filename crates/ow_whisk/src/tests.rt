@@ -572,18 +572,6 @@ fn runs_are_replied_to(rt: HostRuntime) -> Result<(), Fail> {
     Ok(())
 }
 
-// A log line may have 8,388,608 bytes, and one that has more is known before its end.
-#[test]
-fn a_line_of_logs_is_no_longer_than_a_line(rt: HostRuntime) -> Result<(), Fail> {
-    let day = long_day(rt.alloc(), b"logged 1 2 {}\nx\n", 8_388_608, b"\n")?;
-    assert!(rt; ends_in(rt.alloc(), &day, b"refused 29 No run 1.\n")?);
-    let day = long_day(rt.alloc(), b"logged 1 2 {}\nx\n", 8_500_000, b"\n")?;
-    let told = office_over(rt.alloc(), "day", &day, &[], &[])?;
-    assert!(rt; told.status == Status::BadDay { statement: 1 });
-    assert!(rt; told.left > 0);
-    Ok(())
-}
-
 #[test]
 fn many_lines_of_logs_are_read_in_pieces(rt: HostRuntime) -> Result<(), Fail> {
     let mut day = Vec::from_slice(rt.alloc(), b"logged 1 100000 {}\n")?;
