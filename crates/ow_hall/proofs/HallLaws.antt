@@ -12,29 +12,30 @@ use Rattle.ow_floor.specs.declared.runs.Run.{Run}
 use Rattle.ow_http.specs.Request.{parts_of}
 use Rattle.ow_http.specs.declared.reason.Reason.{Reason}
 use Rattle.ow_tables.specs.Contents.{Change}
-use Rattle.ow_hall.specs.declared.entry.Event.{Event}
-use Rattle.ow_hall.specs.declared.entry.Event.TheVariants as events
-use Rattle.ow_hall.specs.declared.entry.Told.{Told}
-use Rattle.ow_hall.specs.declared.entry.Told.TheVariants as told
+use Rattle.ow_decide.specs.declared.events.Event.{Event}
+use Rattle.ow_decide.specs.declared.events.Event.TheVariants as events
+use Rattle.ow_decide.specs.declared.events.Told.{Told}
+use Rattle.ow_decide.specs.declared.events.Told.TheVariants as told
 use Rattle.ow_hall.specs.declared.posting.Posting.{Posting}
 use Rattle.ow_hall.specs.declared.posting.Posting.TheVariants.{Booked, Quiet, Denied, Unbooked}
-use Rattle.ow_hall.specs.declared.replies.Called.TheVariants as called
-use Rattle.ow_hall.specs.declared.step.Now.{Now}
-use Rattle.ow_hall.specs.declared.step.Step.{Step}
-use Rattle.ow_hall.specs.declared.tenants.Tenants.{Tenants}
-use Rattle.ow_hall.specs.declared.waits.Waits.{Waits}
-use Rattle.ow_hall.specs.declared.waits.Waits.TheVariants.{Keep}
-use Rattle.ow_hall.specs.Sight.{Sight}
-use Rattle.ow_hall.specs.Decision.{Decision, adds, tells}
-use Rattle.ow_hall.specs.Asking.{Done, Shown as ShownDone, Changed, Invoked, ask_decision, refusal_told, request_done}
-use Rattle.ow_hall.specs.Calling.{call_decision, call_plan}
-use Rattle.ow_hall.specs.Decisions.{decide, reply_told}
-use Rattle.ow_hall.specs.Waiting.{collected_told, shows_for}
+use Rattle.ow_decide.specs.declared.replies.Called.TheVariants as called
+use Rattle.ow_decide.specs.declared.step.Now.{Now}
+use Rattle.ow_decide.specs.declared.step.Step.{Step}
+use Rattle.ow_decide.specs.declared.tenants.Tenants.{Tenants}
+use Rattle.ow_decide.specs.declared.waits.Waits.{Waits}
+use Rattle.ow_decide.specs.declared.waits.Waits.TheVariants.{Keep}
+use Rattle.ow_decide.specs.Sight.{Sight}
+use Rattle.ow_decide.specs.Decision.{Decision, adds, tells}
+use Rattle.ow_decide.specs.Asking.{Done, Shown as ShownDone, Changed, Invoked, ask_decision, refusal_told, request_done}
+use Rattle.ow_decide.specs.Calling.{call_decision, call_plan}
+use Rattle.ow_decide.specs.Decisions.{decide, reply_told}
+use Rattle.ow_decide.specs.Waiting.{collected_told, shows_for}
 use Rattle.ow_floor.specs.Collecting.{collected}
 use Rattle.ow_hall.specs.Posting.{posting_by}
 use Rattle.ow_hall.specs.History.{AreAnswered, History, IsLegal, after, all_changed, answer, counted, decision, greatest_moment, is_idle, is_opening, last_moment, moment, opens_here, posting, seen, sight, waits_after}
 use Rattle.ow_hall.specs.Ledger.{Ledger, no_entries, posted, posted_as}
-use Rattle.ow_hall.specs.State.{Carries, Does, IsAt, Keeps, StateView, changes_of}
+use Rattle.ow_decide.specs.Making.{Carries, changes_of}
+use Rattle.ow_hall.specs.State.{Does, IsAt, Keeps, StateView}
 
 -- ---- what isn't booked changes nothing
 

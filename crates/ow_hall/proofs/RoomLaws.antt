@@ -1,13 +1,13 @@
 -- Room that was taken is enough behind an answer.
 use Rattle.std.proofs.Common.{◌≡◌, ◌+◌, ◌≤◌, ◌++◌, ℕ, [], refl, sym, subst, arith}
 use Rattle.ow_floor.specs.Owed.{owed}
-use Rattle.ow_hall.specs.declared.entry.Event.{Event}
-use Rattle.ow_hall.specs.declared.entry.Event.TheVariants as events
-use Rattle.ow_hall.specs.declared.entry.Told.{Told}
-use Rattle.ow_hall.specs.declared.entry.Told.TheVariants as told
+use Rattle.ow_decide.specs.declared.events.Event.{Event}
+use Rattle.ow_decide.specs.declared.events.Event.TheVariants as events
+use Rattle.ow_decide.specs.declared.events.Told.{Told}
+use Rattle.ow_decide.specs.declared.events.Told.TheVariants as told
 use Rattle.ow_hall.specs.declared.posting.Posting.{Posting}
 use Rattle.ow_hall.specs.declared.posting.Posting.TheVariants.{Booked, Quiet, Denied, Unbooked}
-use Rattle.ow_hall.specs.declared.tenants.Tenants.{Tenants}
+use Rattle.ow_decide.specs.declared.tenants.Tenants.{Tenants}
 use Rattle.ow_hall.specs.History.{History, decision, posting, seen}
 use Rattle.ow_hall.specs.Ledger.{HasRoom, IsReady, Ledger, cost, no_entries, posted, posted_as}
 

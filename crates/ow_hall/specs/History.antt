@@ -8,23 +8,23 @@ use Rattle.ow_tables.specs.Contents.{Change}
 use Rattle.ow_tables.specs.Rows.{changed}
 use Rattle.ow_floor.specs.Trace.{Trace}
 use Rattle.ow_hall.specs.declared.entry.Entry.{Entry}
-use Rattle.ow_hall.specs.declared.entry.Event.{Event}
-use Rattle.ow_hall.specs.declared.entry.Event.TheVariants as events
-use Rattle.ow_hall.specs.declared.entry.Told.{Told}
-use Rattle.ow_hall.specs.declared.entry.Told.TheVariants as told
+use Rattle.ow_decide.specs.declared.events.Event.{Event}
+use Rattle.ow_decide.specs.declared.events.Event.TheVariants as events
+use Rattle.ow_decide.specs.declared.events.Told.{Told}
+use Rattle.ow_decide.specs.declared.events.Told.TheVariants as told
 use Rattle.ow_hall.specs.declared.posting.Posting.{Posting}
 use Rattle.ow_hall.specs.declared.posting.Posting.TheVariants.{Booked}
-use Rattle.ow_hall.specs.declared.replies.HallCollected.{HallCollected}
-use Rattle.ow_hall.specs.declared.replies.HallCollected.TheVariants as collected
-use Rattle.ow_hall.specs.declared.replies.Reply.{Reply}
-use Rattle.ow_hall.specs.declared.replies.Reply.TheVariants as replies
-use Rattle.ow_hall.specs.declared.tenants.Tenants.{Tenants}
-use Rattle.ow_hall.specs.declared.waits.Wait.{Wait}
-use Rattle.ow_hall.specs.declared.waits.Waits.{Waits}
-use Rattle.ow_hall.specs.declared.waits.Waits.TheVariants.{Keep, Add, Clear}
-use Rattle.ow_hall.specs.Sight.{Sight}
-use Rattle.ow_hall.specs.Decision.{Decision}
-use Rattle.ow_hall.specs.Decisions.{decide}
+use Rattle.ow_decide.specs.declared.replies.HallCollected.{HallCollected}
+use Rattle.ow_decide.specs.declared.replies.HallCollected.TheVariants as collected
+use Rattle.ow_decide.specs.declared.replies.Reply.{Reply}
+use Rattle.ow_decide.specs.declared.replies.Reply.TheVariants as replies
+use Rattle.ow_decide.specs.declared.tenants.Tenants.{Tenants}
+use Rattle.ow_decide.specs.declared.waits.Wait.{Wait}
+use Rattle.ow_decide.specs.declared.waits.Waits.{Waits}
+use Rattle.ow_decide.specs.declared.waits.Waits.TheVariants.{Keep, Add, Clear}
+use Rattle.ow_decide.specs.Sight.{Sight}
+use Rattle.ow_decide.specs.Decision.{Decision}
+use Rattle.ow_decide.specs.Decisions.{decide}
 use Rattle.ow_hall.specs.Posting.{is_idle_answer, posting_by}
 
 -- the entries, the newest first

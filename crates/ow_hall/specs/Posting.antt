@@ -1,15 +1,15 @@
 -- How an answer is posted: booked, tallied, or neither.
 use Rattle.std.specs.Prelude.{Bool, true, false, if◌then◌else◌}
 use Rattle.ow_floor.specs.declared.answers.Order.TheVariants as orders
-use Rattle.ow_hall.specs.declared.entry.Told.{Told}
-use Rattle.ow_hall.specs.declared.entry.Told.TheVariants as told
+use Rattle.ow_decide.specs.declared.events.Told.{Told}
+use Rattle.ow_decide.specs.declared.events.Told.TheVariants as told
 use Rattle.ow_hall.specs.declared.posting.Posting.{Posting}
 use Rattle.ow_hall.specs.declared.posting.Posting.TheVariants.{Booked, Quiet, Denied, Unbooked}
-use Rattle.ow_hall.specs.declared.replies.Called.{Called}
-use Rattle.ow_hall.specs.declared.replies.Called.TheVariants as called
-use Rattle.ow_hall.specs.declared.replies.HallCollected.{HallCollected}
-use Rattle.ow_hall.specs.declared.replies.HallCollected.TheVariants as collected
-use Rattle.ow_hall.specs.Reasons.{tells_full}
+use Rattle.ow_decide.specs.declared.replies.Called.{Called}
+use Rattle.ow_decide.specs.declared.replies.Called.TheVariants as called
+use Rattle.ow_decide.specs.declared.replies.HallCollected.{HallCollected}
+use Rattle.ow_decide.specs.declared.replies.HallCollected.TheVariants as collected
+use Rattle.ow_decide.specs.Reasons.{tells_full}
 
 -- nothing is to run
 abbrev pub is_idle_answer : Told → Bool

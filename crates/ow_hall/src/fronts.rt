@@ -1,10 +1,10 @@
 // What the calls answer, by what is told.
 ghost use Rattle.std.specs.Prelude.{◌≡◌, Some, IsSome, ℕ};
-ghost use Rattle.ow_hall.specs.Comes.{Answers, replied_in, reply_in, reply_outcome};
+ghost use Rattle.ow_decide.specs.Asking.{reply_in};
+ghost use Rattle.ow_hall.specs.Comes.{Answers, replied_in, reply_outcome};
 ghost use Rattle.ow_traits.specs.declared.replies.RunReply.{RunReply};
 
-use crate::entry::{Event, Told};
-use crate::replies::{Called, HallCollected, Reply};
+use ow_decide::{Called, Event, HallCollected, Reply, Told};
 use ow_floor::{AnswerRefusal, Answered, Drain, Order};
 use ow_traits::RunReply;
 

@@ -2,9 +2,7 @@
 ghost use Rattle.std.specs.Prelude.{◌≡◌};
 ghost use Rattle.ow_hall.specs.Posting.{call_posting, collected_posting, posting_by};
 
-use crate::entry::Told;
-use crate::reasons::tells_full;
-use crate::replies::{Called, HallCollected};
+use ow_decide::{Called, HallCollected, Told, tells_full};
 use ow_floor::Order;
 
 /// What becomes of an answer in the book.

@@ -4,15 +4,13 @@ ghost use Rattle.std.specs.Prelude.{◌≡◌, ◌≤◌, [], true, false, Some,
 ghost use Rattle.ow_floor.specs.Laws.{Stands};
 ghost use Rattle.ow_floor.specs.Owed.{owed};
 ghost use Rattle.ow_floor.specs.Trace.{Trace};
-ghost use Rattle.ow_hall.specs.Decisions.{decide};
+ghost use Rattle.ow_decide.specs.Decisions.{decide};
 ghost use Rattle.ow_hall.specs.History.{all_changed, seen, waits_after};
-ghost use Rattle.ow_hall.specs.State.{Does, HasPlace, IsAt, changes_of};
-ghost use Rattle.ow_hall.specs.declared.tenants.Tenants.{Tenants};
+ghost use Rattle.ow_decide.specs.Making.{HasPlace, changes_of};
+ghost use Rattle.ow_hall.specs.State.{Does, IsAt};
+ghost use Rattle.ow_decide.specs.declared.tenants.Tenants.{Tenants};
 
-use crate::entry::Event;
-use crate::step::{Now, Step, step_for};
-use crate::tenants::Tenants;
-use crate::waits::{Wait, Waits};
+use ow_decide::{Event, Now, Step, Tenants, Wait, Waits, step_for};
 use ow_floor::Floor;
 use ow_tables::{Ready, Tables};
 use ow_value::NoMemory;

@@ -1,6 +1,7 @@
 // Requests and calls over one book.
+use ow_decide::{Called, Reply, Told};
 use ow_floor::{Drain, Order};
-use ow_hall::{Book, Called, Entries, Entry, Hall, Reply, Told};
+use ow_hall::{Book, Entries, Entry, Hall};
 use ow_http::{Answer, Read, Request, read_request, write_reply};
 use ow_names::{EntityName, FullName, read_name, resolve};
 use ow_traits::{MemoryKeeper, RunReply};

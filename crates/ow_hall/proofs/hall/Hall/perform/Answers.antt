@@ -1,10 +1,11 @@
 use Rattle.std.proofs.Common.{◌∙◌, ◌++◌, ◌≤◌, refl, sym, ap, subst}
 use Rattle.ow_floor.specs.Owed.{owed}
 use Rattle.ow_floor.specs.View.{FloorView}
-use Rattle.ow_hall.specs.declared.step.Now.{Now}
+use Rattle.ow_decide.specs.declared.step.Now.{Now}
 use Rattle.ow_hall.specs.History.{all_changed, decision, greatest_moment, last_moment, seen, waits_after}
 use Rattle.ow_hall.specs.Ledger.{HasRoom, Ledger, posted}
-use Rattle.ow_hall.specs.State.{Keeps, changes_of}
+use Rattle.ow_decide.specs.Making.{changes_of}
+use Rattle.ow_hall.specs.State.{Keeps}
 use Rattle.ow_hall.proofs.HallLaws.{answers, not_after, not_before, step_at}
 use Rattle.ow_hall.proofs.RoomLaws.{ready_for, room_left, used_for}
 use Rattle.ow_hall.proofs.hall.Hall.perform.Goals as goal

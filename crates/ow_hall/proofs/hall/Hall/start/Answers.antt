@@ -1,7 +1,7 @@
 use Rattle.std.proofs.Common.{◌≡◌, ◌∙◌, ◌≤◌, ℕ, List, [], sym, ap, subst}
 use Rattle.ow_floor.specs.declared.answers.Happening.{Happening}
-use Rattle.ow_hall.specs.declared.entry.Event.TheVariants as events
-use Rattle.ow_hall.specs.declared.entry.Told.TheVariants as told
+use Rattle.ow_decide.specs.declared.events.Event.TheVariants as events
+use Rattle.ow_decide.specs.declared.events.Told.TheVariants as told
 use Rattle.ow_hall.specs.History.{greatest_moment, moment, seen}
 use Rattle.ow_hall.specs.Ledger.{HasRoom, Ledger, no_entries, posted}
 use Rattle.ow_hall.specs.State.{Keeps}
