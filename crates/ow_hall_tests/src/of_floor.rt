@@ -4,6 +4,7 @@ ghost use Rattle.ow_floor.specs.View.{last_of};
 
 use ow_entity::{Action, EntityParams, Exec, Limits, ProgramName};
 use ow_floor::{Answered, Drain, Floor, Happened, Happening, Order, Plan};
+use ow_packages::Effective;
 use ow_names::{EntityName, read_name, resolve};
 use ow_records::{Ending, Id};
 use ow_traits::{Kind, RunReply};
@@ -36,10 +37,15 @@ fn plan(alloc: Global, id: Id) -> Result<Plan, Fail>
     let subject = Str::of(alloc, "anna")?;
     let namespace = read_name(alloc, b"guest")?;
     let action = Shared::new(alloc, action(alloc, &namespace)?)?;
+    let effective = Effective {
+        action,
+        params: Params::new(),
+        binding: None,
+    };
     Ok(Plan {
         id,
         namespace,
-        action,
+        effective,
         params: Params::new(),
         subject,
         cause: None,
