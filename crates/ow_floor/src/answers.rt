@@ -376,6 +376,20 @@ impl PlainData for Answered {
     }
 }
 
+impl PlainData for Swept {
+    fn same(&self, other: &Swept) -> bool {
+        self.happened.same(&other.happened) && self.late == other.late
+    }
+
+    fn copy(&self, alloc: Global) -> Result<Swept, NoMemory> {
+        let happened = self.happened.copy(alloc)?;
+        Ok(Swept {
+            happened,
+            late: self.late,
+        })
+    }
+}
+
 // The kind of runner that a code needs.
 fn kind_of(exec: &Exec) -> Kind
     ensures { result ≡ kind_of exec.now }
