@@ -8,4 +8,6 @@ mod of_hall;
 #[cfg(test)]
 mod of_packages;
 #[cfg(test)]
+mod of_runners;
+#[cfg(test)]
 mod of_waits;
