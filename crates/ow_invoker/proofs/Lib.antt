@@ -1,4 +1,5 @@
 pub mod Equal
+pub mod Events
 pub mod Filling
 pub mod Orders
 pub mod Parts

@@ -1,5 +1,5 @@
 -- Orders, carried out.
-use Rattle.std.proofs.Common.{◌≡◌, ◌⊎◌, ℕ, Bool, true, false, List, [], ◌∷◌, ◌++◌, Option, Some, None, Ok, Err, IfOk, Result, refl, sym, ap, inl, inr, append-nil, subst, ◌∙◌}
+use Rattle.std.proofs.Common.{◌≡◌, ℕ, List, [], ◌∷◌, ◌++◌, Option, Ok, Err, IfOk, Result, refl, sym, ap, inl, inr, append-nil, subst, ◌∙◌}
 use Rattle.ow_traits.specs.Runner.{Giving, RefusesStart}
 use Rattle.ow_traits.specs.declared.replies.RunReply.{RunReply}
 use Rattle.ow_value.specs.declared.memory.NoMemory.{NoMemory as Want}

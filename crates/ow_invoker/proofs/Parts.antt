@@ -1,5 +1,5 @@
 -- A run, from the parts that it has.
-use Rattle.std.proofs.Common.{◌≡◌, ◌⊎◌, ◌≤◌, ℕ, Bool, true, false, List, [], ◌∷◌, ◌++◌, Option, Some, None, Ok, Err, Result, refl, sym, ap, inl, inr, ⊎_elim, append-nil, subst, ◌∙◌, arith}
+use Rattle.std.proofs.Common.{◌≡◌, ◌⊎◌, ℕ, Bool, true, false, List, [], ◌∷◌, ◌++◌, Option, None, Ok, Err, Result, refl, sym, ap, inl, inr, ⊎_elim, append-nil, subst, ◌∙◌}
 use Rattle.ow_slots.specs.State.{is_warm}
 use Rattle.ow_traits.specs.Runner.{Giving, Replies, RepliesToAny, Steady}
 use Rattle.ow_traits.specs.declared.replies.RunReply.{RunReply}
@@ -8,16 +8,16 @@ use Rattle.ow_floor.specs.declared.answers.Order.TheVariants as orders
 use Rattle.ow_floor.specs.declared.answers.RunOrder.{RunOrder}
 use Rattle.ow_decide.specs.declared.events.Event.TheVariants as events
 use Rattle.ow_decide.specs.declared.events.Told.{Told}
-use Rattle.ow_hall.specs.Comes.{Answers, Comes, HallView, KeptRows, Wants}
+use Rattle.ow_hall.specs.Comes.{Answers, Comes, HallView, KeptRows}
 use Rattle.ow_invoker.specs.Parts.{Books, Carries, EndsBy, Initialised, LiesBy, OpensBy, Performs, Settles, Tells, TellsAll, TwoSteps, both, in_order, listed}
 use Rattle.ow_invoker.specs.Shelf.{IsLaid, without}
-use Rattle.ow_invoker.specs.Turns.{AreBoth, Chain, Exchange, IsAlone, IsCarriedOut, IsGivenUp, IsSettled, IsUnbooked, Opens, Rests, RestsUnbooked, RunFollows, RunStops, exchange, gone, is_answer, is_late, is_missing, lost, shelf_at, steps_in, steps_of}
+use Rattle.ow_invoker.specs.Turns.{AreBoth, Chain, Exchange, IsAlone, IsCarriedOut, IsGivenUp, IsUnbooked, Opens, Rests, RestsUnbooked, RunFollows, RunStops, exchange, gone, is_answer, is_late, is_missing, lost, shelf_at, steps_in, steps_of}
 use Rattle.ow_invoker.specs.declared.readying.Readiness.{Readiness}
 use Rattle.ow_invoker.specs.declared.readying.Readiness.TheVariants.{Early, Missing, NoMemory, Up}
 use Rattle.ow_invoker.specs.declared.shelf.Laid.{Laid}
 use Rattle.ow_invoker.specs.declared.turn.TurnStep.{TurnStep}
 use Rattle.ow_invoker.proofs.Running.{replied_from}
-use Rattle.ow_invoker.proofs.Turning.{alone_told, chain_more, opens_so, told_behind, wants_same}
+use Rattle.ow_invoker.proofs.Turning.{alone_told, chain_more, opens_so, told_behind}
 
 opens_from : (f g h : Giving) (a b c : ℕ) (order : RunOrder) (reply : RunReply) (xs : List Exchange) → Steady f g a b → Steady g h b c
     → Opens g b c order reply xs → Opens f a c order reply xs

@@ -1,10 +1,10 @@
 -- Where a container lies, and the shelf without it.
-use Rattle.std.proofs.Common.{◌≡◌, ◌≤◌, ◌+◌, ℕ, zero, suc, Bool, true, false, List, [], ◌∷◌, Option, Some, None, length, get_or, refl, sym, ap, ◌∙◌, arith}
-use Rattle.std.specs.List.{list_any, position, position_or_len, remove}
+use Rattle.std.proofs.Common.{◌≡◌, ◌≤◌, ◌+◌, ℕ, zero, suc, Bool, true, false, List, [], ◌∷◌, Option, Some, None, length, get_or, refl, sym, ap, arith}
+use Rattle.std.specs.List.{position, position_or_len}
 use Rattle.std.specs.Prelude.{◌<◌}
 use Rattle.std.proofs.lemmas.List.Quantifiers.{position-Some}
 use Rattle.std.proofs.lemmas.Bool.Decides.{nat_tests}
-use Rattle.ow_invoker.specs.Shelf.{IsPlaced, is_at, lies, without}
+use Rattle.ow_invoker.specs.Shelf.{IsPlaced, is_at, without}
 use Rattle.ow_invoker.specs.declared.shelf.Laid.{Laid}
 
 placed_at : {B : Type 0} (slot generation : ℕ) (xs : List (Laid B)) (k : ℕ) → k < length xs → ((d : Laid B) → is_at slot generation (get_or xs k d) ≡ true)

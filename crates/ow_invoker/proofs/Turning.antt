@@ -1,5 +1,5 @@
 -- Chains of calls, put together.
-use Rattle.std.proofs.Common.{◌≡◌, ℕ, Bool, true, false, List, [], ◌∷◌, ◌++◌, Option, Some, None, Ok, Err, Result, refl, sym, ap, inl, inr, append-nil, append_assoc, subst, ◌∙◌}
+use Rattle.std.proofs.Common.{◌≡◌, ℕ, Bool, true, false, List, [], ◌∷◌, ◌++◌, Option, refl, sym, ap, inl, append-nil, append_assoc, subst, ◌∙◌}
 use Rattle.ow_slots.specs.State.{is_warm}
 use Rattle.ow_traits.specs.Runner.{Giving}
 use Rattle.ow_traits.specs.declared.replies.RunReply.{RunReply}

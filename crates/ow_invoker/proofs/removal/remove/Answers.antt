@@ -1,4 +1,4 @@
-use Rattle.std.proofs.Common.{refl, inl, [], ◌∷◌, ◌++◌, ◌≡◌, take, get_or, sym, subst, arith, List}
+use Rattle.std.proofs.Common.{refl, inl, [], take, get_or, sym, subst, arith}
 use Rattle.std.proofs.lemmas.List.{take_more}
 use Rattle.ow_floor.specs.declared.answers.Container.{Container}
 use Rattle.ow_invoker.proofs.Orders.{Removed, removed_more}

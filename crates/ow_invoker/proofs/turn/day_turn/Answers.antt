@@ -1,6 +1,5 @@
-use Rattle.std.proofs.Common.{List, subst}
+use Rattle.std.proofs.Common.{subst}
 use Rattle.ow_invoker.specs.Turns.{Turns}
-use Rattle.ow_invoker.specs.declared.shelf.Laid.{Laid}
 use Rattle.ow_invoker.proofs.Orders.{turned, unordered}
 use Rattle.ow_invoker.proofs.turn.day_turn.Goals as goal
 
