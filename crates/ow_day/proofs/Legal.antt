@@ -26,7 +26,7 @@ use Rattle.ow_day.specs.declared.call_words.CallWords.{CallWords}
 use Rattle.ow_day.specs.declared.call_words.CallWords.TheVariants as calls
 use Rattle.ow_day.specs.declared.done.Done.{Done}
 use Rattle.ow_day.specs.CallWords.{called as words_of}
-use Rattle.ow_day.specs.Statement.{Statement, At, Call, Ask, Next, Answer, Logged, Exit, NoStart, Fault, Turn, Collect, Drain, End}
+use Rattle.ow_day.specs.Statement.{Statement, At, Call, Ask, Next, Begun, Answer, Logged, Exit, NoStart, Fault, Lost, Gone, Sweep, Turn, Collect, Drain, End}
 use Rattle.ow_day.specs.Machine.{Machine, Asks, Calls, CarriesOut, Does, Exchanges, ExchangesAll, Meets, done_of, start}
 use Rattle.ow_day.specs.Day.{day_of}
 use Rattle.ow_day.specs.Office.{HasLegalBooks}
@@ -43,7 +43,11 @@ opens_so (events.Opened rows) B b later = cc
 opens_so (events.Asked r) B b later = refl
 opens_so (events.Called name params) B b later = refl
 opens_so events.Next B b later = refl
+opens_so (events.Begun run) B b later = refl
 opens_so (events.Answered run reply) B b later = refl
+opens_so (events.Lost run) B b later = refl
+opens_so (events.Gone slot generation) B b later = refl
+opens_so events.Sweep B b later = refl
 opens_so (events.Collected id) B b later = refl
 opens_so events.Drain B b later = refl
 
@@ -80,9 +84,14 @@ posted_so t L at event (told.Full reply) n = n.legal
 posted_so t L at event (told.Called (called.Happened happened)) n = booked t L.entries _ n (n.is, refl, n.late, n.most, n.legal.answered)
 posted_so t L at event (told.Called (called.Refused reason)) n = refused_so t L at event reason (tells_full reason) refl n
 posted_so t L at event (told.Next (orders.Run order)) n = booked t L.entries _ n (n.is, refl, n.late, n.most, n.legal.answered)
+posted_so t L at event (told.Next (orders.Prewarm order)) n = booked t L.entries _ n (n.is, refl, n.late, n.most, n.legal.answered)
+posted_so t L at event (told.Next (orders.Remove containers)) n = booked t L.entries _ n (n.is, refl, n.late, n.most, n.legal.answered)
 posted_so t L at event (told.Next (orders.Nothing idle)) n = idle_so t L at event idle (is_idle L.entries) refl n
 posted_so t L at event (told.Answered answered) n = booked t L.entries _ n (n.is, refl, n.late, n.most, n.legal.answered)
 posted_so t L at event (told.NoRun run reply) n = n.legal
+posted_so t L at event told.Done n = booked t L.entries _ n (n.is, refl, n.late, n.most, n.legal.answered)
+posted_so t L at event (told.Refused refusal) n = n.legal
+posted_so t L at event (told.Swept swept) n = booked t L.entries _ n (n.is, refl, n.late, n.most, n.legal.answered)
 posted_so t L at event (told.Collected (collected.Reply answer)) n = booked t L.entries _ n (n.is, refl, n.late, n.most, n.legal.answered)
 posted_so t L at event (told.Collected collected.NotYet) n = n.legal
 posted_so t L at event (told.Collected collected.Unknown) n = n.legal
@@ -127,11 +136,15 @@ done_so M N (At moment) done (is, same) legal = rw same legal
 done_so M N (Call name text) done does legal = called_so M N (words_of (is_full (counted M.ledger.entries) 0) name text) done does legal
 done_so M N (Ask bytes) done (read, is, asks) legal = asked_so M N read done asks legal
 done_so M N Next done meets legal = met M N events.Next done refl meets legal
+done_so M N (Begun run) done meets legal = met M N (events.Begun run) done refl meets legal
 done_so M N (Answer run text) done meets legal = met M N (events.Answered run (runs.Answer text [])) done refl meets legal
 done_so M N (Logged run text logs) done meets legal = met M N (events.Answered run (runs.Answer text logs)) done refl meets legal
 done_so M N (Exit run code) done meets legal = met M N (events.Answered run (runs.Exit (pos code) [])) done refl meets legal
 done_so M N (NoStart run text) done meets legal = met M N (events.Answered run (runs.NoStart text)) done refl meets legal
 done_so M N (Fault run) done meets legal = met M N (events.Answered run runs.Fault) done refl meets legal
+done_so M N (Lost run) done meets legal = met M N (events.Lost run) done refl meets legal
+done_so M N (Gone slot generation) done meets legal = met M N (events.Gone slot generation) done refl meets legal
+done_so M N Sweep done meets legal = met M N events.Sweep done refl meets legal
 done_so M N (Collect id) done meets legal = met M N (events.Collected id) done refl meets legal
 done_so M N Turn done (turned, is, t) legal = turned_so M N turned.order t.exchanges t.turn t.met legal
 done_so M N Drain done meets legal = met M N events.Drain done refl meets legal

@@ -4,7 +4,8 @@ use Rattle.ow_value.specs.declared.memory.NoMemory.{NoMemory as Want}
 use Rattle.ow_floor.specs.declared.answers.AnswerRefusal.{AnswerRefusal}
 use Rattle.ow_floor.specs.declared.answers.AnswerRefusal.TheVariants.{NoRun, NoMemory}
 use Rattle.ow_decide.specs.Asking.{reply_in}
-use Rattle.ow_hall.specs.Comes.{Answers, Comes, Fails, HallView, KeptRows, Outcome, Replies, Wants, reply_outcome}
+use Rattle.ow_floor.specs.declared.answers.FloorRefusal.{FloorRefusal}
+use Rattle.ow_hall.specs.Comes.{Answers, Comes, Fails, HallView, KeptRows, Outcome, Replies, Wants, done_outcome, reply_outcome}
 use Rattle.ow_decide.specs.declared.events.Event.{Event}
 use Rattle.ow_decide.specs.declared.events.Told.{Told}
 use Rattle.ow_decide.specs.declared.events.Told.TheVariants as tells
@@ -14,7 +15,7 @@ use Rattle.ow_day.specs.declared.done.Done.TheVariants.{Asked}
 use Rattle.ow_day.specs.declared.session.Session.{Session}
 use Rattle.ow_invoker.specs.Turns.{Chain, Exchange}
 use Rattle.ow_day.specs.Machine.{ExchangesAll, Meets, done_of}
-use Rattle.ow_day.specs.Session.{Denies, machine_of}
+use Rattle.ow_day.specs.Session.{Denies, machine_of, told_of}
 
 -- the session over a hall
 abbrev over : {P : Type 0} → Session P → HallView P → Session P
@@ -36,6 +37,9 @@ reply_done (tells.Called called) reply is = cc
 reply_done (tells.Next order) reply is = cc
 reply_done (tells.Answered answered) reply is = cc
 reply_done (tells.NoRun run back) reply is = cc
+reply_done tells.Done reply is = cc
+reply_done (tells.Refused refusal) reply is = cc
+reply_done (tells.Swept swept) reply is = cc
 reply_done (tells.Collected collected) reply is = cc
 reply_done (tells.Drain drain) reply is = cc
 
@@ -78,6 +82,18 @@ pub denied_stays : {P : Type 0} (rows : P → KeptRows) (faults : P → ℕ) (ol
     → Comes rows faults old hall at event (reply_outcome (Err refused)) → hall.store ≡ old.store
 denied_stays rows faults old hall at event (NoRun run reply) comes = comes.3
 denied_stays rows faults old hall at event (NoMemory reply) comes = comes.2
+
+-- ---- what is told of containers
+
+pub taken : {P : Type 0} (rows : P → KeptRows) (faults : P → ℕ) (old : Session P) (hall : HallView P) (event : Event) (r : Result (Unit {0}) FloorRefusal)
+    → Comes rows faults old.hall hall old.given event (done_outcome r) → Meets (machine_of old) event (told_of r) (machine_of (over old hall))
+taken rows faults old hall event (Ok tt) comes = met rows faults old hall event tells.Done comes
+taken rows faults old hall event (Err refusal) comes = met rows faults old hall event (tells.Refused refusal) comes
+
+pub taken_stays : {P : Type 0} (rows : P → KeptRows) (faults : P → ℕ) (old hall : HallView P) (at : ℕ) (event : Event) (r : Result (Unit {0}) FloorRefusal)
+    → Comes rows faults old hall at event (done_outcome r) → hall.store ≡ old.store
+taken_stays rows faults old hall at event (Ok tt) comes = comes.3
+taken_stays rows faults old hall at event (Err refusal) comes = comes.3
 
 -- ---- turns
 

@@ -24,9 +24,9 @@ use Rattle.ow_day.specs.declared.call_words.CallWords.{CallWords}
 use Rattle.ow_day.specs.declared.call_words.CallWords.TheVariants as calls
 use Rattle.ow_day.specs.declared.done.Done.{Done}
 use Rattle.ow_day.specs.declared.done.Done.TheVariants as dones
-use Rattle.ow_day.specs.declared.done.Done.TheVariants.{Silent, Refused, Asked, Called, Ordered, Answered, NoRun, Collected, Drained}
+use Rattle.ow_day.specs.declared.done.Done.TheVariants.{Silent, Refused, Asked, Called, Ordered, Answered, NoRun, Taken, Denied, Collected, Drained}
 use Rattle.ow_day.specs.CallWords.{called}
-use Rattle.ow_day.specs.Statement.{Statement, At, Call, Ask, Next, Answer, Logged, Exit, NoStart, Fault, Turn, Collect, Drain, End}
+use Rattle.ow_day.specs.Statement.{Statement, At, Call, Ask, Next, Begun, Answer, Logged, Exit, NoStart, Fault, Lost, Gone, Sweep, Turn, Collect, Drain, End}
 use Rattle.ow_day.specs.Texts.{lines_of}
 
 -- the office table, the book so far, and the moment that the day gave last
@@ -54,6 +54,9 @@ done_of (told.Called c) = Called c
 done_of (told.Next order) = Ordered order
 done_of (told.Answered answered) = Answered answered
 done_of (told.NoRun run reply) = NoRun run
+done_of told.Done = Taken
+done_of (told.Refused refusal) = Denied refusal
+done_of (told.Swept swept) = dones.Swept swept
 done_of (told.Collected c) = Collected c
 done_of (told.Drain drain) = Drained drain
 
@@ -101,11 +104,15 @@ Does M (At moment) done N = (done ≡ Silent) × (N ≡ record M { given = momen
 Does M (Call name text) done N = Calls M (called (is_full (counted M.ledger.entries) 0) name text) done N
 Does M (Ask bytes) done N = (read : Result Request HttpRefusal) × IsRead bytes read × Asks M read done N
 Does M Next done N = Meets M events.Next done N
+Does M (Begun run) done N = Meets M (events.Begun run) done N
 Does M (Answer run text) done N = Meets M (events.Answered run (runs.Answer text [])) done N
 Does M (Logged run text logs) done N = Meets M (events.Answered run (runs.Answer text logs)) done N
 Does M (Exit run code) done N = Meets M (events.Answered run (runs.Exit (pos code) [])) done N
 Does M (NoStart run text) done N = Meets M (events.Answered run (runs.NoStart text)) done N
 Does M (Fault run) done N = Meets M (events.Answered run runs.Fault) done N
+Does M (Lost run) done N = Meets M (events.Lost run) done N
+Does M (Gone slot generation) done N = Meets M (events.Gone slot generation) done N
+Does M Sweep done N = Meets M events.Sweep done N
 Does M (Collect id) done N = Meets M (events.Collected id) done N
 Does M Turn done N = (turned : Turned) × (done ≡ dones.Turned turned) × TakesTurn M turned N
 Does M Drain done N = Meets M events.Drain done N
