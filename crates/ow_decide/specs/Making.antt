@@ -11,10 +11,12 @@ use Rattle.ow_decide.specs.declared.done.Done.{Done}
 use Rattle.ow_decide.specs.declared.done.Done.TheVariants as codes
 use Rattle.ow_decide.specs.declared.done.Served.{Served}
 use Rattle.ow_decide.specs.declared.done.Served.TheVariants as served
+use Rattle.ow_decide.specs.declared.events.Told.{Told}
 use Rattle.ow_decide.specs.declared.step.Now.{Now}
 use Rattle.ow_decide.specs.declared.step.Step.{Step}
 use Rattle.ow_decide.specs.declared.tenants.Tenants.{Tenants}
 use Rattle.ow_decide.specs.declared.waits.Wait.{Wait}
+use Rattle.ow_decide.specs.declared.waits.Waits.TheVariants.{Keep}
 use Rattle.ow_decide.specs.Asking as asking
 use Rattle.ow_decide.specs.Sight.{Sight}
 use Rattle.ow_decide.specs.Decision.{Decision}
@@ -57,6 +59,10 @@ pub record IsSeen (S : Sight) (t : Tenants) (rs : List Row) (v : Shown) (now : N
   pub stands : Stands v S.trace
   pub counted : S.counted ≡ now.counted
   pub moment : S.moment ≡ now.at
+
+-- something is told, and nothing else is made ready
+abbrev pub telling : Told → Step
+telling t = record { told = t; change = None; waits = Keep }
 
 abbrev pub changes_of : Option Change → List Change
 changes_of None = []

@@ -1,6 +1,6 @@
 // What comes to the service, and what is told of it.
 use crate::replies::{Called, HallCollected, Reply};
-use ow_floor::{Answered, Drain, Happened, Order};
+use ow_floor::{Answered, Drain, FloorRefusal, Happened, Order, Swept};
 use ow_http::{Answer, Request};
 use ow_names::FullName;
 use ow_records::Id;
@@ -19,8 +19,16 @@ pub enum Event {
     Called { name: FullName, params: Params },
     /// A runner asks what to run.
     Next,
+    /// The container of a run is up, and its action initialised.
+    Begun { run: u64 },
     /// A runner replies to a run.
     Answered { run: u64, reply: RunReply },
+    /// A run is lost: no reply of it will come.
+    Lost { run: u64 },
+    /// The container of a slot is gone.
+    Gone { slot: u32, generation: u32 },
+    /// What late runs carry is to end.
+    Sweep,
     /// What became of an activation, for whose end a request waits, is asked for.
     Collected(Id),
     /// The office asks whether all has ended, and takes no more calls.
@@ -44,6 +52,12 @@ pub enum Told {
     Answered(Answered),
     /// To the reply of a runner to a run that isn't live, which is handed back. It isn't booked.
     NoRun { run: u64, reply: RunReply },
+    /// To a beginning, a loss or a going that was taken.
+    Done,
+    /// To a beginning, a loss or a going that was not. It isn't booked.
+    Refused(FloorRefusal),
+    /// To a sweep.
+    Swept(Swept),
     /// To one who asks what became of an activation. It isn't booked where there is no answer yet.
     Collected(HallCollected),
     /// To the office that drains.
@@ -69,8 +83,19 @@ impl PlainData for Event {
                     reply: other_reply,
                 },
             ) => run == other_run && reply.same(other_reply),
+            (Event::Begun { run }, Event::Begun { run: other_run })
+            | (Event::Lost { run }, Event::Lost { run: other_run }) => run == other_run,
+            (
+                Event::Gone { slot, generation },
+                Event::Gone {
+                    slot: other_slot,
+                    generation: other_generation,
+                },
+            ) => slot == other_slot && generation == other_generation,
             (Event::Collected(a), Event::Collected(b)) => a == b,
-            (Event::Next, Event::Next) | (Event::Drain, Event::Drain) => true,
+            (Event::Next, Event::Next)
+            | (Event::Sweep, Event::Sweep)
+            | (Event::Drain, Event::Drain) => true,
             _ => false,
         }
     }
@@ -85,10 +110,17 @@ impl PlainData for Event {
                 Ok(Event::Called { name, params })
             }
             Event::Next => Ok(Event::Next),
+            Event::Begun { run } => Ok(Event::Begun { run: *run }),
             Event::Answered { run, reply } => Ok(Event::Answered {
                 run: *run,
                 reply: reply.copy(alloc)?,
             }),
+            Event::Lost { run } => Ok(Event::Lost { run: *run }),
+            Event::Gone { slot, generation } => Ok(Event::Gone {
+                slot: *slot,
+                generation: *generation,
+            }),
+            Event::Sweep => Ok(Event::Sweep),
             Event::Collected(id) => Ok(Event::Collected(*id)),
             Event::Drain => Ok(Event::Drain),
         }
@@ -111,6 +143,9 @@ impl PlainData for Told {
                     reply: other_reply,
                 },
             ) => run == other_run && reply.same(other_reply),
+            (Told::Done, Told::Done) => true,
+            (Told::Refused(a), Told::Refused(b)) => a == b,
+            (Told::Swept(a), Told::Swept(b)) => a.same(b),
             (Told::Collected(a), Told::Collected(b)) => a.same(b),
             (Told::Drain(a), Told::Drain(b)) => a == b,
             _ => false,
@@ -129,6 +164,9 @@ impl PlainData for Told {
                 run: *run,
                 reply: reply.copy(alloc)?,
             }),
+            Told::Done => Ok(Told::Done),
+            Told::Refused(refusal) => Ok(Told::Refused(*refusal)),
+            Told::Swept(swept) => Ok(Told::Swept(swept.copy(alloc)?)),
             Told::Collected(collected) => Ok(Told::Collected(collected.copy(alloc)?)),
             Told::Drain(drain) => Ok(Told::Drain(*drain)),
         }

@@ -19,6 +19,7 @@ mod tenants;
 mod waits;
 
 pub use events::{Event, Told};
+pub use floor_steps::{take, taken_told};
 pub use laws::reads_are_answered_of_the_view;
 pub use reasons::tells_full;
 pub use replies::{Called, HallCollected, Reply};

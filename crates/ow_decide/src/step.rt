@@ -1,14 +1,13 @@
 // What is done at each event, over the floor and the rows.
-ghost use Rattle.std.specs.Prelude.{◌≡◌, [], None, IfOk};
-ghost use Rattle.ow_decide.specs.Decisions.{decide};
-ghost use Rattle.ow_decide.specs.Making.{HasPlace, MakesFor};
-ghost use Rattle.ow_decide.specs.declared.waits.Waits.TheVariants.{Keep};
+ghost use Rattle.std.specs.Prelude.{◌≡◌, [], None, true, IfOk};
+ghost use Rattle.ow_decide.specs.Decisions.{decide, wants_memory};
+ghost use Rattle.ow_decide.specs.Making.{HasPlace, MakesFor, telling};
 
 use crate::ask_steps::ask;
 use crate::call_steps::call;
 use crate::collect_steps::collect;
 use crate::events::{Event, Told};
-use crate::floor_steps::{answered, drain, next};
+use crate::floor_steps::{answered, drain, next, sweep};
 use crate::tenants::Tenants;
 use crate::waits::{Wait, Waits};
 use ow_floor::{Floor, Happened};
@@ -34,7 +33,7 @@ pub struct Now {
 impl Step {
     /// Something is told, and nothing else is made ready.
     pub fn telling(told: Told) -> Step
-        ensures { result ≡ record { told = told; change = None; waits = Keep } }
+        ensures { result ≡ telling told }
     {
         Step {
             told,
@@ -44,7 +43,7 @@ impl Step {
     }
 }
 
-/// What is done at an event. On the floor it is done already; without memory some of it may be.
+/// What is done at an event, but for a beginning, a loss or a going. On the floor it is done already; without memory some of it may be.
 pub fn step_for(
     alloc: Global,
     tenants: &Tenants,
@@ -54,6 +53,7 @@ pub fn step_for(
     now: Now,
     event: &Event,
 ) -> Result<Step, NoMemory>
+    requires { wants_memory event.now ≡ true }
     ensures ok { IfOk result (MakesFor waits.now tenants.now tables.old.rows now floor.old.now floor.new.now (λ S. decide S event.now)) }
     ensures before { floor.new.before ≡ floor.old.before }
     ensures rows { tables.new.rows ≡ tables.old.rows }
@@ -65,6 +65,8 @@ pub fn step_for(
         Event::Called { name, params } => call(alloc, tenants, floor, tables, now, name, params),
         Event::Next => next(alloc, floor, now),
         Event::Answered { run, reply } => answered(alloc, floor, now, *run, reply),
+        Event::Sweep => sweep(alloc, floor, now),
+        Event::Begun { .. } | Event::Lost { .. } | Event::Gone { .. } => unreachable!(),
         Event::Collected(id) => collect(alloc, floor, waits, now, *id),
         Event::Drain => Ok(drain(floor, now)),
     }

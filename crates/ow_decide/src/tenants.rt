@@ -1,8 +1,10 @@
-// The office table: who asks, in whose name that runs, in whose name the office itself calls, and which namespaces there are.
+// The office table: who asks, in whose name that runs, in whose name the office itself calls, which namespaces there are, and what
+// the containers may hold.
 ghost use Rattle.std.specs.Prelude.{◌≡◌, IfOk};
 ghost use Rattle.ow_decide.specs.Tenants.{is_granted, number_of, standard};
 
 use ow_names::{EntityName, read_name};
+use ow_traits::Prewarms;
 use ow_value::{Items, NoMemory, Str};
 use std::alloc::Global;
 
@@ -13,6 +15,8 @@ const SUBJECT: &str = "anna";
 const OFFICE: &str = "office";
 
 const SYSTEM: &str = "whisk.system";
+
+const POOL: u32 = 2_048;
 
 /// A namespace, and the number of its ids.
 #[derive(Drop)]
@@ -34,6 +38,10 @@ pub struct Tenants {
     pub office: Str,
     /// The namespaces.
     pub namespaces: Items<Namespace>,
+    /// How much memory all containers hold together at most, in MB.
+    pub pool: u32,
+    /// Which containers are wanted ahead of runs.
+    pub wants: Prewarms,
 }
 
 impl Tenants {
@@ -50,6 +58,8 @@ impl Tenants {
             subject,
             office,
             namespaces,
+            pool: POOL,
+            wants: Items::new(),
         })
     }
 

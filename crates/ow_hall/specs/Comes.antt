@@ -10,7 +10,9 @@ use Rattle.ow_floor.specs.declared.answers.Answered.{Answered}
 use Rattle.ow_floor.specs.declared.answers.AnswerRefusal.{AnswerRefusal}
 use Rattle.ow_floor.specs.declared.answers.AnswerRefusal.TheVariants.{NoRun, NoMemory}
 use Rattle.ow_floor.specs.declared.answers.Drain.{Drain}
+use Rattle.ow_floor.specs.declared.answers.FloorRefusal.{FloorRefusal}
 use Rattle.ow_floor.specs.declared.answers.Order.{Order}
+use Rattle.ow_floor.specs.declared.answers.Swept.{Swept}
 use Rattle.ow_decide.specs.declared.events.Event.{Event}
 use Rattle.ow_decide.specs.declared.events.Told.{Told}
 use Rattle.ow_decide.specs.declared.events.Told.TheVariants as told
@@ -20,6 +22,7 @@ use Rattle.ow_decide.specs.declared.replies.Reply.{Reply}
 use Rattle.ow_decide.specs.declared.replies.Reply.TheVariants as replies
 use Rattle.ow_decide.specs.declared.tenants.Tenants.{Tenants}
 use Rattle.ow_decide.specs.Decision.{Decision}
+use Rattle.ow_decide.specs.Decisions.{taken_told}
 use Rattle.ow_hall.specs.History.{answer, decision, moment}
 use Rattle.ow_hall.specs.Ledger.{Ledger, faulted, posted}
 
@@ -95,6 +98,15 @@ abbrev pub reply_outcome : Result Answered AnswerRefusal → Outcome
 reply_outcome (Ok answered) = Answers (told.Answered answered)
 reply_outcome (Err (NoRun run reply)) = Answers (told.NoRun run reply)
 reply_outcome (Err (NoMemory reply)) = Wants
+
+-- a beginning, a loss or a going
+abbrev pub done_outcome : Result (Unit {0}) FloorRefusal → Outcome
+done_outcome taken = Answers (taken_told taken)
+
+-- a sweep
+abbrev pub swept_outcome : Result Swept Want → Outcome
+swept_outcome (Ok swept) = Answers (told.Swept swept)
+swept_outcome (Err e) = Wants
 
 -- the office that drains
 abbrev pub drain_outcome : Result Drain Want → Outcome

@@ -6,7 +6,7 @@ use Rattle.ow_entity.specs.declared.rows.Row.{Row}
 use Rattle.ow_tables.specs.Builtin.{builtin}
 use Rattle.ow_tables.specs.Contents.{Change}
 use Rattle.ow_tables.specs.Rows.{changed}
-use Rattle.ow_floor.specs.Trace.{Trace}
+use Rattle.ow_floor.specs.Trace.{Opened, Trace}
 use Rattle.ow_hall.specs.declared.entry.Entry.{Entry}
 use Rattle.ow_decide.specs.declared.events.Event.{Event}
 use Rattle.ow_decide.specs.declared.events.Event.TheVariants as events
@@ -108,9 +108,9 @@ after d s = record { rows = all_changed d.changes s.rows; trace = d.items ++ s.t
 abbrev pub sight : Tenants → Seen → ℕ → ℕ → Sight
 sight t s n at = record { tenants = t; rows = s.rows; trace = s.trace; waits = s.waits; counted = n; moment = at }
 
--- behind these entries; before the first the built-in rows stand
+-- behind these entries; before the first the built-in rows stand, and a floor with the table's pool and wants
 abbrev pub seen : Tenants → History → Seen
-seen t [] = record { rows = builtin; trace = []; waits = [] }
+seen t [] = record { rows = builtin; trace = Opened t.pool t.wants ∷ []; waits = [] }
 seen t (e ∷ B) = after (decide (sight t (seen t B) (counted B) e.at) e.event) (seen t B)
 
 -- what is done at an event behind these entries

@@ -27,10 +27,12 @@ collected_posting (collected.Reply answer) = Booked
 collected_posting other = Unbooked
 
 -- behind an entry that ordered nothing, or another. What isn't booked: a `next` that orders nothing behind one that did; a
--- runner's reply to a run that isn't live; an answer that the book is full; what is told of an activation that isn't answered yet
+-- runner's reply to a run that isn't live; a beginning, a loss or a going that is refused; an answer that the book is full; what is
+-- told of an activation that isn't answered yet
 abbrev pub posting_by : Bool → Told → Posting
 posting_by idle (told.Next (orders.Nothing reason)) = if idle then Quiet else Booked
 posting_by idle (told.NoRun run reply) = Denied
+posting_by idle (told.Refused refusal) = Denied
 posting_by idle (told.Full answer) = Unbooked
 posting_by idle (told.Called c) = call_posting c
 posting_by idle (told.Collected c) = collected_posting c

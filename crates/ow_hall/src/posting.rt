@@ -30,7 +30,7 @@ pub(crate) fn posting_of(idle: bool, told: &Told) -> Posting
                 Posting::Booked
             }
         }
-        Told::NoRun { .. } => Posting::Denied,
+        Told::NoRun { .. } | Told::Refused(_) => Posting::Denied,
         Told::Full(_) => Posting::Unbooked,
         Told::Called(called) => call_posting(called),
         Told::Collected(collected) => collected_posting(collected),

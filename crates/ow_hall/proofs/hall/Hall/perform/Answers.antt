@@ -36,7 +36,7 @@ invariant_of-self-2 g c =
     let floor = ap (λ (f : FloorView). f.now) c.apply.ensures.floor ∙ c.settle-2.ensures.kept refl in
     let rows = c.apply.ensures.rows ∙ ap (all_changed (changes_of step.change)) (c.settle-2.ensures.rest.0 ∙ c.in-Ok.ensures.rest.0) in
     let waits = c.apply.ensures.waits ∙ ap (waits_after step.waits) (c.settle-2.ensures.rest.1 ∙ c.in-Ok.ensures.rest.1) in
-    let both = answers t L c.self.inside.state c.apply.new.self c.attempt.new.self.floor.now now event step c.self.invariant.0 c.counted.ensures late most c.requires free
+    let both = answers t L c.self.inside.state c.apply.new.self c.attempt.new.self.floor.now now event step c.self.invariant.0 c.counted.ensures late most c.requires.later free
     c.in-Ok.ensures.ok floor rows waits in
     let made = c.post.ensures.ledger ∙ (ap (λ (l : Ledger). posted l at event c.in-Ok-prepare.copied) c.in-Ok-prepare.ensures.ledger
     ∙ ap (posted L at event) c.in-Ok-prepare.ensures.told) in
