@@ -14,7 +14,9 @@ use Rattle.ow_day.specs.declared.done.Done.{Done}
 use Rattle.ow_day.specs.declared.done.Done.TheVariants.{Asked}
 use Rattle.ow_day.specs.declared.session.Session.{Session}
 use Rattle.ow_invoker.specs.Turns.{Chain, Exchange}
-use Rattle.ow_day.specs.Machine.{ExchangesAll, Meets, done_of}
+use Rattle.ow_invoker.specs.declared.plain_runner.PlainContainer.{PlainContainer}
+use Rattle.ow_invoker.specs.declared.shelf.Laid.{Laid}
+use Rattle.ow_day.specs.Machine.{ExchangesAll, Machine, Meets, done_of}
 use Rattle.ow_day.specs.Session.{Denies, machine_of, told_of}
 
 -- the session over a hall
@@ -25,7 +27,7 @@ over s hall = record { hall = hall; given = s.given; scratch = s.scratch; routes
 pub met : {P : Type 0} (rows : P → KeptRows) (faults : P → ℕ) (old : Session P) (hall : HallView P) (event : Event) (t : Told) → Comes rows faults old.hall hall old.given event (Answers t)
     → Meets (machine_of old) event (done_of t) (machine_of (over old hall))
 met rows faults old hall event t (told, ledger, tenants, holds) =
-    (t, faults old.hall.store, faults hall.store, refl, refl, (told, ledger, tenants, ap faults holds))
+    (t, faults old.hall.store, faults hall.store, refl, refl, refl, (told, ledger, tenants, ap faults holds))
 
 -- ---- requests
 
@@ -47,7 +49,7 @@ asked_by : {P : Type 0} (rows : P → KeptRows) (faults : P → ℕ) (old : Sess
     → Comes rows faults old.hall hall old.given event o → Meets (machine_of old) event (Asked reply) (machine_of (over old hall))
 asked_by rows faults old hall event reply (Answers t) replies comes =
     let m = met rows faults old hall event t comes in
-    (m.0, m.1, m.2, sym (reply_done t reply replies) ∙ m.3, m.4, m.5)
+    (m.0, m.1, m.2, sym (reply_done t reply replies) ∙ m.3, m.4, m.5, m.6)
 asked_by rows faults old hall event reply Wants never comes = absurd never
 asked_by rows faults old hall event reply Fails never comes = absurd never
 
@@ -97,13 +99,18 @@ taken_stays rows faults old hall at event (Err refusal) comes = comes.3
 
 -- ---- turns
 
+-- the machine of the session over a hall, with these containers
+abbrev with_shelf : {P : Type 0} → Session P → HallView P → List (Laid PlainContainer) → Machine
+with_shelf s hall left = record { tenants = hall.tenants; ledger = hall.ledger; given = s.given; shelf = left }
+
 -- events that the hall met one after the other
-pub chained : {P : Type 0} (rows : P → KeptRows) (faults : P → ℕ) (old : Session P) (hall : HallView P) (xs : List Exchange) → Chain rows faults old.hall hall old.given xs → ExchangesAll (machine_of old) xs (machine_of (over old hall))
-chained rows faults old hall [] same = ap (λ h. machine_of (over old h)) same
-chained rows faults old hall (x ∷ xs) (middle, (comes, rest)) = (
+pub chained : {P : Type 0} (rows : P → KeptRows) (faults : P → ℕ) (old : Session P) (hall : HallView P) (left : List (Laid PlainContainer)) (xs : List Exchange) → Chain rows faults old.hall hall old.given xs
+    → ExchangesAll (machine_of old) xs (with_shelf old hall left)
+chained rows faults old hall left [] same = ap (λ h. with_shelf old h left) same
+chained rows faults old hall left (x ∷ xs) (middle, (comes, rest)) = (
   machine_of (over old middle),
   (faults old.hall.store, faults middle.store, refl, (comes.0, comes.1, comes.2, ap faults comes.3)),
-  chained rows faults (over old middle) hall xs rest,
+  chained rows faults (over old middle) hall left xs rest,
 )
 
 -- the store is as it was

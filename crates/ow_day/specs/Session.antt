@@ -15,7 +15,7 @@ use Rattle.ow_day.specs.Texts.{lines_of}
 
 -- the machine that a session of the code is
 abbrev pub machine_of : {P : Type 0} → Session P → Machine
-machine_of s = record { tenants = s.hall.tenants; ledger = s.hall.ledger; given = s.given }
+machine_of s = record { tenants = s.hall.tenants; ledger = s.hall.ledger; given = s.given; shelf = s.shelf }
 
 -- why a runner's reply isn't taken: no live run has its number, or memory is wanted
 abbrev pub Denies : AnswerRefusal → Result Done Want → Type 0

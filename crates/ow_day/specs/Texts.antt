@@ -54,20 +54,20 @@ place_text slot generation = codes " slot " ++ (decimal slot ++ (codes " gen " +
 
 -- from which container a run starts
 abbrev pub start_text : Start → List ℕ
-start_text Warm = codes "warm"
-start_text Prewarmed = codes "prewarmed"
-start_text Cold = codes "cold"
+start_text Warm = codes " warm\n"
+start_text Prewarmed = codes " prewarmed\n"
+start_text Cold = codes " cold\n"
 
 abbrev pub run_text : RunOrder → List ℕ
-run_text order = codes "run " ++ (decimal order.run ++ (codes " " ++ (id_text order.id ++ (place_text order.slot order.generation ++ (codes " " ++ (start_text order.start ++ codes "\n"))))))
+run_text order = codes "run " ++ (decimal order.run ++ (codes " " ++ (id_text order.id ++ (place_text order.slot order.generation ++ start_text order.start))))
 
 -- the runner that a container is for
 abbrev pub kind_text : Kind → List ℕ
-kind_text Plain = codes "plain:1"
-kind_text Program = codes "program:1"
+kind_text Plain = codes " plain:1"
+kind_text Program = codes " program:1"
 
 abbrev pub prewarm_text : PrewarmOrder → List ℕ
-prewarm_text order = codes "prewarm " ++ (decimal order.run ++ (place_text order.slot order.generation ++ (codes " " ++ (kind_text order.kind ++ (codes " " ++ (decimal order.memory ++ codes "\n"))))))
+prewarm_text order = codes "prewarm " ++ (decimal order.run ++ (place_text order.slot order.generation ++ (kind_text order.kind ++ (codes " " ++ (decimal order.memory ++ codes "\n")))))
 
 abbrev pub container_text : Container → List ℕ
 container_text c = codes " " ++ (decimal c.slot ++ (codes ":" ++ decimal c.generation))

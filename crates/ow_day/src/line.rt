@@ -244,10 +244,7 @@ fn gone_of(rest: &[u8]) -> Option<Line<'_>>
     if generation > GREATEST_OF_SLOT {
         return None;
     }
-    Some(Line::Whole(Statement::Gone(
-        slot as u32,
-        generation as u32,
-    )))
+    Some(Line::Whole(Statement::Gone(slot as u32, generation as u32)))
 }
 
 #[tactic(auto, unfolding(crate::specs::Statement::collect_of))]

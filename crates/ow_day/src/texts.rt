@@ -8,8 +8,8 @@ use crate::done::Done;
 use itoa::Buffer;
 use ow_decide::{Called, HallCollected, Reply};
 use ow_floor::{
-    Answered, Container, Drain, FloorRefusal, Happened, Happening, Idle, Order, PrewarmOrder, RunOrder,
-    Swept,
+    Answered, Container, Drain, FloorRefusal, Happened, Happening, Idle, Order, PrewarmOrder,
+    RunOrder, Swept,
 };
 use ow_http::{Answer, Reason, reason_text, write_reply};
 use ow_invoker::{TurnStep, Turned};
@@ -107,23 +107,17 @@ fn push_idle(answers: &mut Vec<u8>, idle: Idle) -> Result<(), NoMemory>
 fn push_run(answers: &mut Vec<u8>, order: &RunOrder) -> Result<(), NoMemory>
     ensures ok { OnOk result (answers.new.items ≡ answers.old.items ++ run_text order.now) }
 {
-    push(answers, b"run ")?;
-    push_number(answers, order.run)?;
-    push(answers, b" ")?;
+    push_with(answers, b"run ", order.run, b" ")?;
     order.id.push_text(answers)?;
     push_place(answers, order.slot, order.generation)?;
-    push(answers, b" ")?;
-    push_start(answers, order.start)?;
-    push(answers, b"\n")
+    push_start(answers, order.start)
 }
 
 // Puts where a container is.
 fn push_place(answers: &mut Vec<u8>, slot: u32, generation: u32) -> Result<(), NoMemory>
     ensures ok { OnOk result (answers.new.items ≡ answers.old.items ++ place_text slot generation) }
 {
-    push(answers, b" slot ")?;
-    push_number(answers, u64::from(slot))?;
-    push(answers, b" gen ")?;
+    push_with(answers, b" slot ", u64::from(slot), b" gen ")?;
     push_number(answers, u64::from(generation))
 }
 
@@ -131,31 +125,27 @@ fn push_start(answers: &mut Vec<u8>, start: Start) -> Result<(), NoMemory>
     ensures ok { OnOk result (answers.new.items ≡ answers.old.items ++ start_text start) }
 {
     match start {
-        Start::Warm => push(answers, b"warm"),
-        Start::Prewarmed => push(answers, b"prewarmed"),
-        Start::Cold => push(answers, b"cold"),
+        Start::Warm => push(answers, b" warm\n"),
+        Start::Prewarmed => push(answers, b" prewarmed\n"),
+        Start::Cold => push(answers, b" cold\n"),
     }
 }
 
 fn push_prewarm(answers: &mut Vec<u8>, order: PrewarmOrder) -> Result<(), NoMemory>
     ensures ok { OnOk result (answers.new.items ≡ answers.old.items ++ prewarm_text order) }
 {
-    push(answers, b"prewarm ")?;
-    push_number(answers, order.run)?;
+    push_with(answers, b"prewarm ", order.run, b"")?;
     push_place(answers, order.slot, order.generation)?;
-    push(answers, b" ")?;
     push_kind(answers, order.kind)?;
-    push(answers, b" ")?;
-    push_number(answers, u64::from(order.memory))?;
-    push(answers, b"\n")
+    push_counted(answers, b" ", u64::from(order.memory))
 }
 
 fn push_kind(answers: &mut Vec<u8>, kind: Kind) -> Result<(), NoMemory>
     ensures ok { OnOk result (answers.new.items ≡ answers.old.items ++ kind_text kind) }
 {
     match kind {
-        Kind::Plain => push(answers, b"plain:1"),
-        Kind::Program => push(answers, b"program:1"),
+        Kind::Plain => push(answers, b" plain:1"),
+        Kind::Program => push(answers, b" program:1"),
     }
 }
 
@@ -179,9 +169,7 @@ fn push_containers(answers: &mut Vec<u8>, containers: &[Container]) -> Result<()
 fn push_container(answers: &mut Vec<u8>, container: Container) -> Result<(), NoMemory>
     ensures ok { OnOk result (answers.new.items ≡ answers.old.items ++ container_text container) }
 {
-    push(answers, b" ")?;
-    push_number(answers, u64::from(container.slot))?;
-    push(answers, b":")?;
+    push_with(answers, b" ", u64::from(container.slot), b":")?;
     push_number(answers, u64::from(container.generation))
 }
 
@@ -210,9 +198,7 @@ fn push_late(answers: &mut Vec<u8>, run: u64, at: u64) -> Result<(), NoMemory>
 fn push_no_run(answers: &mut Vec<u8>, run: u64) -> Result<(), NoMemory>
     ensures ok { OnOk result (answers.new.items ≡ answers.old.items ++ no_run_text run) }
 {
-    push(answers, b"refused 29 No run ")?;
-    push_number(answers, run)?;
-    push(answers, b".\n")
+    push_with(answers, b"refused 29 No run ", run, b".\n")
 }
 
 // Puts the line of what is told of a container, and isn't taken.
@@ -229,11 +215,13 @@ fn push_denied(answers: &mut Vec<u8>, refusal: FloorRefusal) -> Result<(), NoMem
 fn push_no_slot(answers: &mut Vec<u8>, slot: u32, kept: u32) -> Result<(), NoMemory>
     ensures ok { OnOk result (answers.new.items ≡ answers.old.items ++ denied_text (FloorRefusal.NoSlot slot kept)) }
 {
-    push(answers, b"refused 28 No slot ")?;
-    push_number(answers, u64::from(slot))?;
-    push(answers, b" of that generation: ")?;
-    push_number(answers, u64::from(kept))?;
-    push(answers, b" kept.\n")
+    push_with(
+        answers,
+        b"refused 28 No slot ",
+        u64::from(slot),
+        b" of that generation: ",
+    )?;
+    push_with(answers, b"", u64::from(kept), b" kept.\n")
 }
 
 // Puts what a sweep did.
@@ -253,9 +241,7 @@ fn push_lost(answers: &mut Vec<u8>, run: u64) -> Result<(), NoMemory>
 fn push_gone(answers: &mut Vec<u8>, slot: u32, generation: u32) -> Result<(), NoMemory>
     ensures ok { OnOk result (answers.new.items ≡ answers.old.items ++ (codes "gone " ++ (decimal slot ++ (codes " " ++ (decimal generation ++ codes "\n"))))) }
 {
-    push(answers, b"gone ")?;
-    push_number(answers, u64::from(slot))?;
-    push(answers, b" ")?;
+    push_with(answers, b"gone ", u64::from(slot), b" ")?;
     push_number(answers, u64::from(generation))?;
     push(answers, b"\n")
 }
@@ -303,9 +289,16 @@ fn push_drain(answers: &mut Vec<u8>, drain: Drain) -> Result<(), NoMemory>
 fn push_counted(answers: &mut Vec<u8>, word: &[u8], n: u64) -> Result<(), NoMemory>
     ensures ok { OnOk result (answers.new.items ≡ answers.old.items ++ (word.now ++ (decimal n ++ codes "\n"))) }
 {
-    push(answers, word)?;
+    push_with(answers, word, n, b"\n")
+}
+
+// Puts a number between two words.
+fn push_with(answers: &mut Vec<u8>, before: &[u8], n: u64, behind: &[u8]) -> Result<(), NoMemory>
+    ensures ok { OnOk result (answers.new.items ≡ answers.old.items ++ (before.now ++ (decimal n ++ behind.now))) }
+{
+    push(answers, before)?;
     push_number(answers, n)?;
-    push(answers, b"\n")
+    push(answers, behind)
 }
 
 // Puts the line of a refusal.
