@@ -11,6 +11,7 @@ use Rattle.ow_entity.specs.declared.actions.Action.{Action}
 use Rattle.ow_entity.specs.declared.kinds.EntityKind.TheVariants as kinds
 use Rattle.ow_entity.specs.declared.rows.Row.{Row}
 use Rattle.ow_entity.specs.declared.rows.Row.TheVariants as rows
+use Rattle.ow_packages.specs.declared.effective_action.Effective.{Effective}
 use Rattle.ow_tables.specs.Rows.{found}
 use Rattle.ow_records.specs.declared.ids.Id.{Id}
 use Rattle.ow_floor.specs.Trace.{last}
@@ -72,12 +73,16 @@ abbrev pub until_of : ℕ → Bool → Action → Option ℕ
 until_of at true action = Some (at + min 60000 action.limits.timeout)
 until_of at false action = None
 
+-- what an action outside packages is called with: its own parameters
+abbrev pub own_effective : Action → Effective
+own_effective action = record { action = action; params = action.params; binding = None }
+
 -- what is to be accepted under an id: the action as it stands, with merged parameters, in the name of a subject
 abbrev pub plan_for : List ℕ → Option ℕ → Id → FullName → Action → Pairs → Plan
 plan_for subject until id name action params = record {
   id = id;
   namespace = name.namespace;
-  action = action;
+  effective = own_effective action;
   params = params;
   subject = subject;
   cause = None;

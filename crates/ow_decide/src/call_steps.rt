@@ -2,7 +2,7 @@
 ghost use Rattle.std.specs.Prelude.{◌≡◌, ◌+◌, None, IfOk, option_map};
 ghost use Rattle.ow_floor.specs.View.{last_of};
 ghost use Rattle.ow_floor.specs.Laws.{Stands};
-ghost use Rattle.ow_decide.specs.Calling.{call_decision, call_plan, callee_in, fitting, invocation_plan, pairs_of, plan_for, until_of};
+ghost use Rattle.ow_decide.specs.Calling.{call_decision, call_plan, callee_in, fitting, invocation_plan, own_effective, pairs_of, plan_for, until_of};
 ghost use Rattle.ow_decide.specs.Sight.{Sight};
 ghost use Rattle.ow_decide.specs.Making.{IsSeen, Makes};
 
@@ -15,6 +15,7 @@ use ow_entity::{Action, EntityKind, EntityRefusal, Row};
 use ow_floor::{Floor, Plan};
 use ow_http::{CallRefusal, Reason, ServiceRefusal};
 use ow_names::FullName;
+use ow_packages::Effective;
 use ow_records::Id;
 use ow_tables::Tables;
 use ow_value::{MEGABYTE, NoMemory, Params, PlainData, Shared, Str, Val, merge, size};
@@ -139,15 +140,28 @@ fn plan_for(
 {
     let subject = subject.copy(alloc)?;
     let namespace = name.namespace.copy(alloc)?;
-    let action = action.copy(alloc)?;
+    let effective = own_effective(alloc, action)?;
     Ok(Plan {
         id,
         namespace,
-        action,
+        effective,
         params,
         subject,
         cause: None,
         until,
+    })
+}
+
+// What an action outside packages is called with: its own parameters.
+fn own_effective(alloc: Global, action: &Shared<Action>) -> Result<Effective, NoMemory>
+    ensures { IfOk result (λ e. e ≡ own_effective action.now) }
+{
+    let params = action.get().params.get().copy(alloc)?;
+    let action = action.copy(alloc)?;
+    Ok(Effective {
+        action,
+        params,
+        binding: None,
     })
 }
 

@@ -49,7 +49,7 @@ fn told(
         }
         Ok(Collected::NotYet) => Ok(HallCollected::NotYet),
         Ok(Collected::Elapsed) => Ok(HallCollected::Reply(accepted_answer(alloc, id)?)),
-        Err(FloorRefusal::NotFound) => Ok(HallCollected::Unknown),
+        Err(_) => Ok(HallCollected::Unknown),
     }
 }
 

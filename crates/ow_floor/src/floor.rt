@@ -15,6 +15,7 @@ use crate::{
     AnswerRefusal, Answered, Collected, Drain, FloorRefusal, Happened, Happening, Idle, Order,
     Plan, Run, RunOrder, Swept,
 };
+use ow_packages::Effective;
 use ow_records::{Activation, Ending, Id, Record, Records};
 use ow_slots::Start;
 use ow_traits::{Prewarms, RunReply};
@@ -359,17 +360,21 @@ fn activation_of(at: u64, plan: Plan) -> Activation
     let Plan {
         id,
         namespace,
-        action,
+        effective,
         params,
         subject,
         cause,
         until,
     } = plan;
+    let Effective {
+        action, binding, ..
+    } = effective;
     Activation {
         id,
         at,
         namespace,
         action,
+        binding,
         params,
         subject,
         cause,
