@@ -5,3 +5,4 @@ mod ReadLaws
 mod RecordLaws
 mod ViewLaws
 mod WaitLaws
+mod FloorLaws

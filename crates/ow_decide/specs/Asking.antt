@@ -34,6 +34,7 @@ use Rattle.ow_decide.specs.declared.acts.Reading.{Reading}
 use Rattle.ow_decide.specs.declared.acts.Reading.TheVariants.{Rows, Row as OneRow, Activations, Activation}
 use Rattle.ow_decide.specs.declared.events.Told.{Told}
 use Rattle.ow_decide.specs.declared.events.Told.TheVariants as told
+use Rattle.ow_decide.specs.declared.replies.Reply.{Reply}
 use Rattle.ow_decide.specs.declared.replies.Reply.TheVariants as replies
 use Rattle.ow_decide.specs.declared.waits.Shows.{Shows}
 use Rattle.ow_decide.specs.declared.waits.Waits.TheVariants.{Keep}
