@@ -26,8 +26,8 @@ post-requires g c =
     subst (λ (x : Told). posting L.entries x ≡ Booked → IsReady L.entries room 0 event x 0) (sym c.taken_told.ensures)
     (λ booked. ready_alone L.entries room n 0 event (taken_told taken) (taken_ready t L at room event taken c.self.invariant.1 c.requires done.0.told booked))
 
-pub invariant_of-self-2 : goal.invariant_of-self-2
-invariant_of-self-2 g c =
+pub invariant_of-self : goal.invariant_of-self
+invariant_of-self g c =
     let t = c.self.inside.tenants in
     let L = c.self.inside.book.ledger in
     let event = c.args.event in
