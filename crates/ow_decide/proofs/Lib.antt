@@ -1,6 +1,8 @@
 pub mod AskLaws
 pub mod Results
 mod Filters
+mod SeenLaws
+mod BehindLaws
 mod ReadLaws
 mod RecordLaws
 mod ViewLaws

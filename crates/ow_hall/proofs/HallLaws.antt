@@ -62,7 +62,7 @@ tells_so idle t = unless_any (posting_by idle t) (Leaves (tells t)) (refl, refl,
 
 ask_so : (idle : Bool) (at : ℕ) (d : Result Done Reason) → Unbooks idle (ask_decision at d)
 ask_so idle at (Ok (ShownDone value)) = tt
-ask_so idle at (Ok (Changed change)) = tt
+ask_so idle at (Ok (Changed change value)) = tt
 ask_so idle at (Ok (Invoked plan shows)) = tt
 ask_so idle at (Err reason) = tells_so idle (refusal_told reason)
 

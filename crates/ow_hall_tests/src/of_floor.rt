@@ -4,8 +4,8 @@ ghost use Rattle.ow_floor.specs.View.{last_of};
 
 use ow_entity::{Action, EntityParams, Exec, Limits, ProgramName};
 use ow_floor::{Answered, Drain, Floor, FloorRefusal, Happened, Happening, Order, Plan};
-use ow_packages::Effective;
 use ow_names::{EntityName, read_name, resolve};
+use ow_packages::Effective;
 use ow_records::{Ending, Id};
 use ow_traits::{Kind, RunReply};
 use ow_value::{Items, Lines, NoMemory, Params, PlainData, Shared, Str};
