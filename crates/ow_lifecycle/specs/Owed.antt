@@ -6,7 +6,6 @@ use Rattle.ow_slots.specs.declared.states.Slot.{Slot}
 use Rattle.ow_slots.specs.declared.states.Work.{Work}
 use Rattle.ow_slots.specs.State.{is_warm}
 use Rattle.ow_lifecycle.specs.Life.{Event, Ran, Prewarming, Removed, Begun, Answered, Lost, Gone, Overran, Reopened}
-use Rattle.ow_lifecycle.specs.Fitting.{IsFit, changed}
 
 -- whether a run may still begin
 abbrev pub may_begin : Work → Bool

@@ -1,0 +1,201 @@
+-- What each event leaves to come.
+use Rattle.std.proofs.Common.{◌≡◌, ◌+◌, ◌≤◌, ◌&&◌, ℕ, zero, suc, Bool, true, false, cond, not, List, [], ◌∷◌, Option, Some, None, refl, arith}
+use Rattle.std.specs.Prelude.{is_none}
+use Rattle.std.specs.List.{find, slice_get}
+use Rattle.std.proofs.lemmas.List.Sums.{sum_by-cons}
+use Rattle.ow_slots.specs.declared.keys.Key.{Key}
+use Rattle.ow_slots.specs.declared.states.State.{State}
+use Rattle.ow_slots.specs.declared.states.State.TheVariants.{Vacant, Opening, Prewarmed, Busy, Idle, Closing}
+use Rattle.ow_slots.specs.declared.states.Slot.{Slot}
+use Rattle.ow_slots.specs.declared.states.Work.{Work}
+use Rattle.ow_slots.specs.Slots.{IsThere, change, change_first, first_with, has}
+use Rattle.ow_slots.specs.State.{CanGo, IsUnrecorded, IsVacant, StartFits, after_gone, answered_state, assigned, awaits, begun_state, gone_state, goes, holds, is_warm, lost_state, opened, overrun_state, removed_state, runs, takes_gone, with_state, work_of}
+use Rattle.ow_pool.specs.Keeping.{CanAllGo, removed}
+use Rattle.ow_lifecycle.specs.Life.{Event, Ran, Prewarming, Removed, Begun, Answered, Lost, Gone, Overran, Reopened}
+use Rattle.ow_lifecycle.specs.Fitting.{Goes, IsAny, IsFit, changed, emptied}
+use Rattle.ow_lifecycle.specs.Owed.{OwesAfter, may_begin, owed, owed_by}
+
+abbrev owed_of : Slot → ℕ
+owed_of s = owed_by s.state
+
+-- what a change of one slot does to the sum
+sum_change : (n : ℕ) (g : Slot → Slot) (slots : List Slot) (s : Slot) → slice_get slots n ≡ Some s → owed (change n g slots) + owed_of s ≡ owed slots + owed_of (g s)
+unfolding change
+sum_change n g [] s e = cc
+sum_change zero g (x ∷ slots) s e =
+    let same : x ≡ s = cc in
+    let a = sum_by-cons owed_of (g x) slots in let b = sum_by-cons owed_of x slots in
+    rw (← same) (omega (arith, a, b))
+sum_change (suc n) g (x ∷ slots) s e =
+    let rest = sum_change n g slots s e in
+    let a = sum_by-cons owed_of x (change n g slots) in let b = sum_by-cons owed_of x slots in
+    omega (arith, a, b, rest)
+
+-- a slot that passes, and what the change of the first that does makes of the sum
+record Firsts (p : Slot → Bool) (g : Slot → Slot) (slots : List Slot) (s : Slot) : Type 0 where
+  passes : p s ≡ true
+  sum : owed (change_first p g slots) + owed_of s ≡ owed slots + owed_of (g s)
+
+sum_first : (p : Slot → Bool) (g : Slot → Slot) (slots : List Slot) (s : Slot) → find p slots ≡ Some s → Firsts p g slots s
+unfolding change_first
+sum_first p g [] s e = cc
+sum_first p g (x ∷ slots) s e = by_test (p x) refl e (sum_first p g slots s)
+  where
+    by_test : (b : Bool) → p x ≡ b → cond b (Some x) (find p slots) ≡ Some s → (find p slots ≡ Some s → Firsts p g slots s)
+        → Firsts p g (x ∷ slots) s
+    by_test true t found rest =
+        let same : x ≡ s = cc in
+        let a = sum_by-cons owed_of (g x) slots in let b = sum_by-cons owed_of x slots in
+        record { passes = rw (← same) t; sum = rw (t, ← same) (omega (arith, a, b)) }
+    by_test false t found rest =
+        let more = rest found in let sum = more.sum in
+        let a = sum_by-cons owed_of x (change_first p g slots) in let b = sum_by-cons owed_of x slots in
+        record { passes = more.passes; sum = rw t (omega (arith, a, b, sum)) }
+
+-- where the first slot that passes is changed so that it owes less, all owe less
+less_first : (p : State → Bool) (f : State → State) (P : Slot → Type 0) (less : ℕ) (slots : List Slot) → ((s : State) → p s ≡ true → owed_by (f s) + less ≤ owed_by s)
+    → IsThere P (first_with p slots) → owed (change_first (has p) (with_state f) slots) + less ≤ owed slots
+less_first p f P less slots lowers there = by_found (first_with p slots) refl there
+  where
+    by_found : (found : Option Slot) → first_with p slots ≡ found → IsThere P found → owed (change_first (has p) (with_state f) slots) + less ≤ owed slots
+    by_found None e h = absurd h
+    by_found (Some s) e h =
+        let first = sum_first (has p) (with_state f) slots s e in
+        let sum : owed (change_first (has p) (with_state f) slots) + owed_by s.state ≡ owed slots + owed_by (f s.state) = first.sum in
+        let le = lowers s.state first.passes in
+        omega (arith, sum, le)
+
+-- the same of a change at a number
+less_at : (g : Slot → Slot) (P : Slot → Type 0) (n more less : ℕ) (slots : List Slot) → ((s : Slot) → P s → owed_of (g s) + less ≤ owed_of s + more)
+    → IsThere P (slice_get slots n) → owed (change n g slots) + less ≤ owed slots + more
+less_at g P n more less slots bounds there = by_found (slice_get slots n) refl there
+  where
+    by_found : (found : Option Slot) → slice_get slots n ≡ found → IsThere P found → owed (change n g slots) + less ≤ owed slots + more
+    by_found None e h = absurd h
+    by_found (Some s) e h =
+        let sum = sum_change n g slots s e in
+        let le = bounds s h in
+        omega (arith, sum, le)
+
+may_begin_at_most : (b : Bool) → cond b 1 0 ≤ 1
+may_begin_at_most true = omega arith
+may_begin_at_most false = omega arith
+
+owed_at_most : (w : Work) → owed_by (Busy w) ≤ 3
+owed_at_most w =
+    let a = may_begin_at_most (may_begin w) in
+    let b = gone_at_most w.gone in
+    omega (arith, a, b)
+  where
+    gone_at_most : (b : Bool) → cond b 0 1 ≤ 1
+    gone_at_most true = omega arith
+    gone_at_most false = omega arith
+
+begun_busy : (w x : Bool) (b : Option ℕ) (at g : ℕ) → (not w && (is_none b && x)) ≡ true
+    → 1 + cond (not w && is_none (Some at)) 1 0 + g + 1 ≤ 1 + cond (not w && is_none b) 1 0 + g
+begun_busy true x b at g h = cc
+begun_busy false x None at g h = omega arith
+begun_busy false x (Some t) at g h = cc
+
+begun_less : (run at : ℕ) (s : State) → awaits run s ≡ true → owed_by (begun_state at s) + 1 ≤ owed_by s
+begun_less run at Vacant h = cc
+begun_less run at (Opening r kind memory) h = omega arith
+begun_less run at (Prewarmed kind memory) h = cc
+begun_less run at (Busy w) h = begun_busy (is_warm w.start) _ w.begun at (cond w.gone 0 1) h
+begun_less run at (Idle key last) h = cc
+begun_less run at (Closing memory) h = cc
+
+answered_busy : (g c : Bool) (key : Key) (at m : ℕ) → owed_by (cond g Vacant (cond c (Idle key at) (Closing key.memory))) + 1 ≤ 1 + m + cond g 0 1
+answered_busy true c key at m = omega arith
+answered_busy false true key at m = omega arith
+answered_busy false false key at m = omega arith
+
+answered_less : (run : ℕ) (alive : Bool) (at : ℕ) (s : State) → runs run s ≡ true → owed_by (answered_state alive at s) + 1 ≤ owed_by s
+answered_less run alive at Vacant h = cc
+answered_less run alive at (Opening r kind memory) h = cc
+answered_less run alive at (Prewarmed kind memory) h = cc
+answered_less run alive at (Busy w) h = answered_busy w.gone (alive && is_none w.recorded) w.key at (cond (may_begin w) 1 0)
+answered_less run alive at (Idle key last) h = cc
+answered_less run alive at (Closing memory) h = cc
+
+lost_busy : (g : Bool) (memory m : ℕ) → owed_by (cond g Vacant (Closing memory)) + 1 ≤ 1 + m + cond g 0 1
+lost_busy true memory m = omega arith
+lost_busy false memory m = omega arith
+
+lost_less : (run : ℕ) (s : State) → holds run s ≡ true → owed_by (lost_state s) + 1 ≤ owed_by s
+lost_less run Vacant h = cc
+lost_less run (Opening r kind memory) h = omega arith
+lost_less run (Prewarmed kind memory) h = cc
+lost_less run (Busy w) h = lost_busy w.gone w.key.memory (cond (may_begin w) 1 0)
+lost_less run (Idle key last) h = cc
+lost_less run (Closing memory) h = cc
+
+overrun_less : (run at : ℕ) (s : State) → runs run s ≡ true → owed_by (overrun_state at s) + 0 ≤ owed_by s
+overrun_less run at Vacant h = cc
+overrun_less run at (Opening r kind memory) h = cc
+overrun_less run at (Prewarmed kind memory) h = cc
+overrun_less run at (Busy w) h = omega arith
+overrun_less run at (Idle key last) h = cc
+overrun_less run at (Closing memory) h = cc
+
+gone_busy : (g : Bool) (m : ℕ) → not g ≡ true → 1 + m + cond true 0 1 + 1 ≤ 1 + m + cond g 0 1
+gone_busy true m h = cc
+gone_busy false m h = omega arith
+
+gone_less : (s : State) → takes_gone s ≡ true → owed_by (gone_state s) + 1 ≤ owed_by s
+gone_less Vacant h = cc
+gone_less (Opening r kind memory) h = cc
+gone_less (Prewarmed kind memory) h = omega arith
+gone_less (Busy w) h = gone_busy w.gone (cond (may_begin w) 1 0) h
+gone_less (Idle key last) h = omega arith
+gone_less (Closing memory) h = omega arith
+
+second_of : (a b : Bool) → (a && b) ≡ true → b ≡ true
+second_of true b e = e
+second_of false b e = cc
+
+gone_at : (generation : ℕ) (s : Slot) → goes generation s ≡ true → owed_of (after_gone generation s) + 1 ≤ owed_of s + 0
+gone_at generation s h =
+    let le = gone_less s.state (second_of _ (takes_gone s.state) h) in
+    rw h (omega (arith, le))
+
+removed_less : (s : State) → owed_by (removed_state s) ≤ owed_by s
+removed_less Vacant = omega arith
+removed_less (Opening r kind memory) = omega arith
+removed_less (Prewarmed kind memory) = omega arith
+removed_less (Busy w) = omega arith
+removed_less (Idle key last) = omega arith
+removed_less (Closing memory) = omega arith
+
+all_removed : (ns : List ℕ) (slots : List Slot) → CanAllGo ns slots → owed (removed ns slots) ≤ owed slots
+all_removed [] slots can = omega arith
+all_removed (n ∷ ns) slots can =
+    let rest = all_removed ns (change n (with_state removed_state) slots) can.1 in
+    let one = less_at (with_state removed_state) CanGo n 0 0 slots (λ s h. let le = removed_less s.state in omega (arith, le)) can.0 in
+    omega (arith, rest, one)
+
+none_owed : (slots : List Slot) → owed (emptied slots) ≡ 0
+none_owed [] = refl
+none_owed (s ∷ slots) =
+    let rest = none_owed slots in
+    let sum = sum_by-cons owed_of (with_state (λ state. Vacant) s) (emptied slots) in
+    omega (arith, rest, sum)
+
+pub owes : (event : Event) (slots : List Slot) (count : ℕ) → IsFit event slots count → OwesAfter event (owed slots) (owed (changed event slots))
+owes (Ran slot run key start at) slots count fit =
+    let le = less_at (assigned run key start at) (StartFits start) slot 3 0 slots (λ s h. let most = owed_at_most (work_of run key start at) in omega (arith, most)) fit.fits in
+    omega (arith, le)
+owes (Prewarming slot run kind memory) slots count fit =
+    let le = less_at (opened run kind memory) IsVacant slot 3 0 slots (λ s h. omega arith) fit.fits in
+    omega (arith, le)
+owes (Removed ns) slots count fit = all_removed ns slots fit
+owes (Begun run at) slots count fit = less_first (awaits run) (begun_state at) IsAny 1 slots (begun_less run at) fit
+owes (Answered run alive at) slots count fit = less_first (runs run) (answered_state alive at) IsAny 1 slots (answered_less run alive at) fit
+owes (Lost run) slots count fit = less_first (holds run) lost_state IsAny 1 slots (lost_less run) fit
+owes (Gone slot generation) slots count fit =
+    let le = less_at (after_gone generation) (Goes generation) slot 0 1 slots (gone_at generation) fit in
+    omega (arith, le)
+owes (Overran run at) slots count fit =
+    let le = less_first (runs run) (overrun_state at) IsUnrecorded 0 slots (overrun_less run at) fit in
+    omega (arith, le)
+owes Reopened slots count fit = let none = none_owed slots in omega (arith, none)
