@@ -2,6 +2,7 @@ pub mod Firsts
 pub mod Finding
 pub mod Going
 pub mod Undoing
+pub mod Restoring
 pub mod Drawn
 pub mod Blocking
 pub mod Numbers
@@ -9,10 +10,12 @@ pub mod Alters
 pub mod Tallies
 pub mod Among
 pub mod Standing
+pub mod Placing
+pub mod Serving
+pub mod Slotting
 pub mod Soundness
 pub mod Coming
 pub mod Showing
-pub mod Later
 pub mod Owing
 pub mod Making
 pub mod Growing

@@ -198,5 +198,9 @@ impl Slots {
 fn vacant_slots(alloc: Global, slots: &[Slot]) -> Result<Vec<Slot>, NoMemory>
     ensures { IfOk result (λ v. v.items ≡ map (with_state (λ state. Vacant)) slots.now) }
 {
-    Ok(slots.iter().map(|slot| slot.vacated()).collect(alloc)?)
+    let mut vacant = Vec::new(alloc);
+    for slot in slots {
+        vacant.push(slot.vacated())?;
+    }
+    Ok(vacant)
 }
