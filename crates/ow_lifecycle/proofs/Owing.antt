@@ -9,11 +9,11 @@ use Rattle.ow_slots.specs.declared.states.State.TheVariants.{Vacant, Opening, Pr
 use Rattle.ow_slots.specs.declared.states.Slot.{Slot}
 use Rattle.ow_slots.specs.declared.states.Work.{Work}
 use Rattle.ow_slots.specs.Slots.{IsThere, change, change_first, first_with, has}
-use Rattle.ow_slots.specs.State.{CanGo, IsUnrecorded, IsVacant, StartFits, after_gone, answered_state, assigned, awaits, begun_state, gone_state, goes, holds, is_warm, lost_state, opened, overrun_state, removed_state, runs, takes_gone, with_state, work_of}
-use Rattle.ow_pool.specs.Keeping.{CanAllGo, removed}
+use Rattle.ow_slots.specs.State.{after_gone, answered_state, assigned, awaits, begun_state, gone_state, goes, holds, is_warm, lost_state, opened, overrun_state, removed_state, runs, takes_gone, with_state, work_of}
+use Rattle.ow_pool.specs.Keeping.{removed}
 use Rattle.ow_lifecycle.specs.Life.{Event, Ran, Prewarming, Removed, Begun, Answered, Lost, Gone, Overran, Reopened}
 use Rattle.ow_lifecycle.specs.Fitting.{Goes, IsAny, IsFit, changed, emptied}
-use Rattle.ow_lifecycle.specs.Owed.{OwesAfter, may_begin, owed, owed_by}
+use Rattle.ow_lifecycle.specs.Owed.{fall_of, may_begin, owed, owed_by, rise_of}
 
 abbrev owed_of : Slot → ℕ
 owed_of s = owed_by s.state
@@ -53,11 +53,11 @@ sum_first p g (x ∷ slots) s e = by_test (p x) refl e (sum_first p g slots s)
         record { passes = more.passes; sum = rw t (omega (arith, a, b, sum)) }
 
 -- where the first slot that passes is changed so that it owes less, all owe less
-less_first : (p : State → Bool) (f : State → State) (P : Slot → Type 0) (less : ℕ) (slots : List Slot) → ((s : State) → p s ≡ true → owed_by (f s) + less ≤ owed_by s)
-    → IsThere P (first_with p slots) → owed (change_first (has p) (with_state f) slots) + less ≤ owed slots
-less_first p f P less slots lowers there = by_found (first_with p slots) refl there
+less_first : (p : State → Bool) (f : State → State) (P : Slot → Type 0) (slots : List Slot) → ((s : State) → p s ≡ true → owed_by (f s) + 1 ≤ owed_by s)
+    → IsThere P (first_with p slots) → owed (change_first (has p) (with_state f) slots) + 1 ≤ owed slots
+less_first p f P slots lowers there = by_found (first_with p slots) refl there
   where
-    by_found : (found : Option Slot) → first_with p slots ≡ found → IsThere P found → owed (change_first (has p) (with_state f) slots) + less ≤ owed slots
+    by_found : (found : Option Slot) → first_with p slots ≡ found → IsThere P found → owed (change_first (has p) (with_state f) slots) + 1 ≤ owed slots
     by_found None e h = absurd h
     by_found (Some s) e h =
         let first = sum_first (has p) (with_state f) slots s e in
@@ -66,11 +66,11 @@ less_first p f P less slots lowers there = by_found (first_with p slots) refl th
         omega (arith, sum, le)
 
 -- the same of a change at a number
-less_at : (g : Slot → Slot) (P : Slot → Type 0) (n more less : ℕ) (slots : List Slot) → ((s : Slot) → P s → owed_of (g s) + less ≤ owed_of s + more)
-    → IsThere P (slice_get slots n) → owed (change n g slots) + less ≤ owed slots + more
-less_at g P n more less slots bounds there = by_found (slice_get slots n) refl there
+less_at : (g : Slot → Slot) (P : Slot → Type 0) (n : ℕ) (slots : List Slot) → ((s : Slot) → P s → owed_of (g s) + 1 ≤ owed_of s)
+    → IsThere P (slice_get slots n) → owed (change n g slots) + 1 ≤ owed slots
+less_at g P n slots bounds there = by_found (slice_get slots n) refl there
   where
-    by_found : (found : Option Slot) → slice_get slots n ≡ found → IsThere P found → owed (change n g slots) + less ≤ owed slots + more
+    by_found : (found : Option Slot) → slice_get slots n ≡ found → IsThere P found → owed (change n g slots) + 1 ≤ owed slots
     by_found None e h = absurd h
     by_found (Some s) e h =
         let sum = sum_change n g slots s e in
@@ -130,7 +130,7 @@ lost_less run (Busy w) h = lost_busy w.gone w.key.memory (cond (may_begin w) 1 0
 lost_less run (Idle key last) h = cc
 lost_less run (Closing memory) h = cc
 
-overrun_less : (run at : ℕ) (s : State) → runs run s ≡ true → owed_by (overrun_state at s) + 0 ≤ owed_by s
+overrun_less : (run at : ℕ) (s : State) → runs run s ≡ true → owed_by (overrun_state at s) ≤ owed_by s
 overrun_less run at Vacant h = cc
 overrun_less run at (Opening r kind memory) h = cc
 overrun_less run at (Prewarmed kind memory) h = cc
@@ -154,7 +154,7 @@ second_of : (a b : Bool) → (a && b) ≡ true → b ≡ true
 second_of true b e = e
 second_of false b e = cc
 
-gone_at : (generation : ℕ) (s : Slot) → goes generation s ≡ true → owed_of (after_gone generation s) + 1 ≤ owed_of s + 0
+gone_at : (generation : ℕ) (s : Slot) → goes generation s ≡ true → owed_of (after_gone generation s) + 1 ≤ owed_of s
 gone_at generation s h =
     let le = gone_less s.state (second_of _ (takes_gone s.state) h) in
     rw h (omega (arith, le))
@@ -167,11 +167,48 @@ removed_less (Busy w) = omega arith
 removed_less (Idle key last) = omega arith
 removed_less (Closing memory) = omega arith
 
-all_removed : (ns : List ℕ) (slots : List Slot) → CanAllGo ns slots → owed (removed ns slots) ≤ owed slots
-all_removed [] slots can = omega arith
-all_removed (n ∷ ns) slots can =
-    let rest = all_removed ns (change n (with_state removed_state) slots) can.1 in
-    let one = less_at (with_state removed_state) CanGo n 0 0 slots (λ s h. let le = removed_less s.state in omega (arith, le)) can.0 in
+-- a change at a number, of whatever stands there
+change_at_most : (g : Slot → Slot) (more : ℕ) → ((s : Slot) → owed_of (g s) ≤ owed_of s + more) → (n : ℕ) (slots : List Slot) → owed (change n g slots) ≤ owed slots + more
+unfolding change
+change_at_most g more bounds n [] = omega arith
+change_at_most g more bounds zero (s ∷ slots) =
+    let le = bounds s in
+    let a = sum_by-cons owed_of (g s) slots in let b = sum_by-cons owed_of s slots in
+    omega (arith, a, b, le)
+change_at_most g more bounds (suc n) (s ∷ slots) =
+    let rest = change_at_most g more bounds n slots in
+    let a = sum_by-cons owed_of s (change n g slots) in let b = sum_by-cons owed_of s slots in
+    omega (arith, a, b, rest)
+
+-- a change of the first that passes, where one does
+first_at_most : (p : State → Bool) (f : State → State) → ((s : State) → p s ≡ true → owed_by (f s) ≤ owed_by s) → (slots : List Slot)
+    → owed (change_first (has p) (with_state f) slots) ≤ owed slots
+unfolding change_first
+first_at_most p f lowers [] = omega arith
+first_at_most p f lowers (s ∷ slots) = by_test (p s.state) refl (first_at_most p f lowers slots)
+  where
+    by_test : (b : Bool) → p s.state ≡ b → owed (change_first (has p) (with_state f) slots) ≤ owed slots
+        → owed (cond b (with_state f s ∷ slots) (s ∷ change_first (has p) (with_state f) slots)) ≤ owed (s ∷ slots)
+    by_test true e rest =
+        let le = lowers s.state e in
+        let a = sum_by-cons owed_of (with_state f s) slots in let b = sum_by-cons owed_of s slots in
+        omega (arith, a, b, le)
+    by_test false e rest =
+        let a = sum_by-cons owed_of s (change_first (has p) (with_state f) slots) in let b = sum_by-cons owed_of s slots in
+        omega (arith, a, b, rest)
+
+gone_at_most : (generation : ℕ) (s : Slot) → owed_of (after_gone generation s) ≤ owed_of s + 0
+gone_at_most generation s = by_test (goes generation s) refl
+  where
+    by_test : (b : Bool) → goes generation s ≡ b → owed_of (cond b (with_state gone_state s) s) ≤ owed_of s + 0
+    by_test true e = let le = gone_less s.state (second_of _ (takes_gone s.state) e) in omega (arith, le)
+    by_test false e = omega arith
+
+all_removed : (ns : List ℕ) (slots : List Slot) → owed (removed ns slots) ≤ owed slots
+all_removed [] slots = omega arith
+all_removed (n ∷ ns) slots =
+    let rest = all_removed ns (change n (with_state removed_state) slots) in
+    let one = change_at_most (with_state removed_state) 0 (λ s. let le = removed_less s.state in omega (arith, le)) n slots in
     omega (arith, rest, one)
 
 none_owed : (slots : List Slot) → owed (emptied slots) ≡ 0
@@ -181,21 +218,37 @@ none_owed (s ∷ slots) =
     let sum = sum_by-cons owed_of (with_state (λ state. Vacant) s) (emptied slots) in
     omega (arith, rest, sum)
 
-pub owes : (event : Event) (slots : List Slot) (count : ℕ) → IsFit event slots count → OwesAfter event (owed slots) (owed (changed event slots))
-owes (Ran slot run key start at) slots count fit =
-    let le = less_at (assigned run key start at) (StartFits start) slot 3 0 slots (λ s h. let most = owed_at_most (work_of run key start at) in omega (arith, most)) fit.fits in
-    omega (arith, le)
-owes (Prewarming slot run kind memory) slots count fit =
-    let le = less_at (opened run kind memory) IsVacant slot 3 0 slots (λ s h. omega arith) fit.fits in
-    omega (arith, le)
-owes (Removed ns) slots count fit = all_removed ns slots fit
-owes (Begun run at) slots count fit = less_first (awaits run) (begun_state at) IsAny 1 slots (begun_less run at) fit
-owes (Answered run alive at) slots count fit = less_first (runs run) (answered_state alive at) IsAny 1 slots (answered_less run alive at) fit
-owes (Lost run) slots count fit = less_first (holds run) lost_state IsAny 1 slots (lost_less run) fit
-owes (Gone slot generation) slots count fit =
-    let le = less_at (after_gone generation) (Goes generation) slot 0 1 slots (gone_at generation) fit in
-    omega (arith, le)
-owes (Overran run at) slots count fit =
-    let le = less_first (runs run) (overrun_state at) IsUnrecorded 0 slots (overrun_less run at) fit in
-    omega (arith, le)
-owes Reopened slots count fit = let none = none_owed slots in omega (arith, none)
+weaker : (a b : ℕ) → a + 1 ≤ b → a ≤ b
+weaker a b le = omega arith
+
+exact : (a b : ℕ) → a ≤ b → a ≤ b + 0
+exact a b le = omega arith
+
+pub rises : (event : Event) (slots : List Slot) → owed (changed event slots) ≤ owed slots + rise_of event
+rises (Ran slot run key start at) slots =
+    change_at_most (assigned run key start at) 3 (λ s. let most = owed_at_most (work_of run key start at) in omega (arith, most)) slot slots
+rises (Prewarming slot run kind memory) slots = change_at_most (opened run kind memory) 3 (λ s. omega arith) slot slots
+rises (Removed ns) slots = exact _ _ (all_removed ns slots)
+rises (Begun run at) slots = exact _ _ (first_at_most (awaits run) (begun_state at) (λ s h. weaker _ _ (begun_less run at s h)) slots)
+rises (Answered run alive at) slots = exact _ _ (first_at_most (runs run) (answered_state alive at) (λ s h. weaker _ _ (answered_less run alive at s h)) slots)
+rises (Lost run) slots = exact _ _ (first_at_most (holds run) lost_state (λ s h. weaker _ _ (lost_less run s h)) slots)
+rises (Gone slot generation) slots = change_at_most (after_gone generation) 0 (gone_at_most generation) slot slots
+rises (Overran run at) slots = exact _ _ (first_at_most (runs run) (overrun_state at) (overrun_less run at) slots)
+rises Reopened slots = let none = none_owed slots in omega (arith, none)
+
+as_fall : (a b : ℕ) → a + 1 ≤ b → a + 1 ≤ b + 0
+as_fall a b le = omega arith
+
+as_rise : (a b : ℕ) → a ≤ b → a + 0 ≤ b
+as_rise a b le = omega arith
+
+pub falls : (event : Event) (slots : List Slot) (count : ℕ) → IsFit event slots count → owed (changed event slots) + fall_of event ≤ owed slots + rise_of event
+falls (Ran slot run key start at) slots count fit = as_rise _ _ (rises (Ran slot run key start at) slots)
+falls (Prewarming slot run kind memory) slots count fit = as_rise _ _ (rises (Prewarming slot run kind memory) slots)
+falls (Removed ns) slots count fit = as_rise _ _ (rises (Removed ns) slots)
+falls (Begun run at) slots count fit = as_fall _ _ (less_first (awaits run) (begun_state at) IsAny slots (begun_less run at) fit)
+falls (Answered run alive at) slots count fit = as_fall _ _ (less_first (runs run) (answered_state alive at) IsAny slots (answered_less run alive at) fit)
+falls (Lost run) slots count fit = as_fall _ _ (less_first (holds run) lost_state IsAny slots (lost_less run) fit)
+falls (Gone slot generation) slots count fit = as_fall _ _ (less_at (after_gone generation) (Goes generation) slot slots (gone_at generation) fit)
+falls (Overran run at) slots count fit = as_rise _ _ (rises (Overran run at) slots)
+falls Reopened slots count fit = as_rise _ _ (rises Reopened slots)

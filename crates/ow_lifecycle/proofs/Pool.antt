@@ -49,7 +49,7 @@ carried : (slots : List Slot) (head : Option Head) (wants : List Prewarm) (pool 
 carried slots head wants pool place keeps sized wanted e =
     subst (IsCarriedOut slots head pool) e (place_keeps (λ a b. (key_told a b).0) slots head wants pool keeps sized wanted)
 
-event_keeps : (event : Event) (slots : List Slot) (wants : List Prewarm) (pool : ℕ) → AreWantsSized wants → IsPlaced event slots wants pool → IsWithinPool slots pool
+pub event_keeps : (event : Event) (slots : List Slot) (wants : List Prewarm) (pool : ℕ) → AreWantsSized wants → IsPlaced event slots wants pool → IsWithinPool slots pool
     → IsWithinPool (changed event slots) pool
 event_keeps (Ran slot run key start at) slots wants pool wanted is keeps =
     (carried slots (Some (record { key = key })) wants pool (places.Run slot start) keeps is.sized wanted is.placed).kept run at
@@ -64,10 +64,11 @@ event_keeps (Gone slot generation) slots wants pool wanted is keeps = events_kee
 event_keeps (Overran run at) slots wants pool wanted is keeps = events_keep.overran run at slots pool keeps
 event_keeps Reopened slots wants pool wanted is keeps = emptied_within slots pool
 
-pub now_within : (L : Life) (n pool : ℕ) → AreWithinPool L n pool → IsWithinPool (slots_of L n) pool
+now_within : (L : Life) (n pool : ℕ) → AreWithinPool L n pool → IsWithinPool (slots_of L n) pool
 now_within [] n pool all = all
 now_within (event ∷ L) n pool all = all.0
 
+-- and so whatever happens
 pub kept : (L : Life) (n : ℕ) (wants : List Prewarm) (pool : ℕ) → AreWantsSized wants → AreFit L n → ArePlaced L n wants pool → AreWithinPool L n pool
 kept [] n wants pool wanted fit placed = begin_within n pool
 kept (event ∷ L) n wants pool wanted fit placed =

@@ -1,19 +1,26 @@
 -- What holds of the list of slots, and of the runs that they have.
-use Rattle.std.proofs.Common.{◌≡◌, ◌==◌, ◌+◌, ◌≤◌, ◌<◌, ◌&&◌, ℕ, Bool, true, false, cond, [], ◌∷◌, Option, Some, None, refl, sym, ap, ◌∙◌, arith, subst}
-use Rattle.std.specs.Prelude.{is_none}
+use Rattle.std.proofs.Common.{◌≡◌, ◌≤◌, ℕ, zero, suc, true, Some, sum_by, refl, sym, subst}
 use Rattle.std.specs.List.{slice_get}
-use Rattle.std.proofs.lemmas.Bool.Decides.{nat_tests}
-use Rattle.ow_slots.specs.declared.states.State.TheVariants.{Idle, Closing}
+use Rattle.std.proofs.lemmas.List.Sums.{sum_by-cons}
 use Rattle.ow_slots.specs.declared.states.Slot.{Slot}
-use Rattle.ow_slots.specs.Slots.{IsThere, first_with, has}
-use Rattle.ow_slots.specs.State.{IsUnrecorded, holds, recorded_of, runs}
-use Rattle.ow_lifecycle.specs.Life.{Event, Life, Order, RunOrder, PrewarmOrder, Reply, Run, Prewarm, Remove, Ran, Prewarming, Removed, Begun, Answered, Lost, Gone, Overran, Reopened, begun_at, is_among, is_gone, is_lost, last_order, memory_of, overran_after, overran_at, prewarm_order, prewarm_state, remove_state, reply_to, run_count, run_order, run_state, since, slot_of, slots_of, state_by, state_of}
+use Rattle.ow_slots.specs.Slots.{IsThere}
+use Rattle.ow_slots.specs.State.{holds, runs, state_memory}
+use Rattle.ow_lifecycle.specs.Life.{Life, run_count, share_of, slot_of, slots_of, state_of, table}
 use Rattle.ow_lifecycle.specs.Fitting.{AreFit}
 use Rattle.ow_lifecycle.specs.Laws.{HasRun, RunsStand, SlotsStand, StandsAt}
-use Rattle.ow_lifecycle.proofs.Changing.{some_slot}
-use Rattle.ow_lifecycle.proofs.Runs.{counted, eq_of, held, is_of, one_run, runs_holds}
+use Rattle.ow_lifecycle.proofs.Recording.{recorded_found}
+use Rattle.ow_lifecycle.proofs.Running.{busy_right}
+use Rattle.ow_lifecycle.proofs.Runs.{counted, held, one_run, runs_holds}
 use Rattle.ow_lifecycle.proofs.States.{memory_right}
-use Rattle.ow_lifecycle.proofs.Tables.{found_in, length-table, there_in}
+use Rattle.ow_lifecycle.proofs.Tables.{length-table, there_in}
+
+-- a sum over a table
+sum_table : (h : Slot → ℕ) (f : ℕ → Slot) (g : ℕ → ℕ) (k n : ℕ) → ((j : ℕ) → h (f j) ≡ g j) → sum_by h (table f k n) ≡ sum_by (λ m. m) (table g k n)
+unfolding table
+sum_table h f g k zero same = refl
+sum_table h f g k (suc n) same =
+    let rest = sum_table h f g (suc k) n same in
+    rw (sum_by-cons h (f k) (table f (suc k) n), sum_by-cons (λ (m : ℕ). m) (g k) (table g (suc k) n), same k, rest) refl
 
 -- the slot of a number that is there
 pub slot_there : (L : Life) (n i : ℕ) (s : Slot) → slice_get (slots_of L n) i ≡ Some s → slot_of L i ≡ s
@@ -26,110 +33,17 @@ slots_stand L n fit = record {
   count = length-table (slot_of L) 0 n;
   here = slot_there L n;
   memory = memory_right L n fit;
+  held = sum_table (λ (s : Slot). state_memory s.state) (slot_of L) (share_of L) 0 n (memory_right L n fit);
 }
 
-other_run : (r run count : ℕ) → run ≤ count → count < r → (r == run) ≡ false
-other_run r run count le lt = grind (arith, nat_tests)
-
--- no run was recorded as overrun whose number was not drawn
-unrecorded_before : (L : Life) (size r : ℕ) → AreFit L size → run_count L < r → overran_at r L ≡ None
-unrecorded_before [] size r fit lt = refl
-unrecorded_before (Ran slot run key start at ∷ L) size r fit lt = unrecorded_before L size r fit.1 (omega (arith, lt))
-unrecorded_before (Prewarming slot run kind memory ∷ L) size r fit lt = unrecorded_before L size r fit.1 (omega (arith, lt))
-unrecorded_before (Removed slots ∷ L) size r fit lt = unrecorded_before L size r fit.1 lt
-unrecorded_before (Begun run at ∷ L) size r fit lt = unrecorded_before L size r fit.1 lt
-unrecorded_before (Answered run alive at ∷ L) size r fit lt = unrecorded_before L size r fit.1 lt
-unrecorded_before (Lost run ∷ L) size r fit lt = unrecorded_before L size r fit.1 lt
-unrecorded_before (Gone slot generation ∷ L) size r fit lt = unrecorded_before L size r fit.1 lt
-unrecorded_before (Overran run at ∷ L) size r fit lt =
-    let some = some_slot (runs run) IsUnrecorded L size fit.0 in
-    let drawn : run ≤ run_count L = counted L size run some.slot fit.1 (held L run some.slot (runs_holds run (state_of L some.slot) some.passes)) in
-    let other : (r == run) ≡ false = other_run r run (run_count L) drawn lt in
-    rw other (unrecorded_before L size r fit.1 lt)
-unrecorded_before (Reopened ∷ L) size r fit lt = unrecorded_before L size r fit.1 lt
-
--- where an order is the last of its slot, all that was recorded of its run came after it
-by_name : (x : Order) (r : ℕ) (b : Bool) (last : Option Order) (later all : Option ℕ) → (is_of r (Some x) ≡ true → all ≡ None) → (is_of r last ≡ true → later ≡ all)
-    → is_of r (cond b (Some x) last) ≡ true → cond b None later ≡ all
-by_name x r true last later all new old h = sym (new h)
-by_name x r false last later all new old h = old h
-
--- what was recorded since an order that may be the last of a slot
-since_order : (event : Event) (r : ℕ) (later : Life) (b : Bool) → overran_at r (event ∷ later) ≡ overran_at r later → overran_at r (cond b [] (event ∷ later)) ≡ cond b None (overran_at r later)
-since_order event r later true same = refl
-since_order event r later false same = same
-
--- the run that is the next was never recorded
-next_unrecorded : (L : Life) (size run r : ℕ) → AreFit L size → run ≡ run_count L + 1 → (run == r) ≡ true → overran_at r L ≡ None
-next_unrecorded L size run r fit next e =
-    let same : run ≡ r = eq_of run r e in
-    unrecorded_before L size r fit (omega (arith, next, same))
-
-recorded_since : (L : Life) (size r n : ℕ) → AreFit L size → is_of r (last_order L n) ≡ true → overran_at r (since L n) ≡ overran_at r L
-recorded_since [] size r n fit h = refl
-recorded_since (Ran slot run key start at ∷ L) size r n fit h =
-    since_order (Ran slot run key start at) r (since L n) (slot == n) refl
-    ∙ by_name (run_order run key start at) r (slot == n) (last_order L n) (overran_at r (since L n)) (overran_at r L)
-    (next_unrecorded L size run r fit.1 fit.0.next) (recorded_since L size r n fit.1) h
-recorded_since (Prewarming slot run kind memory ∷ L) size r n fit h =
-    since_order (Prewarming slot run kind memory) r (since L n) (slot == n) refl
-    ∙ by_name (prewarm_order run kind memory) r (slot == n) (last_order L n) (overran_at r (since L n)) (overran_at r L)
-    (next_unrecorded L size run r fit.1 fit.0.next) (recorded_since L size r n fit.1) h
-recorded_since (Removed slots ∷ L) size r n fit h =
-    since_order (Removed slots) r (since L n) (is_among n slots) refl
-    ∙ by_name Remove r (is_among n slots) (last_order L n) (overran_at r (since L n)) (overran_at r L) (λ e. cc) (recorded_since L size r n fit.1) h
-recorded_since (Begun run at ∷ L) size r n fit h = recorded_since L size r n fit.1 h
-recorded_since (Answered run alive at ∷ L) size r n fit h = recorded_since L size r n fit.1 h
-recorded_since (Lost run ∷ L) size r n fit h = recorded_since L size r n fit.1 h
-recorded_since (Gone slot generation ∷ L) size r n fit h = recorded_since L size r n fit.1 h
-recorded_since (Overran run at ∷ L) size r n fit h = ap (overran_after (Overran run at) r) (recorded_since L size r n fit.1 h)
-recorded_since (Reopened ∷ L) size r n fit h = cc
-
--- a slot that is busy with a run has recorded what was recorded of the run since its order
-recorded_reply : (o : RunOrder) (r m at : ℕ) (b : Bool) (v : Option ℕ) → runs r (cond b (Idle o.key at) (Closing m)) ≡ true → recorded_of (cond b (Idle o.key at) (Closing m)) ≡ v
-recorded_reply o r m at true v h = cc
-recorded_reply o r m at false v h = cc
-
-recorded_run : (o : RunOrder) (r m : ℕ) (g : Bool) (a : Option Reply) (l : Bool) (v t : Option ℕ) → runs r (run_state o m g a l v t) ≡ true
-    → recorded_of (run_state o m g a l v t) ≡ v
-recorded_run o r m true None false v t h = refl
-recorded_run o r m true None true v t h = cc
-recorded_run o r m true (Some a) l v t h = cc
-recorded_run o r m false None false v t h = refl
-recorded_run o r m false None true v t h = cc
-recorded_run o r m false (Some a) l v t h = recorded_reply o r m a.at (a.alive && is_none v) v h
-
-unrun_prewarm : (o : PrewarmOrder) (r m : ℕ) (g l : Bool) (t : Option ℕ) → runs r (prewarm_state o m g l t) ≡ true → ⊥
-unrun_prewarm o r m true l t h = cc
-unrun_prewarm o r m false true t h = cc
-unrun_prewarm o r m false false (Some at) h = cc
-unrun_prewarm o r m false false None h = cc
-
-unrun_remove : (r m : ℕ) (g : Bool) → runs r (remove_state m g) ≡ true → ⊥
-unrun_remove r m true h = cc
-unrun_remove r m false h = cc
-
-recorded_by : (r n m : ℕ) (later : Life) (last : Option Order) → is_of r last ≡ true → runs r (state_by last n m later) ≡ true
-    → recorded_of (state_by last n m later) ≡ overran_at r later
-recorded_by r n m later None of h = cc
-recorded_by r n m later (Some (Run o)) of h =
-    recorded_run o r m (is_gone n later) (reply_to o.run later) (is_lost o.run later) (overran_at o.run later) (begun_at o.run later) h
-    ∙ ap (λ k. overran_at k later) (eq_of o.run r of)
-recorded_by r n m later (Some (Prewarm o)) of h = absurd (unrun_prewarm o r m (is_gone n later) (is_lost o.run later) (begun_at o.run later) h)
-recorded_by r n m later (Some Remove) of h = absurd (unrun_remove r m (is_gone n later) h)
-
-recorded_right : (L : Life) (size r n : ℕ) → AreFit L size → runs r (state_of L n) ≡ true → recorded_of (state_of L n) ≡ overran_at r L
-recorded_right L size r n fit h =
-    let of = held L r n (runs_holds r (state_of L n) h) in
-    recorded_by r n (memory_of L n) (since L n) (last_order L n) of h ∙ recorded_since L size r n fit of
-
-recorded_found : (L : Life) (size r : ℕ) (s : Slot) → AreFit L size → first_with (runs r) (slots_of L size) ≡ Some s → recorded_of s.state ≡ overran_at r L
-recorded_found L size r s fit e =
-    let is = found_in (has (runs r)) (slot_of L) 0 size s e in
-    subst (λ (x : Slot). recorded_of x.state ≡ overran_at r L) is.is (recorded_right L size r is.number fit is.passes)
-
 pub runs_stand : (L : Life) (n : ℕ) → AreFit L n → RunsStand L n
-runs_stand L n fit = record { alone = one; ordered = drawn; recorded = λ run s. recorded_found L n run s fit }
+runs_stand L n fit = record {
+  alone = one;
+  ordered = drawn;
+  busy = busy_right L n fit;
+  recorded = λ run s. recorded_found (runs run) L n run s (runs_holds run) fit;
+  recorded_held = λ run s. recorded_found (holds run) L n run s (λ x h. h) fit;
+}
   where
     at : (run i : ℕ) → StandsAt L n run i → holds run (state_of L i) ≡ true
     at run i h = there_in (HasRun run) (slot_of L) n i h

@@ -7,7 +7,7 @@ use Rattle.ow_slots.specs.declared.keys.Start.{Start}
 use Rattle.ow_slots.specs.declared.states.State.{State}
 use Rattle.ow_slots.specs.declared.states.State.TheVariants.{Vacant, Opening, Busy, Idle, Closing}
 use Rattle.ow_slots.specs.State.{answered_state, awaits, begun_state, gone_state, holds, is_cold, is_warm, lost_state, overrun_state, runs, state_memory, takes_gone, work_of}
-use Rattle.ow_lifecycle.specs.Life.{Event, Life, Order, RunOrder, PrewarmOrder, Reply, Run, Prewarm, Remove, Ran, Prewarming, Removed, Begun, Answered, Lost, Gone, Overran, begun_at, busy, is_among, is_gone, is_held, is_lost, last_order, memory_of, overran_at, prewarm_order, prewarm_state, remove_state, reply_to, run_order, run_state, since, state_by, state_of}
+use Rattle.ow_lifecycle.specs.Life.{Event, Life, Order, RunOrder, PrewarmOrder, Reply, Run, Prewarm, Remove, Ran, Prewarming, Removed, Begun, Answered, Lost, Gone, Overran, begun_at, busy_state, is_among, is_gone, is_held, is_lost, last_order, memory_of, overran_at, prewarm_order, prewarm_state, remove_state, reply_to, run_order, run_state, since, state_by, state_of}
 use Rattle.ow_lifecycle.specs.Fitting.{AreFit}
 use Rattle.ow_lifecycle.proofs.Runs.{Coheres, SomeSlot, awaits_holds, coherent, eq_of, is_of, only, runs_holds}
 
@@ -24,8 +24,8 @@ never : (p : State → Bool) (i : State) (m : ℕ) (b : Bool) → p i ≡ false 
 never p i m true a c h = cc
 never p i m false a c h = cc
 
-begun_busy : (o : RunOrder) (r at : ℕ) (b w g : Bool) (v t : Option ℕ) → (o.run == r) ≡ b → is_warm o.start ≡ w → (b ≡ true → awaits r (busy o g v t) ≡ true)
-    → busy o g v (cond (o.run == r) (Some at) t) ≡ when (awaits r) (begun_state at) (busy o g v t)
+begun_busy : (o : RunOrder) (r at : ℕ) (b w g : Bool) (v t : Option ℕ) → (o.run == r) ≡ b → is_warm o.start ≡ w → (b ≡ true → awaits r (busy_state o g v t) ≡ true)
+    → busy_state o g v (cond (o.run == r) (Some at) t) ≡ when (awaits r) (begun_state at) (busy_state o g v t)
 begun_busy o r at true true g v t e k one = let h : false ≡ true = rw k at (one refl) in cc
 begun_busy o r at true false g v None e k one = rw (e, k) refl
 begun_busy o r at true false g v (Some x) e k one = let h : false ≡ true = rw k at (one refl) in cc

@@ -1,5 +1,5 @@
 -- What happens to slots, and the state of each slot by the last order that names it.
-use Rattle.std.specs.Prelude.{◌==◌, ◌+◌, ◌&&◌, ℕ, zero, suc, Bool, true, false, not, List, [], ◌∷◌, Option, Some, None, is_none, if◌then◌else◌}
+use Rattle.std.specs.Prelude.{◌==◌, ◌+◌, ◌&&◌, ◌||◌, ℕ, zero, suc, Bool, true, false, not, List, [], ◌∷◌, Option, Some, None, is_none, if◌then◌else◌}
 use Rattle.std.specs.List.{list_any}
 use Rattle.ow_traits.specs.declared.replies.Kind.{Kind}
 use Rattle.ow_slots.specs.declared.keys.Key.{Key}
@@ -158,8 +158,8 @@ memory_of [] n = 0
 memory_of (event ∷ L) n = memory_after event n (memory_of L n)
 
 -- a run in its container; a warm container has begun before
-abbrev pub busy : RunOrder → Bool → Option ℕ → Option ℕ → State
-busy o gone recorded begun = Busy (record {
+abbrev pub busy_state : RunOrder → Bool → Option ℕ → Option ℕ → State
+busy_state o gone recorded begun = Busy (record {
   run = o.run;
   key = o.key;
   start = o.start;
@@ -170,17 +170,17 @@ busy o gone recorded begun = Busy (record {
 })
 
 -- idle where the run gave an answer, and wasn't recorded as overrun before; else the container is removed
-abbrev pub replied : RunOrder → ℕ → Reply → Option ℕ → State
-replied o memory reply recorded = if reply.alive && is_none recorded then Idle o.key reply.at else Closing memory
+abbrev pub replied_state : RunOrder → ℕ → Reply → Option ℕ → State
+replied_state o memory reply recorded = if reply.alive && is_none recorded then Idle o.key reply.at else Closing memory
 
 -- after the order of a run: whether its container is gone, its answer, whether it was lost, when it was recorded as
 -- overrun and when it began
 abbrev pub run_state : RunOrder → ℕ → Bool → Option Reply → Bool → Option ℕ → Option ℕ → State
-run_state o memory true None false recorded begun = busy o true recorded begun
+run_state o memory true None false recorded begun = busy_state o true recorded begun
 run_state o memory true (Some reply) lost recorded begun = Vacant
 run_state o memory true None true recorded begun = Vacant
-run_state o memory false None false recorded begun = busy o false recorded begun
-run_state o memory false (Some reply) lost recorded begun = replied o memory reply recorded
+run_state o memory false None false recorded begun = busy_state o false recorded begun
+run_state o memory false (Some reply) lost recorded begun = replied_state o memory reply recorded
 run_state o memory false None true recorded begun = Closing memory
 
 -- after the order of a container ahead: whether it is gone, whether its run was lost, when it began
@@ -224,6 +224,10 @@ is_held Vacant = false
 is_held (Busy w) = not w.gone
 is_held state = true
 
+-- the memory of a slot that holds some: it isn't vacant, nor busy with its container gone
+abbrev pub share_of : Life → ℕ → ℕ
+share_of L n = if is_held (state_of L n) then memory_of L n else 0
+
 -- the memory that they hold together
 abbrev pub held_of : Life → ℕ → ℕ
 held_of L count = memory_held (slots_of L count)
@@ -237,3 +241,15 @@ runs_after event count = count
 abbrev pub run_count : Life → ℕ
 run_count [] = 0
 run_count (event ∷ L) = runs_after event (run_count L)
+
+abbrev pub running_after : Event → ℕ → Bool → Bool
+running_after (Ran slot r key start at) run b = (r == run) || b
+running_after (Answered r alive at) run b = not (r == run) && b
+running_after (Lost r) run b = not (r == run) && b
+running_after Reopened run b = false
+running_after event run b = b
+
+-- whether a run of an action was ordered, and since then neither answered nor lost
+abbrev pub is_running : ℕ → Life → Bool
+is_running run [] = false
+is_running run (event ∷ L) = running_after event run (is_running run L)

@@ -1,11 +1,11 @@
 -- How many events may still come of what slots hold.
-use Rattle.std.specs.Prelude.{◌+◌, ◌≤◌, ℕ, Bool, List, sum_by, if◌then◌else◌, not, ◌&&◌, is_none}
+use Rattle.std.specs.Prelude.{◌+◌, ℕ, Bool, List, sum_by, if◌then◌else◌, not, ◌&&◌, is_none}
 use Rattle.ow_slots.specs.declared.states.State.{State}
 use Rattle.ow_slots.specs.declared.states.State.TheVariants.{Vacant, Opening, Prewarmed, Busy, Idle, Closing}
 use Rattle.ow_slots.specs.declared.states.Slot.{Slot}
 use Rattle.ow_slots.specs.declared.states.Work.{Work}
 use Rattle.ow_slots.specs.State.{is_warm}
-use Rattle.ow_lifecycle.specs.Life.{Event, Ran, Prewarming, Removed, Begun, Answered, Lost, Gone, Overran, Reopened}
+use Rattle.ow_lifecycle.specs.Life.{Event, Ran, Prewarming, Begun, Answered, Lost, Gone}
 
 -- whether a run may still begin
 abbrev pub may_begin : Work → Bool
@@ -24,14 +24,16 @@ owed_by (Closing memory) = 1
 abbrev pub owed : List Slot → ℕ
 owed slots = sum_by (λ s. owed_by s.state) slots
 
--- an order owes at most three events more; each event that was owed is owed no more; others owe no more
-abbrev pub OwesAfter : Event → ℕ → ℕ → Type 0
-OwesAfter (Ran slot run key start at) before after = after ≤ before + 3
-OwesAfter (Prewarming slot run kind memory) before after = after ≤ before + 3
-OwesAfter (Removed ns) before after = after ≤ before
-OwesAfter (Begun run at) before after = after + 1 ≤ before
-OwesAfter (Answered run alive at) before after = after + 1 ≤ before
-OwesAfter (Lost run) before after = after + 1 ≤ before
-OwesAfter (Gone slot generation) before after = after + 1 ≤ before
-OwesAfter (Overran run at) before after = after ≤ before
-OwesAfter Reopened before after = after ≤ before
+-- by how much an event raises it at most
+abbrev pub rise_of : Event → ℕ
+rise_of (Ran slot run key start at) = 3
+rise_of (Prewarming slot run kind memory) = 3
+rise_of event = 0
+
+-- by how much an event that fits lowers it at least: each that was owed is owed no more
+abbrev pub fall_of : Event → ℕ
+fall_of (Begun run at) = 1
+fall_of (Answered run alive at) = 1
+fall_of (Lost run) = 1
+fall_of (Gone slot generation) = 1
+fall_of event = 0

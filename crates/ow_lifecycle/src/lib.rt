@@ -4,6 +4,6 @@
 mod laws;
 
 pub use laws::{
-    a_pool_is_kept, events_change_slots, events_lower_what_is_owed, runs_stand_alone,
-    slots_begin_vacant, slots_stand,
+    a_pool_is_kept, events_change_slots, events_were_owed, runs_stand_alone, slots_begin_vacant,
+    slots_stand,
 };
