@@ -15,6 +15,7 @@ pub mod Serving
 pub mod Slotting
 pub mod Soundness
 pub mod Coming
+pub mod Sweeping
 pub mod Showing
 pub mod Owing
 pub mod Making

@@ -61,9 +61,14 @@ pub record RunOnce (T : Trace) : Type 0 where
   pub one : (id : Id) → loads id (live T) ≤ 1
   pub single : (run : ℕ) → bearers run (live T) ≤ 1
 
+-- what happened to slots fits them, they hold no more than the pool, and as many slots are busy with a run as live runs have its number
+pub record AreSlotsSound (T : Trace) : Type 0 where
+  pub fit : AreFit (life T) (slot_count (pool_of T))
+  pub within : memory_held (slots T) ≤ pool_of T
+  pub busy : (run : ℕ) → bearers run (live T) ≡ tally (has (is_busy_with run)) (slots T)
+
 -- no id is accepted twice; counts are drawn upwards, and what has ended or runs was drawn; each accepted id is open or recorded,
--- once; what has ended was accepted; an activation has one live run at most; live runs have numbers of their own, drawn upwards;
--- what happened to slots fits them, they hold no more than the pool, and each live run stands in one slot, which is busy with it
+-- once; what has ended was accepted; an activation has one live run at most; live runs have numbers of their own, drawn upwards
 pub record IsSound (T : Trace) : Type 0 where
   pub apart : AreApart (accepted T)
   pub drawn : AllByRecursion (λ a. a.id.count ≤ last T a.id.namespace) (accepted T)
@@ -74,9 +79,7 @@ pub record IsSound (T : Trace) : Type 0 where
   pub one : (id : Id) → loads id (live T) ≤ 1
   pub single : (run : ℕ) → bearers run (live T) ≤ 1
   pub numbered : AllByRecursion (λ r. r.number ≤ run_count T) (live T)
-  pub fit : AreFit (life T) (slot_count (pool_of T))
-  pub within : memory_held (slots T) ≤ pool_of T
-  pub busy : (run : ℕ) → bearers run (live T) ≡ tally (has (is_busy_with run)) (slots T)
+  pub slotted : AreSlotsSound T
 
 -- a run is live exactly where a slot is busy with it, and then one is
 abbrev pub StandInSlots : Trace → Type 0

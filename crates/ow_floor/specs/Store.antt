@@ -1,5 +1,5 @@
 -- For private clauses: the lists of a floor as they are kept. What was taken out leaves its place empty, so places stay.
-use Rattle.std.specs.Prelude.{◌≡◌, ◌-◌, ◌++◌, ◌<◌, ◌≤◌, ℕ, Bool, List, [], ◌∷◌, Option, Some, None, true, false, length, slice_set, slice_index_or}
+use Rattle.std.specs.Prelude.{◌≡◌, ◌+◌, ◌-◌, ◌++◌, ◌<◌, ◌≤◌, ℕ, Bool, List, [], ◌∷◌, Option, Some, None, true, false, length, slice_set, slice_index_or}
 use Rattle.std.proofs.Common.{zero, suc}
 use Rattle.std.specs.List.{find, cons_option}
 use Rattle.ow_records.specs.declared.ids.Id.{Id}

@@ -16,7 +16,7 @@ use Rattle.ow_slots.specs.declared.keys.Key.{Key}
 use Rattle.ow_slots.specs.declared.states.Slot.{Slot}
 use Rattle.ow_slots.specs.Key.{kind_of}
 use Rattle.ow_slots.specs.Slots.{first_with}
-use Rattle.ow_slots.specs.State.{is_cold, recorded_of, runs}
+use Rattle.ow_slots.specs.State.{is_cold, recorded_of as recorded_at, runs}
 use Rattle.ow_floor.specs.declared.answers.Container.{Container}
 use Rattle.ow_floor.specs.declared.answers.PrewarmOrder.{PrewarmOrder}
 use Rattle.ow_floor.specs.declared.answers.Order.{Order}
@@ -177,7 +177,7 @@ prewarm_of run slot kind memory slots = record {
 
 abbrev pub recorded_by : Option Slot → Option ℕ
 recorded_by None = None
-recorded_by (Some s) = recorded_of s.state
+recorded_by (Some s) = recorded_at s.state
 
 -- the moment at which a sweep recorded what the run carries, by the slot that is busy with it
 abbrev pub recorded_in : ℕ → List Slot → Option ℕ
