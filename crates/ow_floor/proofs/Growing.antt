@@ -95,7 +95,7 @@ made_reply R S U at run k reply told s c busy e is =
     let shows : show U ≡ grown (reply_items at run reply (show R) (busy_run run (show R))) (show R)
     = ap show is ∙ (show_answered S at run k (leaves_alive reply) there' ∙ (ap (grow (replied run (leaves_alive reply) at)) e.shows ∙ ap (λ items. grown items (show R)) (sym items))) in
     let tells : Some (answered_by run (recorded_of s.state) told) ≡ answer_by at run reply (show R) (busy_run run (show R))
-    = rw (busy, c.found, number) (ap (λ hs. Some (answered_by run (recorded_of s.state) hs)) e.tells) in (
+    = rw (busy, c.found) (rw (busy, number) (ap (λ hs. Some (answered_by run (recorded_of s.state) hs)) e.tells)) in (
       (
         grows (λ v. reply_items at run reply v (busy_run run v)) (show R) (show U) (λ T st. right_reply at run reply T st.sound) shows,
         subst (λ (V : Store). IsGood V) (sym is)
@@ -153,10 +153,6 @@ grows_drain R at = grows (λ v. Drained at ∷ []) (show R) (show (drained_in at
 
 -- ---- for answers
 
-pub certain : {A E : Type 0} (r : Result A E) (P : Type 0) → OnOk r P → IsOk r → P
-certain (Ok a) P h ok = h
-certain (Err e) P h ok = cc
-
 pub held_none : (p : Option Store) → show_past p ≡ None → p ≡ None
 held_none None h = refl
 held_none (Some R) h = cc
@@ -170,14 +166,6 @@ back_good (Some P) R good past = past
 
 pub last_told : (v : Shown) (n k : ℕ) → n ≡ last_of v.drawn k → (T : Trace) → Stands v T → n ≡ last T k
 last_told v n k is T st = is ∙ (ap (λ (u : Shown). last_of u.drawn k) st.is ∙ drawn_last T k)
-
-pub sure : {A E : Type 0} (r : Result A E) (P : Type 0) → OnOk r P → false ≡ is_err r → P
-sure (Ok a) P h ok = h
-sure (Err e) P h ok = cc
-
-pub on_ok : {A E : Type 0} (r : Result A E) (P : Type 0) → P → OnOk r P
-on_ok (Ok a) P h = h
-on_ok (Err e) P h = tt
 
 -- a run has begun, in its slot and as it lives
 pub made_begun : (R F S : Store) (at run : ℕ) → true ≡ is_some (first_with (awaits run) R.slots) → F ≡ event_in at (lives.Begun run at) R → IsRunBegun at run F S
@@ -213,7 +201,10 @@ pub gone_refused : (slot generation : ℕ) (o : Option Slot) (r : Result (Unit {
 gone_refused slot generation None r b is e = rw (e, is) refl
 gone_refused slot generation (Some s) r b is e = rw (e, is) (at (goes generation s))
   where
-    at : (c : Bool) → not (is_err (cond c (Ok tt) (Err (slots.NoSlot slot s.generation)))) ≡ c
+    answer : Bool → Result (Unit {0}) SlotRefusal
+    answer c = cond c (Ok tt) (Err (slots.NoSlot slot s.generation))
+
+    at : (c : Bool) → not (is_err (answer c)) ≡ c
     at true = refl
     at false = refl
 

@@ -2,6 +2,8 @@ pub mod Firsts
 pub mod Finding
 pub mod Going
 pub mod Undoing
+pub mod Results
+pub mod Counting
 pub mod Restoring
 pub mod Drawn
 pub mod Blocking

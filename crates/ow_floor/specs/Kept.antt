@@ -60,3 +60,12 @@ noted_slot slot (Some old) ss = ss ++ slot_steps.Was slot old ∷ []
 -- the steps with one more, the slot of this number as it is, where it is held
 abbrev pub slot_noted : Bool → ℕ → List Slot → List SlotStep → List SlotStep
 slot_noted held slot slots ss = if held then noted_slot slot (slice_get slots slot) ss else ss
+
+-- the steps with one more, all slots as they are, where it is held
+abbrev pub all_noted : Bool → List Slot → List SlotStep → List SlotStep
+all_noted held slots ss = if held then ss ++ slot_steps.All slots ∷ [] else ss
+
+-- the steps with one more, the slot of this number as it is, where there is a number and it is held
+abbrev pub run_noted : Bool → Option ℕ → List Slot → List SlotStep → List SlotStep
+run_noted held None slots ss = ss
+run_noted held (Some slot) slots ss = slot_noted held slot slots ss

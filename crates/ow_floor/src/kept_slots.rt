@@ -1,11 +1,11 @@
 // Slots that can be held: what was before is kept as the slots that were changed since.
-ghost use Rattle.std.specs.Prelude.{◌≡◌, ◌≤◌, ◌<◌, ◌^◌, ℕ, length, position, replicate, slice_get, true, false, IfOk, OnOk, OnErr};
+ghost use Rattle.std.specs.Prelude.{◌≡◌, ◌≤◌, ◌<◌, ◌^◌, ℕ, length, position, replicate, slice_get, true, false, vec_len, vec_capacity, IfOk, OnOk, OnErr};
 ghost use Rattle.ow_slots.specs.Slots.{IsThere, change, change_first, first_with, gone_answer, has, run_answer, vacant_slot};
 ghost use Rattle.ow_slots.specs.State.{IsUnrecorded, IsVacant, StartFits, after_gone, answered_state, assigned, awaits, begun_state, holds, lost_state, opened, overrun_state, recorded_of, runs, with_state};
 ghost use Rattle.ow_pool.specs.Keeping.{CanAllGo, removed};
 ghost use Rattle.ow_pool.specs.Rules.{IsWithinPool};
 ghost use Rattle.ow_lifecycle.specs.Fitting.{emptied};
-ghost use Rattle.ow_floor.specs.Kept.{past, restore, restored, slot_noted};
+ghost use Rattle.ow_floor.specs.Kept.{all_noted, past, restore, restored, run_noted, slot_noted};
 
 use ow_slots::{Key, Slot, SlotRefusal, Slots, Start, State};
 use ow_traits::Kind;
@@ -108,11 +108,7 @@ impl KeptSlots {
         ensures within { (pool : ℕ) → IsWithinPool self.old.now pool → IsWithinPool self.new.now pool }
         ensures past { past held self.new.before ≡ past held self.old.before }
     {
-        for i in 0..slots.len() {
-            note(alloc, &mut self.steps, &self.slots, held, slots[i])?;
-            self.slots.remove(slots[i]);
-        }
-        Ok(())
+        remove_all(alloc, &mut self.slots, &mut self.steps, held, slots)
     }
 
     /// The run is answered; `alive` where its container can run again.
@@ -128,9 +124,7 @@ impl KeptSlots {
         ensures err { OnErr result (self.new.now ≡ self.old.now) }
         ensures past { past held self.new.before ≡ past held self.old.before }
     {
-        if let Some(slot) = running(&self.slots, run) {
-            note(alloc, &mut self.steps, &self.slots, held, slot)?;
-        }
+        note_run(alloc, &mut self.steps, &self.slots, held, run)?;
         let _ = self.slots.answered(run, alive, at);
         Ok(())
     }
@@ -148,9 +142,7 @@ impl KeptSlots {
         ensures err { OnErr result (self.new.now ≡ self.old.now) }
         ensures past { past held self.new.before ≡ past held self.old.before }
     {
-        if let Some(slot) = running(&self.slots, run) {
-            note(alloc, &mut self.steps, &self.slots, held, slot)?;
-        }
+        note_run(alloc, &mut self.steps, &self.slots, held, run)?;
         self.slots.overrun(run, at);
         Ok(())
     }
@@ -161,14 +153,10 @@ impl KeptSlots {
         ensures err { OnErr result (self.new.now ≡ self.old.now) }
         ensures past { past held self.new.before ≡ past held self.old.before }
     {
-        if held {
-            self.steps.reserve(1)?;
-        }
+        make_room(&mut self.steps, held)?;
         let vacant = self.slots.emptied(alloc)?;
         let old = mem::replace(&mut self.slots, vacant);
-        if held {
-            self.steps.push_reserved(SlotStep::All(old));
-        }
+        keep_all(&mut self.steps, held, old);
         Ok(())
     }
 
@@ -212,6 +200,29 @@ impl KeptSlots {
     }
 }
 
+// Makes room for one step, where it is held.
+fn make_room(steps: &mut Vec<SlotStep>, held: bool) -> Result<(), NoMemory>
+    ensures items { steps.new.items ≡ steps.old.items }
+    ensures room { OnOk result (held ≡ true → vec_len steps.new < vec_capacity steps.new) }
+{
+    if held {
+        steps.reserve(1)?;
+    }
+    Ok(())
+}
+
+// Keeps all slots as they were, where it is held.
+fn keep_all(steps: &mut Vec<SlotStep>, held: bool, slots: Slots)
+    requires { held ≡ true → vec_len steps.old < vec_capacity steps.old }
+    ensures { steps.new.items ≡ all_noted held slots steps.old.items }
+{
+    if held {
+        steps.push_reserved(SlotStep::All(slots));
+    } else {
+        drop(slots);
+    }
+}
+
 // Keeps the slot as it is, where it is held.
 fn note(
     alloc: Global,
@@ -232,6 +243,43 @@ fn note(
             steps.push(SlotStep::Was(slot, old))?;
             Ok(())
         }
+        None => Ok(()),
+    }
+}
+
+// The containers of these slots are to be removed. Without memory some are.
+fn remove_all(
+    alloc: Global,
+    slots: &mut Slots,
+    steps: &mut Vec<SlotStep>,
+    held: bool,
+    numbers: &[u32],
+) -> Result<(), NoMemory>
+    requires { CanAllGo numbers.now slots.old }
+    ensures now { OnOk result (slots.new ≡ removed numbers.now slots.old) }
+    ensures within { (pool : ℕ) → IsWithinPool slots.old pool → IsWithinPool slots.new pool }
+    ensures past { past held (restored steps.new.items slots.new) ≡ past held (restored steps.old.items slots.old) }
+{
+    for i in 0..numbers.len() {
+        note(alloc, steps, slots, held, numbers[i])?;
+        slots.remove(numbers[i]);
+    }
+    Ok(())
+}
+
+// Keeps the slot that is busy with the run as it is, where one is and it is held.
+fn note_run(
+    alloc: Global,
+    steps: &mut Vec<SlotStep>,
+    slots: &Slots,
+    held: bool,
+    run: u64,
+) -> Result<(), NoMemory>
+    ensures ok { OnOk result (steps.new.items ≡ run_noted held (position (has (runs run)) slots.now) slots.now steps.old.items) }
+    ensures err { OnErr result (steps.new.items ≡ steps.old.items) }
+{
+    match running(slots, run) {
+        Some(slot) => note(alloc, steps, slots, held, slot),
         None => Ok(()),
     }
 }

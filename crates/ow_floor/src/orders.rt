@@ -1,5 +1,5 @@
 // Orders: what is done next.
-ghost use Rattle.std.specs.Prelude.{◌≡◌, ◌<◌, length, slice_get, None, Some, option_copied, IfOk};
+ghost use Rattle.std.specs.Prelude.{◌≡◌, ◌<◌, length, slice_get, None, Some, option_copied, IfOk, IfSome};
 ghost use Rattle.std.specs.List.{find};
 ghost use Rattle.ow_slots.specs.Slots.{IsThere};
 ghost use Rattle.ow_slots.specs.State.{IsMemory, IsVacant, StartFits};
@@ -179,7 +179,8 @@ fn order_removal(
 
 // What is placed for: what stands at this place.
 fn head_at(alloc: Global, lists: &Lists, spot: usize) -> Result<Head, NoMemory>
-    requires { IsSpot waits lists.now.now.spots lists.now.now.tasks spot }
+    requires good { IsGood lists.now.now }
+    requires spot { IsSpot waits lists.now.now.spots lists.now.now.tasks spot }
     ensures value { IfOk result (λ head. head_by (find waits (opens lists.now.now.spots lists.now.now.tasks)) ≡ Some head) }
     ensures sized { IfOk result (λ head. IsMemory head.key.memory) }
 {
