@@ -51,7 +51,7 @@ right_append (x ∷ xs) ys v first second =
 keys_tell : KeysTell
 keys_tell a b e = (key_told a b).0 e
 
-numbers : (ns : List ℕ) (slots : List Slot) → map (λ (c : Container). c.slot) (containers_of ns slots) ≡ ns
+pub numbers : (ns : List ℕ) (slots : List Slot) → map (λ (c : Container). c.slot) (containers_of ns slots) ≡ ns
 numbers [] slots = refl
 numbers (n ∷ ns) slots = ap (λ xs. n ∷ xs) (numbers ns slots)
 

@@ -1,7 +1,7 @@
 -- How a floor grows by what is done to the kept lists.
 use Rattle.std.proofs.Common.{◌≡◌, ◌+◌, ◌++◌, ◌&&◌, ℕ, Bool, true, false, cond, not, List, [], ◌∷◌, Option, Some, None, length, get_or, refl, sym, ap, ◌∙◌, arith, subst, length-append}
 use Rattle.std.specs.List.{find}
-use Rattle.std.specs.Prelude.{is_err, is_none, is_some, slice_get, IsSome, IsOk, OnOk, Result, Ok, Err}
+use Rattle.std.specs.Prelude.{is_err, is_none, is_some, slice_get, IsSome, OnErr, OnOk, Result, Ok, Err}
 use Rattle.ow_records.specs.declared.outcomes.Ending.TheVariants.{Replied, Overran}
 use Rattle.ow_traits.specs.declared.replies.RunReply.{RunReply}
 use Rattle.ow_slots.specs.declared.refusal.SlotRefusal.{SlotRefusal}
@@ -10,25 +10,29 @@ use Rattle.ow_slots.specs.declared.states.Slot.{Slot}
 use Rattle.ow_slots.specs.Slots.{first_with, gone_answer, run_answer}
 use Rattle.ow_slots.specs.State.{awaits, goes, holds, recorded_of, runs}
 use Rattle.ow_lifecycle.specs.Life as lives
+use Rattle.ow_lifecycle.specs.Life.{Event}
 use Rattle.ow_floor.specs.declared.activations.Plan.{Plan}
 use Rattle.ow_floor.specs.declared.activations.Open.{Open}
 use Rattle.ow_floor.specs.declared.answers.Happening.{Happening}
+use Rattle.ow_floor.specs.declared.answers.FloorRefusal.{FloorRefusal}
+use Rattle.ow_floor.specs.declared.answers.FloorRefusal.TheVariants as refusals
 use Rattle.ow_floor.specs.declared.answers.Order.{Order}
 use Rattle.ow_floor.specs.declared.lists.Berth.{Berth}
 use Rattle.ow_floor.specs.declared.runs.Run.{Run}
-use Rattle.ow_floor.specs.View.{Shown, is_number, is_of, last_of}
+use Rattle.ow_floor.specs.View.{Shown, generation_in, is_number, is_of, last_of}
 use Rattle.ow_floor.specs.Trace as traces
 use Rattle.ow_floor.specs.Trace.{Trace, Accepted, Answered as replied, Begun, Drained, Gone, Lost, Reopened, Swept, last, shown}
 use Rattle.ow_floor.specs.Growth.{grow, grown}
 use Rattle.ow_floor.specs.Laws.{Grows, Stands}
-use Rattle.ow_floor.specs.Calls.{abandoned_items, accept_items, activation_of, answer_by, answer_to, answered_by, answered_items, begun_items, busy_run, drain_answer, drain_by, end_items, goes_by, gone_items, happened, is_late, items_if, items_on, late_items, late_of, leaves_alive, lost_items, next_items, next_order, order_on, overrun_items, reopened_items, reply_items, run_by, swept_ends, swept_items}
+use Rattle.ow_floor.specs.Calls.{abandoned_items, accept_items, activation_of, answer_by, answer_to, answered_by, answered_items, begun_answer, begun_items, busy_run, drain_answer, drain_by, end_items, goes_by, gone_answer as floor_gone, gone_items, happened, is_late, items_if, items_on, late_items, late_of, leaves_alive, lost_answer, lost_items, next_items, next_order, order_on, overrun_items, refused_unless, reopened_items, reply_items, run_by, swept_ends, swept_items}
 use Rattle.ow_floor.specs.Store.{IsCell, IsGood, IsGoodPast, Store, answered_in, at_moment, drained_in, event_in, opens, reopened_in, run_in, run_put, show, show_past, taken_back, there}
 use Rattle.ow_floor.specs.Ends.{IsEndedRun, IsMade, IsRunBegun, IsRunLost, abandons, sweeps}
 use Rattle.ow_floor.proofs.Coming.{right_begun, right_gone, right_lost, right_next, right_reopened, right_reply, right_swept}
 use Rattle.ow_floor.proofs.Drawn.{drawn_last}
 use Rattle.ow_floor.proofs.Making.{happened_append}
 use Rattle.ow_floor.proofs.Numbers.{number_is}
-use Rattle.ow_floor.proofs.Serving.{within_kept}
+use Rattle.ow_floor.proofs.Results.{sure}
+use Rattle.ow_floor.proofs.Serving.{is_order, within_kept}
 use Rattle.ow_floor.proofs.Showing.{good_event, good_marked, good_put, good_reopened, show_answered, show_reopened}
 use Rattle.ow_floor.proofs.Soundness.{grows}
 
@@ -79,7 +83,7 @@ told_slots R f T st = ap (λ (v : Shown). f v.slots) st.is
 
 -- ---- replies
 
-same_berth : (R : Store) (run k : ℕ) (c : IsCell run_in (is_number run) R.runs k) (b : Berth) → get_or R.runs k None ≡ Some b → b ≡ c.item
+pub same_berth : (R : Store) (run k : ℕ) (c : IsCell run_in (is_number run) R.runs k) (b : Berth) → get_or R.runs k None ≡ Some b → b ≡ c.item
 same_berth R run k c b here = let e : Some b ≡ Some c.item = sym here ∙ c.here None in cc
 
 pub made_reply : (R S U : Store) (at run k : ℕ) (reply : RunReply) (told : List Happening) (s : Slot) (c : IsCell run_in (is_number run) R.runs k) → first_with (runs run) R.slots ≡ Some s
@@ -95,7 +99,8 @@ made_reply R S U at run k reply told s c busy e is =
     let shows : show U ≡ grown (reply_items at run reply (show R) (busy_run run (show R))) (show R)
     = ap show is ∙ (show_answered S at run k (leaves_alive reply) there' ∙ (ap (grow (replied run (leaves_alive reply) at)) e.shows ∙ ap (λ items. grown items (show R)) (sym items))) in
     let tells : Some (answered_by run (recorded_of s.state) told) ≡ answer_by at run reply (show R) (busy_run run (show R))
-    = rw (busy, c.found) (rw (busy, number) (ap (λ hs. Some (answered_by run (recorded_of s.state) hs)) e.tells)) in (
+    = rw (busy, c.found) (rw busy (ap (λ hs. Some (answered_by run (recorded_of s.state) hs)) e.tells
+    ∙ ap (λ n. Some (answered_by n (recorded_of s.state) (happened (end_items at (Replied reply) (Some c.item.run) (find (is_of c.item.run.id) (opens R.spots R.tasks)))))) (sym number))) in (
       (
         grows (λ v. reply_items at run reply v (busy_run run v)) (show R) (show U) (λ T st. right_reply at run reply T st.sound) shows,
         subst (λ (V : Store). IsGood V) (sym is)
@@ -167,46 +172,91 @@ back_good (Some P) R good past = past
 pub last_told : (v : Shown) (n k : ℕ) → n ≡ last_of v.drawn k → (T : Trace) → Stands v T → n ≡ last T k
 last_told v n k is T st = is ∙ (ap (λ (u : Shown). last_of u.drawn k) st.is ∙ drawn_last T k)
 
--- a run has begun, in its slot and as it lives
-pub made_begun : (R F S : Store) (at run : ℕ) → true ≡ is_some (first_with (awaits run) R.slots) → F ≡ event_in at (lives.Begun run at) R → IsRunBegun at run F S
-    → Grows (show R) (show S) (λ T. begun_items at run T)
-made_begun R F S at run some is begins =
-    grows_begun R S at run true some (subst (λ (U : Store). IsRunBegun at run U S) is begins)
-
-pub made_lost : (R F S : Store) (at run : ℕ) → true ≡ is_some (first_with (holds run) R.slots) → F ≡ event_in at (lives.Lost run) R → IsRunLost run F S
-    → Grows (show R) (show S) (λ T. lost_items at run T)
-made_lost R F S at run some is loses =
-    grows_lost R S at run true some (subst (λ (U : Store). IsRunLost run U S) is loses)
-
-pub made_gone : (R S : Store) (at slot generation : ℕ) → true ≡ goes_by generation (slice_get R.slots slot) → S ≡ event_in at (lives.Gone slot generation) R
-    → Grows (show R) (show S) (λ T. gone_items at slot generation T)
-made_gone R S at slot generation some is = grows_gone R S at slot generation true some (ap show is)
-
--- where an event is refused, nothing is added
-pub kept_begun : (R : Store) (at run : ℕ) → false ≡ is_some (first_with (awaits run) R.slots) → Grows (show R) (show R) (λ T. begun_items at run T)
-kept_begun R at run none = grows_begun R R at run false none refl
-
-pub kept_lost : (R : Store) (at run : ℕ) → false ≡ is_some (first_with (holds run) R.slots) → Grows (show R) (show R) (λ T. lost_items at run T)
-kept_lost R at run none = grows_lost R R at run false none refl
-
-pub kept_gone : (R : Store) (at slot generation : ℕ) → false ≡ goes_by generation (slice_get R.slots slot) → Grows (show R) (show R) (λ T. gone_items at slot generation T)
-kept_gone R at slot generation none = grows_gone R R at slot generation false none refl
-
 -- whether an event was refused
-pub run_refused : {X : Type 0} (run : ℕ) (f : Slot → X) (o : Option Slot) (r : Result X SlotRefusal) (b : Bool) → r ≡ run_answer run f o → b ≡ is_err r → not b ≡ is_some o
-run_refused run f None r b is e = rw (e, is) refl
-run_refused run f (Some s) r b is e = rw (e, is) refl
+run_told : (run : ℕ) (o : Option Slot) (r : Result (Unit {0}) SlotRefusal) (b : Bool) → r ≡ run_answer run (λ s. tt) o → b ≡ is_err r → is_some o ≡ not b
+run_told run None r b is e = rw (e, is) refl
+run_told run (Some s) r b is e = rw (e, is) refl
 
-pub gone_refused : (slot generation : ℕ) (o : Option Slot) (r : Result (Unit {0}) SlotRefusal) (b : Bool) → r ≡ gone_answer slot generation o → b ≡ is_err r → not b ≡ goes_by generation o
-gone_refused slot generation None r b is e = rw (e, is) refl
-gone_refused slot generation (Some s) r b is e = rw (e, is) (at (goes generation s))
+gone_told : (slot generation : ℕ) (o : Option Slot) (r : Result (Unit {0}) SlotRefusal) (b : Bool) → r ≡ gone_answer slot generation o → b ≡ is_err r → goes_by generation o ≡ not b
+gone_told slot generation None r b is e = rw (e, is) refl
+gone_told slot generation (Some s) r b is e = rw (e, is) (at (goes generation s))
   where
     answer : Bool → Result (Unit {0}) SlotRefusal
     answer c = cond c (Ok tt) (Err (slots.NoSlot slot s.generation))
 
-    at : (c : Bool) → not (is_err (answer c)) ≡ c
+    at : (c : Bool) → c ≡ not (is_err (answer c))
     at true = refl
     at false = refl
+
+failed : {A E : Type 0} (r : Result A E) (P : Type 0) → OnErr r P → true ≡ is_err r → P
+failed (Ok a) P h err = cc
+failed (Err e) P h err = h
+
+-- what an event was told, and that the floor grows so
+abbrev pub Tells : Store → Store → Result (Unit {0}) FloorRefusal → (Trace → Result (Unit {0}) FloorRefusal) → (Trace → Trace) → Type 0
+Tells R S r answer items = ((T : Trace) → Stands (show R) T → r ≡ answer T) × Grows (show R) (show S) items
+
+refused_told : (R : Store) (b : Bool) (f : List Slot → Bool) (refusal : List Slot → FloorRefusal) → f R.slots ≡ b → (T : Trace) → Stands (show R) T
+    → refused_unless b (refusal R.slots) ≡ refused_unless (f (traces.slots T)) (refusal (traces.slots T))
+refused_told R b f refusal is T st = ap (λ c. refused_unless c (refusal R.slots)) (sym is) ∙ ap (λ (v : Shown). refused_unless (f v.slots) (refusal v.slots)) st.is
+
+pub begun_done : (R F S : Store) (at run : ℕ) (r : Result (Unit {0}) SlotRefusal) → r ≡ run_answer run (λ s. tt) (first_with (awaits run) R.slots) → OnOk r (F ≡ event_in at (lives.Begun run at) R)
+    → false ≡ is_err r → IsRunBegun at run F S → Tells R S (Ok tt) (begun_answer run) (λ T. begun_items at run T)
+begun_done R F S at run r is made ok begins =
+    let some = run_told run (first_with (awaits run) R.slots) r false is ok in (
+      refused_told R true (λ ss. is_some (first_with (awaits run) ss)) (λ ss. refusals.NoRun run) some,
+      grows_begun R S at run true (sym some) (subst (λ (U : Store). IsRunBegun at run U S) (sure r _ made ok) begins),
+    )
+
+pub begun_not : (R F : Store) (at run : ℕ) (r : Result (Unit {0}) SlotRefusal) → r ≡ run_answer run (λ s. tt) (first_with (awaits run) R.slots) → OnErr r (F ≡ R)
+    → true ≡ is_err r → Tells R F (Err (refusals.NoRun run)) (begun_answer run) (λ T. begun_items at run T)
+begun_not R F at run r is kept err =
+    let none = run_told run (first_with (awaits run) R.slots) r true is err in (
+      refused_told R false (λ ss. is_some (first_with (awaits run) ss)) (λ ss. refusals.NoRun run) none,
+      grows_begun R F at run false (sym none) (ap show (failed r _ kept err)),
+    )
+
+pub lost_done : (R F S : Store) (at run : ℕ) (r : Result (Unit {0}) SlotRefusal) → r ≡ run_answer run (λ s. tt) (first_with (holds run) R.slots) → OnOk r (F ≡ event_in at (lives.Lost run) R)
+    → false ≡ is_err r → IsRunLost run F S → Tells R S (Ok tt) (lost_answer run) (λ T. lost_items at run T)
+lost_done R F S at run r is made ok loses =
+    let some = run_told run (first_with (holds run) R.slots) r false is ok in (
+      refused_told R true (λ ss. is_some (first_with (holds run) ss)) (λ ss. refusals.NoRun run) some,
+      grows_lost R S at run true (sym some) (subst (λ (U : Store). IsRunLost run U S) (sure r _ made ok) loses),
+    )
+
+pub lost_not : (R F : Store) (at run : ℕ) (r : Result (Unit {0}) SlotRefusal) → r ≡ run_answer run (λ s. tt) (first_with (holds run) R.slots) → OnErr r (F ≡ R)
+    → true ≡ is_err r → Tells R F (Err (refusals.NoRun run)) (lost_answer run) (λ T. lost_items at run T)
+lost_not R F at run r is kept err =
+    let none = run_told run (first_with (holds run) R.slots) r true is err in (
+      refused_told R false (λ ss. is_some (first_with (holds run) ss)) (λ ss. refusals.NoRun run) none,
+      grows_lost R F at run false (sym none) (ap show (failed r _ kept err)),
+    )
+
+pub gone_done : (R S : Store) (at slot generation : ℕ) (r : Result (Unit {0}) SlotRefusal) → r ≡ gone_answer slot generation (slice_get R.slots slot) → OnOk r (S ≡ event_in at (lives.Gone slot generation) R)
+    → false ≡ is_err r → Tells R S (Ok tt) (floor_gone slot generation) (λ T. gone_items at slot generation T)
+gone_done R S at slot generation r is made ok =
+    let some = gone_told slot generation (slice_get R.slots slot) r false is ok in (
+      refused_told R true (λ ss. goes_by generation (slice_get ss slot)) (λ ss. refusals.NoSlot slot (generation_in slot ss)) some,
+      grows_gone R S at slot generation true (sym some) (ap show (sure r _ made ok)),
+    )
+
+pub gone_not : (R F : Store) (at slot generation kept : ℕ) (r : Result (Unit {0}) SlotRefusal) → r ≡ gone_answer slot generation (slice_get R.slots slot) → OnErr r (F ≡ R)
+    → true ≡ is_err r → kept ≡ generation_in slot F.slots → Tells R F (Err (refusals.NoSlot slot kept)) (floor_gone slot generation) (λ T. gone_items at slot generation T)
+gone_not R F at slot generation kept r is same err found =
+    let none = gone_told slot generation (slice_get R.slots slot) r true is err in
+    let left : F ≡ R = failed r _ same err in
+    let number : kept ≡ generation_in slot R.slots = found ∙ ap (λ (U : Store). generation_in slot U.slots) left in (
+      λ T st. ap (λ n. Err (refusals.NoSlot slot n)) number
+          ∙ refused_told R false (λ ss. goes_by generation (slice_get ss slot)) (λ ss. refusals.NoSlot slot (generation_in slot ss)) none T st,
+      grows_gone R F at slot generation false (sym none) (ap show left),
+    )
+
+-- what stands behind an event, or a refusal
+pub good_not : {A E : Type 0} (R F : Store) (r : Result A E) → OnErr r (F ≡ R) → true ≡ is_err r → IsGood R → IsGood F
+good_not R F r kept err good = subst (λ (U : Store). IsGood U) (sym (failed r _ kept err)) good
+
+pub good_done : {A E : Type 0} (R F : Store) (at : ℕ) (e : Event) (r : Result A E) → is_order e ≡ false → OnOk r (F ≡ event_in at e R) → false ≡ is_err r → IsGood R → IsGood F
+good_done R F at e r plain made ok good = subst (λ (U : Store). IsGood U) (sym (sure r _ made ok)) (good_event R at e (within_kept e R.slots R.pool plain good.pool) good)
 
 happened_length : (at : ℕ) (rs : List Run) (v : Shown) → length (happened (overrun_items at rs v)) ≡ length (overrun_items at rs v)
 happened_length at [] v = refl

@@ -2,6 +2,8 @@ pub mod Firsts
 pub mod Finding
 pub mod Going
 pub mod Undoing
+pub mod Refusing
+pub mod Lateness
 pub mod Results
 pub mod Counting
 pub mod Restoring
@@ -22,4 +24,6 @@ pub mod Showing
 pub mod Owing
 pub mod Making
 pub mod Growing
+pub mod Losing
+pub mod Ordering
 pub mod Emptying

@@ -1,12 +1,12 @@
 -- What changes of the kept lists show.
-use Rattle.std.proofs.Common.{◌≡◌, ◌≤◌, ◌+◌, ◌-◌, ◌++◌, ℕ, zero, suc, Bool, List, [], ◌∷◌, Option, Some, None, length, get_or, map, refl, sym, ap, ◌∙◌, arith, length-append}
+use Rattle.std.proofs.Common.{◌≡◌, ◌≤◌, ◌+◌, ◌-◌, ◌++◌, ℕ, zero, suc, Bool, false, List, [], ◌∷◌, Option, Some, None, length, get_or, map, refl, sym, ap, ◌∙◌, arith, length-append}
 use Rattle.std.specs.List.{find}
 use Rattle.std.specs.Prelude.{slice_set}
 use Rattle.std.proofs.lemmas.List.{length-set}
 use Rattle.ow_records.specs.declared.ids.Id.{Id}
 use Rattle.ow_records.specs.declared.activations.Activation.{Activation}
 use Rattle.ow_slots.specs.declared.keys.Key.{Key}
-use Rattle.ow_pool.specs.Rules.{IsWithinPool}
+use Rattle.ow_pool.specs.Rules.{AreWantsSized, IsWithinPool}
 use Rattle.ow_lifecycle.specs.Life as lives
 use Rattle.ow_lifecycle.specs.Life.{Event}
 use Rattle.ow_lifecycle.specs.Fitting.{changed}
@@ -19,12 +19,23 @@ use Rattle.ow_floor.specs.declared.lists.Berth.{Berth}
 use Rattle.ow_floor.specs.declared.lists.Spot.{Spot}
 use Rattle.ow_floor.specs.declared.runs.Run.{Run}
 use Rattle.ow_floor.specs.View.{begun, is_number, is_of, waits, with_state}
-use Rattle.ow_floor.specs.Trace.{End, Accepted, Answered, Drained, Ended, Ordered, Prewarming, Removed, Reopened, Swept, overrun_of, record_of}
+use Rattle.ow_floor.specs.Trace.{End, Accepted, Answered, Drained, Ended, Opened, Ordered, Prewarming, Removed, Reopened, Swept, overrun_of, record_of, slot_count}
 use Rattle.ow_floor.specs.Growth.{grow}
 use Rattle.ow_floor.specs.Ends.{IsRunBegun, IsRunLost}
 use Rattle.ow_floor.specs.Store.{Store, IsCell, IsGood, IsSpot, accepted_in, answered_in, at_moment, counted_in, drained_in, ended_in, event_in, freed_in, empty_of, opens, ordered_in, prewarmed_in, reopened_in, run_in, run_put, show, started_in, there}
 use Rattle.ow_floor.proofs.Firsts.{remove_none, update_none}
 use Rattle.ow_floor.proofs.Serving.{within_kept}
+use Rattle.ow_floor.proofs.Slotting.{slots_opened, vacant_held}
+use Rattle.ow_floor.proofs.Soundness.{sound_start}
+use Rattle.ow_floor.proofs.Counting.{owed_slot}
+use Rattle.ow_floor.specs.Laws.{Stands}
+use Rattle.std.specs.List.{AllByRecursion}
+use Rattle.std.specs.Prelude.{replicate}
+use Rattle.std.proofs.lemmas.List.Sums.{sum_by-cons}
+use Rattle.ow_traits.specs.declared.prewarms.Prewarm.{Prewarm}
+use Rattle.ow_slots.specs.Slots.{vacant_slot}
+use Rattle.ow_slots.specs.State.{IsSized}
+use Rattle.ow_lifecycle.specs.Owed.{owed}
 use Rattle.ow_floor.proofs.Tallies.{length-removed, length-started}
 
 opens_push : (ss : List Spot) (ts : List (Option Activation)) (s : Spot) (a : Activation) → length ts ≡ length ss
@@ -225,3 +236,43 @@ good_cut R at k a e here good =
     let less = cut_length R.spots R.tasks k a good.paired here in
     let more : length (R.ended ++ e ∷ []) ≡ length R.ended + 1 = length-append R.ended (e ∷ []) in
     record { paired = len ∙ good.paired; opened = good.opened; number = omega (arith, less, more, good.number); owed = good.owed; pool = good.pool; wants = good.wants }
+
+-- ---- at first
+
+-- the lists of a floor where nothing has happened
+abbrev pub opened_store : ℕ → List Prewarm → Store
+opened_store pool wants = record {
+  spots = [];
+  tasks = [];
+  runs = [];
+  slots = replicate (slot_count pool) vacant_slot;
+  ended = [];
+  drawn = [];
+  blocking = [];
+  marks = record { latest = 0; opened = 0; owed = 0; draining = false };
+  pool = pool;
+  wants = wants;
+}
+
+vacant_owed : (n : ℕ) → owed (replicate n vacant_slot) ≡ 0
+vacant_owed zero = refl
+vacant_owed (suc n) = let rest = vacant_owed n in let sum = sum_by-cons owed_slot vacant_slot (replicate n vacant_slot) in omega (arith, rest, sum)
+
+vacant_sized : (n : ℕ) → AllByRecursion (λ s. IsSized s.state) (replicate n vacant_slot)
+vacant_sized zero = tt
+vacant_sized (suc n) = (tt, vacant_sized n)
+
+pub good_opened : (pool : ℕ) (wants : List Prewarm) → AreWantsSized wants → IsGood (opened_store pool wants)
+good_opened pool wants sized =
+    let none = vacant_held (slot_count pool) in
+    record {
+      paired = refl;
+      opened = omega arith;
+      number = refl;
+      owed = sym (vacant_owed (slot_count pool));
+      pool = record { within = omega (arith, none); sized = vacant_sized (slot_count pool) };
+      wants = sized;
+    }
+
+pub stands_opened : (pool : ℕ) (wants : List Prewarm) → Stands (show (opened_store pool wants)) (Opened pool wants ∷ [])
+stands_opened pool wants = record { is = rw (slots_opened pool wants) refl; sound = sound_start pool wants }

@@ -215,7 +215,7 @@ slots_item (Reopened at) T right sound = slots_one (event_of (Reopened at)) T ri
 
 -- ---- at first
 
-vacant_held : (n : ℕ) → memory_held (replicate n vacant_slot) ≡ 0
+pub vacant_held : (n : ℕ) → memory_held (replicate n vacant_slot) ≡ 0
 vacant_held zero = refl
 vacant_held (suc n) = let rest = vacant_held n in let sum = sum_by-cons size vacant_slot (replicate n vacant_slot) in omega (arith, rest, sum)
 

@@ -322,9 +322,6 @@ grows f v w right is T st =
     let both = sound_items (f (shown T)) T (right T st) st.sound in
     record { is = is ∙ (ap (λ (u : Shown). grown (f u) u) st.is ∙ sym both.1); sound = both.0 }
 
-pub stands_start : (pool : ℕ) (wants : List Prewarm) → Stands (shown (Opened pool wants ∷ [])) (Opened pool wants ∷ [])
-stands_start pool wants = record { is = refl; sound = sound_start pool wants }
-
 -- ---- laws
 
 -- in a sound trace each accepted id waits, runs or is recorded, once

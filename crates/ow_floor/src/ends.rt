@@ -1,5 +1,7 @@
 // Ends of activations.
-ghost use Rattle.std.specs.Prelude.{◌≡◌, ◌<◌, ◌++◌, ◌∷◌, [], length, None, Some, slice_index_or, is_some, IfOk, OnOk};
+ghost use Rattle.std.specs.Prelude.{◌≡◌, ◌<◌, ◌++◌, ◌∷◌, [], length, None, Some, slice_index_or, is_some, ◌↔◌, IsTrue, IfOk, OnOk};
+ghost use Rattle.ow_slots.specs.Slots.{IsThere, first_with};
+ghost use Rattle.ow_slots.specs.State.{IsUnrecorded, runs};
 ghost use Rattle.ow_records.specs.declared.activations.Activation.{Activation};
 ghost use Rattle.ow_floor.specs.Trace.{started};
 ghost use Rattle.ow_floor.specs.Calls.{is_late};
@@ -52,9 +54,25 @@ fn late_place(lists: &Lists, at: u64, run: Run) -> Option<usize>
     requires { IsGood lists.now.now }
     ensures { IsLateEnd at run lists.now.now result }
 {
-    if !lists.slots().is_unrecorded(run.number) {
-        return None;
+    if is_unrecorded(lists, run.number) {
+        return late_spot(lists, at, run);
     }
+    None
+}
+
+// Whether a slot is busy with the run, and no sweep recorded what it carries.
+fn is_unrecorded(lists: &Lists, run: u64) -> bool
+    ensures { IsTrue result ↔ IsThere IsUnrecorded (first_with (runs run) lists.now.now.slots) }
+{
+    lists.slots().is_unrecorded(run)
+}
+
+// The place of what the run carries, where it is late. No sweep recorded it.
+fn late_spot(lists: &Lists, at: u64, run: Run) -> Option<usize>
+    requires good { IsGood lists.now.now }
+    requires unrecorded { IsThere IsUnrecorded (first_with (runs run.number) lists.now.now.slots) }
+    ensures { IsLateEnd at run lists.now.now result }
+{
     let place = lists.open_place(run.id)?;
     let Some(task) = &lists.tasks()[place] else {
         return None;

@@ -164,6 +164,7 @@ impl KeptSlots {
     pub(crate) fn begun(&mut self, run: u64, at: u64) -> Result<(), SlotRefusal>
         ensures answer { result ≡ run_answer run (λ s. tt) (first_with (awaits run) self.old.now) }
         ensures now { self.new.now ≡ change_first (has (awaits run)) (with_state (begun_state at)) self.old.now }
+        ensures err { OnErr result (self.new.now ≡ self.old.now) }
     {
         self.slots.begun(run, at)
     }
@@ -172,6 +173,7 @@ impl KeptSlots {
     pub(crate) fn lost(&mut self, run: u64) -> Result<Option<u64>, SlotRefusal>
         ensures answer { result ≡ run_answer run (λ s. recorded_of s.state) (first_with (holds run) self.old.now) }
         ensures now { self.new.now ≡ change_first (has (holds run)) (with_state lost_state) self.old.now }
+        ensures err { OnErr result (self.new.now ≡ self.old.now) }
     {
         self.slots.lost(run)
     }
@@ -180,6 +182,7 @@ impl KeptSlots {
     pub(crate) fn gone(&mut self, slot: u32, generation: u32) -> Result<(), SlotRefusal>
         ensures answer { result ≡ gone_answer slot generation (slice_get self.old.now slot) }
         ensures now { self.new.now ≡ change slot (after_gone generation) self.old.now }
+        ensures err { OnErr result (self.new.now ≡ self.old.now) }
     {
         self.slots.gone(slot, generation)
     }

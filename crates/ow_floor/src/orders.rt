@@ -1,5 +1,5 @@
 // Orders: what is done next.
-ghost use Rattle.std.specs.Prelude.{◌≡◌, ◌<◌, length, slice_get, None, Some, option_copied, IfOk, IfSome};
+ghost use Rattle.std.specs.Prelude.{◌≡◌, ◌+◌, ◌<◌, length, slice_get, None, Some, option_copied, IfOk, IfSome};
 ghost use Rattle.std.specs.List.{find};
 ghost use Rattle.ow_slots.specs.Slots.{IsThere};
 ghost use Rattle.ow_slots.specs.State.{IsMemory, IsVacant, StartFits};

@@ -40,8 +40,9 @@ pub(crate) fn begin_run(lists: &mut Lists, at: u64, run: u64)
     ensures made { IsRunBegun at run lists.old.now lists.new.now }
     ensures past { lists.new.past ≡ None }
 {
-    let Some(place) = lists.run_place(run) else {
-        return;
+    let place = match lists.run_place(run) {
+        Some(place) => place,
+        None => return,
     };
     let Some(berth) = lists.runs()[place] else {
         return;
@@ -57,8 +58,9 @@ pub(crate) fn lose_run(lists: &mut Lists, run: u64)
     ensures made { IsRunLost run lists.old.now lists.new.now }
     ensures past { lists.new.past ≡ None }
 {
-    let Some(place) = lists.run_place(run) else {
-        return;
+    let place = match lists.run_place(run) {
+        Some(place) => place,
+        None => return,
     };
     let Some(berth) = lists.runs()[place] else {
         return;
