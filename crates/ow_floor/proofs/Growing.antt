@@ -1,7 +1,7 @@
 -- How a floor grows by what is done to the kept lists.
 use Rattle.std.proofs.Common.{◌≡◌, ◌+◌, ◌++◌, ◌&&◌, ℕ, Bool, true, false, cond, not, List, [], ◌∷◌, Option, Some, None, length, get_or, refl, sym, ap, ◌∙◌, arith, subst, length-append}
 use Rattle.std.specs.List.{find}
-use Rattle.std.specs.Prelude.{is_err, is_none, is_some, slice_get, IsSome, OnErr, OnOk, Result, Ok, Err}
+use Rattle.std.specs.Prelude.{is_err, is_none, is_some, slice_get, IsSome, OnOk, Result, Ok, Err}
 use Rattle.ow_records.specs.declared.outcomes.Ending.TheVariants.{Replied, Overran}
 use Rattle.ow_traits.specs.declared.replies.RunReply.{RunReply}
 use Rattle.ow_slots.specs.declared.refusal.SlotRefusal.{SlotRefusal}
@@ -14,17 +14,15 @@ use Rattle.ow_lifecycle.specs.Life.{Event}
 use Rattle.ow_floor.specs.declared.activations.Plan.{Plan}
 use Rattle.ow_floor.specs.declared.activations.Open.{Open}
 use Rattle.ow_floor.specs.declared.answers.Happening.{Happening}
-use Rattle.ow_floor.specs.declared.answers.FloorRefusal.{FloorRefusal}
-use Rattle.ow_floor.specs.declared.answers.FloorRefusal.TheVariants as refusals
 use Rattle.ow_floor.specs.declared.answers.Order.{Order}
 use Rattle.ow_floor.specs.declared.lists.Berth.{Berth}
 use Rattle.ow_floor.specs.declared.runs.Run.{Run}
-use Rattle.ow_floor.specs.View.{Shown, generation_in, is_number, is_of, last_of}
-use Rattle.ow_floor.specs.Trace as traces
+use Rattle.ow_floor.specs.View.{Shown, is_number, is_of, last_of}
+use Rattle.ow_floor.specs.Places.{recorded_there}
 use Rattle.ow_floor.specs.Trace.{Trace, Accepted, Answered as replied, Begun, Drained, Gone, Lost, Reopened, Swept, last, shown}
 use Rattle.ow_floor.specs.Growth.{grow, grown}
 use Rattle.ow_floor.specs.Laws.{Grows, Stands}
-use Rattle.ow_floor.specs.Calls.{abandoned_items, accept_items, activation_of, answer_by, answer_to, answered_by, answered_items, begun_answer, begun_items, busy_run, drain_answer, drain_by, end_items, goes_by, gone_answer as floor_gone, gone_items, happened, is_late, items_if, items_on, late_items, late_of, leaves_alive, lost_answer, lost_items, next_items, next_order, order_on, overrun_items, refused_unless, reopened_items, reply_items, run_by, swept_ends, swept_items}
+use Rattle.ow_floor.specs.Calls.{abandoned_items, accept_items, activation_of, answer_by, answer_to, answered_by, answered_items, begun_items, busy_run, drain_answer, drain_by, end_items, goes_by, gone_items, happened, is_late, items_if, items_on, late_items, late_of, leaves_alive, lost_items, next_items, next_order, order_on, overrun_items, reopened_items, reply_items, run_by, swept_ends, swept_items}
 use Rattle.ow_floor.specs.Store.{IsCell, IsGood, IsGoodPast, Store, answered_in, at_moment, drained_in, event_in, opens, reopened_in, run_in, run_put, show, show_past, taken_back, there}
 use Rattle.ow_floor.specs.Ends.{IsEndedRun, IsMade, IsRunBegun, IsRunLost, abandons, sweeps}
 use Rattle.ow_floor.proofs.Coming.{right_begun, right_gone, right_lost, right_next, right_reopened, right_reply, right_swept}
@@ -77,10 +75,6 @@ grows_gone R S at slot generation b is made =
     grows (λ v. items_if (goes_by generation (slice_get v.slots slot)) (Gone slot generation at)) (show R) (show S)
     (λ T st. right_gone at slot generation (shown T) st.sound.slotted.within) (made ∙ ap (λ c. grown (items_if c (Gone slot generation at)) (show R)) is)
 
--- what is told of the slots is told of the trace
-pub told_slots : {X : Type 0} (R : Store) (f : List Slot → X) (T : Trace) → Stands (show R) T → f R.slots ≡ f (traces.slots T)
-told_slots R f T st = ap (λ (v : Shown). f v.slots) st.is
-
 -- ---- replies
 
 pub same_berth : (R : Store) (run k : ℕ) (c : IsCell run_in (is_number run) R.runs k) (b : Berth) → get_or R.runs k None ≡ Some b → b ≡ c.item
@@ -115,28 +109,6 @@ pub made_replied : (R S U : Store) (at run k : ℕ) (reply : RunReply) (told : L
     × ((T : Trace) → Stands (show R) T → Some (answered_by run (recorded_of s.state) told) ≡ answer_to at run reply T)
 made_replied R S U at run k reply told s b c busy here e is =
     made_reply R S U at run k reply told s c busy (subst (λ (x : Berth). IsEndedRun at x.run reply R S told) (same_berth R run k c b here) e) is
-
--- where no run is there, no slot is busy or no run is live, nothing is told
-pub no_reply : (R : Store) (at run : ℕ) (reply : RunReply) → busy_run run (show R) ≡ None
-    → ((T : Trace) → Stands (show R) T → None ≡ answer_to at run reply T) × Grows (show R) (show R) (λ T. answered_items at run reply T)
-no_reply R at run reply none =
-    let items : reply_items at run reply (show R) (busy_run run (show R)) ≡ [] = rw none refl in (
-      λ T st. (let tells : None ≡ answer_by at run reply (show R) (busy_run run (show R)) = rw none refl in tells ∙ ap (λ (v : Shown). answer_by at run reply v (busy_run run v)) st.is),
-      grows (λ v. reply_items at run reply v (busy_run run v)) (show R) (show R) (λ T st. right_reply at run reply T st.sound) (ap (λ items. grown items (show R)) (sym items)),
-    )
-
-pub no_slot : (R : Store) (run : ℕ) → first_with (runs run) R.slots ≡ None → busy_run run (show R) ≡ None
-no_slot R run none = rw none refl
-
-pub no_live : (R : Store) (run : ℕ) → find (is_number run) (there run_in R.runs) ≡ None → busy_run run (show R) ≡ None
-no_live R run none = rw none (either (first_with (runs run) R.slots))
-  where
-    either : (s : Option Slot) → run_by s None ≡ None
-    either None = refl
-    either (Some s) = refl
-
-pub is_busy : (R : Store) (run k : ℕ) (s : Slot) (c : IsCell run_in (is_number run) R.runs k) → first_with (runs run) R.slots ≡ Some s → (T : Trace) → Stands (show R) T → IsSome (busy_run run (shown T))
-is_busy R run k s c busy T st = let h : busy_run run (shown T) ≡ Some c.item.run = sym (ap (busy_run run) st.is) ∙ rw (busy, c.found) refl in rw h refl
 
 -- ---- sweeps, openings, drains
 
@@ -188,75 +160,28 @@ gone_told slot generation (Some s) r b is e = rw (e, is) (at (goes generation s)
     at true = refl
     at false = refl
 
-failed : {A E : Type 0} (r : Result A E) (P : Type 0) → OnErr r P → true ≡ is_err r → P
-failed (Ok a) P h err = cc
-failed (Err e) P h err = h
-
--- what an event was told, and that the floor grows so
-abbrev pub Tells : Store → Store → Result (Unit {0}) FloorRefusal → (Trace → Result (Unit {0}) FloorRefusal) → (Trace → Trace) → Type 0
-Tells R S r answer items = ((T : Trace) → Stands (show R) T → r ≡ answer T) × Grows (show R) (show S) items
-
-refused_told : (R : Store) (b : Bool) (f : List Slot → Bool) (refusal : List Slot → FloorRefusal) → f R.slots ≡ b → (T : Trace) → Stands (show R) T
-    → refused_unless b (refusal R.slots) ≡ refused_unless (f (traces.slots T)) (refusal (traces.slots T))
-refused_told R b f refusal is T st = ap (λ c. refused_unless c (refusal R.slots)) (sym is) ∙ ap (λ (v : Shown). refused_unless (f v.slots) (refusal v.slots)) st.is
-
 pub begun_done : (R F S : Store) (at run : ℕ) (r : Result (Unit {0}) SlotRefusal) → r ≡ run_answer run (λ s. tt) (first_with (awaits run) R.slots) → OnOk r (F ≡ event_in at (lives.Begun run at) R)
-    → false ≡ is_err r → IsRunBegun at run F S → Tells R S (Ok tt) (begun_answer run) (λ T. begun_items at run T)
+    → false ≡ is_err r → IsRunBegun at run F S → Grows (show R) (show S) (λ T. begun_items at run T)
 begun_done R F S at run r is made ok begins =
-    let some = run_told run (first_with (awaits run) R.slots) r false is ok in (
-      refused_told R true (λ ss. is_some (first_with (awaits run) ss)) (λ ss. refusals.NoRun run) some,
-      grows_begun R S at run true (sym some) (subst (λ (U : Store). IsRunBegun at run U S) (sure r _ made ok) begins),
-    )
-
-pub begun_not : (R F : Store) (at run : ℕ) (r : Result (Unit {0}) SlotRefusal) → r ≡ run_answer run (λ s. tt) (first_with (awaits run) R.slots) → OnErr r (F ≡ R)
-    → true ≡ is_err r → Tells R F (Err (refusals.NoRun run)) (begun_answer run) (λ T. begun_items at run T)
-begun_not R F at run r is kept err =
-    let none = run_told run (first_with (awaits run) R.slots) r true is err in (
-      refused_told R false (λ ss. is_some (first_with (awaits run) ss)) (λ ss. refusals.NoRun run) none,
-      grows_begun R F at run false (sym none) (ap show (failed r _ kept err)),
-    )
+    grows_begun R S at run true (sym (run_told run (first_with (awaits run) R.slots) r false is ok)) (subst (λ (U : Store). IsRunBegun at run U S) (sure r _ made ok) begins)
 
 pub lost_done : (R F S : Store) (at run : ℕ) (r : Result (Unit {0}) SlotRefusal) → r ≡ run_answer run (λ s. tt) (first_with (holds run) R.slots) → OnOk r (F ≡ event_in at (lives.Lost run) R)
-    → false ≡ is_err r → IsRunLost run F S → Tells R S (Ok tt) (lost_answer run) (λ T. lost_items at run T)
+    → false ≡ is_err r → IsRunLost run F S → Grows (show R) (show S) (λ T. lost_items at run T)
 lost_done R F S at run r is made ok loses =
-    let some = run_told run (first_with (holds run) R.slots) r false is ok in (
-      refused_told R true (λ ss. is_some (first_with (holds run) ss)) (λ ss. refusals.NoRun run) some,
-      grows_lost R S at run true (sym some) (subst (λ (U : Store). IsRunLost run U S) (sure r _ made ok) loses),
-    )
-
-pub lost_not : (R F : Store) (at run : ℕ) (r : Result (Unit {0}) SlotRefusal) → r ≡ run_answer run (λ s. tt) (first_with (holds run) R.slots) → OnErr r (F ≡ R)
-    → true ≡ is_err r → Tells R F (Err (refusals.NoRun run)) (lost_answer run) (λ T. lost_items at run T)
-lost_not R F at run r is kept err =
-    let none = run_told run (first_with (holds run) R.slots) r true is err in (
-      refused_told R false (λ ss. is_some (first_with (holds run) ss)) (λ ss. refusals.NoRun run) none,
-      grows_lost R F at run false (sym none) (ap show (failed r _ kept err)),
-    )
+    grows_lost R S at run true (sym (run_told run (first_with (holds run) R.slots) r false is ok)) (subst (λ (U : Store). IsRunLost run U S) (sure r _ made ok) loses)
 
 pub gone_done : (R S : Store) (at slot generation : ℕ) (r : Result (Unit {0}) SlotRefusal) → r ≡ gone_answer slot generation (slice_get R.slots slot) → OnOk r (S ≡ event_in at (lives.Gone slot generation) R)
-    → false ≡ is_err r → Tells R S (Ok tt) (floor_gone slot generation) (λ T. gone_items at slot generation T)
+    → false ≡ is_err r → Grows (show R) (show S) (λ T. gone_items at slot generation T)
 gone_done R S at slot generation r is made ok =
-    let some = gone_told slot generation (slice_get R.slots slot) r false is ok in (
-      refused_told R true (λ ss. goes_by generation (slice_get ss slot)) (λ ss. refusals.NoSlot slot (generation_in slot ss)) some,
-      grows_gone R S at slot generation true (sym some) (ap show (sure r _ made ok)),
-    )
-
-pub gone_not : (R F : Store) (at slot generation kept : ℕ) (r : Result (Unit {0}) SlotRefusal) → r ≡ gone_answer slot generation (slice_get R.slots slot) → OnErr r (F ≡ R)
-    → true ≡ is_err r → kept ≡ generation_in slot F.slots → Tells R F (Err (refusals.NoSlot slot kept)) (floor_gone slot generation) (λ T. gone_items at slot generation T)
-gone_not R F at slot generation kept r is same err found =
-    let none = gone_told slot generation (slice_get R.slots slot) r true is err in
-    let left : F ≡ R = failed r _ same err in
-    let number : kept ≡ generation_in slot R.slots = found ∙ ap (λ (U : Store). generation_in slot U.slots) left in (
-      λ T st. ap (λ n. Err (refusals.NoSlot slot n)) number
-          ∙ refused_told R false (λ ss. goes_by generation (slice_get ss slot)) (λ ss. refusals.NoSlot slot (generation_in slot ss)) none T st,
-      grows_gone R F at slot generation false (sym none) (ap show left),
-    )
-
--- what stands behind an event, or a refusal
-pub good_not : {A E : Type 0} (R F : Store) (r : Result A E) → OnErr r (F ≡ R) → true ≡ is_err r → IsGood R → IsGood F
-good_not R F r kept err good = subst (λ (U : Store). IsGood U) (sym (failed r _ kept err)) good
+    grows_gone R S at slot generation true (sym (gone_told slot generation (slice_get R.slots slot) r false is ok)) (ap show (sure r _ made ok))
 
 pub good_done : {A E : Type 0} (R F : Store) (at : ℕ) (e : Event) (r : Result A E) → is_order e ≡ false → OnOk r (F ≡ event_in at e R) → false ≡ is_err r → IsGood R → IsGood F
 good_done R F at e r plain made ok good = subst (λ (U : Store). IsGood U) (sym (sure r _ made ok)) (good_event R at e (within_kept e R.slots R.pool plain good.pool) good)
+
+-- the slot of which it was told what a sweep recorded
+pub recorded_slot : (o : Option Slot) (recorded : Option ℕ) → Some recorded ≡ recorded_there o → (s : Slot) × (o ≡ Some s) × (recorded ≡ recorded_of s.state)
+recorded_slot None recorded is = cc
+recorded_slot (Some s) recorded is = (s, refl, cc)
 
 happened_length : (at : ℕ) (rs : List Run) (v : Shown) → length (happened (overrun_items at rs v)) ≡ length (overrun_items at rs v)
 happened_length at [] v = refl
