@@ -102,7 +102,12 @@ impl KeptSlots {
     }
 
     /// The containers of these slots are to be removed. Without memory some are.
-    pub(crate) fn remove(&mut self, alloc: Global, held: bool, slots: &[u32]) -> Result<(), NoMemory>
+    pub(crate) fn remove(
+        &mut self,
+        alloc: Global,
+        held: bool,
+        slots: &[u32],
+    ) -> Result<(), NoMemory>
         requires { CanAllGo slots.now self.old.now }
         ensures now { OnOk result (self.new.now ≡ removed slots.now self.old.now) }
         ensures within { (pool : ℕ) → IsWithinPool self.old.now pool → IsWithinPool self.new.now pool }

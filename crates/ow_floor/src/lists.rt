@@ -469,9 +469,7 @@ impl Lists {
         ensures past { self.new.past ≡ self.old.past }
     {
         let held = self.held;
-        if self.spots.reserve_step(held).is_err()
-            || make_room(&mut self.runs, held).is_err()
-        {
+        if self.spots.reserve_step(held).is_err() || make_room(&mut self.runs, held).is_err() {
             drop(key);
             return Err(NoMemory);
         }
@@ -500,8 +498,7 @@ impl Lists {
     {
         let held = self.held;
         make_room(&mut self.runs, held)?;
-        self.slots
-            .preopen(alloc, held, order.slot, order.run, order.kind, order.memory)?;
+        self.slots.preopen(alloc, held, order.slot, order.run, order.kind, order.memory)?;
         self.runs.push(held, None);
         self.marks = marked(self.slots.slots(), self.marks, at);
         Ok(())

@@ -35,12 +35,7 @@ pub(crate) fn next_order(alloc: Global, lists: &mut Lists, at: u64) -> Result<Or
 }
 
 // What is placed for what waits at this place.
-fn order_head(
-    alloc: Global,
-    lists: &mut Lists,
-    at: u64,
-    spot: usize,
-) -> Result<Order, NoMemory>
+fn order_head(alloc: Global, lists: &mut Lists, at: u64, spot: usize) -> Result<Order, NoMemory>
     requires good { IsGood lists.old.now }
     requires spot { IsSpot waits lists.old.now.spots lists.old.now.tasks spot }
     ensures good { IsGood lists.new.now }
@@ -230,7 +225,11 @@ fn generation_after(slots: &Slots, slot: u32, start: Start) -> u32
 }
 
 // The containers of these slots.
-fn containers_of(alloc: Global, slots: &Slots, numbers: &[u32]) -> Result<Items<Container>, NoMemory>
+fn containers_of(
+    alloc: Global,
+    slots: &Slots,
+    numbers: &[u32],
+) -> Result<Items<Container>, NoMemory>
     ensures { IfOk result (λ cs. cs ≡ containers_of numbers.now slots.now) }
 {
     let mut containers = Vec::new(alloc);

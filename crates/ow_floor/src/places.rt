@@ -5,8 +5,8 @@ ghost use Rattle.ow_floor.specs.View.{is_in, last_of, is_number, is_of, wait_in,
 ghost use Rattle.ow_floor.specs.Store.{AreGone, CellOf, SpotOf, run_in};
 ghost use Rattle.ow_floor.specs.Places.{PlaceOf, has, has_id, has_open};
 
-use crate::lists::{Berth, Blocking, Spot};
 use crate::State;
+use crate::lists::{Berth, Blocking, Spot};
 use ow_records::{Activation, Id};
 use ow_value::Shared;
 
