@@ -373,3 +373,17 @@ impl PlainData for Answered {
         }
     }
 }
+
+impl PlainData for Swept {
+    fn same(&self, other: &Swept) -> bool {
+        self.happened.same(&other.happened) && self.late == other.late
+    }
+
+    fn copy(&self, alloc: Global) -> Result<Swept, NoMemory> {
+        let happened = self.happened.copy(alloc)?;
+        Ok(Swept {
+            happened,
+            late: self.late,
+        })
+    }
+}

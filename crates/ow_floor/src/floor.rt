@@ -17,8 +17,8 @@ use crate::{
     AnswerRefusal, Answered, Collected, Drain, FloorRefusal, Happened, Happening, Order, Plan,
     Swept,
 };
+use ow_packages::Effective;
 use ow_records::{Activation, Id, Record, Records};
-use ow_slots::Start;
 use ow_traits::{Prewarms, RunReply};
 use ow_value::{NoMemory, Scratch, Shared};
 use std::alloc::Global;
@@ -313,17 +313,21 @@ fn activation_of(at: u64, plan: Plan) -> Activation
     let Plan {
         id,
         namespace,
-        action,
+        effective,
         params,
         subject,
         cause,
         until,
     } = plan;
+    let Effective {
+        action, binding, ..
+    } = effective;
     Activation {
         id,
         at,
         namespace,
         action,
+        binding,
         params,
         subject,
         cause,

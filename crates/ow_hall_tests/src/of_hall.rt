@@ -1,6 +1,7 @@
 // Requests and calls over one book.
+use ow_decide::{Called, Reply, Told};
 use ow_floor::{Drain, Order};
-use ow_hall::{Book, Called, Entries, Entry, Hall, Reply, Told};
+use ow_hall::{Book, Entries, Entry, Hall};
 use ow_http::{Answer, Read, Request, read_request, write_reply};
 use ow_names::{EntityName, FullName, read_name, resolve};
 use ow_traits::{MemoryKeeper, RunReply};
@@ -20,6 +21,10 @@ const FIRST: &str =
 const SECOND: &str =
     r#"{"annotations":[],"exec":{"code":"{\"cases\":[{\"when\":{},\"give\":{\"greeting\":\"Hello\"}}]}","kind":"plain:1"},"limits":{"logs":10,"memory":256,"timeout":60000},"name":"hello","namespace":"guest","parameters":[],"publish":false,"version":"0.0.2"}"#;
 
+// The body of a put after which the parameter y can't be given.
+const FINAL: &str =
+    r#"{"annotations":[{"key":"final","value":true}],"parameters":[{"key":"y","value":2}]}"#;
+
 // Method and target, body, status and the body that answers.
 const ROWS: &str =
     r#"GET /api/v1/namespaces/_/actions/hello||404 Not Found|{"code":14,"error":"The resource does not exist."}
@@ -30,7 +35,7 @@ GET /api/v1/namespaces/_/actions||200 OK|[{"annotations":[],"name":"hello","name
 GET /api/v1/namespaces/_/actions?limit=201||400 Bad Request|{"code":39,"error":"The query value limit is wrong."}
 GET /api/v1/namespaces/whisk.system/actions/hello||403 Forbidden|{"code":24,"error":"The namespace is not granted."}
 GET /api/v1/namespaces/whisk.system/actions?limit=201||403 Forbidden|{"code":24,"error":"The namespace is not granted."}
-GET /api/v1/namespaces/_/packages||404 Not Found|{"code":36,"error":"There is no such route."}
+GET /api/v1/namespaces/_/triggers||404 Not Found|{"code":36,"error":"There is no such route."}
 PUT /api/v1/namespaces/_/actions/other||400 Bad Request|{"code":9,"error":"The field exec is missing."}
 PUT /api/v1/namespaces/_/actions/hello|{"exec":1}|400 Bad Request|{"code":10,"error":"The field exec has a wrong type."}
 PUT /api/v1/namespaces/_/actions/hello?overwrite=true|HELLO|200 OK|SECOND
@@ -40,7 +45,7 @@ DELETE /api/v1/namespaces/guest/actions/hello||404 Not Found|{"code":14,"error":
 
 // What a full book still takes, and what it doesn't.
 const WHEN_FULL: &str =
-    r#"GET /api/v1/namespaces/_/packages||404 Not Found|{"code":36,"error":"There is no such route."}
+    r#"GET /api/v1/namespaces/_/triggers||404 Not Found|{"code":36,"error":"There is no such route."}
 POST /api/v1/namespaces/_/actions/hello||503 Service Unavailable|{"code":33,"error":"The book is full."}
 GET /api/v1/namespaces/_/actions/hello||503 Service Unavailable|{"code":33,"error":"The book is full."}
 "#;
@@ -55,6 +60,8 @@ pub(crate) fn text_of(word: &str) -> &str {
         FIRST
     } else if word == "SECOND" {
         SECOND
+    } else if word == "FINAL" {
+        FINAL
     } else {
         word
     }
@@ -65,7 +72,7 @@ pub(crate) fn office(alloc: Global) -> Result<Office, Fail> {
 }
 
 // Whether an equal list is made of them.
-fn copies(alloc: Global, entries: &Entries) -> Result<bool, Fail> {
+pub(crate) fn copies(alloc: Global, entries: &Entries) -> Result<bool, Fail> {
     let copied = entries.copy(alloc)?;
     Ok(copied.same(entries))
 }
@@ -131,7 +138,7 @@ fn holds(alloc: Global, hall: &mut Office, row: &str) -> Result<bool, Fail> {
 }
 
 // Whether each row of a table is answered so.
-fn all_hold(alloc: Global, hall: &mut Office, rows: &str) -> Result<bool, Fail> {
+pub(crate) fn all_hold(alloc: Global, hall: &mut Office, rows: &str) -> Result<bool, Fail> {
     for row in rows.lines() {
         if !holds(alloc, hall, row)? {
             return Ok(false);
@@ -218,16 +225,16 @@ fn refused(alloc: Global, hall: &mut Office, at: u64, name: &FullName) -> Result
     }
 }
 
-fn called(alloc: Global, hall: &mut Office, at: u64) -> Result<u32, Fail> {
+pub(crate) fn called(alloc: Global, hall: &mut Office, at: u64) -> Result<u32, Fail> {
     let name = called_name(alloc)?;
     refused(alloc, hall, at, &name)
 }
 
 // The number of the run that is ordered, or 0.
-fn ordered(alloc: Global, hall: &mut Office, at: u64) -> Result<u64, Fail> {
+pub(crate) fn ordered(alloc: Global, hall: &mut Office, at: u64) -> Result<u64, Fail> {
     match hall.next(alloc, at)? {
         Order::Run(run) => Ok(run.run),
-        Order::Nothing(_) => Ok(0),
+        _ => Ok(0),
     }
 }
 

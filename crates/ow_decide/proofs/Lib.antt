@@ -1,0 +1,9 @@
+pub mod AskLaws
+pub mod Results
+mod Filters
+mod SeenLaws
+mod BehindLaws
+mod ReadLaws
+mod RecordLaws
+mod ViewLaws
+mod WaitLaws

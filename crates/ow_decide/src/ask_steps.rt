@@ -1,0 +1,240 @@
+// What comes of a request: its first refusal, in the order of their places, or what it reads and changes.
+ghost use Rattle.std.specs.Prelude.{◌≡◌, None, Some, Ok, IfOk};
+ghost use Rattle.ow_floor.specs.Laws.{Stands};
+ghost use Rattle.ow_http.specs.Request.{parts_of};
+ghost use Rattle.ow_tables.specs.Rows.{with_row};
+ghost use Rattle.ow_decide.specs.Asking as asking;
+ghost use Rattle.ow_decide.specs.Shown.{shown_row};
+ghost use Rattle.ow_decide.specs.Asking.{ask_decision, called_done, change_done, put_done, request_done};
+ghost use Rattle.ow_decide.specs.Sight.{Sight};
+ghost use Rattle.ow_decide.specs.Making.{HasPlace, IsNextOf, IsSeen, Makes, change_of, done_of, served_change, served_of};
+
+use crate::acts::{Act, act_of};
+use crate::call_steps::{charged_namespace, invocation_plan};
+use crate::done::{Done, Served, accepted};
+use crate::grants::granted_call;
+use crate::reads::read;
+use crate::reasons::table_reason;
+use crate::room::room_for;
+use crate::shown::{shown_once_put, shown_row};
+use crate::step::{Now, Step};
+use crate::tenants::Tenants;
+use crate::waits::shows_of;
+use ow_entity::{Draft, EntityKind};
+use ow_floor::Floor;
+use ow_http::{Call, HttpRefusal, Reason, Request};
+use ow_tables::{Ready, TableRefusal, Tables};
+use ow_value::NoMemory;
+use std::alloc::Global;
+
+/// What is done at a request. A change is made ready and not made yet.
+pub(crate) fn ask(
+    alloc: Global,
+    tenants: &Tenants,
+    floor: &mut Floor,
+    tables: &mut Tables,
+    now: Now,
+    request: &Request,
+) -> Result<Step, NoMemory>
+    ensures ok { IfOk result (Makes tenants.now tables.old.rows now floor.old.now floor.new.now (λ S. ask_decision S.moment (request_done S (parts_of request.now)))) }
+    ensures before { floor.new.before ≡ floor.old.before }
+    ensures rows { tables.new.rows ≡ tables.old.rows }
+    ensures place { IfOk result (λ s. HasPlace s.change tables.new.room) }
+{
+    match request_served(alloc, tenants, floor, tables, now, request)? {
+        Served::Done(done) => done.step(alloc),
+        Served::Accepts { plan, shows } => accepted(alloc, floor, now.at, plan, shows),
+    }
+}
+
+// What comes of a request, over this floor and these rows.
+fn request_served(
+    alloc: Global,
+    tenants: &Tenants,
+    floor: &Floor,
+    tables: &mut Tables,
+    now: Now,
+    request: &Request,
+) -> Result<Served, NoMemory>
+    ensures done { IfOk result (λ d. (S : Sight) → IsSeen S tenants.now tables.old.rows floor.now.now now → served_of d ≡ request_done S (parts_of request.now)) }
+    ensures rows { tables.new.rows ≡ tables.old.rows }
+    ensures place { IfOk result (λ d. HasPlace (served_change d) tables.new.room) }
+    ensures next { IfOk result (IsNextOf floor.now.now.drawn) }
+{
+    let Some(act) = act_of(&request.route, request.method) else {
+        return Ok(Served::Done(Done::Refused(Reason::Http(HttpRefusal::NoRoute))));
+    };
+    if let Err(reason) = room_for(now.counted, request.size) {
+        return Ok(Served::Done(Done::Refused(reason)));
+    }
+    match act {
+        Act::Reads(reading) => Ok(Served::Done(read(
+            alloc, tenants, floor, tables, reading, request,
+        )?)),
+        act => called_served(alloc, tenants, floor, tables, now.at, act, request),
+    }
+}
+
+// What comes of a change or an invocation.
+fn called_served(
+    alloc: Global,
+    tenants: &Tenants,
+    floor: &Floor,
+    tables: &mut Tables,
+    at: u64,
+    act: Act,
+    request: &Request,
+) -> Result<Served, NoMemory>
+    ensures done { IfOk result (λ d. (S : Sight) → S.tenants ≡ tenants.now → S.rows ≡ tables.old.rows → Stands floor.now.now S.trace → S.moment ≡ at
+        → served_of d ≡ called_done S act (parts_of request.now)) }
+    ensures rows { tables.new.rows ≡ tables.old.rows }
+    ensures place { IfOk result (λ d. HasPlace (served_change d) tables.new.room) }
+    ensures next { IfOk result (IsNextOf floor.now.now.drawn) }
+{
+    match granted_call(alloc, tenants, tables, act, request)? {
+        Ok(call) => call_served(alloc, tenants, floor, tables, at, act, call),
+        Err(reason) => Ok(Served::Done(Done::Refused(reason))),
+    }
+}
+
+fn call_served(
+    alloc: Global,
+    tenants: &Tenants,
+    floor: &Floor,
+    tables: &mut Tables,
+    at: u64,
+    act: Act,
+    call: Call,
+) -> Result<Served, NoMemory>
+    ensures done { IfOk result (λ d. (S : Sight) → S.tenants ≡ tenants.now → S.rows ≡ tables.old.rows → Stands floor.now.now S.trace → S.moment ≡ at
+        → served_of d ≡ change_done S act call) }
+    ensures rows { tables.new.rows ≡ tables.old.rows }
+    ensures place { IfOk result (λ d. HasPlace (served_change d) tables.new.room) }
+    ensures next { IfOk result (IsNextOf floor.now.now.drawn) }
+{
+    match act {
+        Act::Reads(_) => Ok(Served::Done(Done::Refused(Reason::Http(HttpRefusal::NoRoute)))),
+        Act::Puts => Ok(Served::Done(put(alloc, tables, call)?)),
+        Act::Removes(kind) => Ok(Served::Done(removed(alloc, tables, kind, &call)?)),
+        Act::Invokes => invoked(alloc, tenants, floor, tables, at, &call),
+    }
+}
+
+// What is to be accepted, or why it is not.
+fn invoked(
+    alloc: Global,
+    tenants: &Tenants,
+    floor: &Floor,
+    tables: &Tables,
+    at: u64,
+    call: &Call,
+) -> Result<Served, NoMemory>
+    ensures done { IfOk result (λ d. (S : Sight) → S.tenants ≡ tenants.now → S.rows ≡ tables.now.rows → Stands floor.now.now S.trace → S.moment ≡ at
+        → served_of d ≡ change_done S Act.Invokes call.now) }
+    ensures change { IfOk result (λ d. served_change d ≡ None) }
+    ensures next { IfOk result (IsNextOf floor.now.now.drawn) }
+{
+    let Some(name) = &call.name else {
+        return Ok(Served::Done(Done::Refused(Reason::Http(HttpRefusal::NoRoute))));
+    };
+    let plan = invocation_plan(
+        alloc,
+        tenants,
+        floor,
+        tables,
+        at,
+        &tenants.subject,
+        charged_namespace(tenants, name),
+        call.blocking,
+        name,
+        &call.params,
+    )?;
+    match plan {
+        Ok(plan) => Ok(Served::Accepts {
+            plan,
+            shows: shows_of(call.result_only),
+        }),
+        Err(reason) => Ok(Served::Done(Done::Refused(reason))),
+    }
+}
+
+fn put(alloc: Global, tables: &mut Tables, call: Call) -> Result<Done, NoMemory>
+    ensures done { IfOk result (λ d. (S : Sight) → S.rows ≡ tables.old.rows → done_of d ≡ change_done S Act.Puts call) }
+    ensures rows { tables.new.rows ≡ tables.old.rows }
+    ensures place { IfOk result (λ d. HasPlace (change_of d) tables.new.room) }
+{
+    let Call {
+        draft,
+        overwrite,
+        ..
+    } = call;
+    match draft {
+        Some(draft) => put_draft(alloc, tables, draft, overwrite),
+        None => Ok(Done::Refused(Reason::Http(HttpRefusal::NoRoute))),
+    }
+}
+
+fn put_draft(
+    alloc: Global,
+    tables: &mut Tables,
+    draft: Draft,
+    overwrite: bool,
+) -> Result<Done, NoMemory>
+    ensures done { IfOk result (λ d. (S : Sight) → S.rows ≡ tables.old.rows → done_of d ≡ put_done S draft overwrite) }
+    ensures rows { tables.new.rows ≡ tables.old.rows }
+    ensures place { IfOk result (λ d. HasPlace (change_of d) tables.new.room) }
+{
+    match tables.prepare_put(alloc, draft, overwrite) {
+        Ok(ready) => put_shown(alloc, tables, ready),
+        Err(TableRefusal::NoMemory) => Err(NoMemory),
+        Err(refusal) => Ok(Done::Refused(table_reason(refusal))),
+    }
+}
+
+// A put that was made ready, with its row as it is shown then.
+fn put_shown(alloc: Global, tables: &Tables, ready: Ready) -> Result<Done, NoMemory>
+    ensures done { IfOk result (λ d. done_of d ≡ Ok (asking.Changed ready (shown_row (with_row ready.row tables.now.rows) ready.row))) }
+    ensures change { IfOk result (λ d. change_of d ≡ Some ready) }
+{
+    match shown_once_put(alloc, tables, ready.row()) {
+        Ok(shown) => Ok(Done::Changed { ready, shown }),
+        Err(e) => {
+            drop(ready);
+            Err(e)
+        }
+    }
+}
+
+// A removal that was made ready, with its row as it is shown still.
+fn removal_shown(alloc: Global, tables: &Tables, ready: Ready) -> Result<Done, NoMemory>
+    ensures done { IfOk result (λ d. done_of d ≡ Ok (asking.Changed ready (shown_row tables.now.rows ready.row))) }
+    ensures change { IfOk result (λ d. change_of d ≡ Some ready) }
+{
+    match shown_row(alloc, tables, ready.row()) {
+        Ok(shown) => Ok(Done::Changed { ready, shown }),
+        Err(e) => {
+            drop(ready);
+            Err(e)
+        }
+    }
+}
+
+fn removed(
+    alloc: Global,
+    tables: &mut Tables,
+    kind: EntityKind,
+    call: &Call,
+) -> Result<Done, NoMemory>
+    ensures done { IfOk result (λ d. (S : Sight) → S.rows ≡ tables.old.rows → done_of d ≡ change_done S (Act.Removes kind) call.now) }
+    ensures rows { tables.new.rows ≡ tables.old.rows }
+    ensures place { IfOk result (λ d. HasPlace (change_of d) tables.new.room) }
+{
+    let Some(name) = &call.name else {
+        return Ok(Done::Refused(Reason::Http(HttpRefusal::NoRoute)));
+    };
+    match tables.prepare_remove(alloc, kind, name) {
+        Ok(ready) => removal_shown(alloc, tables, ready),
+        Err(TableRefusal::NoMemory) => Err(NoMemory),
+        Err(refusal) => Ok(Done::Refused(table_reason(refusal))),
+    }
+}

@@ -1,0 +1,279 @@
+// Invocations of actions: by requests, and the office's own.
+ghost use Rattle.std.specs.Prelude.{◌≡◌, ◌+◌, None, IfOk};
+ghost use Rattle.ow_floor.specs.View.{last_of};
+ghost use Rattle.ow_floor.specs.Laws.{Stands};
+ghost use Rattle.ow_decide.specs.Calling.{call_decision, call_plan, called_plan, callee_in, charged_namespace, fitting, given_over, invocation_plan, merged_plan, pairs_of, plan_for, until_of};
+ghost use Rattle.ow_decide.specs.Sight.{Sight};
+ghost use Rattle.ow_decide.specs.Making.{IsSeen, Makes};
+
+use crate::events::Told;
+use crate::replies::Called;
+use crate::room::room_for;
+use crate::step::{Now, Step};
+use crate::tenants::Tenants;
+use ow_entity::{Action, EntityRefusal};
+use ow_floor::{Floor, Plan};
+use ow_http::{CallRefusal, Reason, ServiceRefusal};
+use ow_names::{EntityName, FullName};
+use ow_packages::{Effective, PackageRefusal, check_override, effective};
+use ow_records::Id;
+use ow_tables::Tables;
+use ow_value::{MEGABYTE, NoMemory, Params, PlainData, Str, Val, merge, size};
+use std::alloc::Global;
+
+/// How long a blocking invocation waits at most, in milliseconds.
+const MOST_WAITED: u64 = 60_000;
+
+/// What is called: the number of the namespace that is charged, and what the name calls.
+#[derive(Drop)]
+pub(crate) struct Callee {
+    pub(crate) number: u64,
+    pub(crate) effective: Effective,
+}
+
+/// What is done at a call: the action is accepted, unless the call is refused.
+pub(crate) fn call(
+    alloc: Global,
+    tenants: &Tenants,
+    floor: &mut Floor,
+    tables: &Tables,
+    now: Now,
+    name: &FullName,
+    params: &Params,
+) -> Result<Step, NoMemory>
+    ensures ok { IfOk result (Makes tenants.now tables.now.rows now floor.old.now floor.new.now (λ S. call_decision S (call_plan S name.now params.now))) }
+    ensures change { IfOk result (λ s. s.change ≡ None) }
+    ensures before { floor.new.before ≡ floor.old.before }
+{
+    match call_plan(alloc, tenants, floor, tables, now, name, params)? {
+        Ok(plan) => {
+            let happened = floor.accept(alloc, now.at, plan)?;
+            Ok(Step::telling(Told::Called(Called::Happened(happened))))
+        }
+        Err(reason) => Ok(Step::telling(Told::Called(Called::Refused(reason)))),
+    }
+}
+
+// What is to be accepted by a call of the office, or why not. Nothing is done yet.
+fn call_plan(
+    alloc: Global,
+    tenants: &Tenants,
+    floor: &Floor,
+    tables: &Tables,
+    now: Now,
+    name: &FullName,
+    params: &Params,
+) -> Result<Result<Plan, Reason>, NoMemory>
+    ensures plan { IfOk result (λ p. (S : Sight) → IsSeen S tenants.now tables.now.rows floor.now.now now → p ≡ call_plan S name.now params.now) }
+    ensures next { IfOk result (λ p. IfOk p (λ plan. plan.id.count ≡ last_of floor.now.now.drawn plan.id.namespace + 1)) }
+{
+    if let Err(reason) = room_for(now.counted, 0) {
+        return Ok(Err(reason));
+    }
+    invocation_plan(
+        alloc,
+        tenants,
+        floor,
+        tables,
+        now.at,
+        &tenants.office,
+        &name.namespace,
+        false,
+        name,
+        params,
+    )
+}
+
+/// What is to be accepted in the name of a subject, or why not. Nothing is done yet.
+pub(crate) fn invocation_plan(
+    alloc: Global,
+    tenants: &Tenants,
+    floor: &Floor,
+    tables: &Tables,
+    at: u64,
+    subject: &Str,
+    namespace: &EntityName,
+    blocking: bool,
+    name: &FullName,
+    params: &Params,
+) -> Result<Result<Plan, Reason>, NoMemory>
+    ensures plan { IfOk result (λ p. (S : Sight) → S.tenants ≡ tenants.now → S.rows ≡ tables.now.rows → Stands floor.now.now S.trace → S.moment ≡ at
+        → p ≡ invocation_plan S subject.now namespace.now blocking name.now params.now) }
+    ensures next { IfOk result (λ p. IfOk p (λ plan. plan.id.count ≡ last_of floor.now.now.drawn plan.id.namespace + 1)) }
+{
+    match callee_in(alloc, tenants, tables, name, namespace)? {
+        Some(called) => called_plan(
+            alloc, floor, at, subject, namespace, blocking, called, params,
+        ),
+        None => Ok(Err(Reason::Service(ServiceRefusal::NotFound))),
+    }
+}
+
+// The same of what is called.
+fn called_plan(
+    alloc: Global,
+    floor: &Floor,
+    at: u64,
+    subject: &Str,
+    namespace: &EntityName,
+    blocking: bool,
+    called: Callee,
+    params: &Params,
+) -> Result<Result<Plan, Reason>, NoMemory>
+    ensures plan { IfOk result (λ p. (S : Sight) → Stands floor.now.now S.trace → S.moment ≡ at → p ≡ called_plan S subject.now namespace.now blocking called params.now) }
+    ensures next { IfOk result (λ p. IfOk p (λ plan. plan.id.count ≡ last_of floor.now.now.drawn plan.id.namespace + 1)) }
+{
+    let Callee { number, effective } = called;
+    match given_over(alloc, &effective, params) {
+        Ok(Ok(merged)) => merged_plan(
+            alloc, floor, at, subject, namespace, blocking, number, effective, merged,
+        ),
+        Ok(Err(reason)) => {
+            drop(effective);
+            Ok(Err(reason))
+        }
+        Err(e) => {
+            drop(effective);
+            Err(e)
+        }
+    }
+}
+
+// The same with merged parameters.
+fn merged_plan(
+    alloc: Global,
+    floor: &Floor,
+    at: u64,
+    subject: &Str,
+    namespace: &EntityName,
+    blocking: bool,
+    number: u64,
+    effective: Effective,
+    merged: Params,
+) -> Result<Result<Plan, Reason>, NoMemory>
+    ensures plan { IfOk result (λ p. (S : Sight) → Stands floor.now.now S.trace → S.moment ≡ at → p ≡ merged_plan S subject.now namespace.now blocking (record { number = number; effective = effective }) merged) }
+    ensures next { IfOk result (λ p. IfOk p (λ plan. plan.id.count ≡ last_of floor.now.now.drawn plan.id.namespace + 1)) }
+{
+    if floor.is_draining() {
+        return Ok(Err(Reason::Service(ServiceRefusal::Draining)));
+    }
+    let until = until_of(at, blocking, effective.action.get())?;
+    let Some(count) = floor.last(number).checked_add(1) else {
+        return Err(NoMemory);
+    };
+    let id = Id {
+        namespace: number,
+        count,
+    };
+    Ok(Ok(plan_for(alloc, subject, until, id, namespace, effective, merged)?))
+}
+
+// Up to which moment a blocking invocation waits. A moment that would pass its type is answered as want of memory.
+fn until_of(at: u64, blocking: bool, action: &Action) -> Result<Option<u64>, NoMemory>
+    ensures { IfOk result (λ until. until ≡ until_of at blocking action.now) }
+{
+    if !blocking {
+        return Ok(None);
+    }
+    let wait = MOST_WAITED.min(u64::from(action.limits.timeout.get()));
+    match at.checked_add(wait) {
+        Some(until) => Ok(Some(until)),
+        None => Err(NoMemory),
+    }
+}
+
+// The plan of an invocation under this id, with these merged parameters.
+fn plan_for(
+    alloc: Global,
+    subject: &Str,
+    until: Option<u64>,
+    id: Id,
+    namespace: &EntityName,
+    effective: Effective,
+    params: Params,
+) -> Result<Plan, NoMemory>
+    ensures { IfOk result (λ p. p ≡ plan_for subject.now until id namespace.now effective params) }
+{
+    let subject = subject.copy(alloc)?;
+    let namespace = namespace.copy(alloc)?;
+    Ok(Plan {
+        id,
+        namespace,
+        effective,
+        params,
+        subject,
+        cause: None,
+        until,
+    })
+}
+
+/// Which namespace is charged for an invocation: the caller's own where it has no right on that of the action.
+pub(crate) fn charged_namespace<'a>(tenants: &'a Tenants, name: &'a FullName) -> &'a EntityName
+    ensures { result.now ≡ charged_namespace tenants.now name.now }
+{
+    if tenants.is_granted(name.namespace.as_str().as_bytes()) {
+        &name.namespace
+    } else {
+        &tenants.home
+    }
+}
+
+// What the name calls for one in the namespace, where that has a number.
+fn callee_in(
+    alloc: Global,
+    tenants: &Tenants,
+    tables: &Tables,
+    name: &FullName,
+    namespace: &EntityName,
+) -> Result<Option<Callee>, NoMemory>
+    ensures { IfOk result (λ c. c ≡ callee_in tenants.now tables.now.rows name.now namespace.now) }
+{
+    let Some(number) = tenants.number_of(namespace.as_str()) else {
+        return Ok(None);
+    };
+    match effective(alloc, tables, name, namespace) {
+        Ok(effective) => Ok(Some(Callee { number, effective })),
+        Err(PackageRefusal::NoMemory) => Err(NoMemory),
+        Err(_) => Ok(None),
+    }
+}
+
+// What is given over what is called with, where none of it is fixed and it has not too many bytes.
+fn given_over(
+    alloc: Global,
+    called: &Effective,
+    given: &Params,
+) -> Result<Result<Params, Reason>, NoMemory>
+    ensures { IfOk result (λ r. r ≡ given_over called.now given.now) }
+{
+    match check_override(alloc, called, given, false) {
+        Ok(()) => match fitting(alloc, &called.params, given)? {
+            Some(merged) => Ok(Ok(merged)),
+            None => Ok(Err(Reason::Call(CallRefusal::BadEntity(EntityRefusal::TooLarge)))),
+        },
+        Err(PackageRefusal::Fixed { name }) => Ok(Err(Reason::Fixed { name })),
+        Err(_) => Err(NoMemory),
+    }
+}
+
+// What is given over these, unless it has too many bytes.
+#[tactic(auto, unfolding(crate::specs::Calling::is_oversized))]
+fn fitting(alloc: Global, own: &Params, given: &Params) -> Result<Option<Params>, NoMemory>
+    ensures { IfOk result (λ p. p ≡ fitting own.now given.now) }
+{
+    let merged = Val::Object(merge(alloc, own, given)?);
+    if size(&merged) > MEGABYTE {
+        return Ok(None);
+    }
+    Ok(pairs_of(merged))
+}
+
+// The pairs of an object.
+fn pairs_of(value: Val) -> Option<Params>
+    ensures { result ≡ pairs_of value }
+{
+    match value {
+        Val::Object(pairs) => Some(pairs),
+        _ => None,
+    }
+}

@@ -1,0 +1,306 @@
+// What reads show, of what whoever asks may see.
+ghost use Rattle.std.specs.Prelude.{◌≡◌, [], Some, None, Ok, if◌then◌else◌, filter, option_and_then, IfOk, OnOk, IfSome, option_copied};
+ghost use Rattle.ow_value.specs.View.{view};
+ghost use Rattle.ow_entity.specs.Row.{name_of};
+ghost use Rattle.ow_floor.specs.Laws.{Stands};
+ghost use Rattle.ow_floor.specs.Trace.{Trace, records};
+ghost use Rattle.ow_http.specs.Request.{parts_of};
+ghost use Rattle.ow_records.specs.Records.{is_in};
+ghost use Rattle.ow_entity.specs.declared.kinds.EntityKind.TheVariants as kinds;
+ghost use Rattle.ow_packages.specs.Access.{lying_in, package_at, package_of, reached_package};
+ghost use Rattle.ow_tables.specs.Rows.{found, standing};
+ghost use Rattle.ow_decide.specs.Asking.{granted_call, shown_done};
+ghost use Rattle.ow_decide.specs.Reading.{action_behind, action_read, id_of, part_value, read_done, read_value, recorded, recorded_under, row_read};
+ghost use Rattle.ow_decide.specs.Named.{AreNamed, IsNamed, action_bound, action_in, bound_name};
+ghost use Rattle.ow_decide.specs.Sight.{Sight};
+ghost use Rattle.ow_decide.specs.Making.{change_of, done_of};
+ghost use Rattle.ow_decide.specs.View.{is_visible_record, own_rights, view_of};
+
+use crate::acts::{Act, Reading};
+use crate::done::Done;
+use crate::grants::granted_call;
+use crate::ids::id_in;
+use crate::shown::shown_row;
+use crate::tenants::Tenants;
+use ow_entity::{EntityKind, Lookup, Package, Row};
+use ow_floor::Floor;
+use ow_http::{Call, HttpRefusal, Part, Reason, Request, Route, ServiceRefusal};
+use ow_names::{EntityName, FullName};
+use ow_packages::{package_of, reached_package};
+use ow_records::{Id, Record, write_logs, write_record, write_response};
+use ow_tables::Tables;
+use ow_value::{NoMemory, PlainData, Val};
+use std::alloc::Global;
+
+/// What a read shows, or its first refusal.
+pub(crate) fn read(
+    alloc: Global,
+    tenants: &Tenants,
+    floor: &Floor,
+    tables: &Tables,
+    reading: Reading,
+    request: &Request,
+) -> Result<Done, NoMemory>
+    ensures done { IfOk result (λ d. (S : Sight) → S.tenants ≡ tenants.now → S.rows ≡ tables.now.rows → Stands floor.now.now S.trace
+        → done_of d ≡ shown_done (read_done (view_of S) reading (parts_of request.now))) }
+    ensures change { IfOk result (λ d. change_of d ≡ None) }
+{
+    tables.are_ordered();
+    let granted = granted_call(alloc, tenants, tables, Act::Reads(reading), request)?;
+    match granted {
+        Ok(call) => shown(alloc, tenants, floor, tables, reading, request, &call),
+        Err(reason) => Ok(Done::Refused(reason)),
+    }
+}
+
+// What a read shows that is granted.
+fn shown(
+    alloc: Global,
+    tenants: &Tenants,
+    floor: &Floor,
+    tables: &Tables,
+    reading: Reading,
+    request: &Request,
+    call: &Call,
+) -> Result<Done, NoMemory>
+    requires { granted_call tenants.now tables.now.rows (Act.Reads reading) (parts_of request.now) ≡ Ok call.now }
+    ensures done { IfOk result (λ d. (S : Sight) → S.tenants ≡ tenants.now → S.rows ≡ tables.now.rows → Stands floor.now.now S.trace
+        → done_of d ≡ shown_done (read_value (view_of S) reading (parts_of request.now) call.now)) }
+    ensures change { IfOk result (λ d. change_of d ≡ None) }
+{
+    match reading {
+        Reading::Rows(kind) => listed(alloc, tenants, tables, kind, request, call),
+        Reading::Row(kind) => row_shown(alloc, tenants, tables, kind, request, call),
+        Reading::Activations => records_listed(alloc, tenants, floor, request, call),
+        Reading::Activation(part) => record_shown(alloc, tenants, floor, part, request, call),
+    }
+}
+
+fn listed(
+    alloc: Global,
+    tenants: &Tenants,
+    tables: &Tables,
+    kind: EntityKind,
+    request: &Request,
+    call: &Call,
+) -> Result<Done, NoMemory>
+    requires { granted_call tenants.now tables.now.rows (Act.Reads (Reading.Rows kind)) (parts_of request.now) ≡ Ok call.now }
+    ensures done { IfOk result (λ d. (S : Sight) → S.tenants ≡ tenants.now → S.rows ≡ tables.now.rows
+        → done_of d ≡ shown_done (read_value (view_of S) (Reading.Rows kind) (parts_of request.now) call.now)) }
+    ensures change { IfOk result (λ d. change_of d ≡ None) }
+{
+    let listed = tables.list(alloc, kind, &tenants.home, call.skip, call.limit)?;
+    Ok(Done::Shown(Val::List(listed)))
+}
+
+fn row_shown(
+    alloc: Global,
+    tenants: &Tenants,
+    tables: &Tables,
+    kind: EntityKind,
+    request: &Request,
+    call: &Call,
+) -> Result<Done, NoMemory>
+    requires { granted_call tenants.now tables.now.rows (Act.Reads (Reading.Row kind)) (parts_of request.now) ≡ Ok call.now }
+    ensures done { IfOk result (λ d. (S : Sight) → S.tenants ≡ tenants.now → S.rows ≡ tables.now.rows
+        → done_of d ≡ shown_done (read_value (view_of S) (Reading.Row kind) (parts_of request.now) call.now)) }
+    ensures change { IfOk result (λ d. change_of d ≡ None) }
+{
+    let Some(name) = &call.name else {
+        return Ok(Done::Refused(Reason::Http(HttpRefusal::NoRoute)));
+    };
+    tables.are_ordered();
+    match row_read(alloc, tables, kind, name)? {
+        Some(row) => Ok(Done::Shown(shown_row(alloc, tables, row)?)),
+        None => Ok(Done::Refused(Reason::Service(ServiceRefusal::NotFound))),
+    }
+}
+
+// The row of the name. Of an action in a binding it is the one behind the name.
+fn row_read<'a>(
+    alloc: Global,
+    tables: &'a Tables,
+    kind: EntityKind,
+    name: &FullName,
+) -> Result<Option<&'a Row>, NoMemory>
+    ensures value { IfOk result (λ r. option_copied r ≡ row_read tables.now.rows kind name.now) }
+    ensures named { OnOk result (AreNamed tables.now.rows kind name.now) }
+{
+    match kind {
+        EntityKind::Action => action_read(alloc, tables, name),
+        _ => Ok(row_named(tables, kind, name)),
+    }
+}
+
+// The row that stands there.
+fn row_named<'a>(tables: &'a Tables, kind: EntityKind, name: &FullName) -> Option<&'a Row>
+    ensures value { option_copied result ≡ found kind name.now tables.now.rows }
+    ensures named { IsNamed tables.now.rows kind name.now }
+{
+    tables.row(kind, name)
+}
+
+// The action of the name: in a binding the one behind it.
+fn action_read<'a>(
+    alloc: Global,
+    tables: &'a Tables,
+    name: &FullName,
+) -> Result<Option<&'a Row>, NoMemory>
+    ensures value { IfOk result (λ r. option_copied r ≡ action_read tables.now.rows name.now) }
+    ensures named { OnOk result (AreNamed tables.now.rows kinds.Action name.now) }
+{
+    let Some(bundle) = package_of(alloc, name)? else {
+        return Ok(row_named(tables, EntityKind::Action, name));
+    };
+    match package_named(tables, &bundle) {
+        Some(bundle) => action_in(alloc, tables, name, bundle),
+        None => Ok(row_named(tables, EntityKind::Action, name)),
+    }
+}
+
+// The package of the name.
+fn package_named<'a>(tables: &'a Tables, name: &FullName) -> Option<&'a Package>
+    ensures value { option_copied result ≡ package_at (standing tables.now.rows) name.now }
+    ensures named { IsNamed tables.now.rows kinds.Package name.now }
+{
+    match row_named(tables, EntityKind::Package, name) {
+        Some(Row::Package(bundle)) => Some(bundle.get()),
+        _ => None,
+    }
+}
+
+// The action of the name in this package.
+fn action_in<'a>(
+    alloc: Global,
+    tables: &'a Tables,
+    name: &FullName,
+    bundle: &Package,
+) -> Result<Option<&'a Row>, NoMemory>
+    ensures value { IfOk result (λ r. option_copied r ≡ action_in tables.now.rows name.now bundle.now.name.namespace bundle.now.binding) }
+    ensures named { OnOk result (IsNamed tables.now.rows kinds.Action (bound_name name.now bundle.now.binding)) }
+{
+    match &bundle.binding {
+        Some(target) => action_bound(alloc, tables, name, &bundle.name.namespace, target),
+        None => Ok(row_named(tables, EntityKind::Action, name)),
+    }
+}
+
+// The action of the name in the package that is bound, where the binding's namespace reaches that.
+fn action_bound<'a>(
+    alloc: Global,
+    tables: &'a Tables,
+    name: &FullName,
+    from: &EntityName,
+    target: &FullName,
+) -> Result<Option<&'a Row>, NoMemory>
+    ensures value { IfOk result (λ r. option_copied r ≡ action_bound tables.now.rows name.now from.now target.now) }
+    ensures named { OnOk result (IsNamed tables.now.rows kinds.Action (lying_in target.now name.now.name)) }
+{
+    let inside = lying_in(alloc, target, name)?;
+    let row = row_named(tables, EntityKind::Action, &inside);
+    match reached_package(tables, target, from) {
+        Some(_) => Ok(row),
+        None => Ok(None),
+    }
+}
+
+// What the name is called in the package.
+fn lying_in(alloc: Global, bundle: &FullName, name: &FullName) -> Result<FullName, NoMemory>
+    ensures { IfOk result (λ n. n ≡ lying_in bundle.now name.now.name) }
+{
+    let namespace = bundle.namespace.copy(alloc)?;
+    let inside = bundle.name.copy(alloc)?;
+    let name = name.name.copy(alloc)?;
+    Ok(FullName {
+        namespace,
+        package: Some(inside),
+        name,
+    })
+}
+
+fn records_listed(
+    alloc: Global,
+    tenants: &Tenants,
+    floor: &Floor,
+    request: &Request,
+    call: &Call,
+) -> Result<Done, NoMemory>
+    requires { granted_call tenants.now [] (Act.Reads Reading.Activations) (parts_of request.now) ≡ Ok call.now }
+    ensures done { IfOk result (λ d. (S : Sight) → S.tenants ≡ tenants.now → Stands floor.now.now S.trace
+        → done_of d ≡ shown_done (read_value (view_of S) Reading.Activations (parts_of request.now) call.now)) }
+    ensures change { IfOk result (λ d. change_of d ≡ None) }
+{
+    let records = floor.records();
+    let listed = records.list(alloc, &tenants.home, call.skip, call.limit)?;
+    Ok(Done::Shown(Val::List(listed)))
+}
+
+fn record_shown(
+    alloc: Global,
+    tenants: &Tenants,
+    floor: &Floor,
+    part: Part,
+    request: &Request,
+    call: &Call,
+) -> Result<Done, NoMemory>
+    requires { granted_call tenants.now [] (Act.Reads (Reading.Activation part)) (parts_of request.now) ≡ Ok call.now }
+    ensures done { IfOk result (λ d. (S : Sight) → S.tenants ≡ tenants.now → Stands floor.now.now S.trace
+        → done_of d ≡ shown_done (read_value (view_of S) (Reading.Activation part) (parts_of request.now) call.now)) }
+    ensures change { IfOk result (λ d. change_of d ≡ None) }
+{
+    match visible_record(tenants, floor, id_of(&request.route)) {
+        Some(record) => Ok(Done::Shown(part_value(alloc, part, record)?)),
+        None => Ok(Done::Refused(Reason::Service(ServiceRefusal::NotFound))),
+    }
+}
+
+// The id that a path writes.
+fn id_of(route: &Route) -> &[u8]
+    ensures { result.now ≡ id_of route.now }
+{
+    match route {
+        Route::Activation { id, .. } => id.as_slice(),
+        _ => b"".as_slice(),
+    }
+}
+
+fn part_value(alloc: Global, part: Part, ended: &Record) -> Result<Val, NoMemory>
+    ensures { IfOk result (λ v. view v ≡ part_value part ended.now) }
+{
+    match part {
+        Part::Whole => write_record(alloc, ended),
+        Part::Response => write_response(alloc, &ended.response),
+        Part::Logs => write_logs(alloc, ended),
+    }
+}
+
+// The record whose id the text is, where it is of the namespace of whoever asks.
+fn visible_record<'a>(tenants: &Tenants, floor: &'a Floor, text: &[u8]) -> Option<&'a Record>
+    ensures { (T : Trace) → Stands floor.now.now T
+        → option_copied result ≡ recorded tenants.now.home text.now (filter (is_visible_record (own_rights tenants.now.home)) (records T)) }
+{
+    match id_in(text) {
+        Some(id) => record_of(tenants, floor, id),
+        None => None,
+    }
+}
+
+fn record_of<'a>(tenants: &Tenants, floor: &'a Floor, id: Id) -> Option<&'a Record>
+    ensures { (T : Trace) → Stands floor.now.now T
+        → option_copied result ≡ recorded_under tenants.now.home (Some id) (filter (is_visible_record (own_rights tenants.now.home)) (records T)) }
+{
+    match floor.records().get(&id) {
+        Ok(ended) => own_record(tenants, ended),
+        Err(_) => None,
+    }
+}
+
+fn own_record<'a>(tenants: &Tenants, ended: &'a Record) -> Option<&'a Record>
+    ensures { option_copied result ≡ if is_in tenants.now.home ended.now then Some ended.now else None }
+{
+    if tenants.home.as_str().as_bytes() == ended.namespace.as_str().as_bytes() {
+        Some(ended)
+    } else {
+        None
+    }
+}
