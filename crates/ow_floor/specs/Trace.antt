@@ -117,9 +117,14 @@ abbrev pub started : Option Run → Option ℕ
 started None = None
 started (Some r) = Some r.at
 
+-- the moment at which a run began, where there is a run and it did. A warm run never begins
+abbrev pub began : Option Run → Option ℕ
+began None = None
+began (Some r) = r.begun
+
 -- the record of an end
 abbrev pub record_of : End → Record
-record_of e = leaf_record e.task e.ending (started e.run) e.at
+record_of e = leaf_record e.task e.ending (started e.run) (began e.run) e.at
 
 abbrev pub records_after : Item → List Record → List Record
 records_after (Ended end) xs = xs ++ record_of end ∷ []

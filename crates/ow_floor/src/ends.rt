@@ -3,7 +3,7 @@ ghost use Rattle.std.specs.Prelude.{◌≡◌, ◌<◌, ◌++◌, ◌∷◌, [],
 ghost use Rattle.ow_slots.specs.Slots.{IsThere, first_with};
 ghost use Rattle.ow_slots.specs.State.{IsUnrecorded, runs};
 ghost use Rattle.ow_records.specs.declared.activations.Activation.{Activation};
-ghost use Rattle.ow_floor.specs.Trace.{started};
+ghost use Rattle.ow_floor.specs.Trace.{began, started};
 ghost use Rattle.ow_floor.specs.Calls.{is_late};
 ghost use Rattle.ow_floor.specs.Ends.{IsAbandonedAt, IsEndedAt, IsEndedRun, IsFreed, IsLateEnd, IsLateSpot, IsMade, IsOverrunAt, IsSweptOne, abandons, sweeps};
 ghost use Rattle.ow_floor.specs.Store.{IsGood};
@@ -36,7 +36,7 @@ pub(crate) fn end_at(
     };
     let task = task.get();
     let id = task.id;
-    let record = record_of(alloc, scratch, task, ending, started(run), at)?;
+    let record = record_of(alloc, scratch, task, ending, started(run), began(run), at)?;
     let code = record.response.code();
     let ready = ReadyRecord::new(alloc, record)?;
     lists.end(at, place, ready)?;
@@ -89,6 +89,16 @@ fn started(run: Option<Run>) -> Option<u64>
 {
     match run {
         Some(run) => Some(run.at),
+        None => None,
+    }
+}
+
+// The moment at which a run began, where there is a run and it did.
+fn began(run: Option<Run>) -> Option<u64>
+    ensures { result ≡ began run }
+{
+    match run {
+        Some(run) => run.begun,
         None => None,
     }
 }

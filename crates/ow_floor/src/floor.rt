@@ -320,7 +320,9 @@ fn activation_of(at: u64, plan: Plan) -> Activation
         until,
     } = plan;
     let Effective {
-        action, binding, ..
+        action,
+        binding,
+        ..
     } = effective;
     Activation {
         id,
