@@ -22,5 +22,4 @@ pub mod Pushing
 pub mod SoFar
 pub mod Runs
 pub mod Ended
-pub mod Turning
 pub mod Legal

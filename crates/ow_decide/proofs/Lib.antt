@@ -7,3 +7,4 @@ mod ReadLaws
 mod RecordLaws
 mod ViewLaws
 mod WaitLaws
+mod FloorLaws

@@ -97,7 +97,7 @@ decided_sound S (events.Collected id) sound = sound
 decided_sound S events.Drain sound = calls_keep_sound.drain S.moment S.trace sound
 
 pub seen_sound : (t : Tenants) (B : History) → IsSound (seen t B).trace
-seen_sound t [] = calls_keep_sound.start
+seen_sound t [] = calls_keep_sound.start t.pool t.wants
 seen_sound t (e ∷ B) = decided_sound (sight t (seen t B) (counted B) e.at) e.event (seen_sound t B)
 
 kept : (T : Trace) → IsSound T → IsKept T

@@ -36,7 +36,7 @@ use Rattle.ow_floor.specs.Collecting.{collected}
 use Rattle.ow_hall.specs.Posting.{posting_by}
 use Rattle.ow_hall.specs.History.{AreAnswered, History, IsLegal, after, all_changed, answer, counted, decision, greatest_moment, is_idle, is_opening, last_moment, moment, opens_here, posting, seen, sight, waits_after}
 use Rattle.ow_hall.specs.Ledger.{Ledger, no_entries, posted, posted_as}
-use Rattle.ow_decide.specs.Making.{Carries, changes_of}
+use Rattle.ow_decide.specs.Making.{Carries, changes_of, telling}
 use Rattle.ow_hall.specs.State.{Does, IsAt, Keeps, StateView}
 
 -- ---- what isn't booked changes nothing
@@ -124,7 +124,7 @@ opens_so (events.Collected id) B b later = refl
 opens_so events.Drain B b later = refl
 
 -- an opening takes memory
-pub later_free : (event : Event) → wants_memory event ≡ false → is_opening event ≡ false
+later_free : (event : Event) → wants_memory event ≡ false → is_opening event ≡ false
 later_free (events.Opened rows) free = cc
 later_free (events.Asked r) free = refl
 later_free (events.Called name params) free = refl
@@ -193,6 +193,16 @@ answers t L old new mid now event step keeps count late most later free does flo
     let un = unbooked (is_idle L.entries) (sight t (seen t L.entries) (counted L.entries) now.at) event in
     let un' = subst (λ (x : Told). Unless (posting_by (is_idle L.entries) x) (Leaves (decision t L.entries now.at event))) (sym h.0.told) un in
     (h.0.told, post_by (posting L.entries step.told) t L new now.at event step.told refl keeps.legal late most later h.0.told free h.1 un')
+
+-- a beginning, a loss or a going that is posted
+pub takes : (t : Tenants) (L : Ledger) (old new : StateView) (now : Now) (event : Event) (taken : Result (Unit {0}) FloorRefusal) (at : ℕ) → Keeps old t L → now.counted ≡ counted L.entries
+    → now.at ≡ moment L.entries at → wants_memory event ≡ false → new.floor.before ≡ None → Does old new.floor.now t now (λ S. decide S event) (telling (taken_told taken))
+    → (new.rows ≡ old.rows) × (new.waits ≡ old.waits)
+    → (taken_told taken ≡ answer t L.entries now.at event) × Keeps new t (posted L now.at event (taken_told taken))
+takes t L old new now event taken at keeps count same free before does rest =
+    let late = subst (λ (m : ℕ). last_moment L.entries ≤ m) (sym same) (not_before L.entries at) in
+    let most = subst (λ (m : ℕ). m ≤ greatest_moment) (sym same) (not_after t L.entries at keeps.legal) in
+    answers t L old new new.floor.now now event (telling (taken_told taken)) keeps count late most (later_free event free) before does refl rest.0 rest.1
 
 -- what was taken back stands as before
 pub stays : (old new : StateView) (t : Tenants) (L : Ledger) → new.floor.now ≡ old.floor.now → new.floor.before ≡ None → new.rows ≡ old.rows → new.waits ≡ old.waits

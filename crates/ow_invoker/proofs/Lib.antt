@@ -1,5 +1,4 @@
 pub mod Equal
-pub mod Events
 pub mod Filling
 pub mod Orders
 pub mod Parts
