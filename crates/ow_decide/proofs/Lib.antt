@@ -1,5 +1,6 @@
 pub mod AskLaws
 pub mod Results
+pub mod SoundLaws
 mod Filters
 mod SeenLaws
 mod BehindLaws

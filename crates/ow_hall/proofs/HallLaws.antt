@@ -2,9 +2,11 @@
 use Rattle.std.proofs.Common.{◌≡◌, ◌∙◌, ◌+◌, ◌≤◌, ◌++◌, ℕ, Bool, true, false, List, [], ◌∷◌, Option, Some, None, Result, Ok, Err, refl, sym, ap, subst, arith}
 use Rattle.std.proofs.Math.Nat.{le-max_left, max-le, min-le_right}
 use Rattle.ow_traits.specs.declared.replies.RunReply.{RunReply}
-use Rattle.ow_floor.specs.View.{Shown}
-use Rattle.ow_floor.specs.Trace.{Begun, Gone, Item, Lost, Trace, head, live_run, run_count, shown}
-use Rattle.ow_floor.specs.Calls.{answer_by, begins, goes, items_if, loses, order_items, order_of, refused_unless, reply_items}
+use Rattle.ow_pool.specs.declared.answers.Place.{Place}
+use Rattle.ow_pool.specs.declared.answers.Place.TheVariants as places
+use Rattle.ow_floor.specs.View.{Shown, generation_in}
+use Rattle.ow_floor.specs.Trace.{Begun, Gone, Item, Lost, Trace, head, shown, slots}
+use Rattle.ow_floor.specs.Calls.{answer_by, begins, busy_run, goes, items_if, loses, order_by, order_items, place_on, refused_unless, reply_items}
 use Rattle.ow_floor.specs.Laws.{Stands}
 use Rattle.ow_floor.specs.declared.activations.Open.{Open}
 use Rattle.ow_floor.specs.declared.activations.Plan.{Plan}
@@ -70,9 +72,12 @@ call_so : (idle : Bool) (S : Sight) (p : Result Plan Reason) → Unbooks idle (c
 call_so idle S (Ok plan) = tt
 call_so idle S (Err reason) = tells_so idle (told.Called (called.Refused reason))
 
-order_so : (idle : Bool) (run at : ℕ) (o : Option Open) → Unbooks idle (adds (told.Next (order_of run o)) (order_items run at o))
-order_so idle run at None = tells_so idle (told.Next (order_of run None))
-order_so idle run at (Some o) = tt
+order_so : (idle : Bool) (at : ℕ) (v : Shown) (p : Place) (o : Option Open) → Unbooks idle (adds (told.Next (order_by p o v)) (order_items p o at v))
+order_so idle at v (places.Run slot start) None = tells_so idle (told.Next (order_by (places.Run slot start) None v))
+order_so idle at v (places.Run slot start) (Some o) = tt
+order_so idle at v (places.Prewarm slot kind memory) o = tt
+order_so idle at v (places.Remove slots) o = tt
+order_so idle at v (places.Nothing reason) o = tells_so idle (told.Next (order_by (places.Nothing reason) o v))
 
 reply_so : (idle : Bool) (at run : ℕ) (reply : RunReply) (v : Shown) (r : Option Run)
     → Unbooks idle (adds (reply_told run reply (answer_by at run reply v r)) (reply_items at run reply v r))
@@ -87,12 +92,12 @@ pub unbooked : (idle : Bool) (S : Sight) (event : Event) → Unbooks idle (decid
 unbooked idle S (events.Opened rows) = tt
 unbooked idle S (events.Asked r) = ask_so idle S.moment (request_done S (parts_of r))
 unbooked idle S (events.Called name params) = call_so idle S (call_plan S name params)
-unbooked idle S events.Next = order_so idle (run_count S.trace + 1) S.moment (head S.trace)
+unbooked idle S events.Next = order_so idle S.moment (shown S.trace) (place_on (shown S.trace)) (head S.trace)
 unbooked idle S (events.Begun run) = taken_so idle (begins run S.trace) (refusals.NoRun run) (Begun run S.moment)
 unbooked idle S (events.Lost run) = taken_so idle (loses run S.trace) (refusals.NoRun run) (Lost run S.moment)
-unbooked idle S (events.Gone slot generation) = taken_so idle (goes slot generation S.trace) (refusals.NoSlot slot 0) (Gone slot generation S.moment)
+unbooked idle S (events.Gone slot generation) = taken_so idle (goes slot generation S.trace) (refusals.NoSlot slot (generation_in slot (slots S.trace))) (Gone slot generation S.moment)
 unbooked idle S events.Sweep = tt
-unbooked idle S (events.Answered run reply) = reply_so idle S.moment run reply (shown S.trace) (live_run S.trace run)
+unbooked idle S (events.Answered run reply) = reply_so idle S.moment run reply (shown S.trace) (busy_run run (shown S.trace))
 unbooked idle S (events.Collected id) = tells_so idle (told.Collected (collected_told id (shows_for S.waits id) (collected S.moment id S.trace)))
 unbooked idle S events.Drain = tt
 

@@ -3,6 +3,7 @@ use Rattle.ow_floor.specs.Owed.{owed}
 use Rattle.ow_decide.specs.Decisions.{taken_told}
 use Rattle.ow_decide.specs.declared.events.Told.{Told}
 use Rattle.ow_decide.specs.declared.step.Now.{Now}
+use Rattle.ow_hall.specs.Comes.{HallView, at_hall}
 use Rattle.ow_hall.specs.History.{answer, decision, posting, seen}
 use Rattle.ow_hall.specs.Ledger.{HasRoom, IsReady, Ledger, cost, posted}
 use Rattle.ow_hall.specs.declared.posting.Posting.TheVariants.{Booked}
@@ -57,7 +58,10 @@ returns g c =
     let told = taken_told taken in
     let now : Now = record { counted = c.counted.result; at = at } in
     let both = takes t L c.self.inside.state c.take-taken.new.self now event taken c.args.at c.self.invariant.0 c.counted.ensures c.moment.ensures c.requires
-    c.take-taken.ensures.free (c.take-taken.ensures.ok t) c.take-taken.ensures.rest in (
+    c.take-taken.ensures.free (c.take-taken.ensures.ok t) c.take-taken.ensures.rest in
+    subst (λ (h : HallView _). (told ≡ answer h.tenants h.ledger.entries (at_hall h c.args.at) event) × (c.post.new.self.ledger ≡ posted h.ledger (at_hall h c.args.at) event told) × (t ≡ h.tenants) × (c.self.inside.store ≡ h.store))
+    c.self.view_is
+    (
       subst (λ (m : ℕ). told ≡ answer t L.entries m event) c.moment.ensures both.0,
       c.post.ensures.ledger ∙ (ap (posted L at event) c.taken_told.ensures ∙ ap (λ (m : ℕ). posted L m event told) c.moment.ensures),
       refl,
