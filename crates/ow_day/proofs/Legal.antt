@@ -19,8 +19,6 @@ use Rattle.ow_decide.specs.declared.events.Told.TheVariants as told
 use Rattle.ow_decide.specs.declared.replies.HallCollected.TheVariants as collected
 use Rattle.ow_decide.specs.declared.replies.Called.TheVariants as called
 use Rattle.ow_decide.specs.declared.tenants.Tenants.{Tenants}
-use Rattle.ow_invoker.proofs.Events.{AreLater, events_are_later}
-use Rattle.ow_invoker.specs.Plain.{PlainGives}
 use Rattle.ow_invoker.specs.Turns.{Exchange}
 use Rattle.ow_day.specs.declared.call_words.CallWords.{CallWords}
 use Rattle.ow_day.specs.declared.call_words.CallWords.TheVariants as calls
@@ -30,6 +28,7 @@ use Rattle.ow_day.specs.Statement.{Statement, At, Call, Ask, Next, Begun, Answer
 use Rattle.ow_day.specs.Machine.{Machine, Asks, Calls, CarriesOut, Does, Exchanges, ExchangesAll, Meets, done_of, start}
 use Rattle.ow_day.specs.Day.{day_of}
 use Rattle.ow_day.specs.Office.{HasLegalBooks}
+use Rattle.ow_day.proofs.Turning.{NoneOpens, turn_opens}
 
 abbrev HasLegalBook : Machine → Type 0
 HasLegalBook M = IsLegal M.tenants M.ledger.entries
@@ -112,7 +111,7 @@ met M N event done later (t, before, after, is, given, shelf, (told_is, ledger, 
 exchanged : (M N : Machine) (x : Exchange) → is_opening x.event ≡ false → Exchanges M x N → HasLegalBook M → HasLegalBook N
 exchanged M N x later (before, after, given, comes) legal = met M (record N { shelf = M.shelf }) x.event (done_of x.answer) later (x.answer, before, after, refl, given, refl, comes) legal
 
-turned_so : (M N : Machine) (xs : List Exchange) → AreLater xs → ExchangesAll M xs N → HasLegalBook M → HasLegalBook N
+turned_so : (M N : Machine) (xs : List Exchange) → NoneOpens xs → ExchangesAll M xs N → HasLegalBook M → HasLegalBook N
 turned_so M N [] none same legal = rw same legal
 turned_so M N (x ∷ xs) (later, none) (K, first, rest) legal = turned_so K N xs none rest (exchanged M K x later first legal)
 
@@ -141,7 +140,7 @@ done_so M N (Lost run) done meets legal = met M N (events.Lost run) done refl me
 done_so M N (Gone slot generation) done meets legal = met M N (events.Gone slot generation) done refl meets legal
 done_so M N Sweep done meets legal = met M N events.Sweep done refl meets legal
 done_so M N (Collect id) done meets legal = met M N (events.Collected id) done refl meets legal
-done_so M N Turn done (turned, is, t) legal = turned_so M N t.exchanges (events_are_later PlainGives 0 0 M.shelf turned.order t.exchanges N.shelf t.turn) t.met legal
+done_so M N Turn done (turned, is, t) legal = turned_so M N t.exchanges (turn_opens M.shelf turned.order t.exchanges N.shelf t.turn) t.met legal
 done_so M N Drain done meets legal = met M N events.Drain done refl meets legal
 done_so M N End done (is, same) legal = rw same legal
 

@@ -22,4 +22,5 @@ pub mod Pushing
 pub mod SoFar
 pub mod Runs
 pub mod Ended
+pub mod Turning
 pub mod Legal
