@@ -218,6 +218,7 @@ fn activation(
         at: 5,
         namespace,
         action,
+        binding: None,
         params: Params::new(),
         subject,
         cause: None,

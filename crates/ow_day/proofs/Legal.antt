@@ -10,16 +10,16 @@ use Rattle.ow_http.specs.declared.request.Request.{Request}
 use Rattle.ow_traits.specs.declared.replies.RunReply.TheVariants as runs
 use Rattle.ow_hall.specs.History.{AreAnswered, History, IsLegal, answer, counted, greatest_moment, is_idle, is_opening, last_moment, moment, opens_here}
 use Rattle.ow_hall.specs.Ledger.{Ledger, posted}
-use Rattle.ow_hall.specs.Reasons.{tells_full}
-use Rattle.ow_hall.specs.Sight.{is_full}
-use Rattle.ow_hall.specs.declared.entry.Event.{Event}
-use Rattle.ow_hall.specs.declared.entry.Event.TheVariants as events
-use Rattle.ow_hall.specs.declared.entry.Told.{Told}
+use Rattle.ow_decide.specs.Reasons.{tells_full}
+use Rattle.ow_decide.specs.Sight.{is_full}
+use Rattle.ow_decide.specs.declared.events.Event.{Event}
+use Rattle.ow_decide.specs.declared.events.Event.TheVariants as events
+use Rattle.ow_decide.specs.declared.events.Told.{Told}
 use Rattle.ow_hall.specs.declared.entry.Entry.{Entry}
-use Rattle.ow_hall.specs.declared.entry.Told.TheVariants as told
-use Rattle.ow_hall.specs.declared.replies.HallCollected.TheVariants as collected
-use Rattle.ow_hall.specs.declared.replies.Called.TheVariants as called
-use Rattle.ow_hall.specs.declared.tenants.Tenants.{Tenants}
+use Rattle.ow_decide.specs.declared.events.Told.TheVariants as told
+use Rattle.ow_decide.specs.declared.replies.HallCollected.TheVariants as collected
+use Rattle.ow_decide.specs.declared.replies.Called.TheVariants as called
+use Rattle.ow_decide.specs.declared.tenants.Tenants.{Tenants}
 use Rattle.ow_invoker.specs.Plain.{PlainGives}
 use Rattle.ow_invoker.specs.Turns.{Exchange, Follows, IsTurn}
 use Rattle.ow_day.specs.declared.call_words.CallWords.{CallWords}

@@ -3,11 +3,12 @@ use Rattle.std.proofs.Common.{◌≡◌, ℕ, List, [], ◌∷◌, Some, Result,
 use Rattle.ow_value.specs.declared.memory.NoMemory.{NoMemory as Want}
 use Rattle.ow_floor.specs.declared.answers.AnswerRefusal.{AnswerRefusal}
 use Rattle.ow_floor.specs.declared.answers.AnswerRefusal.TheVariants.{NoRun, NoMemory}
-use Rattle.ow_hall.specs.Comes.{Answers, Comes, Fails, HallView, KeptRows, Outcome, Replies, Wants, reply_in, reply_outcome}
-use Rattle.ow_hall.specs.declared.entry.Event.{Event}
-use Rattle.ow_hall.specs.declared.entry.Told.{Told}
-use Rattle.ow_hall.specs.declared.entry.Told.TheVariants as tells
-use Rattle.ow_hall.specs.declared.replies.Reply.{Reply}
+use Rattle.ow_decide.specs.Asking.{reply_in}
+use Rattle.ow_hall.specs.Comes.{Answers, Comes, Fails, HallView, KeptRows, Outcome, Replies, Wants, reply_outcome}
+use Rattle.ow_decide.specs.declared.events.Event.{Event}
+use Rattle.ow_decide.specs.declared.events.Told.{Told}
+use Rattle.ow_decide.specs.declared.events.Told.TheVariants as tells
+use Rattle.ow_decide.specs.declared.replies.Reply.{Reply}
 use Rattle.ow_day.specs.declared.done.Done.{Done}
 use Rattle.ow_day.specs.declared.done.Done.TheVariants.{Asked}
 use Rattle.ow_day.specs.declared.session.Session.{Session}

@@ -9,14 +9,14 @@ use Rattle.ow_http.specs.declared.request.Request.{Request}
 use Rattle.ow_hall.specs.Comes.{Answers, Comes, HallView}
 use Rattle.ow_hall.specs.History.{counted}
 use Rattle.ow_hall.specs.Ledger.{Ledger, opened}
-use Rattle.ow_hall.specs.Sight.{is_full}
-use Rattle.ow_hall.specs.Tenants.{standard}
-use Rattle.ow_hall.specs.declared.entry.Event.{Event}
-use Rattle.ow_hall.specs.declared.entry.Event.TheVariants as events
-use Rattle.ow_hall.specs.declared.entry.Told.{Told}
-use Rattle.ow_hall.specs.declared.entry.Told.TheVariants as told
-use Rattle.ow_hall.specs.declared.replies.Reply.TheVariants as replies
-use Rattle.ow_hall.specs.declared.tenants.Tenants.{Tenants}
+use Rattle.ow_decide.specs.Sight.{is_full}
+use Rattle.ow_decide.specs.Tenants.{standard}
+use Rattle.ow_decide.specs.declared.events.Event.{Event}
+use Rattle.ow_decide.specs.declared.events.Event.TheVariants as events
+use Rattle.ow_decide.specs.declared.events.Told.{Told}
+use Rattle.ow_decide.specs.declared.events.Told.TheVariants as told
+use Rattle.ow_decide.specs.declared.replies.Reply.TheVariants as replies
+use Rattle.ow_decide.specs.declared.tenants.Tenants.{Tenants}
 use Rattle.ow_invoker.specs.Plain.{PlainGives}
 use Rattle.ow_invoker.specs.Turns.{Exchange, IsTurn, steps_in}
 use Rattle.ow_invoker.specs.declared.turn.Turned.{Turned}

@@ -16,12 +16,12 @@ use Rattle.ow_http.specs.Reason.{text_of}
 use Rattle.ow_http.specs.Reply.{reply_bytes}
 use Rattle.ow_http.specs.declared.answer.Answer.{Answer}
 use Rattle.ow_http.specs.declared.reason.Reason.{Reason}
-use Rattle.ow_hall.specs.declared.replies.Reply.{Reply}
-use Rattle.ow_hall.specs.declared.replies.Reply.TheVariants.{Now, Waiting}
-use Rattle.ow_hall.specs.declared.replies.Called.{Called}
-use Rattle.ow_hall.specs.declared.replies.Called.TheVariants.{Happened, Refused}
-use Rattle.ow_hall.specs.declared.replies.HallCollected.{HallCollected}
-use Rattle.ow_hall.specs.declared.replies.HallCollected.TheVariants as collected
+use Rattle.ow_decide.specs.declared.replies.Reply.{Reply}
+use Rattle.ow_decide.specs.declared.replies.Reply.TheVariants.{Now, Waiting}
+use Rattle.ow_decide.specs.declared.replies.Called.{Called}
+use Rattle.ow_decide.specs.declared.replies.Called.TheVariants.{Happened, Refused}
+use Rattle.ow_decide.specs.declared.replies.HallCollected.{HallCollected}
+use Rattle.ow_decide.specs.declared.replies.HallCollected.TheVariants as collected
 use Rattle.ow_invoker.specs.declared.turn.TurnStep.{TurnStep}
 use Rattle.ow_invoker.specs.declared.turn.TurnStep.TheVariants as steps
 use Rattle.ow_invoker.specs.declared.turn.Turned.{Turned}

@@ -3,7 +3,7 @@ ghost use Rattle.std.specs.Prelude.{◌≡◌, ◌↔◌, ℕ, List, Some, None,
 ghost use Rattle.ow_traits.specs.Streams.{Rose, Takes, TakesFront};
 ghost use Rattle.ow_day.specs.Words.{command_of};
 ghost use Rattle.ow_day.specs.Status.{err_text};
-ghost use Rattle.ow_hall.specs.declared.tenants.Tenants.{Tenants};
+ghost use Rattle.ow_decide.specs.declared.tenants.Tenants.{Tenants};
 ghost use Rattle.ow_hall.specs.Beginnings.{KeepsEach};
 ghost use Rattle.ow_hall.specs.History.{History, IsLegal};
 ghost use Rattle.ow_day.specs.Office.{HasLegalBooks, TellsCommand, TellsText};

@@ -1,6 +1,6 @@
 // What comes of statements.
+use ow_decide::{Called, HallCollected, Reply};
 use ow_floor::{Answered, Drain, Order};
-use ow_hall::{Called, HallCollected, Reply};
 use ow_http::Reason;
 use ow_invoker::Turned;
 

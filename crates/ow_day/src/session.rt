@@ -1,6 +1,6 @@
 // A day under way: statements carried out over the hall.
 ghost use Rattle.std.specs.Prelude.{◌≡◌, pos, [], IfOk};
-ghost use Rattle.ow_hall.specs.declared.entry.Event.TheVariants as events;
+ghost use Rattle.ow_decide.specs.declared.events.Event.TheVariants as events;
 ghost use Rattle.ow_http.specs.Read.{IsRead};
 ghost use Rattle.ow_traits.specs.declared.replies.RunReply.TheVariants as replies;
 ghost use Rattle.ow_day.specs.Line.{lines_of, statement};
@@ -13,8 +13,9 @@ use crate::done::Done;
 use crate::line::Statement;
 use crate::logs::lines_of;
 use crate::texts::push_done;
+use ow_decide::Reply;
 use ow_floor::AnswerRefusal;
-use ow_hall::{Hall, Reply};
+use ow_hall::Hall;
 use ow_http::{HttpRefusal, Reason, Request, Routes, refusal};
 use ow_invoker::{PlainContainer, PlainRunner, Shelf, day_turn};
 use ow_names::FullName;

@@ -6,8 +6,8 @@ ghost use Rattle.ow_day.specs.Texts.{answered_text, asked_text, called_text, col
 
 use crate::done::Done;
 use itoa::Buffer;
+use ow_decide::{Called, HallCollected, Reply};
 use ow_floor::{Answered, Drain, Happened, Happening, Order, RunOrder};
-use ow_hall::{Called, HallCollected, Reply};
 use ow_http::{Answer, Reason, reason_text, write_reply};
 use ow_invoker::{TurnStep, Turned};
 use ow_records::Id;

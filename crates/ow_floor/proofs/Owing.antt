@@ -7,7 +7,7 @@ use Rattle.ow_floor.specs.declared.activations.Open.{Open}
 use Rattle.ow_floor.specs.declared.runs.Run.{Run}
 use Rattle.ow_floor.specs.declared.runs.Slot.{Slot}
 use Rattle.ow_floor.specs.View.{Shown, begun, is_number, is_of, is_slot, update_first, remove_first}
-use Rattle.ow_floor.specs.Trace.{Trace, Item, Accepted, Ordered, Begun, Answered, Lost, Gone, Ended, Swept, Drained, Reopened, live, live_run, open_items, shown, slots}
+use Rattle.ow_floor.specs.Trace.{Trace, Item, Opened, Accepted, Ordered, Begun, Answered, Lost, Gone, Ended, Swept, Drained, Reopened, live, live_run, open_items, shown, slots}
 use Rattle.ow_floor.specs.Growth.{grown}
 use Rattle.ow_floor.specs.Calls.{abandoned_items, begins, end_items, goes, is_late, is_new, late_items, loses, overrun_items, reopened_items, swept_items}
 use Rattle.ow_floor.specs.Owed.{owed_by, owed_run, owed_runs, owed, rise, rises}
@@ -91,6 +91,7 @@ slots_fewer p (x ∷ xs) = most_at p x xs (p x) (slots_fewer p xs)
 -- ---- one item
 
 owed_item : (item : Item) (T : Trace) → owed (item ∷ T) ≤ owed T + rise item
+owed_item (Opened pool wants) T = omega arith
 owed_item (Accepted a) T = omega arith
 owed_item (Ordered r) T =
     let a = runs_push r (live T) in

@@ -2,6 +2,7 @@
 use Rattle.std.proofs.Common.{◌≡◌, ◌==◌, ◌+◌, ◌≤◌, ◌<◌, ◌++◌, ℕ, Bool, true, false, cond, List, [], ◌∷◌, Option, Some, None, length, refl, sym, ap, ◌∙◌, arith, rules, subst}
 use Rattle.std.specs.List.{find, AllByRecursion}
 use Rattle.std.proofs.lemmas.Bool.Decides.{nat_tests}
+use Rattle.ow_traits.specs.declared.prewarms.Prewarm.{Prewarm}
 use Rattle.ow_records.specs.declared.ids.Id.{Id}
 use Rattle.ow_records.specs.Id.{same_id}
 use Rattle.ow_records.specs.declared.activations.Activation.{Activation}
@@ -11,7 +12,7 @@ use Rattle.ow_floor.specs.declared.activations.State.TheVariants.{Waiting, Runni
 use Rattle.ow_floor.specs.declared.answers.Drain.TheVariants as drains
 use Rattle.ow_floor.specs.declared.runs.Run.{Run}
 use Rattle.ow_floor.specs.View.{Shown, waits, carries, begun, ids_of, is_of, is_number, is_end_of, with_state, remove_first}
-use Rattle.ow_floor.specs.Trace.{Trace, Item, End, Accepted, Ordered, Begun, Answered, Lost, Gone, Ended, Swept, Drained, Reopened, accepted, accepted_ids, count, ends, records, recorded, record_of, last, drawn, standing, open_items, run_count, head, live, live_run, shown}
+use Rattle.ow_floor.specs.Trace.{Trace, Item, End, Opened, Accepted, Ordered, Begun, Answered, Lost, Gone, Ended, Swept, Drained, Reopened, accepted, accepted_ids, count, ends, records, recorded, record_of, last, drawn, standing, open_items, run_count, head, live, live_run, shown}
 use Rattle.ow_floor.specs.Growth.{grow, grown, open_after, IsRight, AreRight}
 use Rattle.ow_floor.specs.Laws.{times, IsAmong, loads, bearers, tally, IsApart, AreApart, IsParted, IsSound, RunOnce, Stands, Grows}
 use Rattle.ow_floor.specs.Calls.{drain_answer, AllRecorded}
@@ -80,8 +81,8 @@ open_drawn p o T found sound =
 
 -- ---- items
 
-pub sound_start : IsSound []
-sound_start = record { apart = tt; drawn = tt; ended_drawn = tt; live_drawn = tt; once = λ id. refl; known = tt; one = λ id. omega arith; single = λ run. omega arith; numbered = tt }
+pub sound_start : (pool : ℕ) (wants : List Prewarm) → IsSound (Opened pool wants ∷ [])
+sound_start pool wants = record { apart = tt; drawn = tt; ended_drawn = tt; live_drawn = tt; once = λ id. refl; known = tt; one = λ id. omega arith; single = λ run. omega arith; numbered = tt }
 
 sound_accepted : (a : Activation) (T : Trace) → a.id.count ≡ last T a.id.namespace + 1 → IsSound T → IsSound (Accepted a ∷ T)
 sound_accepted a T new sound =
@@ -243,6 +244,7 @@ grown_lost run at r (Some o) T found here sound =
     (left_lost run at T (ap ids_of is_open ∙ ids_of-started (is_of r.id) Waiting (open_items T)) sound, is_open ∙ rw found refl)
 
 grown_item : (item : Item) (T : Trace) → IsRight item (shown T) → IsSound T → IsGrown item T
+grown_item (Opened pool wants) T right sound = absurd right
 grown_item (Accepted a) T right sound =
     let new : a.id.count ≡ last T a.id.namespace + 1 = right ∙ ap (λ n. n + 1) (drawn_last T a.id.namespace) in
     (sound_accepted a T new sound, open_accepted a T new sound)
@@ -276,8 +278,8 @@ grows f v w right is T st =
     let both = sound_items (f (shown T)) T (right T st) st.sound in
     record { is = is ∙ (ap (λ (u : Shown). grown (f u) u) st.is ∙ sym both.1); sound = both.0 }
 
-pub stands_start : Stands (shown []) []
-stands_start = record { is = refl; sound = sound_start }
+pub stands_start : (pool : ℕ) (wants : List Prewarm) → Stands (shown (Opened pool wants ∷ [])) (Opened pool wants ∷ [])
+stands_start pool wants = record { is = refl; sound = sound_start pool wants }
 
 -- ---- laws
 

@@ -1,5 +1,5 @@
 -- What the calls of a floor answer, and which items they add, the newest first.
-use Rattle.std.specs.Prelude.{◌≡◌, ◌==◌, ◌+◌, ◌-◌, ◌++◌, ℕ, Bool, true, false, List, [], ◌∷◌, Option, Some, None, length, if◌then◌else◌, is_some, nat_lt, not, Result, Ok, Err, IsSome}
+use Rattle.std.specs.Prelude.{◌≡◌, ◌==◌, ◌+◌, ◌-◌, ◌%◌, ◌++◌, ℕ, Bool, true, false, List, [], ◌∷◌, Option, Some, None, length, if◌then◌else◌, is_some, nat_lt, not, Result, Ok, Err, IsSome}
 use Rattle.std.specs.List.{find}
 use Rattle.ow_traits.specs.declared.replies.RunReply.{RunReply}
 use Rattle.ow_traits.specs.declared.replies.RunReply.TheVariants as runs
@@ -21,6 +21,10 @@ use Rattle.ow_floor.specs.declared.answers.Answered.{Answered}
 use Rattle.ow_floor.specs.declared.answers.Answered.TheVariants as answers
 use Rattle.ow_floor.specs.declared.answers.AnswerRefusal.{AnswerRefusal}
 use Rattle.ow_floor.specs.declared.answers.AnswerRefusal.TheVariants.{NoRun, NoMemory}
+use Rattle.ow_floor.specs.declared.answers.FloorRefusal.{FloorRefusal}
+use Rattle.ow_floor.specs.declared.answers.FloorRefusal.TheVariants as refusals
+use Rattle.ow_slots.specs.declared.keys.Start.TheVariants as starts
+use Rattle.ow_traits.specs.declared.prewarms.Prewarm.{Prewarm}
 use Rattle.ow_floor.specs.declared.answers.Drain.{Drain}
 use Rattle.ow_floor.specs.declared.answers.Drain.TheVariants.{Drained, StillOpen}
 use Rattle.ow_floor.specs.View.{Shown, is_of, is_end_of, is_slot, order_for}
@@ -54,7 +58,8 @@ activation_of at plan = record {
   id = plan.id;
   at = at;
   namespace = plan.namespace;
-  action = plan.action;
+  action = plan.effective.action;
+  binding = plan.effective.binding;
   params = plan.params;
   subject = plan.subject;
   cause = plan.cause;
@@ -71,14 +76,18 @@ happened_accepted id = happenings.Accepted id ∷ []
 
 -- ---- orders
 
+-- the slot of a run
+abbrev pub slot_for : ℕ → ℕ
+slot_for run = run % 4294967296
+
 -- what `next` answers, over the first that waits
 abbrev pub order_of : ℕ → Option Open → Order
 order_of run None = orders.Nothing Empty
-order_of run (Some o) = orders.Run (order_for run o.task)
+order_of run (Some o) = orders.Run (order_for run (slot_for run) 1 starts.Cold o.task)
 
 -- a run has a new slot for itself
 abbrev pub run_of : ℕ → ℕ → Id → Run
-run_of run at id = record { number = run; slot = run; generation = 1; at = at; id = id; begun = None }
+run_of run at id = record { number = run; slot = slot_for run; generation = 1; start = starts.Cold; at = at; id = id; begun = None }
 
 abbrev pub order_items : ℕ → ℕ → Option Open → Trace
 order_items run at None = []
@@ -112,6 +121,20 @@ loses run T = is_some (live_run T run)
 -- the container of this slot and generation isn't gone
 abbrev pub goes : ℕ → ℕ → Trace → Bool
 goes slot generation T = is_some (find (is_slot slot generation) (slots T))
+
+-- nothing is refused where it holds
+abbrev pub refused_unless : Bool → FloorRefusal → Result (Unit {0}) FloorRefusal
+refused_unless b refusal = if b then Ok tt else Err refusal
+
+-- what `begun`, `lost` and `gone` answer
+abbrev pub begun_answer : ℕ → Trace → Result (Unit {0}) FloorRefusal
+begun_answer run T = refused_unless (begins run T) (refusals.NoRun run)
+
+abbrev pub lost_answer : ℕ → Trace → Result (Unit {0}) FloorRefusal
+lost_answer run T = refused_unless (loses run T) (refusals.NoRun run)
+
+abbrev pub gone_answer : ℕ → ℕ → Trace → Result (Unit {0}) FloorRefusal
+gone_answer slot generation T = refused_unless (goes slot generation T) (refusals.NoSlot slot 0)
 
 abbrev pub begun_items : ℕ → ℕ → Trace → Trace
 begun_items at run T = items_if (begins run T) (trace.Begun run at)
@@ -241,7 +264,7 @@ AllRecorded T (StillOpen n) = Unit {0}
 
 -- ---- each call keeps the trace sound
 pub record KeepSound : Type 0 where
-  pub start : IsSound []
+  pub start : (pool : ℕ) (wants : List Prewarm) → IsSound (trace.Opened pool wants ∷ [])
   pub accept : (at : ℕ) (plan : Plan) (T : Trace) → IsNext plan.id T → IsSound T → IsSound (accept_items at plan ++ T)
   pub next : (at : ℕ) (T : Trace) → IsSound T → IsSound (next_items at T ++ T)
   pub begun : (at run : ℕ) (T : Trace) → IsSound T → IsSound (begun_items at run T ++ T)

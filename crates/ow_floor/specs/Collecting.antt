@@ -5,7 +5,7 @@ use Rattle.ow_records.specs.declared.record.Record.{Record}
 use Rattle.ow_floor.specs.declared.answers.Collected.{Collected}
 use Rattle.ow_floor.specs.declared.answers.Collected.TheVariants as answers
 use Rattle.ow_floor.specs.declared.answers.FloorRefusal.{FloorRefusal}
-use Rattle.ow_floor.specs.declared.answers.FloorRefusal.TheVariants.{NotFound}
+use Rattle.ow_floor.specs.declared.answers.FloorRefusal.TheVariants.{NotFound, NoRun, NoSlot}
 use Rattle.ow_floor.specs.Trace.{Trace, end_of, wait_of}
 
 -- no request waits for it; its record; its request still waits; its request waits no longer
@@ -27,7 +27,7 @@ collected at id T = collected_by at (wait_of T id) (end_of T id)
 
 -- what an answer of `collect` tells
 abbrev pub collection_of : Result Collected FloorRefusal → Collection
-collection_of (Err NotFound) = Unknown
+collection_of (Err refusal) = Unknown
 collection_of (Ok (answers.Recorded r)) = Recorded r.now
 collection_of (Ok answers.NotYet) = NotYet
 collection_of (Ok answers.Elapsed) = Elapsed
@@ -35,3 +35,5 @@ collection_of (Ok answers.Elapsed) = Elapsed
 -- the number of a refusal
 abbrev pub refusal_number : FloorRefusal → ℕ
 refusal_number NotFound = 14
+refusal_number (NoSlot slot kept) = 28
+refusal_number (NoRun run) = 29

@@ -5,7 +5,7 @@ use Rattle.ow_floor.specs.declared.activations.Open.{Open}
 use Rattle.ow_floor.specs.declared.activations.State.TheVariants.{Waiting, Running}
 use Rattle.ow_floor.specs.declared.runs.Run.{Run}
 use Rattle.ow_floor.specs.View.{Shown, is_number, is_of, last_of, remove_first, update_first, waits, with_state}
-use Rattle.ow_floor.specs.Trace.{Item, Trace, Accepted, Ordered, Answered, Lost, Ended, Reopened, blocking_after, count_after, draining_after, drawn_after, live_after, moment_of, records_after, run_count_after, slots_after}
+use Rattle.ow_floor.specs.Trace.{Item, Trace, Opened, Accepted, Ordered, Answered, Lost, Ended, Reopened, blocking_after, count_after, draining_after, drawn_after, live_after, moment_of, pool_after, records_after, run_count_after, slots_after, wants_after}
 
 -- what a lost run carries waits again
 abbrev pub freed : Option Run → List Open → List Open
@@ -33,6 +33,8 @@ grow item v = record {
   blocking = blocking_after item v.blocking;
   latest = moment_of item;
   draining = draining_after item v.draining;
+  pool = pool_after item v.pool;
+  wants = wants_after item v.wants;
 }
 
 -- with more items, the newest first
@@ -47,9 +49,10 @@ abbrev pub IsLive : Option Run → List Run → Type 0
 IsLive None rs = Unit {0}
 IsLive (Some r) rs = find (is_number r.number) rs ≡ Some r
 
--- an id is the next of its namespace; a run carries the first that waits, under the next number; a reply comes from a live run
+-- a floor is opened once, first of all; an id is the next of its namespace; a run carries the first that waits, under the next number; a reply comes from a live run
 -- whose activation has ended; what is lost is a live run; what ends is open, and the run that it names is live; at an opening nothing is open
 abbrev pub IsRight : Item → Shown → Type 0
+IsRight (Opened pool wants) v = ⊥
 IsRight (Accepted a) v = a.id.count ≡ last_of v.drawn a.id.namespace + 1
 IsRight (Ordered r) v = (r.number ≡ v.runs + 1) × ((o : Open) × (find waits v.open_items ≡ Some o) × (r.id ≡ o.task.id))
 IsRight (Answered run alive at) v = (r : Run) × (find (is_number run) v.live ≡ Some r) × (find (is_of r.id) v.open_items ≡ None)

@@ -7,6 +7,7 @@ use Rattle.ow_records.specs.declared.activations.Activation.{Activation}
 use Rattle.ow_records.specs.declared.record.Record.{Record}
 use Rattle.ow_floor.specs.declared.activations.Open.{Open}
 use Rattle.ow_floor.specs.declared.activations.State.TheVariants.{Waiting, Running}
+use Rattle.ow_traits.specs.declared.prewarms.Prewarm.{Prewarm}
 use Rattle.ow_floor.specs.declared.lists.Berth.{Berth}
 use Rattle.ow_floor.specs.declared.lists.Blocking.{Blocking}
 use Rattle.ow_floor.specs.declared.lists.Marks.{Marks}
@@ -27,17 +28,19 @@ pub record Store : Type 0 where
   pub drawn : List Id
   pub blocking : List Blocking
   pub marks : Marks
+  pub pool : ℕ
+  pub wants : List Prewarm
 
 -- the lists now, and as they were at the hold
 pub record StoreView : Type 0 where
   pub now : Store
   pub past : Option Store
 
--- all the parts as they were, where they are held
-abbrev pub past_of : Option (List Spot) → Option (List (Option Activation)) → Option (List (Option Berth)) → Option (List (Option Slot)) → Option (List Record) → Option (List Id) → Option (List Blocking) → Option Marks → Option Store
-past_of (Some spots) (Some tasks) (Some runs) (Some slots) (Some ended) (Some drawn) (Some blocking) (Some marks) =
-    Some (record { spots = spots; tasks = tasks; runs = runs; slots = slots; ended = ended; drawn = drawn; blocking = blocking; marks = marks })
-past_of spots tasks runs slots ended drawn blocking marks = None
+-- all the parts as they were, where they are held. The pool, and what is wanted ahead, never change
+abbrev pub past_of : ℕ → List Prewarm → Option (List Spot) → Option (List (Option Activation)) → Option (List (Option Berth)) → Option (List (Option Slot)) → Option (List Record) → Option (List Id) → Option (List Blocking) → Option Marks → Option Store
+past_of pool wants (Some spots) (Some tasks) (Some runs) (Some slots) (Some ended) (Some drawn) (Some blocking) (Some marks) =
+    Some (record { spots = spots; tasks = tasks; runs = runs; slots = slots; ended = ended; drawn = drawn; blocking = blocking; marks = marks; pool = pool; wants = wants })
+past_of pool wants spots tasks runs slots ended drawn blocking marks = None
 
 -- what was before, where they are held
 abbrev pub taken_back : Option Store → Store → Store
@@ -80,6 +83,8 @@ show R = record {
   blocking = R.blocking;
   latest = R.marks.latest;
   draining = R.marks.draining;
+  pool = R.pool;
+  wants = R.wants;
 }
 
 abbrev pub show_past : Option Store → Option Shown
@@ -157,6 +162,8 @@ accepted_in a R = record {
   drawn = put_id a.id R.drawn;
   blocking = blocked_by a.id a.until R.blocking;
   marks = with_latest a.at R.marks;
+  pool = R.pool;
+  wants = R.wants;
 }
 
 -- the run starts with what stands at this place
@@ -170,6 +177,8 @@ ordered_in place r R = record {
   drawn = R.drawn;
   blocking = R.blocking;
   marks = with_owed r.at (R.marks.owed + 3) R.marks;
+  pool = R.pool;
+  wants = R.wants;
 }
 
 -- another run, or none, at this place, and so much is owed
@@ -195,6 +204,8 @@ ended_in at place e R = record {
   drawn = R.drawn;
   blocking = R.blocking;
   marks = with_latest at R.marks;
+  pool = R.pool;
+  wants = R.wants;
 }
 
 abbrev pub drained_in : ℕ → Store → Store

@@ -11,6 +11,7 @@ use Rattle.ow_floor.specs.declared.activations.Open.{Open}
 use Rattle.ow_records.specs.declared.record.Record.{Record}
 use Rattle.ow_floor.specs.declared.activations.State.{State}
 use Rattle.ow_floor.specs.declared.activations.State.TheVariants.{Waiting, Running}
+use Rattle.ow_traits.specs.declared.prewarms.Prewarm.{Prewarm}
 use Rattle.ow_floor.specs.declared.lists.Blocking.{Blocking}
 use Rattle.ow_floor.specs.declared.runs.Run.{Run}
 use Rattle.ow_floor.specs.declared.runs.Slot.{Slot}
@@ -23,8 +24,10 @@ pub record End : Type 0 where
   pub run : Option Run
   pub at : ℕ
 
--- one thing that happened on a floor. A reply tells whether the container can be used again
+-- one thing that happened on a floor; first of all it was opened, with a pool of so many MB and containers that are wanted ahead. A reply tells whether the
+-- container can be used again
 pub data Item : Type 0 where
+  Opened : (pool : ℕ) (wants : List Prewarm) → Item
   Accepted : (activation : Activation) → Item
   Ordered : (run : Run) → Item
   Begun : (run at : ℕ) → Item
@@ -169,8 +172,9 @@ abbrev pub slots : Trace → List Slot
 slots [] = []
 slots (item ∷ T) = slots_after item (slots T)
 
--- when a thing happened
+-- when a thing happened; an opening with a pool has no moment
 abbrev pub moment_of : Item → ℕ
+moment_of (Opened pool wants) = 0
 moment_of (Accepted a) = a.at
 moment_of (Ordered run) = run.at
 moment_of (Begun run at) = at
@@ -196,6 +200,24 @@ draining_after item b = b
 abbrev pub is_draining : Trace → Bool
 is_draining [] = false
 is_draining (item ∷ T) = draining_after item (is_draining T)
+
+abbrev pub pool_after : Item → ℕ → ℕ
+pool_after (Opened pool wants) n = pool
+pool_after item n = n
+
+-- the memory of the pool, in MB
+abbrev pub pool_of : Trace → ℕ
+pool_of [] = 0
+pool_of (item ∷ T) = pool_after item (pool_of T)
+
+abbrev pub wants_after : Item → List Prewarm → List Prewarm
+wants_after (Opened pool wants) ws = wants
+wants_after item ws = ws
+
+-- which containers are wanted ahead
+abbrev pub wants_of : Trace → List Prewarm
+wants_of [] = []
+wants_of (item ∷ T) = wants_after item (wants_of T)
 
 -- ---- by filters
 
@@ -266,4 +288,6 @@ shown T = record {
   blocking = blocking T;
   latest = latest T;
   draining = is_draining T;
+  pool = pool_of T;
+  wants = wants_of T;
 }

@@ -19,11 +19,13 @@ use Rattle.ow_floor.specs.declared.runs.Slot.{Slot}
 use Rattle.ow_floor.specs.declared.answers.Order.{Order}
 use Rattle.ow_floor.specs.declared.answers.Order.TheVariants.{Nothing}
 use Rattle.ow_floor.specs.declared.answers.RunOrder.{RunOrder}
+use Rattle.ow_slots.specs.declared.keys.Start.{Start}
+use Rattle.ow_traits.specs.declared.prewarms.Prewarm.{Prewarm}
 
 -- the activations that have not ended, by acceptance; the live runs, by their orders; the slots whose container isn't gone, by
 -- their orders; the records of the activations that have ended, by their ends; the last id of each namespace; how many runs were
 -- ordered; how many were accepted since the last opening; which of these a request waits for; the moment of the newest thing; whether
--- it drains
+-- it drains; the memory of the pool, in MB, and which containers are wanted ahead
 pub record Shown : Type 0 where
   pub open_items : List Open
   pub live : List Run
@@ -35,6 +37,8 @@ pub record Shown : Type 0 where
   pub blocking : List Blocking
   pub latest : ℕ
   pub draining : Bool
+  pub pool : ℕ
+  pub wants : List Prewarm
 
 -- a floor as it is now, and where it is held as it was at the hold
 pub record FloorView : Type 0 where
@@ -128,7 +132,7 @@ with_state s o = record { task = o.task; state = s }
 
 -- a run that began at this moment
 abbrev pub begun : ℕ → Run → Run
-begun at r = record { number = r.number; slot = r.slot; generation = r.generation; at = r.at; id = r.id; begun = Some at }
+begun at r = record { number = r.number; slot = r.slot; generation = r.generation; start = r.start; at = r.at; id = r.id; begun = Some at }
 
 -- the slot of a run
 abbrev pub slot_of : Run → Slot
@@ -146,10 +150,13 @@ kind_of (Plain code) = runners.Plain
 kind_of (Program code) = runners.Program
 
 -- what a runner is told of an activation
-abbrev pub order_for : ℕ → Activation → RunOrder
-order_for run a = record {
+abbrev pub order_for : ℕ → ℕ → ℕ → Start → Activation → RunOrder
+order_for run slot generation start a = record {
   run = run;
   id = a.id;
+  slot = slot;
+  generation = generation;
+  start = start;
   kind = kind_of a.action.exec;
   code = exec_code a.action.exec;
   memory = a.action.limits.memory;

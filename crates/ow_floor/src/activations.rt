@@ -1,10 +1,10 @@
 // Activations: as planned, and as open.
 ghost use Rattle.std.specs.Prelude.{◌≡◌, ◌↔◌, IsTrue, IfOk};
 
-use ow_entity::Action;
 use ow_names::EntityName;
+use ow_packages::Effective;
 use ow_records::{Activation, Id};
-use ow_value::{NoMemory, Params, PlainData, Shared, Str};
+use ow_value::{NoMemory, Params, PlainData, Str};
 use std::alloc::Global;
 
 /// What is to be accepted.
@@ -14,9 +14,9 @@ pub struct Plan {
     pub id: Id,
     /// The namespace that is charged for it.
     pub namespace: EntityName,
-    /// The action as it stands at the acceptance.
-    pub action: Shared<Action>,
-    /// The merged parameters, with which it is run.
+    /// What its name calls as all stands at the acceptance: the action, its parameters, and the binding that the name goes through.
+    pub effective: Effective,
+    /// The merged parameters, with which it is run: what is given over the effective ones.
     pub params: Params,
     /// In whose name it is run.
     pub subject: Str,
@@ -48,7 +48,7 @@ impl PlainData for Plan {
     fn same(&self, other: &Plan) -> bool {
         self.id == other.id
             && self.namespace.same(&other.namespace)
-            && self.action.same(&other.action)
+            && self.effective.same(&other.effective)
             && self.params.same(&other.params)
             && self.subject.same(&other.subject)
             && self.cause == other.cause
@@ -57,13 +57,13 @@ impl PlainData for Plan {
 
     fn copy(&self, alloc: Global) -> Result<Plan, NoMemory> {
         let namespace = self.namespace.copy(alloc)?;
-        let action = self.action.copy(alloc)?;
+        let effective = self.effective.copy(alloc)?;
         let params = self.params.copy(alloc)?;
         let subject = self.subject.copy(alloc)?;
         Ok(Plan {
             id: self.id,
             namespace,
-            action,
+            effective,
             params,
             subject,
             cause: self.cause,

@@ -2,8 +2,10 @@
 ghost use Rattle.std.specs.Prelude.{◌≡◌, ◌↔◌, [], ◌∷◌, IsTrue, IfOk};
 ghost use Rattle.ow_floor.specs.View.{kind_of};
 
+use crate::Run;
 use ow_entity::Exec;
 use ow_records::{Activation, Id, Record};
+use ow_slots::Start;
 use ow_traits::{Kind, RunReply};
 use ow_value::{Items, NoMemory, Params, PlainData, Str};
 use std::alloc::Global;
@@ -16,6 +18,12 @@ pub struct RunOrder {
     pub run: u64,
     /// The activation that it carries.
     pub id: Id,
+    /// The number of its slot.
+    pub slot: u32,
+    /// The generation of the slot, from 1.
+    pub generation: u32,
+    /// From which container it starts.
+    pub start: Start,
     /// The kind of runner that the code needs.
     pub kind: Kind,
     /// The code of the action.
@@ -28,18 +36,48 @@ pub struct RunOrder {
     pub timeout: u32,
 }
 
-/// Why nothing is to run.
+/// A container that is to be started ahead of any run of an action.
 #[derive(Clone, Copy, Debug, PartialEq, Eq)]
-pub enum Idle {
-    /// No activation waits.
-    Empty,
+pub struct PrewarmOrder {
+    /// The number of its run, from 1. Runs of actions are numbered together with these.
+    pub run: u64,
+    /// The number of its slot.
+    pub slot: u32,
+    /// The generation of the slot, from 1.
+    pub generation: u32,
+    /// The runner that it is for.
+    pub kind: Kind,
+    /// In MB.
+    pub memory: u32,
 }
 
-/// What is to run next.
+/// One container of a slot.
+#[derive(Clone, Copy, Debug, PartialEq, Eq, Drop)]
+pub struct Container {
+    /// The number of the slot.
+    pub slot: u32,
+    /// The generation of the slot, from 1.
+    pub generation: u32,
+}
+
+/// Why nothing is to be done.
+#[derive(Clone, Copy, Debug, PartialEq, Eq)]
+pub enum Idle {
+    /// No activation waits, and no more containers are wanted ahead.
+    Empty,
+    /// An activation waits. The memory that it needs is held, and can't be freed now.
+    NoRoom,
+}
+
+/// What is to be done next.
 #[derive(Drop)]
 pub enum Order {
     /// This run.
     Run(RunOrder),
+    /// This container is started ahead.
+    Prewarm(PrewarmOrder),
+    /// These containers are removed, one to four.
+    Remove(Items<Container>),
     /// Nothing, for this reason.
     Nothing(Idle),
 }
@@ -112,6 +150,10 @@ pub enum Collected<'a> {
 pub enum FloorRefusal {
     /// No request waits for the end of an activation of this id that was accepted since the last opening.
     NotFound,
+    /// No slot has such a run.
+    NoRun { run: u64 },
+    /// The slot has no container of the generation that could be gone. With the generation that it has, 0 where it isn't there.
+    NoSlot { slot: u32, kept: u32 },
 }
 
 /// Whether all activations have ended.
@@ -146,6 +188,8 @@ impl FloorRefusal {
     {
         match self {
             FloorRefusal::NotFound => 14,
+            FloorRefusal::NoSlot { .. } => 28,
+            FloorRefusal::NoRun { .. } => 29,
         }
     }
 }
@@ -153,16 +197,19 @@ impl FloorRefusal {
 impl RunOrder {
     ghost use Rattle.ow_floor.specs.View.{order_for};
 
-    // The order to run an activation under this number.
-    pub(crate) fn of(alloc: Global, run: u64, task: &Activation) -> Result<RunOrder, NoMemory>
-        ensures { IfOk result (λ order. order ≡ order_for run task.now) }
+    // The order to run an activation so.
+    pub(crate) fn of(alloc: Global, run: Run, task: &Activation) -> Result<RunOrder, NoMemory>
+        ensures { IfOk result (λ order. order ≡ order_for run.number run.slot run.generation run.start task.now) }
     {
         let action = task.action.get();
         let code = action.exec.code().copy(alloc)?;
         let params = task.params.copy(alloc)?;
         Ok(RunOrder {
-            run,
+            run: run.number,
             id: task.id,
+            slot: run.slot,
+            generation: run.generation,
+            start: run.start,
             kind: kind_of(&action.exec),
             code,
             memory: action.limits.memory.get(),
@@ -176,6 +223,9 @@ impl PlainData for RunOrder {
     fn same(&self, other: &RunOrder) -> bool {
         self.run == other.run
             && self.id == other.id
+            && self.slot == other.slot
+            && self.generation == other.generation
+            && self.start == other.start
             && self.kind == other.kind
             && self.code.same(&other.code)
             && self.memory == other.memory
@@ -189,6 +239,9 @@ impl PlainData for RunOrder {
         Ok(RunOrder {
             run: self.run,
             id: self.id,
+            slot: self.slot,
+            generation: self.generation,
+            start: self.start,
             kind: self.kind,
             code,
             memory: self.memory,
@@ -198,10 +251,20 @@ impl PlainData for RunOrder {
     }
 }
 
+impl PlainData for Container {
+    fn same(&self, other: &Container) -> bool {
+        *self == *other
+    }
+
+    fn copy(&self, _alloc: Global) -> Result<Container, NoMemory> {
+        Ok(*self)
+    }
+}
+
 impl Order {
     ghost use Rattle.ow_floor.specs.View.{is_nothing};
 
-    /// Whether nothing is to run.
+    /// Whether nothing is to be done.
     pub fn is_nothing(&self) -> bool
         ensures { result ≡ is_nothing self.now }
     {
@@ -213,6 +276,8 @@ impl PlainData for Order {
     fn same(&self, other: &Order) -> bool {
         match (self, other) {
             (Order::Run(a), Order::Run(b)) => a.same(b),
+            (Order::Prewarm(a), Order::Prewarm(b)) => a == b,
+            (Order::Remove(a), Order::Remove(b)) => a.same(b),
             (Order::Nothing(a), Order::Nothing(b)) => a == b,
             _ => false,
         }
@@ -221,6 +286,8 @@ impl PlainData for Order {
     fn copy(&self, alloc: Global) -> Result<Order, NoMemory> {
         match self {
             Order::Run(order) => Ok(Order::Run(order.copy(alloc)?)),
+            Order::Prewarm(order) => Ok(Order::Prewarm(*order)),
+            Order::Remove(containers) => Ok(Order::Remove(containers.copy(alloc)?)),
             Order::Nothing(idle) => Ok(Order::Nothing(*idle)),
         }
     }
@@ -306,6 +373,20 @@ impl PlainData for Answered {
             Answered::Recorded(happened) => Ok(Answered::Recorded(happened.copy(alloc)?)),
             Answered::Late { run, at } => Ok(Answered::Late { run: *run, at: *at }),
         }
+    }
+}
+
+impl PlainData for Swept {
+    fn same(&self, other: &Swept) -> bool {
+        self.happened.same(&other.happened) && self.late == other.late
+    }
+
+    fn copy(&self, alloc: Global) -> Result<Swept, NoMemory> {
+        let happened = self.happened.copy(alloc)?;
+        Ok(Swept {
+            happened,
+            late: self.late,
+        })
     }
 }
 

@@ -1,11 +1,12 @@
 // The floor and its calls. Each adds items to the trace. What was before a hold is kept until it is settled.
 ghost use Rattle.std.specs.Prelude.{◌≡◌, ◌+◌, ◌-◌, ◌<◌, ◌≤◌, [], ◌∷◌, length, None, Some, true, false, option_copied, IfOk, IfSome, OnOk, OnErr, IfErr, IsSome};
-ghost use Rattle.ow_floor.specs.View.{begun, last_of};
-ghost use Rattle.ow_floor.specs.Trace.{Drained, Trace, head, is_draining, last, latest, live_run, open_item, open_items};
+ghost use Rattle.ow_floor.specs.View.{begun, is_nothing, last_of};
+ghost use Rattle.ow_floor.specs.Trace.{Drained, Opened, Trace, head, is_draining, last, latest, live_run, open_item, open_items};
 ghost use Rattle.ow_floor.specs.Laws.{Grows, Stands};
+ghost use Rattle.ow_pool.specs.Rules.{AreWantsSized};
 ghost use Rattle.ow_floor.specs.Collecting.{collected, collected_by, collection_of};
 ghost use Rattle.ow_floor.specs.Owed.{owed, owed_of, owed_run};
-ghost use Rattle.ow_floor.specs.Calls.{AllRecorded, AnswersSo, GrowsBy, HandsBack, accept_items, activation_of, answer_to, answered_items, begins, begun_items, drain_answer, drain_by, end_items, goes, gone_items, happened, happened_accepted, loses, lost_items, next_items, next_order, reopened_items, run_of, swept_ends, swept_items};
+ghost use Rattle.ow_floor.specs.Calls.{AllRecorded, AnswersSo, GrowsBy, HandsBack, accept_items, activation_of, answer_to, answered_items, begun_answer, begun_items, drain_answer, drain_by, end_items, gone_answer, gone_items, happened, happened_accepted, lost_answer, lost_items, next_items, next_order, reopened_items, run_of, swept_ends, swept_items};
 
 use crate::ends::{abandon, end_at, end_run, free_run, sweep};
 use crate::lists::{Berth, Lists};
@@ -14,8 +15,10 @@ use crate::{
     AnswerRefusal, Answered, Collected, Drain, FloorRefusal, Happened, Happening, Idle, Order,
     Plan, Run, RunOrder, Swept,
 };
+use ow_packages::Effective;
 use ow_records::{Activation, Ending, Id, Record, Records};
-use ow_traits::RunReply;
+use ow_slots::Start;
+use ow_traits::{Prewarms, RunReply};
 use ow_value::{NoMemory, Scratch, Shared};
 use std::alloc::Global;
 use std::marker::Model;
@@ -46,15 +49,17 @@ impl Model for Floor {
 }
 
 impl Floor {
-    /// A floor where nothing has happened. It isn't held.
-    pub fn new(alloc: Global) -> Floor
-        ensures stands { Stands result.now [] }
-        ensures before { result.before ≡ None }
+    /// A floor where nothing has happened. Its containers hold at most `pool` MB together, and these are wanted ahead of runs, of which each has the memory
+    /// of some action. It isn't held.
+    pub fn new(alloc: Global, pool: u32, wants: Prewarms) -> Result<Floor, NoMemory>
+        requires { AreWantsSized wants }
+        ensures stands { IfOk result (λ floor. Stands floor.now (Opened pool wants ∷ [])) }
+        ensures before { IfOk result (λ floor. floor.before ≡ None) }
     {
-        Floor {
-            lists: Lists::new(alloc),
+        Ok(Floor {
+            lists: Lists::new(alloc, pool, wants),
             scratch: Scratch::new(alloc),
-        }
+        })
     }
 
     /// The last count of an id that was accepted in this namespace, 0 at first.
@@ -150,7 +155,7 @@ impl Floor {
     pub fn next(&mut self, alloc: Global, at: u64) -> Result<Order, NoMemory>
         ensures told { IfOk result (λ order. (T : Trace) → Stands self.old.now T → order ≡ next_order T) }
         ensures ok { OnOk result (Grows self.old.now self.new.now (λ T. next_items at T)) }
-        ensures empty { OnErr result ((T : Trace) → Stands self.old.now T → IsSome (head T)) }
+        ensures wanted { OnErr result ((T : Trace) → Stands self.old.now T → is_nothing (next_order T) ≡ false) }
         ensures before { self.new.before ≡ self.old.before }
     {
         let Some(place) = self.lists.waiting_place() else {
@@ -164,7 +169,7 @@ impl Floor {
         };
         let task = task.get();
         let run = run_of(number, at, task.id);
-        let order = RunOrder::of(alloc, number, task)?;
+        let order = RunOrder::of(alloc, run, task)?;
         if self.lists.order(place, run).is_err() {
             drop(order);
             return Err(NoMemory);
@@ -172,58 +177,58 @@ impl Floor {
         Ok(Order::Run(order))
     }
 
-    /// The run has begun: its container is up and its action initialised. It tells whether the run is live and had not begun.
-    pub fn begun(&mut self, at: u64, run: u64) -> bool
+    /// The run has begun: its container is up and its action initialised. Refused where no slot awaits the run.
+    pub fn begun(&mut self, at: u64, run: u64) -> Result<(), FloorRefusal>
         requires { self.old.before ≡ None }
-        ensures told { (T : Trace) → Stands self.old.now T → result ≡ begins run T }
+        ensures told { (T : Trace) → Stands self.old.now T → result ≡ begun_answer run T }
         ensures grows { Grows self.old.now self.new.now (λ T. begun_items at run T) }
         ensures before { self.new.before ≡ None }
     {
         let Some(place) = self.lists.run_place(run) else {
-            return false;
+            return Err(FloorRefusal::NoRun { run });
         };
         let Some(berth) = self.lists.runs()[place] else {
-            return false;
+            return Err(FloorRefusal::NoRun { run });
         };
         if berth.run.begun.is_some() {
-            return false;
+            return Err(FloorRefusal::NoRun { run });
         }
         let owed = self.lists.marks().owed.saturating_sub(1);
         let _ = self.lists.put_run(at, owed, place, Some(begun(at, berth)));
-        true
+        Ok(())
     }
 
-    /// The run is lost: what it carries waits again at its place by acceptance, unless it has ended. It tells whether the run is live.
-    pub fn lost(&mut self, at: u64, run: u64) -> bool
+    /// The run is lost: what it carries waits again at its place by acceptance, unless it has ended. Refused where no slot has the run.
+    pub fn lost(&mut self, at: u64, run: u64) -> Result<(), FloorRefusal>
         requires { self.old.before ≡ None }
-        ensures told { (T : Trace) → Stands self.old.now T → result ≡ loses run T }
+        ensures told { (T : Trace) → Stands self.old.now T → result ≡ lost_answer run T }
         ensures grows { Grows self.old.now self.new.now (λ T. lost_items at run T) }
         ensures before { self.new.before ≡ None }
     {
         let Some(place) = self.lists.run_place(run) else {
-            return false;
+            return Err(FloorRefusal::NoRun { run });
         };
         let Some(berth) = self.lists.runs()[place] else {
-            return false;
+            return Err(FloorRefusal::NoRun { run });
         };
         free_run(&mut self.lists, berth.run);
         let owed = left_owed(&self.lists, berth.run);
         let _ = self.lists.put_run(at, owed, place, None);
-        true
+        Ok(())
     }
 
-    /// The container of a slot is gone. It tells whether the slot had one of this generation.
-    pub fn gone(&mut self, at: u64, slot: u64, generation: u64) -> bool
+    /// The container of a slot is gone. Refused where the slot has no container of this generation that could be gone.
+    pub fn gone(&mut self, at: u64, slot: u32, generation: u32) -> Result<(), FloorRefusal>
         requires { self.old.before ≡ None }
-        ensures told { (T : Trace) → Stands self.old.now T → result ≡ goes slot generation T }
+        ensures told { (T : Trace) → Stands self.old.now T → result ≡ gone_answer slot generation T }
         ensures grows { Grows self.old.now self.new.now (λ T. gone_items at slot generation T) }
         ensures before { self.new.before ≡ None }
     {
         let Some(place) = slot_place(self.lists.slots(), slot, generation) else {
-            return false;
+            return Err(FloorRefusal::NoSlot { slot, kept: 0 });
         };
         let _ = self.lists.cut_slot(at, place);
-        true
+        Ok(())
     }
 
     /// Takes a runner's reply: what the run carries ends, unless it has ended before. None where no live run has this number.
@@ -355,17 +360,21 @@ fn activation_of(at: u64, plan: Plan) -> Activation
     let Plan {
         id,
         namespace,
-        action,
+        effective,
         params,
         subject,
         cause,
         until,
     } = plan;
+    let Effective {
+        action, binding, ..
+    } = effective;
     Activation {
         id,
         at,
         namespace,
         action,
+        binding,
         params,
         subject,
         cause,
@@ -373,14 +382,18 @@ fn activation_of(at: u64, plan: Plan) -> Activation
     }
 }
 
+// How many numbers of slots there are.
+const SLOT_NUMBERS: u64 = 4_294_967_296;
+
 // A run has a new slot for itself.
 fn run_of(number: u64, at: u64, id: Id) -> Run
     ensures { result ≡ run_of number at id }
 {
     Run {
         number,
-        slot: number,
+        slot: (number % SLOT_NUMBERS) as u32,
         generation: 1,
+        start: Start::Cold,
         at,
         id,
         begun: None,

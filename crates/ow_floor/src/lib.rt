@@ -13,8 +13,8 @@ mod runs;
 
 pub use activations::{Open, Plan, State};
 pub use answers::{
-    AnswerRefusal, Answered, Collected, Drain, FloorRefusal, Happened, Happening, Idle, Order,
-    RunOrder, Swept,
+    AnswerRefusal, Answered, Collected, Container, Drain, FloorRefusal, Happened, Happening, Idle,
+    Order, PrewarmOrder, RunOrder, Swept,
 };
 pub use floor::Floor;
 pub use laws::{

@@ -10,6 +10,7 @@ use crate::kept::Kept;
 use crate::places::{namespace_place, open_place, run_place, until, waiting_place};
 use crate::{Run, Slot, State};
 use ow_records::{Activation, Id, ReadyRecord, Record, Records};
+use ow_traits::Prewarms;
 use ow_value::{NoMemory, Shared};
 use std::alloc::Global;
 use std::marker::Model;
@@ -58,6 +59,9 @@ pub(crate) struct Lists {
     // Those that were accepted since the last opening.
     blocking: Kept<Blocking>,
     marks: Marks,
+    // In MB.
+    pool: u32,
+    wants: Prewarms,
     held: bool,
     // The marks at the hold.
     before: Marks,
@@ -87,8 +91,10 @@ impl Model for Lists {
         drawn = l.drawn.now;
         blocking = l.blocking.now;
         marks = l.marks;
+        pool = l.pool;
+        wants = l.wants;
       };
-      past = past_of (past l.held l.spots.before) (past l.held l.tasks.before) (past l.held l.runs.before) (past l.held l.slots.before)
+      past = past_of l.pool l.wants (past l.held l.spots.before) (past l.held l.tasks.before) (past l.held l.runs.before) (past l.held l.slots.before)
           (past l.held (take l.records_held l.records.items)) (past l.held l.drawn.before) (past l.held l.blocking.before) (past l.held l.before);
     } };
 
@@ -107,8 +113,8 @@ const NO_MARKS: Marks = Marks {
 
 impl Lists {
     /// Nothing stands in them, and they aren't held.
-    pub(crate) fn new(alloc: Global) -> Lists
-        ensures now { result.now ≡ record { spots = []; tasks = []; runs = []; slots = []; ended = []; drawn = []; blocking = []; marks = record { latest = 0; opened = 0; owed = 0; draining = false } } }
+    pub(crate) fn new(alloc: Global, pool: u32, wants: Prewarms) -> Lists
+        ensures now { result.now ≡ record { spots = []; tasks = []; runs = []; slots = []; ended = []; drawn = []; blocking = []; marks = record { latest = 0; opened = 0; owed = 0; draining = false }; pool = pool; wants = wants } }
         ensures past { result.past ≡ None }
     {
         Lists {
@@ -121,6 +127,8 @@ impl Lists {
             drawn: Kept::new(alloc),
             blocking: Kept::new(alloc),
             marks: NO_MARKS,
+            pool,
+            wants,
             held: false,
             before: NO_MARKS,
             tasks_gone: 0,

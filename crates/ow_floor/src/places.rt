@@ -47,13 +47,13 @@ fn is_run(cell: &Option<Berth>, run: u64) -> bool
 }
 
 /// The place of the slot of this number and generation.
-pub(crate) fn slot_place(slots: &[Option<Slot>], slot: u64, generation: u64) -> Option<usize>
+pub(crate) fn slot_place(slots: &[Option<Slot>], slot: u32, generation: u32) -> Option<usize>
     ensures { CellOf slot_in (is_slot slot generation) slots.now result }
 {
     slot_position(slots, slot, generation)
 }
 
-fn slot_position(slots: &[Option<Slot>], slot: u64, generation: u64) -> Option<usize>
+fn slot_position(slots: &[Option<Slot>], slot: u32, generation: u32) -> Option<usize>
     ensures { result ≡ position (has slot_in (is_slot slot generation)) slots.now }
 {
     slots.iter().position(|cell| match cell {

@@ -1,15 +1,18 @@
 // Runs and slots.
 use ow_records::Id;
+use ow_slots::Start;
 
 /// A run that was ordered.
 #[derive(Clone, Copy, Debug, PartialEq, Eq)]
 pub struct Run {
     /// Its number, from 1.
     pub number: u64,
-    /// The number of its slot. Each run has a slot of its own.
-    pub slot: u64,
+    /// The number of its slot.
+    pub slot: u32,
     /// The generation of the slot, from 1.
-    pub generation: u64,
+    pub generation: u32,
+    /// From which container it starts.
+    pub start: Start,
     /// The moment of its order, in milliseconds.
     pub at: u64,
     /// The activation that it carries.
@@ -21,8 +24,8 @@ pub struct Run {
 /// A slot whose container isn't gone.
 #[derive(Clone, Copy, Debug, PartialEq, Eq)]
 pub struct Slot {
-    /// Its number, from 1.
-    pub place: u64,
+    /// Its number.
+    pub place: u32,
     /// Its generation, from 1.
-    pub generation: u64,
+    pub generation: u32,
 }

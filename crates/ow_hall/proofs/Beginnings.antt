@@ -13,18 +13,18 @@ use Rattle.ow_http.specs.Request.{parts_of}
 use Rattle.ow_http.specs.Steps.{◌>>=◌}
 use Rattle.ow_http.specs.declared.call.Call.{Call}
 use Rattle.ow_http.specs.declared.reason.Reason.{Reason}
-use Rattle.ow_hall.specs.declared.acts.Act.{Act}
-use Rattle.ow_hall.specs.declared.acts.Act.TheVariants.{Reads, Puts, Removes, Invokes}
-use Rattle.ow_hall.specs.declared.entry.Event.{Event}
-use Rattle.ow_hall.specs.declared.entry.Event.TheVariants as events
-use Rattle.ow_hall.specs.declared.tenants.Tenants.{Tenants}
-use Rattle.ow_hall.specs.Sight.{Sight, room_for, takes_calls}
-use Rattle.ow_hall.specs.View.{view_of}
-use Rattle.ow_hall.specs.Reading.{name_in, read_done}
-use Rattle.ow_hall.specs.Calling.{call_decision, call_plan, callee, invocation_plan, merged}
+use Rattle.ow_decide.specs.declared.acts.Act.{Act}
+use Rattle.ow_decide.specs.declared.acts.Act.TheVariants.{Reads, Puts, Removes, Invokes}
+use Rattle.ow_decide.specs.declared.events.Event.{Event}
+use Rattle.ow_decide.specs.declared.events.Event.TheVariants as events
+use Rattle.ow_decide.specs.declared.tenants.Tenants.{Tenants}
+use Rattle.ow_decide.specs.Sight.{Sight, room_for, takes_calls}
+use Rattle.ow_decide.specs.View.{view_of}
+use Rattle.ow_decide.specs.Reading.{name_in, read_done}
+use Rattle.ow_decide.specs.Calling.{call_decision, call_plan, callee, invocation_plan, merged}
 use Rattle.ow_tables.specs.Refusal.{remove_refusal}
-use Rattle.ow_hall.specs.Asking.{Done, Shown, Changed, Invoked, act_done, act_for, ask_decision, change_done, draft_in, granted_call, request_done, row_for, row_of, shown_done, unless_refused}
-use Rattle.ow_hall.specs.Decisions.{decide}
+use Rattle.ow_decide.specs.Asking.{Done, Shown, Changed, Invoked, act_done, act_for, ask_decision, change_done, draft_in, granted_call, request_done, row_for, row_of, shown_done, unless_refused}
+use Rattle.ow_decide.specs.Decisions.{decide}
 use Rattle.ow_hall.specs.History.{History, counted, seen, sight}
 use Rattle.ow_hall.specs.Beginnings.{IsKept, KeepsEach}
 
@@ -88,6 +88,10 @@ decided_sound S (events.Opened rows) sound = sound
 decided_sound S (events.Asked r) sound = asked_sound S (request_done S (parts_of r)) (asked_next S (parts_of r)) sound
 decided_sound S (events.Called name params) sound = called_sound S (call_plan S name params) (called_next S name params) sound
 decided_sound S events.Next sound = calls_keep_sound.next S.moment S.trace sound
+decided_sound S (events.Begun run) sound = calls_keep_sound.begun S.moment run S.trace sound
+decided_sound S (events.Lost run) sound = calls_keep_sound.lost S.moment run S.trace sound
+decided_sound S (events.Gone slot generation) sound = calls_keep_sound.gone S.moment slot generation S.trace sound
+decided_sound S events.Sweep sound = calls_keep_sound.sweep S.moment S.trace sound
 decided_sound S (events.Answered run reply) sound = calls_keep_sound.answered S.moment run reply S.trace sound
 decided_sound S (events.Collected id) sound = sound
 decided_sound S events.Drain sound = calls_keep_sound.drain S.moment S.trace sound

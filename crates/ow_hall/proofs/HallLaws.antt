@@ -1,40 +1,43 @@
 -- What is posted keeps the hall, and what isn't booked changes nothing.
-use Rattle.std.proofs.Common.{◌≡◌, ◌∙◌, ◌+◌, ◌≤◌, ◌++◌, ℕ, Bool, false, List, [], ◌∷◌, Option, Some, None, Result, Ok, Err, refl, sym, ap, subst, arith}
+use Rattle.std.proofs.Common.{◌≡◌, ◌∙◌, ◌+◌, ◌≤◌, ◌++◌, ℕ, Bool, true, false, List, [], ◌∷◌, Option, Some, None, Result, Ok, Err, refl, sym, ap, subst, arith}
 use Rattle.std.proofs.Math.Nat.{le-max_left, max-le, min-le_right}
 use Rattle.ow_traits.specs.declared.replies.RunReply.{RunReply}
 use Rattle.ow_floor.specs.View.{Shown}
-use Rattle.ow_floor.specs.Trace.{Trace, head, live_run, run_count, shown}
-use Rattle.ow_floor.specs.Calls.{answer_by, order_items, order_of, reply_items}
+use Rattle.ow_floor.specs.Trace.{Begun, Gone, Item, Lost, Trace, head, live_run, run_count, shown}
+use Rattle.ow_floor.specs.Calls.{answer_by, begins, goes, items_if, loses, order_items, order_of, refused_unless, reply_items}
 use Rattle.ow_floor.specs.Laws.{Stands}
 use Rattle.ow_floor.specs.declared.activations.Open.{Open}
 use Rattle.ow_floor.specs.declared.activations.Plan.{Plan}
+use Rattle.ow_floor.specs.declared.answers.FloorRefusal.{FloorRefusal}
+use Rattle.ow_floor.specs.declared.answers.FloorRefusal.TheVariants as refusals
 use Rattle.ow_floor.specs.declared.runs.Run.{Run}
 use Rattle.ow_http.specs.Request.{parts_of}
 use Rattle.ow_http.specs.declared.reason.Reason.{Reason}
 use Rattle.ow_tables.specs.Contents.{Change}
-use Rattle.ow_hall.specs.declared.entry.Event.{Event}
-use Rattle.ow_hall.specs.declared.entry.Event.TheVariants as events
-use Rattle.ow_hall.specs.declared.entry.Told.{Told}
-use Rattle.ow_hall.specs.declared.entry.Told.TheVariants as told
+use Rattle.ow_decide.specs.declared.events.Event.{Event}
+use Rattle.ow_decide.specs.declared.events.Event.TheVariants as events
+use Rattle.ow_decide.specs.declared.events.Told.{Told}
+use Rattle.ow_decide.specs.declared.events.Told.TheVariants as told
 use Rattle.ow_hall.specs.declared.posting.Posting.{Posting}
 use Rattle.ow_hall.specs.declared.posting.Posting.TheVariants.{Booked, Quiet, Denied, Unbooked}
-use Rattle.ow_hall.specs.declared.replies.Called.TheVariants as called
-use Rattle.ow_hall.specs.declared.step.Now.{Now}
-use Rattle.ow_hall.specs.declared.step.Step.{Step}
-use Rattle.ow_hall.specs.declared.tenants.Tenants.{Tenants}
-use Rattle.ow_hall.specs.declared.waits.Waits.{Waits}
-use Rattle.ow_hall.specs.declared.waits.Waits.TheVariants.{Keep}
-use Rattle.ow_hall.specs.Sight.{Sight}
-use Rattle.ow_hall.specs.Decision.{Decision, adds, tells}
-use Rattle.ow_hall.specs.Asking.{Done, Shown as ShownDone, Changed, Invoked, ask_decision, refusal_told, request_done}
-use Rattle.ow_hall.specs.Calling.{call_decision, call_plan}
-use Rattle.ow_hall.specs.Decisions.{decide, reply_told}
-use Rattle.ow_hall.specs.Waiting.{collected_told, shows_for}
+use Rattle.ow_decide.specs.declared.replies.Called.TheVariants as called
+use Rattle.ow_decide.specs.declared.step.Now.{Now}
+use Rattle.ow_decide.specs.declared.step.Step.{Step}
+use Rattle.ow_decide.specs.declared.tenants.Tenants.{Tenants}
+use Rattle.ow_decide.specs.declared.waits.Waits.{Waits}
+use Rattle.ow_decide.specs.declared.waits.Waits.TheVariants.{Keep}
+use Rattle.ow_decide.specs.Sight.{Sight}
+use Rattle.ow_decide.specs.Decision.{Decision, adds, tells}
+use Rattle.ow_decide.specs.Asking.{Done, Shown as ShownDone, Changed, Invoked, ask_decision, refusal_told, request_done}
+use Rattle.ow_decide.specs.Calling.{call_decision, call_plan}
+use Rattle.ow_decide.specs.Decisions.{decide, reply_told, taken_told, wants_memory}
+use Rattle.ow_decide.specs.Waiting.{collected_told, shows_for}
 use Rattle.ow_floor.specs.Collecting.{collected}
 use Rattle.ow_hall.specs.Posting.{posting_by}
 use Rattle.ow_hall.specs.History.{AreAnswered, History, IsLegal, after, all_changed, answer, counted, decision, greatest_moment, is_idle, is_opening, last_moment, moment, opens_here, posting, seen, sight, waits_after}
 use Rattle.ow_hall.specs.Ledger.{Ledger, no_entries, posted, posted_as}
-use Rattle.ow_hall.specs.State.{Carries, Does, IsAt, Keeps, StateView, changes_of}
+use Rattle.ow_decide.specs.Making.{Carries, changes_of}
+use Rattle.ow_hall.specs.State.{Does, IsAt, Keeps, StateView}
 
 -- ---- what isn't booked changes nothing
 
@@ -76,11 +79,19 @@ reply_so : (idle : Bool) (at run : ℕ) (reply : RunReply) (v : Shown) (r : Opti
 reply_so idle at run reply v None = (refl, refl, refl)
 reply_so idle at run reply v (Some r) = tt
 
+taken_so : (idle b : Bool) (refusal : FloorRefusal) (item : Item) → Unbooks idle (adds (taken_told (refused_unless b refusal)) (items_if b item))
+taken_so idle true refusal item = tt
+taken_so idle false refusal item = (refl, refl, refl)
+
 pub unbooked : (idle : Bool) (S : Sight) (event : Event) → Unbooks idle (decide S event)
 unbooked idle S (events.Opened rows) = tt
 unbooked idle S (events.Asked r) = ask_so idle S.moment (request_done S (parts_of r))
 unbooked idle S (events.Called name params) = call_so idle S (call_plan S name params)
 unbooked idle S events.Next = order_so idle (run_count S.trace + 1) S.moment (head S.trace)
+unbooked idle S (events.Begun run) = taken_so idle (begins run S.trace) (refusals.NoRun run) (Begun run S.moment)
+unbooked idle S (events.Lost run) = taken_so idle (loses run S.trace) (refusals.NoRun run) (Lost run S.moment)
+unbooked idle S (events.Gone slot generation) = taken_so idle (goes slot generation S.trace) (refusals.NoSlot slot 0) (Gone slot generation S.moment)
+unbooked idle S events.Sweep = tt
 unbooked idle S (events.Answered run reply) = reply_so idle S.moment run reply (shown S.trace) (live_run S.trace run)
 unbooked idle S (events.Collected id) = tells_so idle (told.Collected (collected_told id (shows_for S.waits id) (collected S.moment id S.trace)))
 unbooked idle S events.Drain = tt
@@ -104,9 +115,27 @@ opens_so (events.Opened rows) B b later = cc
 opens_so (events.Asked r) B b later = refl
 opens_so (events.Called name params) B b later = refl
 opens_so events.Next B b later = refl
+opens_so (events.Begun run) B b later = refl
 opens_so (events.Answered run reply) B b later = refl
+opens_so (events.Lost run) B b later = refl
+opens_so (events.Gone slot generation) B b later = refl
+opens_so events.Sweep B b later = refl
 opens_so (events.Collected id) B b later = refl
 opens_so events.Drain B b later = refl
+
+-- an opening takes memory
+pub later_free : (event : Event) → wants_memory event ≡ false → is_opening event ≡ false
+later_free (events.Opened rows) free = cc
+later_free (events.Asked r) free = refl
+later_free (events.Called name params) free = refl
+later_free events.Next free = refl
+later_free (events.Begun run) free = refl
+later_free (events.Answered run reply) free = refl
+later_free (events.Lost run) free = refl
+later_free (events.Gone slot generation) free = refl
+later_free events.Sweep free = refl
+later_free (events.Collected id) free = refl
+later_free events.Drain free = refl
 
 left : (t : Tenants) (L : Ledger) (new : StateView) (at : ℕ) (event : Event) → IsAt new (after (decision t L.entries at event) (seen t L.entries))
     → Leaves (decision t L.entries at event) → IsAt new (seen t L.entries)

@@ -1,14 +1,22 @@
 -- Room that was taken is enough behind an answer.
-use Rattle.std.proofs.Common.{◌≡◌, ◌+◌, ◌≤◌, ◌++◌, ℕ, [], refl, sym, subst, arith}
+use Rattle.std.proofs.Common.{◌≡◌, ◌+◌, ◌≤◌, ◌++◌, ℕ, Bool, true, false, [], Result, Ok, Err, refl, sym, subst, arith}
+use Rattle.ow_floor.proofs.Owing.{owed_begun, owed_gone, owed_lost}
+use Rattle.ow_floor.specs.Calls.{begins, goes, items_if, loses, refused_unless}
 use Rattle.ow_floor.specs.Owed.{owed}
-use Rattle.ow_hall.specs.declared.entry.Event.{Event}
-use Rattle.ow_hall.specs.declared.entry.Event.TheVariants as events
-use Rattle.ow_hall.specs.declared.entry.Told.{Told}
-use Rattle.ow_hall.specs.declared.entry.Told.TheVariants as told
+use Rattle.ow_floor.specs.Trace.{Begun, Gone, Lost, Trace}
+use Rattle.ow_floor.specs.declared.answers.FloorRefusal.{FloorRefusal}
+use Rattle.ow_floor.specs.declared.answers.FloorRefusal.TheVariants as refusals
+use Rattle.ow_decide.specs.declared.events.Event.{Event}
+use Rattle.ow_decide.specs.declared.events.Event.TheVariants as events
+use Rattle.ow_decide.specs.declared.events.Told.{Told}
+use Rattle.ow_decide.specs.declared.events.Told.TheVariants as told
 use Rattle.ow_hall.specs.declared.posting.Posting.{Posting}
 use Rattle.ow_hall.specs.declared.posting.Posting.TheVariants.{Booked, Quiet, Denied, Unbooked}
-use Rattle.ow_hall.specs.declared.tenants.Tenants.{Tenants}
-use Rattle.ow_hall.specs.History.{History, decision, posting, seen}
+use Rattle.ow_decide.specs.declared.tenants.Tenants.{Tenants}
+use Rattle.ow_decide.specs.Decisions.{decide, taken_told, wants_memory}
+use Rattle.ow_decide.specs.Sight.{Sight}
+use Rattle.ow_hall.specs.Posting.{posting_by}
+use Rattle.ow_hall.specs.History.{History, counted, decision, event_bytes, is_idle, posting, seen, sight, told_bytes}
 use Rattle.ow_hall.specs.Ledger.{HasRoom, IsReady, Ledger, cost, no_entries, posted, posted_as}
 
 -- more room is room
@@ -48,6 +56,67 @@ ready_for L M room n bytes event x y same told_so ready booked =
     let there = subst (λ (z : Told). posting L.entries z ≡ Booked) told_so (subst (λ (K : Ledger). posting K.entries y ≡ Booked) same booked) in
     let alone = ready_alone L.entries room n bytes event x (ready there) in
     subst (λ (K : Ledger). IsReady K.entries room 0 event y bytes) (sym same) (subst (λ (z : Told). IsReady L.entries room 0 event z bytes) (sym told_so) alone)
+
+-- ---- what takes no memory
+
+begun_less : (idle b : Bool) (run at : ℕ) (T : Trace) → begins run T ≡ b → posting_by idle (taken_told (refused_unless b (refusals.NoRun run))) ≡ Booked
+    → owed (items_if b (Begun run at) ++ T) + 1 ≤ owed T
+begun_less idle true run at T is booked = owed_begun run at T is
+begun_less idle false run at T is booked = cc
+
+lost_less : (idle b : Bool) (run at : ℕ) (T : Trace) → loses run T ≡ b → posting_by idle (taken_told (refused_unless b (refusals.NoRun run))) ≡ Booked
+    → owed (items_if b (Lost run at) ++ T) + 1 ≤ owed T
+lost_less idle true run at T is booked = owed_lost run at T is
+lost_less idle false run at T is booked = cc
+
+gone_less : (idle b : Bool) (slot generation at : ℕ) (T : Trace) → goes slot generation T ≡ b → posting_by idle (taken_told (refused_unless b (refusals.NoSlot slot 0))) ≡ Booked
+    → owed (items_if b (Gone slot generation at) ++ T) + 1 ≤ owed T
+gone_less idle true slot generation at T is booked = owed_gone slot generation at T is
+gone_less idle false slot generation at T is booked = cc
+
+-- what is booked of a beginning, a loss or a going was owed
+owed_less : (idle : Bool) (S : Sight) (event : Event) → wants_memory event ≡ false → posting_by idle (decide S event).told ≡ Booked → owed ((decide S event).items ++ S.trace) + 1 ≤ owed S.trace
+owed_less idle S (events.Opened rows) free booked = cc
+owed_less idle S (events.Asked r) free booked = cc
+owed_less idle S (events.Called name params) free booked = cc
+owed_less idle S events.Next free booked = cc
+owed_less idle S (events.Begun run) free booked = begun_less idle (begins run S.trace) run S.moment S.trace refl booked
+owed_less idle S (events.Answered run reply) free booked = cc
+owed_less idle S (events.Lost run) free booked = lost_less idle (loses run S.trace) run S.moment S.trace refl booked
+owed_less idle S (events.Gone slot generation) free booked = gone_less idle (goes slot generation S.trace) slot generation S.moment S.trace refl booked
+owed_less idle S events.Sweep free booked = cc
+owed_less idle S (events.Collected id) free booked = cc
+owed_less idle S events.Drain free booked = cc
+
+-- its entry counts no more than 64
+no_event_bytes : (event : Event) → wants_memory event ≡ false → event_bytes event ≡ 0
+no_event_bytes (events.Opened rows) free = refl
+no_event_bytes (events.Asked r) free = cc
+no_event_bytes (events.Called name params) free = refl
+no_event_bytes events.Next free = refl
+no_event_bytes (events.Begun run) free = refl
+no_event_bytes (events.Answered run reply) free = cc
+no_event_bytes (events.Lost run) free = refl
+no_event_bytes (events.Gone slot generation) free = refl
+no_event_bytes events.Sweep free = refl
+no_event_bytes (events.Collected id) free = refl
+no_event_bytes events.Drain free = refl
+
+no_told_bytes : (taken : Result (Unit {0}) FloorRefusal) → told_bytes (taken_told taken) ≡ 0
+no_told_bytes (Ok done) = refl
+no_told_bytes (Err refusal) = refl
+
+-- it has room, with what is owed behind it
+pub taken_ready : (t : Tenants) (L : Ledger) (at room : ℕ) (event : Event) (taken : Result (Unit {0}) FloorRefusal) → HasRoom (seen t L.entries).trace L room
+    → wants_memory event ≡ false → taken_told taken ≡ (decision t L.entries at event).told → posting L.entries (taken_told taken) ≡ Booked
+    → IsReady L.entries room (owed ((decision t L.entries at event).items ++ (seen t L.entries).trace)) event (taken_told taken) 0
+taken_ready t L at room event taken has free same booked =
+    let less = owed_less (is_idle L.entries) (sight t (seen t L.entries) (counted L.entries) at) event free (subst (λ (x : Told). posting L.entries x ≡ Booked) same booked) in
+    record {
+      bytes_are = omega (arith, no_event_bytes event free, no_told_bytes taken);
+      within = omega (arith, less, has.within);
+      fits = omega (arith, less, has.fits);
+    }
 
 pub used_for : (L M : Ledger) (room left : ℕ) (x y : Told) → M ≡ L → y ≡ x → room ≤ left + cost (posting M.entries y) → room ≤ left + cost (posting L.entries x)
 used_for L M room left x y same told_so used =

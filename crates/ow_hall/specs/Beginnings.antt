@@ -3,7 +3,7 @@ use Rattle.std.specs.Prelude.{[], ◌∷◌}
 use Rattle.ow_floor.specs.Trace.{Trace}
 use Rattle.ow_floor.specs.Laws.{EndedWereAccepted, IsParted, RunOnce}
 use Rattle.ow_floor.specs.Calls.{AllRecorded, drain_answer}
-use Rattle.ow_hall.specs.declared.tenants.Tenants.{Tenants}
+use Rattle.ow_decide.specs.declared.tenants.Tenants.{Tenants}
 use Rattle.ow_hall.specs.History.{History, seen}
 
 -- of what happened on the floor: each accepted activation is exactly one of waiting, running and recorded, once, and has one

@@ -10,16 +10,19 @@ use Rattle.ow_floor.specs.declared.answers.Answered.{Answered}
 use Rattle.ow_floor.specs.declared.answers.AnswerRefusal.{AnswerRefusal}
 use Rattle.ow_floor.specs.declared.answers.AnswerRefusal.TheVariants.{NoRun, NoMemory}
 use Rattle.ow_floor.specs.declared.answers.Drain.{Drain}
+use Rattle.ow_floor.specs.declared.answers.FloorRefusal.{FloorRefusal}
 use Rattle.ow_floor.specs.declared.answers.Order.{Order}
-use Rattle.ow_hall.specs.declared.entry.Event.{Event}
-use Rattle.ow_hall.specs.declared.entry.Told.{Told}
-use Rattle.ow_hall.specs.declared.entry.Told.TheVariants as told
-use Rattle.ow_hall.specs.declared.replies.Called.{Called}
-use Rattle.ow_hall.specs.declared.replies.HallCollected.{HallCollected}
-use Rattle.ow_hall.specs.declared.replies.Reply.{Reply}
-use Rattle.ow_hall.specs.declared.replies.Reply.TheVariants as replies
-use Rattle.ow_hall.specs.declared.tenants.Tenants.{Tenants}
-use Rattle.ow_hall.specs.Decision.{Decision}
+use Rattle.ow_floor.specs.declared.answers.Swept.{Swept}
+use Rattle.ow_decide.specs.declared.events.Event.{Event}
+use Rattle.ow_decide.specs.declared.events.Told.{Told}
+use Rattle.ow_decide.specs.declared.events.Told.TheVariants as told
+use Rattle.ow_decide.specs.declared.replies.Called.{Called}
+use Rattle.ow_decide.specs.declared.replies.HallCollected.{HallCollected}
+use Rattle.ow_decide.specs.declared.replies.Reply.{Reply}
+use Rattle.ow_decide.specs.declared.replies.Reply.TheVariants as replies
+use Rattle.ow_decide.specs.declared.tenants.Tenants.{Tenants}
+use Rattle.ow_decide.specs.Decision.{Decision}
+use Rattle.ow_decide.specs.Decisions.{taken_told}
 use Rattle.ow_hall.specs.History.{answer, decision, moment}
 use Rattle.ow_hall.specs.Ledger.{Ledger, faulted, posted}
 
@@ -96,6 +99,15 @@ reply_outcome (Ok answered) = Answers (told.Answered answered)
 reply_outcome (Err (NoRun run reply)) = Answers (told.NoRun run reply)
 reply_outcome (Err (NoMemory reply)) = Wants
 
+-- a beginning, a loss or a going
+abbrev pub done_outcome : Result (Unit {0}) FloorRefusal → Outcome
+done_outcome taken = Answers (taken_told taken)
+
+-- a sweep
+abbrev pub swept_outcome : Result Swept Want → Outcome
+swept_outcome (Ok swept) = Answers (told.Swept swept)
+swept_outcome (Err e) = Wants
+
 -- the office that drains
 abbrev pub drain_outcome : Result Drain Want → Outcome
 drain_outcome (Ok drain) = Answers (told.Drain drain)
@@ -105,12 +117,6 @@ drain_outcome (Err e) = Wants
 abbrev pub collect_outcome : Result HallCollected Want → Outcome
 collect_outcome (Ok c) = Answers (told.Collected c)
 collect_outcome (Err e) = Wants
-
--- what a request is answered by what it is told: an answer that the book is full looks as any other
-abbrev pub reply_in : Told → Option Reply
-reply_in (told.Asked reply) = Some reply
-reply_in (told.Full answer) = Some (replies.Now answer)
-reply_in t = None
 
 -- what a runner's reply is answered by what is told
 abbrev pub replied_in : Told → Option (Result Answered AnswerRefusal)

@@ -6,25 +6,25 @@ use Rattle.ow_entity.specs.declared.rows.Row.{Row}
 use Rattle.ow_tables.specs.Builtin.{builtin}
 use Rattle.ow_tables.specs.Contents.{Change}
 use Rattle.ow_tables.specs.Rows.{changed}
-use Rattle.ow_floor.specs.Trace.{Trace}
+use Rattle.ow_floor.specs.Trace.{Opened, Trace}
 use Rattle.ow_hall.specs.declared.entry.Entry.{Entry}
-use Rattle.ow_hall.specs.declared.entry.Event.{Event}
-use Rattle.ow_hall.specs.declared.entry.Event.TheVariants as events
-use Rattle.ow_hall.specs.declared.entry.Told.{Told}
-use Rattle.ow_hall.specs.declared.entry.Told.TheVariants as told
+use Rattle.ow_decide.specs.declared.events.Event.{Event}
+use Rattle.ow_decide.specs.declared.events.Event.TheVariants as events
+use Rattle.ow_decide.specs.declared.events.Told.{Told}
+use Rattle.ow_decide.specs.declared.events.Told.TheVariants as told
 use Rattle.ow_hall.specs.declared.posting.Posting.{Posting}
 use Rattle.ow_hall.specs.declared.posting.Posting.TheVariants.{Booked}
-use Rattle.ow_hall.specs.declared.replies.HallCollected.{HallCollected}
-use Rattle.ow_hall.specs.declared.replies.HallCollected.TheVariants as collected
-use Rattle.ow_hall.specs.declared.replies.Reply.{Reply}
-use Rattle.ow_hall.specs.declared.replies.Reply.TheVariants as replies
-use Rattle.ow_hall.specs.declared.tenants.Tenants.{Tenants}
-use Rattle.ow_hall.specs.declared.waits.Wait.{Wait}
-use Rattle.ow_hall.specs.declared.waits.Waits.{Waits}
-use Rattle.ow_hall.specs.declared.waits.Waits.TheVariants.{Keep, Add, Clear}
-use Rattle.ow_hall.specs.Sight.{Sight}
-use Rattle.ow_hall.specs.Decision.{Decision}
-use Rattle.ow_hall.specs.Decisions.{decide}
+use Rattle.ow_decide.specs.declared.replies.HallCollected.{HallCollected}
+use Rattle.ow_decide.specs.declared.replies.HallCollected.TheVariants as collected
+use Rattle.ow_decide.specs.declared.replies.Reply.{Reply}
+use Rattle.ow_decide.specs.declared.replies.Reply.TheVariants as replies
+use Rattle.ow_decide.specs.declared.tenants.Tenants.{Tenants}
+use Rattle.ow_decide.specs.declared.waits.Wait.{Wait}
+use Rattle.ow_decide.specs.declared.waits.Waits.{Waits}
+use Rattle.ow_decide.specs.declared.waits.Waits.TheVariants.{Keep, Add, Clear}
+use Rattle.ow_decide.specs.Sight.{Sight}
+use Rattle.ow_decide.specs.Decision.{Decision}
+use Rattle.ow_decide.specs.Decisions.{decide}
 use Rattle.ow_hall.specs.Posting.{is_idle_answer, posting_by}
 
 -- the entries, the newest first
@@ -108,9 +108,9 @@ after d s = record { rows = all_changed d.changes s.rows; trace = d.items ++ s.t
 abbrev pub sight : Tenants → Seen → ℕ → ℕ → Sight
 sight t s n at = record { tenants = t; rows = s.rows; trace = s.trace; waits = s.waits; counted = n; moment = at }
 
--- behind these entries; before the first the built-in rows stand
+-- behind these entries; before the first the built-in rows stand, and a floor with the table's pool and wants
 abbrev pub seen : Tenants → History → Seen
-seen t [] = record { rows = builtin; trace = []; waits = [] }
+seen t [] = record { rows = builtin; trace = Opened t.pool t.wants ∷ []; waits = [] }
 seen t (e ∷ B) = after (decide (sight t (seen t B) (counted B) e.at) e.event) (seen t B)
 
 -- what is done at an event behind these entries

@@ -3,12 +3,12 @@ use Rattle.std.specs.Prelude.{◌≡◌, ◌+◌, ◌-◌, ◌*◌, ◌^◌, ◌
 use Rattle.ow_floor.specs.Trace.{Trace}
 use Rattle.ow_floor.specs.Owed.{owed}
 use Rattle.ow_hall.specs.declared.entry.Entry.{Entry}
-use Rattle.ow_hall.specs.declared.entry.Event.{Event}
-use Rattle.ow_hall.specs.declared.entry.Event.TheVariants as events
-use Rattle.ow_hall.specs.declared.entry.Told.{Told}
+use Rattle.ow_decide.specs.declared.events.Event.{Event}
+use Rattle.ow_decide.specs.declared.events.Event.TheVariants as events
+use Rattle.ow_decide.specs.declared.events.Told.{Told}
 use Rattle.ow_hall.specs.declared.posting.Posting.{Posting}
 use Rattle.ow_hall.specs.declared.posting.Posting.TheVariants.{Booked, Quiet, Denied, Unbooked}
-use Rattle.ow_hall.specs.declared.tenants.Tenants.{Tenants}
+use Rattle.ow_decide.specs.declared.tenants.Tenants.{Tenants}
 use Rattle.ow_hall.specs.History.{History, answer, counted, event_bytes, moment, posting, told_bytes}
 
 -- the entries, the newest first; how many calls met a fault of the store; how many calls of `next` and how many events of

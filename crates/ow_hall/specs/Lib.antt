@@ -1,14 +1,3 @@
-pub mod Tenants
-pub mod Ids
-pub mod Reasons
-pub mod Sight
-pub mod Decision
-pub mod View
-pub mod Reading
-pub mod Calling
-pub mod Waiting
-pub mod Asking
-pub mod Decisions
 pub mod Posting
 pub mod History
 pub mod Ledger

@@ -1,15 +1,15 @@
 -- How an answer is posted: booked, tallied, or neither.
 use Rattle.std.specs.Prelude.{Bool, true, false, if◌then◌else◌}
 use Rattle.ow_floor.specs.declared.answers.Order.TheVariants as orders
-use Rattle.ow_hall.specs.declared.entry.Told.{Told}
-use Rattle.ow_hall.specs.declared.entry.Told.TheVariants as told
+use Rattle.ow_decide.specs.declared.events.Told.{Told}
+use Rattle.ow_decide.specs.declared.events.Told.TheVariants as told
 use Rattle.ow_hall.specs.declared.posting.Posting.{Posting}
 use Rattle.ow_hall.specs.declared.posting.Posting.TheVariants.{Booked, Quiet, Denied, Unbooked}
-use Rattle.ow_hall.specs.declared.replies.Called.{Called}
-use Rattle.ow_hall.specs.declared.replies.Called.TheVariants as called
-use Rattle.ow_hall.specs.declared.replies.HallCollected.{HallCollected}
-use Rattle.ow_hall.specs.declared.replies.HallCollected.TheVariants as collected
-use Rattle.ow_hall.specs.Reasons.{tells_full}
+use Rattle.ow_decide.specs.declared.replies.Called.{Called}
+use Rattle.ow_decide.specs.declared.replies.Called.TheVariants as called
+use Rattle.ow_decide.specs.declared.replies.HallCollected.{HallCollected}
+use Rattle.ow_decide.specs.declared.replies.HallCollected.TheVariants as collected
+use Rattle.ow_decide.specs.Reasons.{tells_full}
 
 -- nothing is to run
 abbrev pub is_idle_answer : Told → Bool
@@ -27,10 +27,12 @@ collected_posting (collected.Reply answer) = Booked
 collected_posting other = Unbooked
 
 -- behind an entry that ordered nothing, or another. What isn't booked: a `next` that orders nothing behind one that did; a
--- runner's reply to a run that isn't live; an answer that the book is full; what is told of an activation that isn't answered yet
+-- runner's reply to a run that isn't live; a beginning, a loss or a going that is refused; an answer that the book is full; what is
+-- told of an activation that isn't answered yet
 abbrev pub posting_by : Bool → Told → Posting
 posting_by idle (told.Next (orders.Nothing reason)) = if idle then Quiet else Booked
 posting_by idle (told.NoRun run reply) = Denied
+posting_by idle (told.Refused refusal) = Denied
 posting_by idle (told.Full answer) = Unbooked
 posting_by idle (told.Called c) = call_posting c
 posting_by idle (told.Collected c) = collected_posting c

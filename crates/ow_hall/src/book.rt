@@ -1,13 +1,14 @@
 // The book and what it counts.
 ghost use Rattle.std.specs.Prelude.{◌≡◌, ◌↔◌, ◌+◌, ◌*◌, ◌^◌, ◌<◌, ◌≤◌, ◌∷◌, length, reverse, IsTrue, IfOk, OnOk};
-ghost use Rattle.ow_hall.specs.Sight.{is_full};
+ghost use Rattle.ow_decide.specs.Sight.{is_full};
 ghost use Rattle.ow_hall.specs.History.{counted, event_bytes, is_idle, moment, posting, told_bytes};
 ghost use Rattle.ow_hall.specs.Ledger.{IsReady, cost, no_entries, one_more, posted, posted_as};
 
 use crate::bytes::entry_bytes;
 use crate::entries::Entries;
-use crate::entry::{Entry, Event, Told};
+use crate::entry::Entry;
 use crate::posting::{Posting, posting_of};
+use ow_decide::{Event, Told, is_full};
 use ow_floor::Order;
 use ow_value::NoMemory;
 use std::alloc::Global;
@@ -15,9 +16,6 @@ use std::marker::Model;
 
 /// The greatest moment, in milliseconds: the last of the year 9999.
 pub const GREATEST_MOMENT: u64 = 253_402_300_799_999;
-
-// How many bytes a book counts at most.
-const MOST_COUNTED: u128 = 1_073_741_824;
 
 /// All that was asked and answered since the service was opened.
 #[derive(Drop)]
@@ -207,14 +205,6 @@ impl Book {
     {
         self.denied = self.denied.saturating_add(1);
     }
-}
-
-/// Whether a book that counts so many bytes has no room for an entry of so many beside its 64.
-#[tactic(auto, unfolding(crate::specs::Sight::is_full))]
-pub(crate) fn is_full(counted: u64, size: u64) -> bool
-    ensures { result ≡ is_full counted size }
-{
-    counted as u128 + 64 + size as u128 > MOST_COUNTED
 }
 
 // Whether an entry with so many bytes beside its 64, and so many more of 64, can be counted.

@@ -2,8 +2,7 @@
 ghost use Rattle.std.specs.Prelude.{◌≡◌, ◌+◌, ◌<◌, ◌^◌, length, map, sum, IfSome};
 ghost use Rattle.ow_hall.specs.History.{event_bytes, reply_bytes, told_bytes};
 
-use crate::entry::{Event, Told};
-use crate::replies::{HallCollected, Reply};
+use ow_decide::{Event, HallCollected, Reply, Told};
 use ow_traits::RunReply;
 use ow_value::Str;
 

@@ -1,54 +1,7 @@
 // What the book holds.
-use crate::replies::{Called, HallCollected, Reply};
-use ow_floor::{Answered, Drain, Happened, Order};
-use ow_http::{Answer, Request};
-use ow_names::FullName;
-use ow_records::Id;
-use ow_traits::{Rows, RunReply};
-use ow_value::{NoMemory, Params, PlainData, Shared};
+use ow_decide::{Event, Told};
+use ow_value::{NoMemory, PlainData};
 use std::alloc::Global;
-
-/// Something that comes to the service from outside.
-#[derive(Drop)]
-pub enum Event {
-    /// The service is opened over the kept rows.
-    Opened(Rows),
-    /// A request comes.
-    Asked(Shared<Request>),
-    /// The office itself calls an action.
-    Called { name: FullName, params: Params },
-    /// A runner asks what to run.
-    Next,
-    /// A runner replies to a run.
-    Answered { run: u64, reply: RunReply },
-    /// What became of an activation, for whose end a request waits, is asked for.
-    Collected(Id),
-    /// The office asks whether all has ended, and takes no more calls.
-    Drain,
-}
-
-/// What is told of an event, also where that isn't booked.
-#[derive(Drop)]
-pub enum Told {
-    /// To an opening: what was recorded.
-    Opened(Happened),
-    /// To a request.
-    Asked(Reply),
-    /// To a request that finds the book full. It isn't booked.
-    Full(Answer),
-    /// To a call of the office.
-    Called(Called),
-    /// To a runner that asks.
-    Next(Order),
-    /// To the reply of a runner.
-    Answered(Answered),
-    /// To the reply of a runner to a run that isn't live, which is handed back. It isn't booked.
-    NoRun { run: u64, reply: RunReply },
-    /// To one who asks what became of an activation. It isn't booked where there is no answer yet.
-    Collected(HallCollected),
-    /// To the office that drains.
-    Drain(Drain),
-}
 
 /// An event with its moment, in milliseconds, and its answer.
 #[derive(Drop)]
@@ -59,91 +12,6 @@ pub struct Entry {
     pub event: Event,
     /// What was answered.
     pub answer: Told,
-}
-
-impl PlainData for Event {
-    fn same(&self, other: &Event) -> bool {
-        match (self, other) {
-            (Event::Opened(a), Event::Opened(b)) => a.same(b),
-            (Event::Asked(a), Event::Asked(b)) => a.same(b),
-            (
-                Event::Called { name, params },
-                Event::Called {
-                    name: other_name,
-                    params: other_params,
-                },
-            ) => name.same(other_name) && params.same(other_params),
-            (
-                Event::Answered { run, reply },
-                Event::Answered {
-                    run: other_run,
-                    reply: other_reply,
-                },
-            ) => run == other_run && reply.same(other_reply),
-            (Event::Collected(a), Event::Collected(b)) => a == b,
-            (Event::Next, Event::Next) | (Event::Drain, Event::Drain) => true,
-            _ => false,
-        }
-    }
-
-    fn copy(&self, alloc: Global) -> Result<Event, NoMemory> {
-        match self {
-            Event::Opened(rows) => Ok(Event::Opened(rows.copy(alloc)?)),
-            Event::Asked(request) => Ok(Event::Asked(request.copy(alloc)?)),
-            Event::Called { name, params } => {
-                let name = name.copy(alloc)?;
-                let params = params.copy(alloc)?;
-                Ok(Event::Called { name, params })
-            }
-            Event::Next => Ok(Event::Next),
-            Event::Answered { run, reply } => Ok(Event::Answered {
-                run: *run,
-                reply: reply.copy(alloc)?,
-            }),
-            Event::Collected(id) => Ok(Event::Collected(*id)),
-            Event::Drain => Ok(Event::Drain),
-        }
-    }
-}
-
-impl PlainData for Told {
-    fn same(&self, other: &Told) -> bool {
-        match (self, other) {
-            (Told::Opened(a), Told::Opened(b)) => a.same(b),
-            (Told::Asked(a), Told::Asked(b)) => a.same(b),
-            (Told::Full(a), Told::Full(b)) => a.same(b),
-            (Told::Called(a), Told::Called(b)) => a.same(b),
-            (Told::Next(a), Told::Next(b)) => a.same(b),
-            (Told::Answered(a), Told::Answered(b)) => a.same(b),
-            (
-                Told::NoRun { run, reply },
-                Told::NoRun {
-                    run: other_run,
-                    reply: other_reply,
-                },
-            ) => run == other_run && reply.same(other_reply),
-            (Told::Collected(a), Told::Collected(b)) => a.same(b),
-            (Told::Drain(a), Told::Drain(b)) => a == b,
-            _ => false,
-        }
-    }
-
-    fn copy(&self, alloc: Global) -> Result<Told, NoMemory> {
-        match self {
-            Told::Opened(happened) => Ok(Told::Opened(happened.copy(alloc)?)),
-            Told::Asked(reply) => Ok(Told::Asked(reply.copy(alloc)?)),
-            Told::Full(answer) => Ok(Told::Full(answer.copy(alloc)?)),
-            Told::Called(called) => Ok(Told::Called(called.copy(alloc)?)),
-            Told::Next(order) => Ok(Told::Next(order.copy(alloc)?)),
-            Told::Answered(answered) => Ok(Told::Answered(answered.copy(alloc)?)),
-            Told::NoRun { run, reply } => Ok(Told::NoRun {
-                run: *run,
-                reply: reply.copy(alloc)?,
-            }),
-            Told::Collected(collected) => Ok(Told::Collected(collected.copy(alloc)?)),
-            Told::Drain(drain) => Ok(Told::Drain(*drain)),
-        }
-    }
 }
 
 impl PlainData for Entry {

@@ -1,11 +1,11 @@
 // What the calls answer, by what is told.
 ghost use Rattle.std.specs.Prelude.{◌≡◌, Some, IsSome, ℕ};
-ghost use Rattle.ow_hall.specs.Comes.{Answers, replied_in, reply_in, reply_outcome};
+ghost use Rattle.ow_decide.specs.Asking.{reply_in};
+ghost use Rattle.ow_hall.specs.Comes.{Answers, replied_in, reply_outcome};
 ghost use Rattle.ow_traits.specs.declared.replies.RunReply.{RunReply};
 
-use crate::entry::{Event, Told};
-use crate::replies::{Called, HallCollected, Reply};
-use ow_floor::{AnswerRefusal, Answered, Drain, Order};
+use ow_decide::{Called, Event, HallCollected, Reply, Told};
+use ow_floor::{AnswerRefusal, Answered, Drain, Order, Swept};
 use ow_traits::RunReply;
 
 /// What a request is answered. An answer that the book is full looks as any other.
@@ -50,6 +50,17 @@ pub(crate) fn answered_in(told: Told) -> Result<Answered, AnswerRefusal>
     match told {
         Told::Answered(answered) => Ok(answered),
         Told::NoRun { run, reply } => Err(AnswerRefusal::NoRun { run, reply }),
+        _ => unreachable!(),
+    }
+}
+
+/// What is answered to a sweep.
+pub(crate) fn swept_in(told: Told) -> Swept
+    requires { (s : Swept) × (told ≡ Told.Swept s) }
+    ensures { told ≡ Told.Swept result }
+{
+    match told {
+        Told::Swept(swept) => swept,
         _ => unreachable!(),
     }
 }

@@ -3,21 +3,21 @@ ghost use Rattle.std.specs.Prelude.{◌≡◌, ◌≤◌, [], true, false, Ok, E
 ghost use Rattle.ow_floor.specs.Laws.{Stands};
 ghost use Rattle.ow_floor.specs.Owed.{owed};
 ghost use Rattle.ow_floor.specs.Trace.{Trace};
-ghost use Rattle.ow_hall.specs.Comes.{Answers, Comes, HandsBack, Outcome, Replies, call_outcome, collect_outcome, drain_outcome, next_outcome, outcome, reply_outcome};
+ghost use Rattle.ow_hall.specs.Comes.{Answers, Comes, HandsBack, Outcome, Replies, call_outcome, collect_outcome, done_outcome, drain_outcome, next_outcome, outcome, reply_outcome, swept_outcome};
 ghost use Rattle.ow_hall.specs.History.{IsLegal, is_opening, posting};
 ghost use Rattle.ow_hall.specs.Ledger.{IsReady, opened};
-ghost use Rattle.ow_hall.specs.Tenants.{standard};
-ghost use Rattle.ow_hall.specs.declared.entry.Event.TheVariants as events;
+ghost use Rattle.ow_decide.specs.Decisions.{wants_memory};
+ghost use Rattle.ow_decide.specs.Tenants.{standard};
+ghost use Rattle.ow_decide.specs.declared.events.Event.TheVariants as events;
 
 use crate::book::Book;
-use crate::entry::{Event, Told};
-use crate::fronts::{answered_in, called_in, collected_in, drain_in, order_in, reply_in, reply_of};
+use crate::fronts::{
+    answered_in, called_in, collected_in, drain_in, order_in, reply_in, reply_of, swept_in,
+};
 use crate::posting::Posting;
-use crate::replies::{Called, HallCollected, Reply};
 use crate::state::HallState;
-use crate::step::{Now, Step};
-use crate::tenants::Tenants;
-use ow_floor::{AnswerRefusal, Answered, Drain, Happened, Order};
+use ow_decide::{Called, Event, HallCollected, Now, Reply, Step, Tenants, Told, taken_told};
+use ow_floor::{AnswerRefusal, Answered, Drain, FloorRefusal, Happened, Order, Swept};
 use ow_http::Request;
 use ow_names::FullName;
 use ow_records::Id;
@@ -67,7 +67,7 @@ impl<P: Keeper + Drop> Hall<P> {
         ensures store { IfOk result (λ h. h.store ≡ store) }
     {
         let tenants = Tenants::standard(alloc)?;
-        let state = HallState::new(alloc)?;
+        let state = HallState::new(alloc, &tenants)?;
         let mut book = Book::new(alloc);
         let at = book.moment(at);
         let event = Event::Opened(Rows::new(alloc));
@@ -131,12 +131,46 @@ impl<P: Keeper + Drop> Hall<P> {
         }
     }
 
-    /// Runs what has waited longest, if anything waits.
+    /// What is to be done next. It takes room in the book for what a runner may tell of it later.
     pub fn next(&mut self, alloc: Global, at: u64) -> Result<Order, NoMemory>
         ensures { Comes P.rows P.faults self.old self.new at events.Next (next_outcome result) }
     {
         match self.perform(alloc, at, Event::Next) {
             Ok(told) => Ok(order_in(told)),
+            Err(_) => Err(NoMemory),
+        }
+    }
+
+    /// The container of the run is up, and its action initialised. Refused where no slot awaits the run: refusal 29. This takes no
+    /// memory.
+    pub fn begun(&mut self, at: u64, run: u64) -> Result<(), FloorRefusal>
+        ensures { Comes P.rows P.faults self.old self.new at (events.Begun run) (done_outcome result) }
+    {
+        self.take(at, Event::Begun { run })
+    }
+
+    /// The run is lost: what it carries waits again at its place by acceptance, unless it has ended. Refused where no slot has the
+    /// run: refusal 29. This takes no memory.
+    pub fn lost(&mut self, at: u64, run: u64) -> Result<(), FloorRefusal>
+        ensures { Comes P.rows P.faults self.old self.new at (events.Lost run) (done_outcome result) }
+    {
+        self.take(at, Event::Lost { run })
+    }
+
+    /// The container of the slot is gone. Refused where the slot has no container of this generation that could be gone: refusal
+    /// 28. This takes no memory.
+    pub fn gone(&mut self, at: u64, slot: u32, generation: u32) -> Result<(), FloorRefusal>
+        ensures { Comes P.rows P.faults self.old self.new at (events.Gone slot generation) (done_outcome result) }
+    {
+        self.take(at, Event::Gone { slot, generation })
+    }
+
+    /// Records the ends of what all late runs carry, by the runs' numbers. It is booked also where no run is late.
+    pub fn sweep(&mut self, alloc: Global, at: u64) -> Result<Swept, NoMemory>
+        ensures { Comes P.rows P.faults self.old self.new at events.Sweep (swept_outcome result) }
+    {
+        match self.perform(alloc, at, Event::Sweep) {
+            Ok(told) => Ok(swept_in(told)),
             Err(_) => Err(NoMemory),
         }
     }
@@ -181,9 +215,24 @@ impl<P: Keeper + Drop> Hall<P> {
 }
 
 impl<P: Keeper + Drop> Hall<P> {
-    // What comes of an event: the one way in which it is answered and posted.
+    // What comes of a beginning, a loss or a going. The room for its entry was taken before.
+    fn take(&mut self, at: u64, event: Event) -> Result<(), FloorRefusal>
+        requires { wants_memory event ≡ false }
+        ensures { Comes P.rows P.faults self.old self.new at event (done_outcome result) }
+    {
+        let now = Now {
+            counted: self.book.counted(),
+            at: self.book.moment(at),
+        };
+        let taken = self.state.take(now, &event);
+        self.book.post(now.at, event, taken_told(taken), 0);
+        taken
+    }
+
+    // What comes of any other event: it is held until all memory that it takes is there.
     fn perform(&mut self, alloc: Global, at: u64, event: Event) -> Result<Told, Undone>
-        requires { is_opening event ≡ false }
+        requires later { is_opening event ≡ false }
+        requires memory { wants_memory event ≡ true }
         ensures comes { Comes P.rows P.faults self.old self.new at event (outcome result) }
         ensures back { IfErr result (λ undone. undone.event ≡ event) }
     {

@@ -2,9 +2,7 @@
 ghost use Rattle.std.specs.Prelude.{◌≡◌};
 ghost use Rattle.ow_hall.specs.Posting.{call_posting, collected_posting, posting_by};
 
-use crate::entry::Told;
-use crate::reasons::tells_full;
-use crate::replies::{Called, HallCollected};
+use ow_decide::{Called, HallCollected, Told, tells_full};
 use ow_floor::Order;
 
 /// What becomes of an answer in the book.
@@ -32,7 +30,7 @@ pub(crate) fn posting_of(idle: bool, told: &Told) -> Posting
                 Posting::Booked
             }
         }
-        Told::NoRun { .. } => Posting::Denied,
+        Told::NoRun { .. } | Told::Refused(_) => Posting::Denied,
         Told::Full(_) => Posting::Unbooked,
         Told::Called(called) => call_posting(called),
         Told::Collected(collected) => collected_posting(collected),

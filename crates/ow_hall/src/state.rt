@@ -4,18 +4,17 @@ ghost use Rattle.std.specs.Prelude.{◌≡◌, ◌≤◌, [], true, false, Some,
 ghost use Rattle.ow_floor.specs.Laws.{Stands};
 ghost use Rattle.ow_floor.specs.Owed.{owed};
 ghost use Rattle.ow_floor.specs.Trace.{Trace};
-ghost use Rattle.ow_hall.specs.Decisions.{decide};
+ghost use Rattle.ow_pool.specs.Rules.{AreWantsSized};
+ghost use Rattle.ow_decide.specs.Decisions.{decide, taken_told, wants_memory};
 ghost use Rattle.ow_hall.specs.History.{all_changed, seen, waits_after};
-ghost use Rattle.ow_hall.specs.State.{Does, HasPlace, IsAt, changes_of};
-ghost use Rattle.ow_hall.specs.declared.tenants.Tenants.{Tenants};
+ghost use Rattle.ow_decide.specs.Making.{HasPlace, changes_of, telling};
+ghost use Rattle.ow_hall.specs.State.{Does, IsAt};
+ghost use Rattle.ow_decide.specs.declared.tenants.Tenants.{Tenants};
 
-use crate::entry::Event;
-use crate::step::{Now, Step, step_for};
-use crate::tenants::Tenants;
-use crate::waits::{Wait, Waits};
-use ow_floor::Floor;
+use ow_decide::{Event, Now, Step, Tenants, Wait, Waits, step_for, take};
+use ow_floor::{Floor, FloorRefusal};
 use ow_tables::{Ready, Tables};
-use ow_value::NoMemory;
+use ow_value::{NoMemory, PlainData};
 use std::alloc::Global;
 use std::marker::Model;
 
@@ -48,13 +47,17 @@ impl Model for HallState {
 
 impl HallState {
     /// Nothing has happened, and the built-in rows stand.
-    pub(crate) fn new(alloc: Global) -> Result<HallState, NoMemory>
-        ensures stands { IfOk result (λ w. (t : Tenants) → IsAt w (seen t [])) }
+    pub(crate) fn new(alloc: Global, tenants: &Tenants) -> Result<HallState, NoMemory>
+        requires { AreWantsSized tenants.now.wants }
+        ensures stands { IfOk result (λ w. IsAt w (seen tenants.now [])) }
         ensures free { IfOk result (λ w. w.floor.before ≡ None) }
     {
+        let wants = tenants.wants.copy(alloc)?;
+        let floor = Floor::new(alloc, tenants.pool, wants)?;
+        let tables = Tables::new(alloc)?;
         Ok(HallState {
-            floor: Floor::new(alloc),
-            tables: Tables::new(alloc)?,
+            floor,
+            tables,
             waits: Vec::new(alloc),
         })
     }
@@ -66,6 +69,17 @@ impl HallState {
         self.floor.owed()
     }
 
+    /// Takes a beginning, a loss or a going. This takes no memory.
+    pub(crate) fn take(&mut self, now: Now, event: &Event) -> Result<(), FloorRefusal>
+        requires event { wants_memory event.now ≡ false }
+        requires free { self.old.floor.before ≡ None }
+        ensures ok { (t : Tenants) → Does self.old self.new.floor.now t now (λ S. decide S event.now) (telling (taken_told result)) }
+        ensures free { self.new.floor.before ≡ None }
+        ensures rest { (self.new.rows ≡ self.old.rows) × (self.new.waits ≡ self.old.waits) }
+    {
+        take(&mut self.floor, now, event)
+    }
+
     /// Does what is decided at an event, and holds it. Without memory all is as before.
     pub(crate) fn attempt(
         &mut self,
@@ -74,6 +88,7 @@ impl HallState {
         now: Now,
         event: &Event,
     ) -> Result<Step, NoMemory>
+        requires { wants_memory event.now ≡ true }
         ensures ok { IfOk result (Does self.old self.new.floor.now tenants.now now (λ S. decide S event.now)) }
         ensures held { OnOk result (self.new.floor.before ≡ Some self.old.floor.now) }
         ensures place { IfOk result (λ s. HasPlace s.change self.new.row_room) }
@@ -148,6 +163,7 @@ impl HallState {
         now: Now,
         event: &Event,
     ) -> Result<Step, NoMemory>
+        requires { wants_memory event.now ≡ true }
         ensures ok { IfOk result (Does self.old self.new.floor.now tenants.now now (λ S. decide S event.now)) }
         ensures place { IfOk result (λ s. HasPlace s.change self.new.row_room) }
         ensures before { self.new.floor.before ≡ self.old.floor.before }

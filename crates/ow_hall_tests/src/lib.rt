@@ -6,4 +6,6 @@ mod of_floor;
 #[cfg(test)]
 mod of_hall;
 #[cfg(test)]
+mod of_runners;
+#[cfg(test)]
 mod of_waits;

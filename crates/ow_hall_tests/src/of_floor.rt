@@ -3,11 +3,12 @@ ghost use Rattle.std.specs.Prelude.{◌≡◌, ◌+◌, None, IfOk};
 ghost use Rattle.ow_floor.specs.View.{last_of};
 
 use ow_entity::{Action, EntityParams, Exec, Limits, ProgramName};
-use ow_floor::{Answered, Drain, Floor, Happened, Happening, Order, Plan};
+use ow_floor::{Answered, Drain, Floor, FloorRefusal, Happened, Happening, Order, Plan};
+use ow_packages::Effective;
 use ow_names::{EntityName, read_name, resolve};
 use ow_records::{Ending, Id};
 use ow_traits::{Kind, RunReply};
-use ow_value::{Lines, NoMemory, Params, PlainData, Shared, Str};
+use ow_value::{Items, Lines, NoMemory, Params, PlainData, Shared, Str};
 use std::alloc::Global;
 use std::test::Fail;
 
@@ -15,6 +16,22 @@ const ID: Id = Id {
     namespace: 7,
     count: 1,
 };
+
+// A floor of 2,048 MB that wants no container ahead.
+fn floor(alloc: Global) -> Result<Floor, NoMemory>
+    ensures fresh { IfOk result (λ floor. last_of floor.now.drawn 7 ≡ 0) }
+    ensures free { IfOk result (λ floor. floor.before ≡ None) }
+{
+    Floor::new(alloc, 2_048, Items::new())
+}
+
+// By which number it is refused, 0 where it is taken.
+fn number(taken: Result<(), FloorRefusal>) -> u32 {
+    match taken {
+        Ok(()) => 0,
+        Err(refusal) => refusal.number(),
+    }
+}
 
 fn action(alloc: Global, namespace: &EntityName) -> Result<Action, Fail> {
     let code = ProgramName::read(alloc, "greet")?;
@@ -36,10 +53,15 @@ fn plan(alloc: Global, id: Id) -> Result<Plan, Fail>
     let subject = Str::of(alloc, "anna")?;
     let namespace = read_name(alloc, b"guest")?;
     let action = Shared::new(alloc, action(alloc, &namespace)?)?;
+    let effective = Effective {
+        action,
+        params: Params::new(),
+        binding: None,
+    };
     Ok(Plan {
         id,
         namespace,
-        action,
+        effective,
         params: Params::new(),
         subject,
         cause: None,
@@ -80,7 +102,7 @@ fn is_run(order: &Order, number: u64) -> bool {
                 && (order.kind, order.memory) == (Kind::Program, 256)
                 && order.code.as_str() == "greet"
         }
-        Order::Nothing(_) => false,
+        _ => false,
     }
 }
 
@@ -154,7 +176,7 @@ fn goes_its_way(alloc: Global, floor: &mut Floor) -> Result<bool, Fail>
 #[test]
 fn one_activation_waits_runs_and_is_recorded(rt: HostRuntime) -> Result<(), Fail> {
     let alloc = rt.alloc();
-    let mut floor = Floor::new(alloc);
+    let mut floor = floor(alloc)?;
     let recorded = goes_its_way(alloc, &mut floor);
     drop(floor);
     assert!(rt; recorded?);
@@ -181,7 +203,7 @@ fn fails_to_run(alloc: Global, floor: &mut Floor) -> Result<bool, Fail>
 #[test]
 fn a_run_that_fails_is_recorded(rt: HostRuntime) -> Result<(), Fail> {
     let alloc = rt.alloc();
-    let mut floor = Floor::new(alloc);
+    let mut floor = floor(alloc)?;
     let recorded = fails_to_run(alloc, &mut floor);
     drop(floor);
     assert!(rt; recorded?);
@@ -194,17 +216,15 @@ fn is_lost_and_runs(alloc: Global, floor: &mut Floor) -> Result<bool, Fail>
 {
     let ran = runs(alloc, floor, 1)?;
     let owed = floor.owed();
-    let begun = (floor.begun(1002, 1), floor.begun(1002, 1));
-    let lost = (floor.lost(1002, 1), floor.lost(1002, 1));
-    let gone = (floor.gone(1002, 1, 1), floor.gone(1002, 1, 1));
+    let begun = (number(floor.begun(1002, 1)), number(floor.begun(1002, 1)));
+    let lost = (number(floor.lost(1002, 1)), number(floor.lost(1002, 1)));
+    let gone = (
+        number(floor.gone(1002, 1, 1)),
+        number(floor.gone(1002, 1, 1)),
+    );
     let again = runs(alloc, floor, 2)?;
     let ended = ends(alloc, floor, 2)?;
-    Ok(
-        ran && owed == 3
-            && again
-            && ended
-            && (begun, lost, gone) == ((true, false), (true, false), (true, false)),
-    )
+    Ok(ran && owed == 3 && again && ended && (begun, lost, gone) == ((0, 29), (0, 29), (0, 28)))
 }
 
 // Whether that holds of an activation of this floor.
@@ -219,7 +239,7 @@ fn is_lost(alloc: Global, floor: &mut Floor) -> Result<bool, Fail>
 #[test]
 fn what_a_lost_run_carried_runs_again(rt: HostRuntime) -> Result<(), Fail> {
     let alloc = rt.alloc();
-    let mut floor = Floor::new(alloc);
+    let mut floor = floor(alloc)?;
     let lost = is_lost(alloc, &mut floor);
     drop(floor);
     assert!(rt; lost?);
@@ -253,7 +273,7 @@ fn overruns(alloc: Global, floor: &mut Floor) -> Result<bool, Fail>
 #[test]
 fn a_reply_behind_a_sweep_is_late(rt: HostRuntime) -> Result<(), Fail> {
     let alloc = rt.alloc();
-    let mut floor = Floor::new(alloc);
+    let mut floor = floor(alloc)?;
     let late = overruns(alloc, &mut floor);
     drop(floor);
     assert!(rt; late?);
@@ -284,7 +304,7 @@ fn is_settled(alloc: Global, floor: &mut Floor) -> Result<bool, Fail>
 #[test]
 fn what_is_held_is_taken_back_or_kept(rt: HostRuntime) -> Result<(), Fail> {
     let alloc = rt.alloc();
-    let mut floor = Floor::new(alloc);
+    let mut floor = floor(alloc)?;
     let settled = is_settled(alloc, &mut floor);
     drop(floor);
     assert!(rt; settled?);
@@ -300,10 +320,11 @@ fn refused(alloc: Global, floor: &mut Floor, run: u64) -> u32 {
 }
 
 #[test]
-fn a_reply_to_no_run_has_its_number(rt: HostRuntime) {
+fn a_reply_to_no_run_has_its_number(rt: HostRuntime) -> Result<(), Fail> {
     let alloc = rt.alloc();
-    let mut floor = Floor::new(alloc);
+    let mut floor = floor(alloc)?;
     let number = refused(alloc, &mut floor, 1);
     drop(floor);
     assert_eq!(rt; number, 29);
+    Ok(())
 }

@@ -1,6 +1,7 @@
 // Requests and calls over one book.
+use ow_decide::{Called, Reply, Told};
 use ow_floor::{Drain, Order};
-use ow_hall::{Book, Called, Entries, Entry, Hall, Reply, Told};
+use ow_hall::{Book, Entries, Entry, Hall};
 use ow_http::{Answer, Read, Request, read_request, write_reply};
 use ow_names::{EntityName, FullName, read_name, resolve};
 use ow_traits::{MemoryKeeper, RunReply};
@@ -65,7 +66,7 @@ pub(crate) fn office(alloc: Global) -> Result<Office, Fail> {
 }
 
 // Whether an equal list is made of them.
-fn copies(alloc: Global, entries: &Entries) -> Result<bool, Fail> {
+pub(crate) fn copies(alloc: Global, entries: &Entries) -> Result<bool, Fail> {
     let copied = entries.copy(alloc)?;
     Ok(copied.same(entries))
 }
@@ -218,16 +219,16 @@ fn refused(alloc: Global, hall: &mut Office, at: u64, name: &FullName) -> Result
     }
 }
 
-fn called(alloc: Global, hall: &mut Office, at: u64) -> Result<u32, Fail> {
+pub(crate) fn called(alloc: Global, hall: &mut Office, at: u64) -> Result<u32, Fail> {
     let name = called_name(alloc)?;
     refused(alloc, hall, at, &name)
 }
 
 // The number of the run that is ordered, or 0.
-fn ordered(alloc: Global, hall: &mut Office, at: u64) -> Result<u64, Fail> {
+pub(crate) fn ordered(alloc: Global, hall: &mut Office, at: u64) -> Result<u64, Fail> {
     match hall.next(alloc, at)? {
         Order::Run(run) => Ok(run.run),
-        Order::Nothing(_) => Ok(0),
+        _ => Ok(0),
     }
 }
 

@@ -1,7 +1,7 @@
 // Invocations, those who wait for their ends, and what is read of them.
 use crate::of_hall::{Office, office, request_of, shows, text_of, written};
+use ow_decide::{HallCollected, Reply};
 use ow_floor::Order;
-use ow_hall::{HallCollected, Reply};
 use ow_http::{Answer, Request, read_request};
 use ow_records::Id;
 use ow_traits::RunReply;

@@ -29,7 +29,7 @@ wait_of accepted Abandoned start = None
 -- the annotations of an activation that ended so, and started at this moment
 abbrev pub notes_of : Activation → Ending → ℕ → Notes
 notes_of a ending start = record {
-  binding = None;
+  binding = a.binding;
   caused_by = false;
   init_time = None;
   kind = Some (kind_of a.action.exec);

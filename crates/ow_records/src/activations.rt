@@ -3,7 +3,7 @@ ghost use Rattle.std.specs.Prelude.{◌≡◌, ◌↔◌, IsTrue, IfOk};
 
 use crate::Id;
 use ow_entity::Action;
-use ow_names::EntityName;
+use ow_names::{EntityName, FullName};
 use ow_value::{NoMemory, Params, PlainData, Shared, Str};
 use std::alloc::Global;
 
@@ -18,6 +18,8 @@ pub struct Activation {
     pub namespace: EntityName,
     /// The action as it stood at the acceptance.
     pub action: Shared<Action>,
+    /// The binding through which the action was called, if any.
+    pub binding: Option<FullName>,
     /// The merged parameters, with which it is run.
     pub params: Params,
     /// In whose name it is run.
@@ -34,6 +36,7 @@ impl PlainData for Activation {
             && self.at == other.at
             && self.namespace.same(&other.namespace)
             && self.action.same(&other.action)
+            && self.binding.same(&other.binding)
             && self.params.same(&other.params)
             && self.subject.same(&other.subject)
             && self.cause == other.cause
@@ -43,6 +46,7 @@ impl PlainData for Activation {
     fn copy(&self, alloc: Global) -> Result<Activation, NoMemory> {
         let namespace = self.namespace.copy(alloc)?;
         let action = self.action.copy(alloc)?;
+        let binding = self.binding.copy(alloc)?;
         let params = self.params.copy(alloc)?;
         let subject = self.subject.copy(alloc)?;
         Ok(Activation {
@@ -50,6 +54,7 @@ impl PlainData for Activation {
             at: self.at,
             namespace,
             action,
+            binding,
             params,
             subject,
             cause: self.cause,

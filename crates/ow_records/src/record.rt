@@ -86,8 +86,9 @@ fn notes_of(
 {
     let action = task.action.get();
     let path = action.name.copy(alloc)?;
+    let binding = task.binding.copy(alloc)?;
     Ok(Notes {
-        binding: None,
+        binding,
         caused_by: false,
         init_time: None,
         kind: Some(ExecKind::of(&action.exec)),

@@ -1,7 +1,7 @@
 use Rattle.std.proofs.Common.{◌≡◌, [], refl, subst, IfOk}
 use Rattle.ow_traits.specs.declared.replies.RunReply.{RunReply}
 use Rattle.ow_traits.specs.declared.replies.RunReply.TheVariants as runs
-use Rattle.ow_hall.specs.declared.entry.Event.TheVariants as events
+use Rattle.ow_decide.specs.declared.events.Event.TheVariants as events
 use Rattle.ow_day.specs.Machine.{Meets}
 use Rattle.ow_day.specs.Session.{machine_of}
 use Rattle.ow_day.proofs.session.Session.answer.Goals as goal

@@ -1,6 +1,6 @@
 use Rattle.std.proofs.Common.{subst, IfOk}
 use Rattle.ow_traits.specs.declared.replies.RunReply.{RunReply}
-use Rattle.ow_hall.specs.declared.entry.Event.TheVariants as events
+use Rattle.ow_decide.specs.declared.events.Event.TheVariants as events
 use Rattle.ow_day.specs.Machine.{Meets}
 use Rattle.ow_day.specs.Session.{machine_of}
 use Rattle.ow_day.proofs.session.Session.exit.Goals as goal

@@ -1,5 +1,5 @@
-use Rattle.ow_hall.specs.declared.entry.Event.TheVariants as events
-use Rattle.ow_hall.specs.declared.entry.Told.TheVariants as told
+use Rattle.ow_decide.specs.declared.events.Event.TheVariants as events
+use Rattle.ow_decide.specs.declared.events.Told.TheVariants as told
 use Rattle.ow_day.proofs.Meeting.{denied, denied_stays, met}
 use Rattle.ow_day.proofs.session.Session.reply.Goals as goal
 

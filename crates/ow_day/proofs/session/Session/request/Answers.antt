@@ -1,4 +1,4 @@
-use Rattle.ow_hall.specs.declared.entry.Event.TheVariants as events
+use Rattle.ow_decide.specs.declared.events.Event.TheVariants as events
 use Rattle.ow_day.proofs.Meeting.{asked, asked_stays}
 use Rattle.ow_day.proofs.session.Session.request.Goals as goal
 

@@ -1,7 +1,7 @@
 use Rattle.std.proofs.Common.{IsSome, sym, subst}
-use Rattle.ow_hall.specs.declared.entry.Told.{Told}
-use Rattle.ow_hall.specs.Comes.{reply_in}
-use Rattle.ow_hall.proofs.AskLaws.{ask_replies}
+use Rattle.ow_decide.specs.declared.events.Told.{Told}
+use Rattle.ow_decide.specs.Asking.{reply_in}
+use Rattle.ow_decide.proofs.AskLaws.{ask_replies}
 use Rattle.ow_hall.proofs.hall.Hall.ask.Goals as goal
 
 pub reply_in-requires : goal.reply_in-requires

@@ -1,10 +1,11 @@
 use Rattle.std.proofs.Common.{◌∙◌, ◌++◌, ◌≤◌, refl, sym, ap, subst}
 use Rattle.ow_floor.specs.Owed.{owed}
 use Rattle.ow_floor.specs.View.{FloorView}
-use Rattle.ow_hall.specs.declared.step.Now.{Now}
+use Rattle.ow_decide.specs.declared.step.Now.{Now}
 use Rattle.ow_hall.specs.History.{all_changed, decision, greatest_moment, last_moment, seen, waits_after}
 use Rattle.ow_hall.specs.Ledger.{HasRoom, Ledger, posted}
-use Rattle.ow_hall.specs.State.{Keeps, changes_of}
+use Rattle.ow_decide.specs.Making.{changes_of}
+use Rattle.ow_hall.specs.State.{Keeps}
 use Rattle.ow_hall.proofs.HallLaws.{answers, not_after, not_before, step_at}
 use Rattle.ow_hall.proofs.RoomLaws.{ready_for, room_left, used_for}
 use Rattle.ow_hall.proofs.hall.Hall.perform.Goals as goal
@@ -35,7 +36,7 @@ invariant_of-self-2 g c =
     let floor = ap (λ (f : FloorView). f.now) c.apply.ensures.floor ∙ c.settle-2.ensures.kept refl in
     let rows = c.apply.ensures.rows ∙ ap (all_changed (changes_of step.change)) (c.settle-2.ensures.rest.0 ∙ c.in-Ok.ensures.rest.0) in
     let waits = c.apply.ensures.waits ∙ ap (waits_after step.waits) (c.settle-2.ensures.rest.1 ∙ c.in-Ok.ensures.rest.1) in
-    let both = answers t L c.self.inside.state c.apply.new.self c.attempt.new.self.floor.now now event step c.self.invariant.0 c.counted.ensures late most c.requires free
+    let both = answers t L c.self.inside.state c.apply.new.self c.attempt.new.self.floor.now now event step c.self.invariant.0 c.counted.ensures late most c.requires.later free
     c.in-Ok.ensures.ok floor rows waits in
     let made = c.post.ensures.ledger ∙ (ap (λ (l : Ledger). posted l at event c.in-Ok-prepare.copied) c.in-Ok-prepare.ensures.ledger
     ∙ ap (posted L at event) c.in-Ok-prepare.ensures.told) in

@@ -1,0 +1,134 @@
+-- What is seen of the records by whoever asks.
+use Rattle.std.proofs.Common.{◌≡◌, ◌∙◌, ◌&&◌, ◌+◌, ◌≤◌, ℕ, Bool, true, false, if◌then◌else◌, List, [], ◌∷◌, Option, Some, None, Ok, map, take, drop, reverse, refl, sym, ap, subst, arith}
+use Rattle.std.specs.List.{filter, find}
+use Rattle.ow_value.specs.Value.{V, list, items_of}
+use Rattle.ow_records.specs.Id.{same_id}
+use Rattle.ow_records.specs.Records.{id_key, is_in, is_of_id, listing, sorted_by}
+use Rattle.ow_records.specs.Written.{summary_value}
+use Rattle.ow_records.specs.declared.ids.Id.{Id}
+use Rattle.ow_records.specs.declared.record.Record.{Record}
+use Rattle.ow_floor.specs.Laws.{IsSound, Stands, times}
+use Rattle.ow_floor.specs.View.{Shown as FloorShown}
+use Rattle.ow_floor.specs.Trace.{Trace, records}
+use Rattle.ow_floor.proofs.Alters.{same_id_refl}
+use Rattle.ow_floor.proofs.Firsts.{find_passes}
+use Rattle.ow_floor.proofs.Soundness.{parted}
+use Rattle.ow_floor.proofs.Tallies.{eq_of}
+use Rattle.ow_http.specs.Parts.{Parts}
+use Rattle.ow_http.specs.Steps.{◌>>=◌}
+use Rattle.ow_http.specs.declared.route.Part.{Part}
+use Rattle.ow_http.specs.declared.call.Call.{Call}
+use Rattle.ow_decide.specs.declared.acts.Reading.TheVariants.{Activations, Activation}
+use Rattle.ow_decide.specs.Asking.{granted_call, shown_done}
+use Rattle.ow_decide.specs.Reading.{id_of, is_recorded, part_value, read_value, recorded, recorded_under}
+use Rattle.ow_decide.specs.Reasons.{not_found}
+use Rattle.ow_decide.specs.Sight.{Sight, or_else}
+use Rattle.ow_decide.specs.View.{is_visible_record, own_rights, view_of}
+use Rattle.ow_decide.proofs.Filters.{filter_filter, find_filter, find_only_none, find_only_some, not_wider}
+use Rattle.ow_decide.proofs.ReadLaws.{granted_home, own_read, second, shows, turned}
+
+-- ---- lists
+
+is_in_visible : (here : List ℕ) (r : Record) → is_in here r ≡ true → is_visible_record (own_rights here) r ≡ true
+is_in_visible here r stands = own_read here r.namespace ∙ turned here r.namespace stands
+
+own_listing : (here : List ℕ) (skip limit : ℕ) (rs : List Record) → listing here skip limit (filter (is_visible_record (own_rights here)) rs) ≡ listing here skip limit rs
+own_listing here skip limit rs = ap (λ (xs : List Record). map summary_value (take limit (drop skip (reverse (sorted_by id_key xs)))))
+    (filter_filter (is_in here) (is_visible_record (own_rights here)) rs (is_in_visible here))
+
+-- what a list of the own records shows
+pub records_shown : (S : Sight) (p : Parts) (c : Call) (vs : List V) → granted_call S p ≡ Ok c → vs ≡ listing S.tenants.home c.skip c.limit (records S.trace)
+    → shows (list (items_of vs)) ≡ shown_done (read_value (view_of S) Activations p c)
+records_shown S p c vs granted is = ap (λ (xs : List V). shows (list (items_of xs)))
+    (is ∙ (sym (own_listing S.tenants.home c.skip c.limit (records S.trace))
+    ∙ ap (λ (n : List ℕ). listing n c.skip c.limit (filter (is_visible_record (own_rights S.tenants.home)) (records S.trace))) (sym (granted_home S p c granted))))
+
+-- ---- one record
+
+same_turned : (a b : Id) → same_id a b ≡ true → same_id b a ≡ true
+same_turned a b same = subst (λ (x : Id). same_id x a ≡ true) (eq_of a b same) (same_id_refl a)
+
+untimed_at : (id : Id) (r : Record) (b : Bool) → is_of_id id r ≡ b → same_id id r.id ≡ b
+untimed_at id r true e = same_turned r.id id e
+untimed_at id r false e = by_other (same_id id r.id) refl
+  where
+    by_other : (c : Bool) → same_id id r.id ≡ c → same_id id r.id ≡ false
+    by_other true f = let h = same_turned id r.id f in cc
+    by_other false f = f
+
+-- an id that doesn't stand among the records isn't found
+untimed : (id : Id) (rs : List Record) → times id (map (λ r. r.id) rs) ≤ 0 → find (is_of_id id) rs ≡ None
+untimed id [] few = refl
+untimed id (r ∷ rs) few = by_test (is_of_id id r) refl (untimed id rs)
+  where
+    by_test : (b : Bool) → is_of_id id r ≡ b → (times id (map (λ x. x.id) rs) ≤ 0 → find (is_of_id id) rs ≡ None) → find (is_of_id id) (r ∷ rs) ≡ None
+    by_test true e rest =
+        let h : 1 + times id (map (λ x. x.id) rs) ≤ 0 = rw (untimed_at id r true e) at few in
+        absurd (omega (arith, h))
+    by_test false e rest =
+        let h : 0 + times id (map (λ x. x.id) rs) ≤ 0 = rw (untimed_at id r false e) at few in
+        rw e (rest (omega (arith, h)))
+
+-- of an id that stands there once, the record that is found is the only one
+once_only : (id : Id) (q : Record → Bool) (r : Record) (rs : List Record) → times id (map (λ x. x.id) rs) ≤ 1 → find (is_of_id id) rs ≡ Some r → q r ≡ false
+    → ((x : Record) → q x ≡ true → is_of_id id x ≡ true) → find q rs ≡ None
+once_only id q r [] few found other narrow = refl
+once_only id q r (x ∷ rs) few found other narrow = by_test (is_of_id id x) refl (λ few' found'. once_only id q r rs few' found' other narrow)
+  where
+    by_test : (b : Bool) → is_of_id id x ≡ b → (times id (map (λ y. y.id) rs) ≤ 1 → find (is_of_id id) rs ≡ Some r → find q rs ≡ None) → find q (x ∷ rs) ≡ None
+    by_test true e rest =
+        let h : Some x ≡ Some r = rw e at found in
+        let same : x ≡ r = cc in
+        let hidden : q x ≡ false = subst (λ (z : Record). q z ≡ false) (sym same) other in
+        let few' : 1 + times id (map (λ y. y.id) rs) ≤ 1 = rw (untimed_at id x true e) at few in
+        rw hidden (find_only_none (is_of_id id) q rs narrow (untimed id rs (omega (arith, few'))))
+    by_test false e rest =
+        let few' : 0 + times id (map (λ y. y.id) rs) ≤ 1 = rw (untimed_at id x false e) at few in
+        rw (not_wider q (is_of_id id) x narrow e) (rest (omega (arith, few')) (rw e at found))
+
+recorded_once : (T : Trace) (id : Id) → IsSound T → times id (map (λ r. r.id) (records T)) ≤ 1
+recorded_once T id sound = let h = (parted T sound).parts id in let k = (parted T sound).once id in omega (arith, h, k)
+
+first : (a b : Bool) → (a && b) ≡ true → a ≡ true
+first true b both = refl
+first false b both = cc
+
+abbrev pub in_own : List ℕ → Option Record → Option Record
+in_own here None = None
+in_own here (Some r) = if is_in here r then Some r else None
+
+narrow : (here : List ℕ) (id : Id) (r : Record) → is_recorded here id r ≡ true → is_of_id id r ≡ true
+narrow here id r h = second (is_in here r) (same_id r.id id) h
+
+placed : (here : List ℕ) (id : Id) (r : Record) → is_recorded here id r ≡ true → is_visible_record (own_rights here) r ≡ true
+placed here id r h = is_in_visible here r (first (is_in here r) (same_id r.id id) h)
+
+by_place : (here : List ℕ) (id : Id) (T : Trace) (r : Record) (b : Bool) → IsSound T → is_in here r ≡ b → find (is_of_id id) (records T) ≡ Some r
+    → find (is_recorded here id) (records T) ≡ in_own here (Some r)
+by_place here id T r true sound e found =
+    rw e (find_only_some (is_of_id id) (is_recorded here id) r (records T) (narrow here id) found (rw e (find_passes (is_of_id id) r (records T) found)))
+by_place here id T r false sound e found =
+    rw e (once_only id (is_recorded here id) r (records T) (recorded_once T id sound) found (rw e refl) (narrow here id))
+
+by_found : (here : List ℕ) (id : Id) (T : Trace) (o : Option Record) → IsSound T → find (is_of_id id) (records T) ≡ o → find (is_recorded here id) (records T) ≡ in_own here o
+by_found here id T None sound found = find_only_none (is_of_id id) (is_recorded here id) (records T) (narrow here id) found
+by_found here id T (Some r) sound found = by_place here id T r (is_in here r) sound refl found
+
+-- a record of the namespace, by its id
+own_record : (here : List ℕ) (id : Id) (T : Trace) (o : Option Record) → IsSound T → find (is_of_id id) (records T) ≡ o
+    → find (is_recorded here id) (filter (is_visible_record (own_rights here)) (records T)) ≡ in_own here o
+own_record here id T o sound found =
+    find_filter (is_recorded here id) (is_visible_record (own_rights here)) (records T) (placed here id) ∙ by_found here id T o sound found
+
+-- the record of the namespace, over a floor
+pub own_recorded : (here : List ℕ) (id : Id) (v : FloorShown) (T : Trace) (o : Option Record) → Stands v T → find (is_of_id id) v.ended ≡ o
+    → in_own here o ≡ recorded_under here (Some id) (filter (is_visible_record (own_rights here)) (records T))
+own_recorded here id v T o stands found =
+    sym (own_record here id T o stands.sound (sym (ap (λ (w : FloorShown). find (is_of_id id) w.ended) stands.is) ∙ found))
+
+-- what is shown of a record
+pub record_read : (S : Sight) (p : Parts) (c : Call) (part : Part) (o : Option Record) → granted_call S p ≡ Ok c
+    → o ≡ recorded S.tenants.home (id_of p.route) (filter (is_visible_record (own_rights S.tenants.home)) (records S.trace))
+    → shown_done (or_else o not_found >>= (λ (r : Record). Ok (part_value part r))) ≡ shown_done (read_value (view_of S) (Activation part) p c)
+record_read S p c part o granted is = ap (λ (x : Option Record). shown_done (or_else x not_found >>= (λ (r : Record). Ok (part_value part r))))
+    (is ∙ ap (λ (n : List ℕ). recorded n (id_of p.route) (filter (is_visible_record (own_rights S.tenants.home)) (records S.trace))) (sym (granted_home S p c granted)))

@@ -1,0 +1,12 @@
+use Rattle.std.proofs.Common.{◌∙◌, sym}
+use Rattle.ow_http.specs.Request.{parts_of}
+use Rattle.ow_decide.proofs.ReadLaws.{read_refused, read_so}
+use Rattle.ow_decide.proofs.Results.{if_ok_map}
+use Rattle.ow_decide.proofs.reads.read.Goals as goal
+
+pub returns-in-Ok-clause-done : goal.returns-in-Ok-clause-done
+returns-in-Ok-clause-done c = if_ok_map c.shown.result _ _ (λ d h S t r st.
+    h S t r st ∙ sym (read_so S c.args.reading (parts_of c.args.request.now) c.in-Ok.call (sym (c.in_ok-granted.ensures S t) ∙ c.in-Ok.is))) c.shown.ensures.done
+
+pub returns-in-Err-clause-done : goal.returns-in-Err-clause-done
+returns-in-Err-clause-done c = λ S t r st. sym (read_refused S c.args.reading (parts_of c.args.request.now) c.in-Err.reason (sym (c.in_ok-granted.ensures S t) ∙ c.in-Err.is))

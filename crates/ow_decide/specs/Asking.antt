@@ -1,0 +1,206 @@
+-- What a request is answered: its first refusal, in the order of their places, or what it reads and changes.
+use Rattle.std.specs.Prelude.{◌≡◌, ℕ, Bool, true, false, not, [], ◌∷◌, Option, Some, None, Result, Ok, Err, if◌then◌else◌}
+use Rattle.ow_value.specs.Value.{V}
+use Rattle.ow_names.specs.declared.full.FullName.{FullName}
+use Rattle.ow_entity.specs.Finish.{finished_row}
+use Rattle.ow_entity.specs.Written.{row_value}
+use Rattle.ow_entity.specs.declared.kinds.EntityKind.{EntityKind}
+use Rattle.ow_entity.specs.declared.kinds.EntityKind.TheVariants as kinds
+use Rattle.ow_entity.specs.declared.refusal.EntityRefusal.{EntityRefusal}
+use Rattle.ow_entity.specs.declared.rows.Draft.{Draft}
+use Rattle.ow_entity.specs.declared.rows.Row.{Row}
+use Rattle.ow_tables.specs.Contents.{Change}
+use Rattle.ow_tables.specs.Refusal.{table_refusal, old_row, put_refusal, remove_refusal}
+use Rattle.ow_tables.specs.Rows.{found}
+use Rattle.ow_floor.specs.Calls.{accept_items}
+use Rattle.ow_floor.specs.declared.activations.Plan.{Plan}
+use Rattle.ow_tables.specs.declared.refusal.TableRefusal.{TableRefusal}
+use Rattle.ow_http.specs.CallKind.{kind_of}
+use Rattle.ow_http.specs.CallOf.{call_of}
+use Rattle.ow_http.specs.Parts.{Parts}
+use Rattle.ow_http.specs.Refused.{refusal_of}
+use Rattle.ow_http.specs.Steps.{◌>>=◌}
+use Rattle.ow_http.specs.declared.answer.Answer.{Answer}
+use Rattle.ow_http.specs.declared.call.Call.{Call}
+use Rattle.ow_http.specs.declared.call_kind.CallKind.{CallKind}
+use Rattle.ow_http.specs.declared.call_kind.CallKind.TheVariants.{ListEntities, GetEntity, PutEntity, DeleteEntity, Invoke, ListActivations, GetActivation}
+use Rattle.ow_http.specs.declared.reason.Reason.{Reason}
+use Rattle.ow_http.specs.declared.route.Route.{Route}
+use Rattle.ow_http.specs.declared.route.Route.TheVariants as route
+use Rattle.ow_http.specs.declared.verb.Verb.{Verb}
+use Rattle.ow_decide.specs.declared.acts.Act.{Act}
+use Rattle.ow_decide.specs.declared.acts.Act.TheVariants.{Reads, Puts, Removes, Invokes}
+use Rattle.ow_decide.specs.declared.acts.Reading.{Reading}
+use Rattle.ow_decide.specs.declared.acts.Reading.TheVariants.{Rows, Row as OneRow, Activations, Activation}
+use Rattle.ow_decide.specs.declared.events.Told.{Told}
+use Rattle.ow_decide.specs.declared.events.Told.TheVariants as told
+use Rattle.ow_decide.specs.declared.replies.Reply.TheVariants as replies
+use Rattle.ow_decide.specs.declared.waits.Shows.{Shows}
+use Rattle.ow_decide.specs.declared.waits.Waits.TheVariants.{Keep}
+use Rattle.ow_decide.specs.Tenants.{is_granted}
+use Rattle.ow_decide.specs.Reasons.{no_route, not_found, not_granted, table_reason, tells_full}
+use Rattle.ow_decide.specs.Sight.{Sight, is_full, or_else, room_for, unless}
+use Rattle.ow_decide.specs.Decision.{Decision, tells}
+use Rattle.ow_decide.specs.View.{view_of}
+use Rattle.ow_decide.specs.Reading.{good, name_in, namespace_of, or_call_reason, read_answer, read_done}
+use Rattle.ow_decide.specs.Calling.{invocation_plan}
+use Rattle.ow_decide.specs.Waiting.{invoked_reply, shows_of, waits_of}
+
+-- what a call of this kind reads, where it is served yet
+abbrev pub reading_in : CallKind → Option Reading
+reading_in (ListEntities kinds.Action) = Some (Rows kinds.Action)
+reading_in (GetEntity kinds.Action) = Some (OneRow kinds.Action)
+reading_in ListActivations = Some Activations
+reading_in (GetActivation part) = Some (Activation part)
+reading_in kind = None
+
+-- what it is to do, where it is served yet: actions are put, deleted and invoked
+abbrev pub change_in : CallKind → Option Act
+change_in (PutEntity kinds.Action) = Some Puts
+change_in (DeleteEntity kinds.Action) = Some (Removes kinds.Action)
+change_in Invoke = Some Invokes
+change_in kind = None
+
+abbrev pub reads_or : Option Reading → Option Act → Option Act
+reads_or None act = act
+reads_or (Some reading) act = Some (Reads reading)
+
+abbrev pub act_in : CallKind → Option Act
+act_in kind = reads_or (reading_in kind) (change_in kind)
+
+-- what stands in a package isn't served yet
+abbrev pub is_inside : Route → Bool
+is_inside (route.Entity namespace kind (Some p) name) = true
+is_inside other = false
+
+abbrev pub act_of : Route → Verb → Option Act
+act_of r method = if is_inside r then None else act_in (kind_of r method)
+
+-- ---- what is wanted, or why it isn't there
+
+-- what is to be done
+abbrev pub act_for : Parts → Result Act Reason
+act_for p = or_else (act_of p.route p.method) no_route
+
+-- whoever asks may read and write in it
+abbrev pub grant_for : Sight → Parts → Result (Unit {0}) Reason
+grant_for S p = unless (not (is_granted S.tenants (namespace_of p.route))) not_granted
+
+-- query, names of the path and body
+abbrev pub call_for : Sight → Parts → Result Call Reason
+call_for S p = or_call_reason (call_of S.tenants.home p)
+
+-- the call, where it is granted
+abbrev pub granted_call : Sight → Parts → Result Call Reason
+granted_call S p = do
+  grant ← grant_for S p
+  call_for S p
+
+-- the entity that is given
+abbrev pub draft_in : Call → Result Draft Reason
+draft_in c = or_else c.draft no_route
+
+-- the row that stands
+abbrev pub row_for : Sight → EntityKind → FullName → Result Row Reason
+row_for S kind name = or_else (found kind name S.rows) not_found
+
+abbrev pub unless_refused : Option TableRefusal → Result (Unit {0}) Reason
+unless_refused None = Ok tt
+unless_refused (Some e) = Err (table_reason e)
+
+abbrev pub or_table_reason : Result Row EntityRefusal → Result Row Reason
+or_table_reason (Ok row) = Ok row
+or_table_reason (Err e) = Err (table_reason (table_refusal e))
+
+-- the row of a draft, over the one that stands, if any
+abbrev pub row_of : Sight → Draft → Bool → Result Row Reason
+row_of S draft overwrite = do
+  free ← unless_refused (put_refusal draft overwrite S.rows)
+  or_table_reason (finished_row draft (old_row draft S.rows))
+
+-- ---- what comes of it
+
+-- a value is shown, a change is made of which the row is shown, or an activation is accepted
+pub data Done : Type 0 where
+  Shown : (value : V) → Done
+  Changed : (change : Change) → Done
+  Invoked : (plan : Plan) (shows : Shows) → Done
+
+-- the row that is put is stored
+abbrev pub put_done : Sight → Draft → Bool → Result Done Reason
+put_done S draft overwrite = do
+  row ← row_of S draft overwrite
+  Ok (Changed (record { row = row; removes = false }))
+
+-- what comes of an act that isn't a read, of what a request wants
+abbrev pub change_done : Sight → Act → Call → Result Done Reason
+change_done S (Reads reading) c = Err no_route
+change_done S Puts c = do
+  draft ← draft_in c
+  put_done S draft c.overwrite
+change_done S (Removes kind) c = do
+  name ← name_in c
+  free ← unless_refused (remove_refusal kind name S.rows)
+  row ← row_for S kind name
+  Ok (Changed (record { row = row; removes = true }))
+change_done S Invokes c = do
+  name ← name_in c
+  plan ← invocation_plan S S.tenants.subject c.blocking name c.params
+  Ok (Invoked plan (shows_of c.result_only))
+
+abbrev pub shown_done : Result V Reason → Result Done Reason
+shown_done (Ok value) = Ok (Shown value)
+shown_done (Err reason) = Err reason
+
+abbrev pub called_done : Sight → Act → Parts → Result Done Reason
+called_done S act p = do
+  call ← granted_call S p
+  change_done S act call
+
+-- a read is answered of what whoever asks may see
+abbrev pub act_done : Sight → Act → Parts → Result Done Reason
+act_done S (Reads reading) p = shown_done (read_done (view_of S) reading p)
+act_done S Puts p = called_done S Puts p
+act_done S (Removes kind) p = called_done S (Removes kind) p
+act_done S Invokes p = called_done S Invokes p
+
+-- what comes of a request, whose refusals stand in the order of their places: the route, the book, the grant, query and path
+-- and body, and what is named
+abbrev pub request_done : Sight → Parts → Result Done Reason
+request_done S p = do
+  act ← act_for p
+  room ← room_for S p.size
+  act_done S act p
+
+-- ---- what is told
+
+-- it is answered at once
+abbrev pub at_once : Answer → Told
+at_once answer = told.Asked (replies.Now answer)
+
+-- a refusal is answered too
+abbrev pub refusal_told : Reason → Told
+refusal_told reason = if tells_full reason then told.Full (refusal_of reason) else at_once (refusal_of reason)
+
+-- what is done at a request, at a moment
+abbrev pub ask_decision : ℕ → Result Done Reason → Decision
+ask_decision at (Ok (Shown value)) = tells (at_once (good value))
+ask_decision at (Ok (Changed change)) = record { told = at_once (good (row_value change.row)); items = []; changes = change ∷ []; waits = Keep }
+ask_decision at (Ok (Invoked plan shows)) = record {
+  told = told.Asked (invoked_reply plan.id plan.until);
+  items = accept_items at plan;
+  changes = [];
+  waits = waits_of plan.id shows plan.until;
+}
+ask_decision at (Err reason) = tells (refusal_told reason)
+
+-- what a request is answered by what it is told: an answer that the book is full looks as any other
+abbrev pub reply_in : Told → Option Reply
+reply_in (told.Asked reply) = Some reply
+reply_in (told.Full answer) = Some (replies.Now answer)
+reply_in t = None
+
+-- a read that the book has room for is answered of what whoever asks may see
+abbrev pub IsOfView : Sight → Type 0
+IsOfView S = (reading : Reading) (p : Parts) → act_of p.route p.method ≡ Some (Reads reading) → is_full S.counted p.size ≡ false
+    → (ask_decision S.moment (request_done S p)).told ≡ at_once (read_answer (view_of S) reading p)

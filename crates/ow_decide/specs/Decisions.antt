@@ -1,0 +1,53 @@
+-- What the service does at an event, by what is seen: one case for each kind of event.
+use Rattle.std.specs.Prelude.{ℕ, [], ◌∷◌, length, Bool, true, false, Option, Some, None, Result, Ok, Err}
+use Rattle.ow_traits.specs.declared.replies.RunReply.{RunReply}
+use Rattle.ow_floor.specs.Trace.{Drained, Trace}
+use Rattle.ow_floor.specs.Calls.{answer_to, answered_items, begun_answer, begun_items, drain_answer, gone_answer, gone_items, happened, lost_answer, lost_items, next_items, next_order, swept_ends, swept_items}
+use Rattle.ow_floor.specs.Collecting.{collected}
+use Rattle.ow_floor.specs.declared.answers.Answered.{Answered}
+use Rattle.ow_floor.specs.declared.answers.FloorRefusal.{FloorRefusal}
+use Rattle.ow_floor.specs.declared.answers.Swept.{Swept}
+use Rattle.ow_http.specs.Request.{parts_of}
+use Rattle.ow_decide.specs.declared.events.Event.{Event}
+use Rattle.ow_decide.specs.declared.events.Event.TheVariants as events
+use Rattle.ow_decide.specs.declared.events.Told.{Told}
+use Rattle.ow_decide.specs.declared.events.Told.TheVariants as told
+use Rattle.ow_decide.specs.Sight.{Sight}
+use Rattle.ow_decide.specs.Decision.{Decision, adds, tells}
+use Rattle.ow_decide.specs.Asking.{ask_decision, request_done}
+use Rattle.ow_decide.specs.Calling.{call_decision, call_plan}
+use Rattle.ow_decide.specs.Waiting.{collected_told, shows_for}
+
+-- what a runner's reply is told: a reply that no live run makes is handed back
+abbrev pub reply_told : ℕ → RunReply → Option Answered → Told
+reply_told run reply None = told.NoRun run reply
+reply_told run reply (Some answered) = told.Answered answered
+
+-- what a beginning, a loss or a going is told: it was taken, or why not
+abbrev pub taken_told : Result (Unit {0}) FloorRefusal → Told
+taken_told (Ok done) = told.Done
+taken_told (Err refusal) = told.Refused refusal
+
+-- what is told of a sweep: each end that it makes, and how many late runs there were
+abbrev pub swept_told : ℕ → Trace → Swept
+swept_told at T = record { happened = happened (swept_ends at T); late = length (swept_ends at T) }
+
+-- a beginning, a loss and a going take no memory
+abbrev pub wants_memory : Event → Bool
+wants_memory (events.Begun run) = false
+wants_memory (events.Lost run) = false
+wants_memory (events.Gone slot generation) = false
+wants_memory event = true
+
+abbrev pub decide : Sight → Event → Decision
+decide S (events.Opened rows) = tells (told.Opened [])
+decide S (events.Asked r) = ask_decision S.moment (request_done S (parts_of r))
+decide S (events.Called name params) = call_decision S (call_plan S name params)
+decide S events.Next = adds (told.Next (next_order S.trace)) (next_items S.moment S.trace)
+decide S (events.Answered run reply) = adds (reply_told run reply (answer_to S.moment run reply S.trace)) (answered_items S.moment run reply S.trace)
+decide S (events.Begun run) = adds (taken_told (begun_answer run S.trace)) (begun_items S.moment run S.trace)
+decide S (events.Lost run) = adds (taken_told (lost_answer run S.trace)) (lost_items S.moment run S.trace)
+decide S (events.Gone slot generation) = adds (taken_told (gone_answer slot generation S.trace)) (gone_items S.moment slot generation S.trace)
+decide S events.Sweep = adds (told.Swept (swept_told S.moment S.trace)) (swept_items S.moment S.trace)
+decide S (events.Collected id) = tells (told.Collected (collected_told id (shows_for S.waits id) (collected S.moment id S.trace)))
+decide S events.Drain = adds (told.Drain (drain_answer S.trace)) (Drained S.moment ∷ [])

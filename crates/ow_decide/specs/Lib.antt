@@ -1,0 +1,12 @@
+pub mod Tenants
+pub mod Sight
+pub mod Reasons
+pub mod Ids
+pub mod View
+pub mod Reading
+pub mod Calling
+pub mod Waiting
+pub mod Decision
+pub mod Asking
+pub mod Decisions
+pub mod Making

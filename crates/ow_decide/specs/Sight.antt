@@ -1,0 +1,39 @@
+-- What is seen when an event comes, and the tests that events of several kinds share. Each test takes what is seen.
+use Rattle.std.specs.Prelude.{◌+◌, ℕ, Bool, true, false, nat_lt, List, Option, Some, None, Result, Ok, Err}
+use Rattle.ow_entity.specs.declared.rows.Row.{Row}
+use Rattle.ow_floor.specs.Trace.{Trace, is_draining}
+use Rattle.ow_http.specs.declared.reason.Reason.{Reason}
+use Rattle.ow_decide.specs.declared.tenants.Tenants.{Tenants}
+use Rattle.ow_decide.specs.declared.waits.Wait.{Wait}
+use Rattle.ow_decide.specs.Reasons.{book_full, draining}
+
+-- the office table, the rows, what happened on the floor, who waits for an end, how many bytes the book counts, and the moment
+pub record Sight : Type 0 where
+  pub tenants : Tenants
+  pub rows : List Row
+  pub trace : Trace
+  pub waits : List Wait
+  pub counted : ℕ
+  pub moment : ℕ
+
+-- refused, where something holds
+abbrev pub unless : Bool → Reason → Result (Unit {0}) Reason
+unless true reason = Err reason
+unless false reason = Ok tt
+
+-- what is wanted, or refused for want of it
+abbrev pub or_else : {X : Type 0} → Option X → Reason → Result X Reason
+or_else None reason = Err reason
+or_else (Some x) reason = Ok x
+
+-- a book that counts so many bytes has no room for an entry of so many beside its 64: it counts 1,073,741,824 at most
+unfoldable pub is_full : ℕ → ℕ → Bool
+is_full counted size = nat_lt 1073741824 (counted + 64 + size)
+
+-- the book has room for it
+abbrev pub room_for : Sight → ℕ → Result (Unit {0}) Reason
+room_for S size = unless (is_full S.counted size) book_full
+
+-- the floor takes calls
+abbrev pub takes_calls : Sight → Result (Unit {0}) Reason
+takes_calls S = unless (is_draining S.trace) draining

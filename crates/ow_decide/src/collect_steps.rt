@@ -1,0 +1,104 @@
+// What became of an activation for whose end a request waits.
+ghost use Rattle.std.specs.Prelude.{◌≡◌, List, None, IfOk};
+ghost use Rattle.ow_entity.specs.declared.rows.Row.{Row};
+ghost use Rattle.ow_value.specs.View.{view};
+ghost use Rattle.ow_floor.specs.Collecting.{collection_of};
+ghost use Rattle.ow_decide.specs.Decisions.{decide};
+ghost use Rattle.ow_decide.specs.Making.{MakesFor};
+ghost use Rattle.ow_decide.specs.Waiting.{collected_told, ended_answer, ended_status, shown_value, shows_for, wait_shows};
+ghost use Rattle.ow_decide.specs.declared.tenants.Tenants.{Tenants};
+ghost use Rattle.ow_decide.specs.declared.events.Event.TheVariants as events;
+
+use crate::events::Told;
+use crate::replies::HallCollected;
+use crate::step::{Now, Step};
+use crate::waits::{Shows, Wait, accepted_answer};
+use ow_floor::{Collected, Floor, FloorRefusal};
+use ow_http::Answer;
+use ow_records::{Id, Record, write_record};
+use ow_value::{Bytes, NoMemory, Pairs, PlainData, Val, write_val};
+use std::alloc::Global;
+
+/// What is told of an activation that is collected.
+pub(crate) fn collect(
+    alloc: Global,
+    floor: &Floor,
+    waits: &[Wait],
+    now: Now,
+    id: Id,
+) -> Result<Step, NoMemory>
+    ensures ok { IfOk result (λ s. (t : Tenants) (rs : List Row) → MakesFor waits.now t rs now floor.now.now floor.now.now (λ S. decide S (events.Collected id)) s) }
+    ensures change { IfOk result (λ s. s.change ≡ None) }
+{
+    let shows = shows_for(waits, id);
+    let collected = told(alloc, id, shows, floor.collect(now.at, &id))?;
+    Ok(Step::telling(Told::Collected(collected)))
+}
+
+fn told(
+    alloc: Global,
+    id: Id,
+    shows: Shows,
+    collected: Result<Collected, FloorRefusal>,
+) -> Result<HallCollected, NoMemory>
+    ensures { IfOk result (λ c. c ≡ collected_told id shows (collection_of collected.entry)) }
+{
+    match collected {
+        Ok(Collected::Recorded(ended)) => {
+            Ok(HallCollected::Reply(ended_answer(alloc, shows, ended)?))
+        }
+        Ok(Collected::NotYet) => Ok(HallCollected::NotYet),
+        Ok(Collected::Elapsed) => Ok(HallCollected::Reply(accepted_answer(alloc, id)?)),
+        Err(_) => Ok(HallCollected::Unknown),
+    }
+}
+
+// What is shown to the one who waits for it, or else the record.
+fn shows_for(waits: &[Wait], id: Id) -> Shows
+    ensures { result ≡ shows_for waits.now id }
+{
+    match wait_shows(waits, id) {
+        Some(shows) => shows,
+        None => Shows::Whole,
+    }
+}
+
+// By the newest of its id.
+fn wait_shows(waits: &[Wait], id: Id) -> Option<Shows>
+    ensures { result ≡ wait_shows id waits.now }
+{
+    for i in (0..waits.len()).rev() {
+        if waits[i].id == id {
+            return Some(waits[i].shows);
+        }
+    }
+    None
+}
+
+// What is answered to one who waited for this record.
+fn ended_answer(alloc: Global, shows: Shows, ended: &Record) -> Result<Answer, NoMemory>
+    ensures { IfOk result (λ a. a ≡ ended_answer shows ended.now) }
+{
+    let value = shown_value(alloc, shows, ended)?;
+    let body = Bytes::from_vec(write_val(alloc, &value)?)?;
+    Ok(Answer {
+        status: ended_status(ended.response.code()),
+        headers: Pairs::new(),
+        body,
+    })
+}
+
+fn shown_value(alloc: Global, shows: Shows, ended: &Record) -> Result<Val, NoMemory>
+    ensures { IfOk result (λ v. view v ≡ shown_value shows ended.now) }
+{
+    match shows {
+        Shows::Whole => write_record(alloc, ended),
+        Shows::ResultAlone => Ok(Val::Object(ended.response.result().copy(alloc)?)),
+    }
+}
+
+fn ended_status(code: u8) -> u16
+    ensures { result ≡ ended_status code }
+{
+    if code == 0 { 200 } else { 502 }
+}

@@ -1,0 +1,133 @@
+// What comes of a request, before it is told.
+ghost use Rattle.std.specs.Prelude.{◌≡◌, ◌+◌, ℕ, Ok, None, IfOk, OnOk};
+ghost use Rattle.ow_value.specs.View.{view};
+ghost use Rattle.ow_floor.specs.Calls.{accept_items};
+ghost use Rattle.ow_floor.specs.Laws.{Grows};
+ghost use Rattle.ow_floor.specs.View.{last_of};
+ghost use Rattle.ow_decide.specs.Asking.{Invoked, ask_decision, refusal_told};
+ghost use Rattle.ow_decide.specs.Reading.{good};
+ghost use Rattle.ow_decide.specs.Making.{Carries, change_of, done_of};
+
+use crate::events::Told;
+use crate::reasons::tells_full;
+use crate::replies::Reply;
+use crate::step::Step;
+use crate::waits::{Shows, Waits, invoked_reply, waits_of};
+use ow_entity::write_entity;
+use ow_floor::{Floor, Plan};
+use ow_http::{Answer, Reason, refusal};
+use ow_tables::Ready;
+use ow_value::{Bytes, NoMemory, Pairs, Val, write_val};
+use std::alloc::Global;
+
+/// What comes of a request.
+#[derive(Drop)]
+pub(crate) enum Served {
+    /// This is told, or made ready.
+    Done(Done),
+    /// This is to be accepted. Where it has a moment up to which it is waited for, this is shown to one who waits.
+    Accepts { plan: Plan, shows: Shows },
+}
+
+/// A refusal, a value to be shown, or a change that was made ready.
+#[derive(Drop)]
+pub(crate) enum Done {
+    /// Why nothing comes of it.
+    Refused(Reason),
+    /// This is shown.
+    Shown(Val),
+    /// The row of the change is shown.
+    Changed(Ready),
+}
+
+impl Done {
+    /// What is told of it, and the change.
+    pub(crate) fn step(self, alloc: Global) -> Result<Step, NoMemory>
+        ensures ok { IfOk result (λ s. (at : ℕ) → Carries s (ask_decision at (done_of self))) }
+        ensures change { IfOk result (λ s. s.change ≡ change_of self) }
+    {
+        let Ok(told) = self.told(alloc) else {
+            drop(self);
+            return Err(NoMemory);
+        };
+        Ok(Step {
+            told,
+            change: self.change(),
+            waits: Waits::Keep,
+        })
+    }
+
+    fn told(&self, alloc: Global) -> Result<Told, NoMemory>
+        ensures { IfOk result (λ t. (at : ℕ) → t ≡ (ask_decision at (done_of self.now)).told) }
+    {
+        match self {
+            Done::Refused(reason) => refusal_told(alloc, reason),
+            Done::Shown(value) => Ok(Told::Asked(Reply::Now(good(alloc, value)?))),
+            Done::Changed(ready) => {
+                let value = write_entity(alloc, ready.row())?;
+                Ok(Told::Asked(Reply::Now(good(alloc, &value)?)))
+            }
+        }
+    }
+
+    fn change(self) -> Option<Ready>
+        ensures { result ≡ change_of self }
+    {
+        match self {
+            Done::Changed(ready) => Some(ready),
+            _ => None,
+        }
+    }
+}
+
+/// What is told of an activation, which is accepted.
+pub(crate) fn accepted(
+    alloc: Global,
+    floor: &mut Floor,
+    at: u64,
+    plan: Plan,
+    shows: Shows,
+) -> Result<Step, NoMemory>
+    requires next { plan.id.count ≡ last_of floor.old.now.drawn plan.id.namespace + 1 }
+    ensures ok { IfOk result (λ s. Carries s (ask_decision at (Ok (Invoked plan shows)))) }
+    ensures change { IfOk result (λ s. s.change ≡ None) }
+    ensures grows { OnOk result (Grows floor.old.now floor.new.now (λ T. accept_items at plan)) }
+    ensures before { floor.new.before ≡ floor.old.before }
+{
+    let Ok(reply) = invoked_reply(alloc, plan.id, plan.until) else {
+        drop(plan);
+        return Err(NoMemory);
+    };
+    let waits = waits_of(plan.id, shows, plan.until);
+    if floor.accept(alloc, at, plan).is_err() {
+        drop(reply);
+        return Err(NoMemory);
+    }
+    Ok(Step {
+        told: Told::Asked(reply),
+        change: None,
+        waits,
+    })
+}
+
+fn good(alloc: Global, value: &Val) -> Result<Answer, NoMemory>
+    ensures { IfOk result (λ a. a ≡ good (view value.now)) }
+{
+    let body = Bytes::from_vec(write_val(alloc, value)?)?;
+    Ok(Answer {
+        status: 200,
+        headers: Pairs::new(),
+        body,
+    })
+}
+
+// A refusal is answered; of the full book it is told that it isn't booked.
+fn refusal_told(alloc: Global, reason: &Reason) -> Result<Told, NoMemory>
+    ensures { IfOk result (λ t. t ≡ refusal_told reason.now) }
+{
+    let answer = refusal(alloc, reason)?;
+    if tells_full(reason) {
+        return Ok(Told::Full(answer));
+    }
+    Ok(Told::Asked(Reply::Now(answer)))
+}

@@ -1,0 +1,29 @@
+#![tactic(auto)]
+
+//! What is done at each event: by what is seen of the office table, the rows and the floor, and by what comes.
+mod acts;
+mod ask_steps;
+mod call_steps;
+mod collect_steps;
+mod done;
+mod events;
+mod floor_steps;
+mod ids;
+mod laws;
+mod reads;
+mod reasons;
+mod replies;
+mod room;
+mod step;
+mod tenants;
+mod waits;
+
+pub use events::{Event, Told};
+pub use floor_steps::{take, taken_told};
+pub use laws::reads_are_answered_of_the_view;
+pub use reasons::tells_full;
+pub use replies::{Called, HallCollected, Reply};
+pub use room::is_full;
+pub use step::{Now, Step, step_for};
+pub use tenants::{Namespace, Tenants};
+pub use waits::{Shows, Wait, Waits};

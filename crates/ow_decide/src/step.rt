@@ -1,0 +1,73 @@
+// What is done at each event, over the floor and the rows.
+ghost use Rattle.std.specs.Prelude.{◌≡◌, [], None, true, IfOk};
+ghost use Rattle.ow_decide.specs.Decisions.{decide, wants_memory};
+ghost use Rattle.ow_decide.specs.Making.{HasPlace, MakesFor, telling};
+
+use crate::ask_steps::ask;
+use crate::call_steps::call;
+use crate::collect_steps::collect;
+use crate::events::{Event, Told};
+use crate::floor_steps::{answered, drain, next, sweep};
+use crate::tenants::Tenants;
+use crate::waits::{Wait, Waits};
+use ow_floor::{Floor, Happened};
+use ow_tables::{Ready, Tables};
+use ow_value::NoMemory;
+use std::alloc::Global;
+
+/// What was done: what is told, the change of the rows that was made ready, and what becomes of those who wait.
+#[derive(Drop)]
+pub struct Step {
+    pub told: Told,
+    pub change: Option<Ready>,
+    pub waits: Waits,
+}
+
+/// How many bytes the book counts, and the moment in milliseconds.
+#[derive(Clone, Copy, Debug, PartialEq, Eq)]
+pub struct Now {
+    pub counted: u64,
+    pub at: u64,
+}
+
+impl Step {
+    /// Something is told, and nothing else is made ready.
+    pub fn telling(told: Told) -> Step
+        ensures { result ≡ telling told }
+    {
+        Step {
+            told,
+            change: None,
+            waits: Waits::Keep,
+        }
+    }
+}
+
+/// What is done at an event, but for a beginning, a loss or a going. On the floor it is done already; without memory some of it may be.
+pub fn step_for(
+    alloc: Global,
+    tenants: &Tenants,
+    floor: &mut Floor,
+    tables: &mut Tables,
+    waits: &[Wait],
+    now: Now,
+    event: &Event,
+) -> Result<Step, NoMemory>
+    requires { wants_memory event.now ≡ true }
+    ensures ok { IfOk result (MakesFor waits.now tenants.now tables.old.rows now floor.old.now floor.new.now (λ S. decide S event.now)) }
+    ensures before { floor.new.before ≡ floor.old.before }
+    ensures rows { tables.new.rows ≡ tables.old.rows }
+    ensures place { IfOk result (λ s. HasPlace s.change tables.new.room) }
+{
+    match event {
+        Event::Opened(_) => Ok(Step::telling(Told::Opened(Happened::none()))),
+        Event::Asked(request) => ask(alloc, tenants, floor, tables, now, request.get()),
+        Event::Called { name, params } => call(alloc, tenants, floor, tables, now, name, params),
+        Event::Next => next(alloc, floor, now),
+        Event::Answered { run, reply } => answered(alloc, floor, now, *run, reply),
+        Event::Sweep => sweep(alloc, floor, now),
+        Event::Begun { .. } | Event::Lost { .. } | Event::Gone { .. } => unreachable!(),
+        Event::Collected(id) => collect(alloc, floor, waits, now, *id),
+        Event::Drain => Ok(drain(floor, now)),
+    }
+}

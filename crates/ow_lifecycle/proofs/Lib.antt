@@ -1,0 +1,9 @@
+pub mod Runs
+pub mod Tables
+pub mod States
+pub mod Changing
+pub mod Recording
+pub mod Running
+pub mod Standing
+pub mod Pool
+pub mod Owing

@@ -1,0 +1,4 @@
+pub mod Life
+pub mod Fitting
+pub mod Laws
+pub mod Owed
