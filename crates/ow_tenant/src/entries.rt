@@ -1,7 +1,11 @@
 // What the table says of a namespace and of a key.
+ghost use Rattle.std.specs.Prelude.{◌≡◌};
+ghost use Rattle.ow_tenant.specs.Rights.{has_right};
+ghost use Rattle.ow_tenant.specs.Tenants.{rights_in};
+
 use crate::by_text::ByText;
 use crate::limits::NamespaceLimits;
-use crate::rights::Rights;
+use crate::rights::{Right, Rights};
 use ow_names::EntityName;
 use ow_value::{NoMemory, PlainData, Str};
 use std::alloc::Global;
@@ -13,14 +17,27 @@ pub(crate) struct Space {
     pub(crate) limits: NamespaceLimits,
 }
 
-/// What rows say of a key.
+/// Who holds a key, by the rows that speak of it.
 #[derive(Drop)]
-pub(crate) struct Holder {
-    pub(crate) subject: Str,
+pub struct Holder {
+    /// In whose name what is asked is run.
+    pub subject: Str,
     /// The key's own namespace.
-    pub(crate) home: EntityName,
+    pub home: EntityName,
     /// By namespace.
     pub(crate) rights: ByText<Rights>,
+}
+
+impl Holder {
+    /// Whether the key has the right in the namespace.
+    pub fn may(&self, namespace: &[u8], right: Right) -> bool
+        ensures { result ≡ has_right right (rights_in namespace.now self.now) }
+    {
+        match self.rights.find(namespace) {
+            Some(rights) => rights.has(right),
+            None => false,
+        }
+    }
 }
 
 impl PlainData for Space {

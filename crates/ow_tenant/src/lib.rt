@@ -16,6 +16,7 @@ mod window;
 mod windows;
 mod words;
 
+pub use entries::Holder;
 pub use limits::NamespaceLimits;
 pub use refusal::{TenantRefusal, WindowRefusal};
 pub use rights::Right;

@@ -3,7 +3,8 @@ ghost use Rattle.std.specs.Prelude.{◌≡◌, ◌<◌, ◌≤◌, length, map, 
 ghost use Rattle.std.specs.Option.{option_copied};
 ghost use Rattle.ow_traits.specs.Streams.{Rose};
 ghost use Rattle.ow_tenant.specs.Reading.{TellsTable};
-ghost use Rattle.ow_tenant.specs.Tenants.{Knows, granted_names, holder_at, limits_of, may, name_value, number_of, pool_of};
+ghost use Rattle.ow_tenant.specs.Table.{no_rows};
+ghost use Rattle.ow_tenant.specs.Tenants.{Knows, granted_names, holder_at, holder_of, limits_of, may, name_value, number_of, pool_of};
 
 use crate::by_text::ByText;
 use crate::entries::{Holder, Space};
@@ -100,23 +101,30 @@ impl Tenants {
         }
     }
 
+    /// Who holds the key of a request. No key and a key that the table doesn't have are answered alike.
+    pub fn holder_of(&self, key: Option<&str>) -> Option<&Holder>
+        ensures { option_map (λ h. h.now) result ≡ holder_of (option_copied key.entry) self.now }
+    {
+        match key {
+            Some(key) => self.keys.get().find(key.as_bytes()),
+            None => None,
+        }
+    }
+
     /// Whether the key has the right in the namespace.
     pub fn may(&self, key: KeyNumber, namespace: &[u8], right: Right) -> Result<(), TenantRefusal>
         requires { key.place < length self.now.keys }
         ensures { result ≡ may self.now key.place namespace.now right }
     {
-        let allowed = match self.holder(key).rights.find(namespace) {
-            Some(rights) => rights.has(right),
-            None => false,
-        };
-        if allowed {
+        if self.holder(key).may(namespace, right) {
             Ok(())
         } else {
             Err(TenantRefusal::NotGranted)
         }
     }
 
-    fn holder(&self, key: KeyNumber) -> &Holder
+    /// Who holds the key.
+    pub fn holder(&self, key: KeyNumber) -> &Holder
         requires { key.place < length self.now.keys }
         ensures { Some result.now ≡ holder_at key.place self.now }
     {
@@ -131,7 +139,7 @@ impl Tenants {
         &self.holder(key).home
     }
 
-    /// Who holds the key.
+    /// The name of who holds the key.
     pub fn subject(&self, key: KeyNumber) -> &Str
         requires { key.place < length self.now.keys }
         ensures { Some result.now ≡ option_map (λ h. h.subject) (holder_at key.place self.now) }
@@ -169,6 +177,13 @@ impl Tenants {
         ensures { IfOk result (λ names. Some names ≡ granted_names self.now key.place) }
     {
         names_of(alloc, self.holder(key).rights.entries())
+    }
+
+    /// The table of a service that is given none: no namespace and no key.
+    pub fn none(alloc: Global) -> Result<Tenants, NoMemory>
+        ensures { IfOk result (λ t. t ≡ no_rows) }
+    {
+        Tenants::from_draft(alloc, Draft::new(alloc))
     }
 
     /// The memory that all containers may have, in MB.

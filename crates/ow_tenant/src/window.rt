@@ -49,6 +49,7 @@ impl Window {
         requires { HasRoom 1 0 self.old }
         ensures stands { (notes : Notes) (namespace : List ℕ) → latest notes ≤ at → Stands namespace self.old notes → Stands namespace self.new (invoked namespace at ∷ notes) }
         ensures room { (n f : ℕ) → HasRoom (n + 1) f self.old → HasRoom n f self.new }
+        ensures running { self.new.running ≡ self.old.running + 1 }
     {
         self.invocations.add(at);
         self.running += 1;

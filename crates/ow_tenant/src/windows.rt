@@ -174,6 +174,7 @@ impl Windows {
         ensures notes { (notes : Notes) → latest notes ≤ at → StandsAs self.old notes → StandsAs self.new (invoked namespace.now at ∷ notes) }
         ensures others { KeepsOthers namespace.now self.old self.new }
         ensures room { (n f : ℕ) → HasRoomIn namespace.now (n + 1) f self.old → HasRoomIn namespace.now n f self.new }
+        ensures running { (window_of namespace.now self.new).running ≡ (window_of namespace.now self.old).running + 1 }
     {
         let (place, mut window) = self.open(namespace);
         window.note(at);

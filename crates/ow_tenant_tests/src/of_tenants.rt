@@ -1,6 +1,6 @@
 // The office table: which rows are bad, and what a good table says.
 use ow_names::{EntityName, read_name};
-use ow_tenant::{KeyNumber, MOST_BYTES, NamespaceLimits, Right, TenantRefusal, Tenants};
+use ow_tenant::{MOST_BYTES, NamespaceLimits, Right, TenantRefusal, Tenants};
 use ow_traits::{Kind, MemorySource, Source};
 use ow_value::{PlainData, Val, write_val};
 use std::alloc::{AllocError, Global};
@@ -186,24 +186,22 @@ fn a_key_has_its_own_namespace_and_its_grants(rt: HostRuntime) -> Result<(), Fai
         alloc,
         b"namespace,1,guest,,,\nnamespace,2,other,,,\nnamespace,3,third,,,\nkey,k1,anna,guest,,\nkey,k2,bert,other,,\ngrant,k1,other,read,,\ngrant,k2,guest,invoke,,\ngrant,k2,guest,write,,\n",
     )?;
-    let anna = tenants.who(Some("k1"))?;
-    let bert = tenants.who(Some("k2"))?;
     for (key, namespace, rights) in [
-        (anna, "guest", (true, true, true)),
-        (anna, "other", (true, false, false)),
-        (anna, "third", (false, false, false)),
-        (anna, "nowhere", (false, false, false)),
-        (anna, "whisk.system", (false, false, false)),
-        (anna, "", (false, false, false)),
-        (bert, "guest", (false, true, true)),
-        (bert, "other", (true, true, true)),
+        ("k1", "guest", (true, true, true)),
+        ("k1", "other", (true, false, false)),
+        ("k1", "third", (false, false, false)),
+        ("k1", "nowhere", (false, false, false)),
+        ("k1", "whisk.system", (false, false, false)),
+        ("k1", "", (false, false, false)),
+        ("k2", "guest", (false, true, true)),
+        ("k2", "other", (true, true, true)),
     ]
     .iter()
     {
         let has = (
-            allows(&tenants, *key, namespace, Right::Read),
-            allows(&tenants, *key, namespace, Right::Write),
-            allows(&tenants, *key, namespace, Right::Invoke),
+            allows(&tenants, key, namespace, Right::Read),
+            allows(&tenants, key, namespace, Right::Write),
+            allows(&tenants, key, namespace, Right::Invoke),
         );
         assert_eq!(rt; has, *rights);
     }
@@ -229,8 +227,11 @@ fn a_key_has_its_own_namespace_and_its_grants(rt: HostRuntime) -> Result<(), Fai
     Ok(())
 }
 
-fn allows(tenants: &Tenants, key: KeyNumber, namespace: &str, right: Right) -> bool {
-    tenants.may(key, namespace.as_bytes(), right).is_ok()
+fn allows(tenants: &Tenants, key: &str, namespace: &str, right: Right) -> bool {
+    match tenants.who(Some(key)) {
+        Ok(number) => tenants.may(number, namespace.as_bytes(), right).is_ok(),
+        Err(_) => false,
+    }
 }
 
 #[test]

@@ -68,6 +68,7 @@ fn what_has_not_ended_is_counted(rt: HostRuntime) -> Result<(), Fail> {
     windows.reserve_many(alloc, &guest, 3)?;
     windows.note(&guest, 5);
     assert_eq!(rt; windows.admit(&guest, &limits, 5), Ok(()));
+    windows.reserve(alloc, &guest)?;
     windows.note(&guest, 5);
     let over = Err(WindowRefusal::ConcurrentLimit {
         count: 2,
@@ -76,6 +77,7 @@ fn what_has_not_ended_is_counted(rt: HostRuntime) -> Result<(), Fail> {
     assert_eq!(rt; windows.admit(&guest, &limits, 100_000), over);
     windows.ended(&guest);
     assert_eq!(rt; windows.admit(&guest, &limits, 6), Ok(()));
+    windows.reserve(alloc, &guest)?;
     windows.note(&guest, 6);
     let many = Err(WindowRefusal::MinuteLimit {
         count: 3,
