@@ -3,3 +3,4 @@ pub mod QueueLaws
 pub mod RowsLaws
 pub mod TextLaws
 pub mod WindowLaws
+pub mod SizedLaws

@@ -1,6 +1,6 @@
 -- The office table: what its rows make, one after another, and which is the first that is bad.
-use Rattle.std.specs.Prelude.{◌+◌, ◌==◌, ◌&&◌, ◌||◌, ℕ, List, [], ◌∷◌, ◌++◌, Bool, not, length, nat_lt, if◌then◌else◌, Option, Some, None, option_map, option_and_then, is_some, Result, Ok, Err}
-use Rattle.std.specs.List.{list_any}
+use Rattle.std.specs.Prelude.{◌+◌, ◌≤◌, ◌==◌, ◌&&◌, ◌||◌, ℕ, List, [], ◌∷◌, ◌++◌, Bool, not, length, nat_lt, if◌then◌else◌, Option, Some, None, option_map, option_and_then, is_some, Result, Ok, Err}
+use Rattle.std.specs.List.{AllByRecursion, list_any}
 use Rattle.std.specs.Str.{bytes_eq}
 use Rattle.csv.specs.Reading.{default_config, records_from, strip_bom}
 use Rattle.csv.specs.declared.parser.State.TheVariants as st
@@ -25,6 +25,10 @@ pub record Table : Type 0 where
   pub pool : Option ℕ
   pub wants : List Prewarm
   pub programs : List (List ℕ × List ℕ)
+
+-- the memory of each container that is wanted ahead is one that an action may have
+abbrev pub AreWantsSized : List Prewarm → Type 0
+AreWantsSized wants = AllByRecursion (λ w. (128 ≤ w.memory) × (w.memory ≤ 512)) wants
 
 -- before the first row
 abbrev pub no_rows : Table

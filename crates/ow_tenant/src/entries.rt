@@ -1,13 +1,14 @@
 // What the table says of a namespace and of a key.
-ghost use Rattle.std.specs.Prelude.{◌≡◌};
+ghost use Rattle.std.specs.Prelude.{◌≡◌, map, IfOk};
 ghost use Rattle.ow_tenant.specs.Rights.{has_right};
-ghost use Rattle.ow_tenant.specs.Tenants.{rights_in};
+ghost use Rattle.ow_tenant.specs.Tenants.{name_value, rights_in};
 
 use crate::by_text::ByText;
 use crate::limits::NamespaceLimits;
 use crate::rights::{Right, Rights};
+use crate::tenants::names_of;
 use ow_names::EntityName;
-use ow_value::{NoMemory, PlainData, Str};
+use ow_value::{NoMemory, PlainData, Str, Vals};
 use std::alloc::Global;
 
 /// What a row says of a namespace.
@@ -37,6 +38,15 @@ impl Holder {
             Some(rights) => rights.has(right),
             None => false,
         }
+    }
+}
+
+impl Holder {
+    /// The names of the namespaces in which the key has a right, in the order of their bytes.
+    pub fn granted(&self, alloc: Global) -> Result<Vals, NoMemory>
+        ensures { IfOk result (λ names. names ≡ map name_value self.now.rights) }
+    {
+        names_of(alloc, self.rights.entries())
     }
 }
 

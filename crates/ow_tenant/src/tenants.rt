@@ -3,7 +3,7 @@ ghost use Rattle.std.specs.Prelude.{◌≡◌, ◌<◌, ◌≤◌, length, map, 
 ghost use Rattle.std.specs.Option.{option_copied};
 ghost use Rattle.ow_traits.specs.Streams.{Rose};
 ghost use Rattle.ow_tenant.specs.Reading.{TellsTable};
-ghost use Rattle.ow_tenant.specs.Table.{no_rows};
+ghost use Rattle.ow_tenant.specs.Table.{AreWantsSized, no_rows};
 ghost use Rattle.ow_tenant.specs.Tenants.{Knows, granted_names, holder_at, holder_of, limits_of, may, name_value, number_of, pool_of};
 
 use crate::by_text::ByText;
@@ -54,6 +54,7 @@ impl Tenants {
     /// Reads the table from the source, to its end. It is CSV without a header.
     pub fn read<S: Source>(alloc: Global, source: &mut S) -> Result<Tenants, TenantRefusal>
         ensures told { TellsTable (S.left source.old) (S.left source.new) result }
+        ensures sized { IfOk result (λ t. AreWantsSized t.wants) }
         ensures later { S.faults source.old ≤ S.faults source.new }
         ensures cause { result ≡ Err TenantRefusal.ReadFault → Rose (S.faults source.old) (S.faults source.new) }
     {
@@ -176,7 +177,7 @@ impl Tenants {
         requires { key.place < length self.now.keys }
         ensures { IfOk result (λ names. Some names ≡ granted_names self.now key.place) }
     {
-        names_of(alloc, self.holder(key).rights.entries())
+        self.holder(key).granted(alloc)
     }
 
     /// The table of a service that is given none: no namespace and no key.
@@ -232,8 +233,8 @@ impl PlainData for Tenants {
     }
 }
 
-// The names, as texts.
-fn names_of(alloc: Global, rights: &[(Str, Rights)]) -> Result<Vals, NoMemory>
+/// The names, as texts.
+pub(crate) fn names_of(alloc: Global, rights: &[(Str, Rights)]) -> Result<Vals, NoMemory>
     ensures { IfOk result (λ names. names ≡ map name_value rights.now) }
 {
     let mut names = Vec::new(alloc);
