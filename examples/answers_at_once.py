@@ -14,7 +14,7 @@ ECHO = "/whisk.system/utils/echo"
 ID = "00000000000000000000000000000001"
 STATEMENTS = [
     (f'call {ECHO} {{"a":1}}', f"accepted {ID}"),
-    ("next", f"run 1 {ID}"),
+    ("next", f"run 1 {ID} slot 0 gen 1 cold"),
     ("next", "nothing empty"),
     ("drain", "open 1"),
     ('answer 1 {"a":1}', f"recorded {ID} 0"),

@@ -2,6 +2,7 @@
 
     python3 examples/make_day.py > examples/actions.day
     python3 examples/make_day.py blocking > examples/blocking.day
+    python3 examples/make_day.py packages > examples/packages.day
 
 Each request is counted in bytes, with its head's lines ended by CR LF. Standard library only.
 """
@@ -12,9 +13,9 @@ import sys
 HOST = ["Host: localhost:3233", "User-Agent: curl/8.5.0", "Accept: */*"]
 
 
-def request(method, path, body=None, of="actions"):
+def request(method, path, body=None, of="actions", at="_"):
     """The bytes of a request, with the headers that curl sends."""
-    head = [f"{method} /api/v1/namespaces/_/{of}{path} HTTP/1.1", *HOST]
+    head = [f"{method} /api/v1/namespaces/{at}/{of}{path} HTTP/1.1", *HOST]
     data = b""
     if body is not None:
         data = json.dumps(body, separators=(",", ":")).encode()
@@ -22,9 +23,9 @@ def request(method, path, body=None, of="actions"):
     return "\r\n".join([*head, "", ""]).encode() + data
 
 
-def ask(method, path, body=None, of="actions"):
+def ask(method, path, body=None, of="actions", at="_"):
     """The statement that asks by a request: its length, a newline, its bytes and a newline."""
-    data = request(method, path, body, of)
+    data = request(method, path, body, of, at)
     return b"ask %d\n%s\n" % (len(data), data)
 
 
@@ -38,6 +39,18 @@ def hello():
     cases = {"cases": [{"when": {}, "give": {"greeting": "Hello"}}]}
     code = json.dumps(cases, separators=(",", ":"))
     return {"exec": {"kind": "plain:1", "code": code}}
+
+
+def every():
+    """An action that gives back all that it is given."""
+    cases = {"cases": [{"when": {}, "give": {"$all": True}}]}
+    code = json.dumps(cases, separators=(",", ":"))
+    return {"exec": {"kind": "plain:1", "code": code}}
+
+
+def pairs(**values):
+    """Parameters, as a body gives them."""
+    return [{"key": name, "value": value} for name, value in values.items()]
 
 
 # An action is put, called from beginning to end, and taken away.
@@ -61,6 +74,7 @@ ACTIONS = [
 # The ids of the first activations of the namespace guest.
 FIRST = "00000000000000010000000000000001"
 SECOND = "00000000000000010000000000000002"
+THIRD = "00000000000000010000000000000003"
 
 # An action is called by requests that wait for its result: the service runs it itself, and the result is collected. The
 # second run is replied to by hand, with a line of logs.
@@ -83,7 +97,35 @@ BLOCKING = [
     say("end"),
 ]
 
-DAYS = {"actions": ACTIONS, "blocking": BLOCKING}
+# An action in a package is called through a binding of the package, with the parameters of both, and the shared package of the
+# service is read and called from another namespace.
+PACKAGES = [
+    ask("PUT", "/greetings", {"parameters": pairs(greeting="Hello", name="you")}, of="packages"),
+    ask("PUT", "/greetings/hello", every()),
+    ask("PUT", "/mine", {"binding": {"namespace": "_", "name": "greetings"}, "parameters": pairs(name="Anna")}, of="packages"),
+    ask("GET", "/mine", of="packages"),
+    ask("GET", "/mine/hello"),
+    say('call /guest/mine/hello {"mark":"!"}'),
+    say("turn"),
+    ask("GET", f"/{FIRST}", of="activations"),
+    ask("POST", "/mine/hello?blocking=true&result=true", {"greeting": "Welcome"}),
+    say("turn"),
+    say(f"collect {SECOND}"),
+    ask("GET", "/utils", of="packages", at="whisk.system"),
+    ask("POST", "/utils/echo?blocking=true&result=true", {"a": 1}, at="whisk.system"),
+    say("turn"),
+    say(f"collect {THIRD}"),
+    ask("PUT", "/mine/other", every()),
+    ask("DELETE", "/greetings", of="packages"),
+    ask("DELETE", "/greetings/hello"),
+    ask("DELETE", "/greetings", of="packages"),
+    ask("GET", "/mine", of="packages"),
+    say("call /guest/mine/hello {}"),
+    say("drain"),
+    say("end"),
+]
+
+DAYS = {"actions": ACTIONS, "blocking": BLOCKING, "packages": PACKAGES}
 
 if __name__ == "__main__":
     name = sys.argv[1] if len(sys.argv) > 1 else "actions"

@@ -235,7 +235,15 @@ fn record(
 ) -> Result<Box<Record>, Fail> {
     boxed(
         alloc,
-        record_of(alloc, &mut Scratch::new(alloc), task, ending, started, at),
+        record_of(
+            alloc,
+            &mut Scratch::new(alloc),
+            task,
+            ending,
+            started,
+            None,
+            at,
+        ),
     )
 }
 

@@ -7,7 +7,7 @@ use Rattle.ow_records.specs.declared.record.Record.{Record}
 use Rattle.ow_records.specs.declared.activations.Activation.{Activation}
 use Rattle.ow_floor.specs.declared.runs.Run.{Run}
 use Rattle.ow_floor.specs.View.{is_end_of}
-use Rattle.ow_floor.specs.Trace.{Trace, Item, End, Opened, Accepted, Ordered, Begun, Answered, Lost, Gone, Ended, Swept, Drained, Reopened, accepted, accepted_after, carrier, end_of, ends, ends_after, record_of, recorded, records, records_after, standing_by}
+use Rattle.ow_floor.specs.Trace.{Trace, Item, End, Opened, Accepted, Ordered, Prewarming, Removed, Begun, Answered, Lost, Gone, Ended, Swept, Drained, Reopened, accepted, accepted_after, carrier, end_of, ends, ends_after, record_of, recorded, records, records_after, standing_by}
 use Rattle.ow_floor.specs.Laws.{IsSound, times}
 use Rattle.ow_floor.proofs.Tallies.{times_once}
 use Rattle.ow_tenant.specs.Queue.{with_one}
@@ -32,7 +32,9 @@ by_items P start accepts ends_one other [] = start
 by_items P start accepts ends_one other (Accepted a ∷ T) = accepts a T (by_items P start accepts ends_one other T)
 by_items P start accepts ends_one other (Ended e ∷ T) = ends_one e T (by_items P start accepts ends_one other T)
 by_items P start accepts ends_one other (Opened pool wants ∷ T) = other (Opened pool wants) T (record { accepted = λ xs. refl; ends = λ es. refl; records = λ rs. refl; notes = λ ns. refl }) (by_items P start accepts ends_one other T)
-by_items P start accepts ends_one other (Ordered run ∷ T) = other (Ordered run) T (record { accepted = λ xs. refl; ends = λ es. refl; records = λ rs. refl; notes = λ ns. refl }) (by_items P start accepts ends_one other T)
+by_items P start accepts ends_one other (Ordered run key ∷ T) = other (Ordered run key) T (record { accepted = λ xs. refl; ends = λ es. refl; records = λ rs. refl; notes = λ ns. refl }) (by_items P start accepts ends_one other T)
+by_items P start accepts ends_one other (Prewarming order at ∷ T) = other (Prewarming order at) T (record { accepted = λ xs. refl; ends = λ es. refl; records = λ rs. refl; notes = λ ns. refl }) (by_items P start accepts ends_one other T)
+by_items P start accepts ends_one other (Removed containers at ∷ T) = other (Removed containers at) T (record { accepted = λ xs. refl; ends = λ es. refl; records = λ rs. refl; notes = λ ns. refl }) (by_items P start accepts ends_one other T)
 by_items P start accepts ends_one other (Begun run at ∷ T) = other (Begun run at) T (record { accepted = λ xs. refl; ends = λ es. refl; records = λ rs. refl; notes = λ ns. refl }) (by_items P start accepts ends_one other T)
 by_items P start accepts ends_one other (Answered run alive at ∷ T) = other (Answered run alive at) T (record { accepted = λ xs. refl; ends = λ es. refl; records = λ rs. refl; notes = λ ns. refl }) (by_items P start accepts ends_one other T)
 by_items P start accepts ends_one other (Lost run at ∷ T) = other (Lost run at) T (record { accepted = λ xs. refl; ends = λ es. refl; records = λ rs. refl; notes = λ ns. refl }) (by_items P start accepts ends_one other T)

@@ -2,7 +2,6 @@
 use Rattle.std.proofs.Common.{◌≡◌, ◌≤◌, ℕ, pos, Bool, true, false, List, [], ◌∷◌, Result, Ok, Err, refl, ap, ◌∙◌, arith, take}
 use Rattle.std.proofs.Math.Nat.{le-max_left, max-le, min-le_right}
 use Rattle.ow_floor.specs.declared.answers.Idle.{Idle}
-use Rattle.ow_floor.specs.declared.answers.Order.{Order}
 use Rattle.ow_floor.specs.declared.answers.Order.TheVariants as orders
 use Rattle.ow_http.specs.declared.http_refusal.HttpRefusal.{HttpRefusal}
 use Rattle.ow_http.specs.declared.reason.Reason.{Reason}
@@ -20,16 +19,16 @@ use Rattle.ow_decide.specs.declared.events.Told.TheVariants as told
 use Rattle.ow_decide.specs.declared.replies.HallCollected.TheVariants as collected
 use Rattle.ow_decide.specs.declared.replies.Called.TheVariants as called
 use Rattle.ow_decide.specs.declared.tenants.Tenants.{Tenants}
-use Rattle.ow_invoker.specs.Plain.{PlainGives}
-use Rattle.ow_invoker.specs.Turns.{Exchange, Follows, IsTurn}
+use Rattle.ow_invoker.specs.Turns.{Exchange}
 use Rattle.ow_day.specs.declared.call_words.CallWords.{CallWords}
 use Rattle.ow_day.specs.declared.call_words.CallWords.TheVariants as calls
 use Rattle.ow_day.specs.declared.done.Done.{Done}
 use Rattle.ow_day.specs.CallWords.{called as words_of}
-use Rattle.ow_day.specs.Statement.{Statement, At, Call, Ask, Next, Answer, Logged, Exit, NoStart, Fault, Turn, Collect, Drain, End}
+use Rattle.ow_day.specs.Statement.{Statement, At, Call, Ask, Next, Begun, Answer, Logged, Exit, NoStart, Fault, Lost, Gone, Sweep, Turn, Collect, Drain, End}
 use Rattle.ow_day.specs.Machine.{Machine, Asks, Calls, CarriesOut, Does, Exchanges, ExchangesAll, Meets, done_of, start}
 use Rattle.ow_day.specs.Day.{day_of}
 use Rattle.ow_day.specs.Office.{HasLegalBooks}
+use Rattle.ow_day.proofs.Turning.{NoneOpens, turn_opens}
 
 abbrev HasLegalBook : Machine → Type 0
 HasLegalBook M = IsLegal M.tenants M.ledger.entries
@@ -43,7 +42,11 @@ opens_so (events.Opened rows) B b later = cc
 opens_so (events.Asked r) B b later = refl
 opens_so (events.Called name params) B b later = refl
 opens_so events.Next B b later = refl
+opens_so (events.Begun run) B b later = refl
 opens_so (events.Answered run reply) B b later = refl
+opens_so (events.Lost run) B b later = refl
+opens_so (events.Gone slot generation) B b later = refl
+opens_so events.Sweep B b later = refl
 opens_so (events.Collected id) B b later = refl
 opens_so events.Drain B b later = refl
 
@@ -80,9 +83,14 @@ posted_so t L at event (told.Full reply) n = n.legal
 posted_so t L at event (told.Called (called.Happened happened)) n = booked t L.entries _ n (n.is, refl, n.late, n.most, n.legal.answered)
 posted_so t L at event (told.Called (called.Refused reason)) n = refused_so t L at event reason (tells_full reason) refl n
 posted_so t L at event (told.Next (orders.Run order)) n = booked t L.entries _ n (n.is, refl, n.late, n.most, n.legal.answered)
+posted_so t L at event (told.Next (orders.Prewarm order)) n = booked t L.entries _ n (n.is, refl, n.late, n.most, n.legal.answered)
+posted_so t L at event (told.Next (orders.Remove containers)) n = booked t L.entries _ n (n.is, refl, n.late, n.most, n.legal.answered)
 posted_so t L at event (told.Next (orders.Nothing idle)) n = idle_so t L at event idle (is_idle L.entries) refl n
 posted_so t L at event (told.Answered answered) n = booked t L.entries _ n (n.is, refl, n.late, n.most, n.legal.answered)
 posted_so t L at event (told.NoRun run reply) n = n.legal
+posted_so t L at event told.Done n = booked t L.entries _ n (n.is, refl, n.late, n.most, n.legal.answered)
+posted_so t L at event (told.Refused refusal) n = n.legal
+posted_so t L at event (told.Swept swept) n = booked t L.entries _ n (n.is, refl, n.late, n.most, n.legal.answered)
 posted_so t L at event (told.Collected (collected.Reply answer)) n = booked t L.entries _ n (n.is, refl, n.late, n.most, n.legal.answered)
 posted_so t L at event (told.Collected collected.NotYet) n = n.legal
 posted_so t L at event (told.Collected collected.Unknown) n = n.legal
@@ -91,7 +99,7 @@ posted_so t L at event (told.Drain drain) n = booked t L.entries _ n (n.is, refl
 -- ---- the book behind a statement
 
 met : (M N : Machine) (event : Event) (done : Done) → is_opening event ≡ false → Meets M event done N → HasLegalBook M → HasLegalBook N
-met M N event done later (t, before, after, is, given, (told_is, ledger, tenants, holds)) legal =
+met M N event done later (t, before, after, is, given, shelf, (told_is, ledger, tenants, holds)) legal =
     let L = M.ledger in
     let most : moment L.entries M.given ≤ greatest_moment = max-le (newest_small M.tenants L.entries legal.answered) (min-le_right M.given greatest_moment) in
     rw (tenants, ledger) (posted_so M.tenants L (moment L.entries M.given) event t
@@ -99,18 +107,13 @@ met M N event done later (t, before, after, is, given, (told_is, ledger, tenants
 
 -- ---- turns
 
+-- an event as the hall meets it in a statement: the containers are those of before
 exchanged : (M N : Machine) (x : Exchange) → is_opening x.event ≡ false → Exchanges M x N → HasLegalBook M → HasLegalBook N
-exchanged M N x later (before, after, given, comes) legal = met M N x.event (done_of x.answer) later (x.answer, before, after, refl, given, comes) legal
+exchanged M N x later (before, after, given, comes) legal = met M (record N { shelf = M.shelf }) x.event (done_of x.answer) later (x.answer, before, after, refl, given, refl, comes) legal
 
-run_so : (M N : Machine) (order : Order) (xs : List Exchange) → Follows PlainGives 0 0 order xs → ExchangesAll M xs N → HasLegalBook M → HasLegalBook N
-run_so M N order [] follows same legal = rw same legal
-run_so M N (orders.Nothing why) (x ∷ xs) none all legal = let never : x ∷ xs ≡ [] = none in cc
-run_so M N (orders.Run order) (x ∷ []) (carried, none) (K, first, same) legal = rw same (exchanged M K x (ap is_opening carried.event) first legal)
-run_so M N (orders.Run order) (x ∷ y ∷ ys) (carried, none) all legal = let never : y ∷ ys ≡ [] = none in cc
-
-turned_so : (M N : Machine) (order : Order) (xs : List Exchange) → IsTurn PlainGives 0 0 order xs → ExchangesAll M xs N → HasLegalBook M → HasLegalBook N
-turned_so M N order [] never all legal = absurd never
-turned_so M N order (x ∷ xs) (is, follows) (K, first, rest) legal = run_so K N order xs follows rest (exchanged M K x (ap (λ (e : Exchange). is_opening e.event) is) first legal)
+turned_so : (M N : Machine) (xs : List Exchange) → NoneOpens xs → ExchangesAll M xs N → HasLegalBook M → HasLegalBook N
+turned_so M N [] none same legal = rw same legal
+turned_so M N (x ∷ xs) (later, none) (K, first, rest) legal = turned_so K N xs none rest (exchanged M K x later first legal)
 
 -- ---- statements
 
@@ -127,13 +130,17 @@ done_so M N (At moment) done (is, same) legal = rw same legal
 done_so M N (Call name text) done does legal = called_so M N (words_of (is_full (counted M.ledger.entries) 0) name text) done does legal
 done_so M N (Ask bytes) done (read, is, asks) legal = asked_so M N read done asks legal
 done_so M N Next done meets legal = met M N events.Next done refl meets legal
+done_so M N (Begun run) done meets legal = met M N (events.Begun run) done refl meets legal
 done_so M N (Answer run text) done meets legal = met M N (events.Answered run (runs.Answer text [])) done refl meets legal
 done_so M N (Logged run text logs) done meets legal = met M N (events.Answered run (runs.Answer text logs)) done refl meets legal
 done_so M N (Exit run code) done meets legal = met M N (events.Answered run (runs.Exit (pos code) [])) done refl meets legal
 done_so M N (NoStart run text) done meets legal = met M N (events.Answered run (runs.NoStart text)) done refl meets legal
 done_so M N (Fault run) done meets legal = met M N (events.Answered run runs.Fault) done refl meets legal
+done_so M N (Lost run) done meets legal = met M N (events.Lost run) done refl meets legal
+done_so M N (Gone slot generation) done meets legal = met M N (events.Gone slot generation) done refl meets legal
+done_so M N Sweep done meets legal = met M N events.Sweep done refl meets legal
 done_so M N (Collect id) done meets legal = met M N (events.Collected id) done refl meets legal
-done_so M N Turn done (turned, is, t) legal = turned_so M N turned.order t.exchanges t.turn t.met legal
+done_so M N Turn done (turned, is, t) legal = turned_so M N t.exchanges (turn_opens M.shelf turned.order t.exchanges N.shelf t.turn) t.met legal
 done_so M N Drain done meets legal = met M N events.Drain done refl meets legal
 done_so M N End done (is, same) legal = rw same legal
 

@@ -18,7 +18,9 @@ pub mod Statements
 pub mod Carrying
 pub mod Meeting
 pub mod Objects
+pub mod Pushing
 pub mod SoFar
 pub mod Runs
 pub mod Ended
+pub mod Turning
 pub mod Legal

@@ -1,5 +1,5 @@
 -- What is read as a line was written as one.
-use Rattle.std.proofs.Common.{◌≡◌, ℕ, ◌==◌, ◌<◌, ◌≤◌, ◌^◌, Bool, true, false, nat_lt, List, ◌∷◌, ◌++◌, length, codes, Option, Some, None, if◌then◌else◌, refl, sym, ap, ◌∙◌, subst}
+use Rattle.std.proofs.Common.{◌≡◌, ℕ, ◌==◌, ◌<◌, ◌≤◌, ◌^◌, Bool, true, false, nat_lt, List, ◌∷◌, ◌++◌, length, codes, Option, Some, None, if◌then◌else◌, refl, sym, ap, ◌∙◌, arith, subst}
 use Rattle.std.specs.Fmt.{decimal}
 use Rattle.std.specs.Str.{bytes_eq, is_utf8, IsUtf8}
 use Rattle.std.proofs.lemmas.List.Elements.{All-tail}
@@ -11,7 +11,7 @@ use Rattle.ow_hall.specs.History.{greatest_moment}
 use Rattle.ow_records.specs.declared.ids.Id.{Id}
 use Rattle.ow_day.specs.Ids.{id_of}
 use Rattle.ow_day.specs.Limits.{most_line}
-use Rattle.ow_day.specs.Statement.{Statement, At, Call, Next, Answer, Exit, NoStart, Fault, Turn, Collect, Drain, End, Reading, Whole, Asks, Logs, answer_in, answer_of, answered, ask_of, asks_for, at_moment, at_of, call_in, call_of, called, collect_of, collected, exit_in, exit_of, exited, failed, fault_of, line_of, logged, logged_in, logged_of, logs_in, no_start_in, no_start_of, numbered, numbered_in, parted, reply_of, unstarted, with_number, worded, worded_in}
+use Rattle.ow_day.specs.Statement.{Statement, At, Call, Next, Begun, Answer, Exit, NoStart, Fault, Lost, Gone, Sweep, Turn, Collect, Drain, End, Reading, Whole, Asks, Logs, answer_in, answer_of, answered, ask_of, asks_for, at_moment, at_of, begun, begun_of, call_in, call_of, called, collect_of, collected, container_of, exit_in, exit_of, exited, failed, fault_of, gone, gone_in, gone_of, line_of, logged, logged_in, logged_of, logs_in, lost, lost_of, no_start_in, no_start_of, numbered, numbered_in, parted, reply_of, unstarted, with_number, worded, worded_in}
 use Rattle.ow_day.specs.Printed.{HasNo, IsLineText, IsPrintable, IsWord, logs_head, printed}
 use Rattle.ow_day.proofs.Choices.{either, fits_by, if_later, some_by}
 use Rattle.ow_day.proofs.Identifying.{id_known}
@@ -179,6 +179,51 @@ fault_written : (rest : List ℕ) (r : Reading) → fault_of rest ≡ Some r →
 unfolding fault_of
 fault_written rest r e = fault_by rest (decimal_of rest) r refl e
 
+-- ---- `begun`, `lost` and `gone`
+
+begun_by : (rest : List ℕ) (o : Option ℕ) (r : Reading) → decimal_of rest ≡ o → begun o ≡ Some r → IsWritten (codes "begun " ++ rest) r
+unfolding printed
+begun_by rest None r is e = absurd (none-some r e)
+begun_by rest (Some run) r is e =
+    let k = decimal_read rest run is in
+    subst (λ s. IsWritten (codes "begun " ++ rest) s) (same_Some (Whole (Begun run)) r e) (k.0, ap (λ d. codes "begun " ++ d) (sym k.1))
+
+begun_written : (rest : List ℕ) (r : Reading) → begun_of rest ≡ Some r → IsWritten (codes "begun " ++ rest) r
+unfolding begun_of
+begun_written rest r e = begun_by rest (decimal_of rest) r refl e
+
+lost_by : (rest : List ℕ) (o : Option ℕ) (r : Reading) → decimal_of rest ≡ o → lost o ≡ Some r → IsWritten (codes "lost " ++ rest) r
+unfolding printed
+lost_by rest None r is e = absurd (none-some r e)
+lost_by rest (Some run) r is e =
+    let k = decimal_read rest run is in
+    subst (λ s. IsWritten (codes "lost " ++ rest) s) (same_Some (Whole (Lost run)) r e) (k.0, ap (λ d. codes "lost " ++ d) (sym k.1))
+
+lost_written : (rest : List ℕ) (r : Reading) → lost_of rest ≡ Some r → IsWritten (codes "lost " ++ rest) r
+unfolding lost_of
+lost_written rest r e = lost_by rest (decimal_of rest) r refl e
+
+gone_pair : (slot : ℕ) (rest digits : List ℕ) (o : Option ℕ) (r : Reading) → decimal_of digits ≡ o → rest ≡ decimal slot ++ 32 ∷ digits → gone slot o ≡ Some r → IsWritten (codes "gone " ++ rest) r
+unfolding printed
+gone_pair slot rest digits None r is at e = absurd (none-some r e)
+gone_pair slot rest digits (Some generation) r is at e =
+    let small = if_later (nat_lt 4294967295 slot) _ r e in
+    let few = if_later (nat_lt 4294967295 generation) _ r small.1 in
+    let slot_fits : slot ≤ 4294967295 = fits_by 4294967295 slot small.0 in
+    let fits : generation ≤ 4294967295 = fits_by 4294967295 generation few.0 in
+    let same : codes "gone " ++ rest ≡ printed (Gone slot generation) = ap (λ t. codes "gone " ++ t) (at ∙ ap (λ t. decimal slot ++ 32 ∷ t) (sym (decimal_read digits generation is).1)) in
+    subst (λ s. IsWritten (codes "gone " ++ rest) s) (same_Some (Whole (Gone slot generation)) r few.1) ((omega arith, omega arith), same)
+
+gone_by : (rest : List ℕ) (o : Option (ℕ × List ℕ)) (r : Reading) → numbered rest ≡ o → gone_in o ≡ Some r → IsWritten (codes "gone " ++ rest) r
+gone_by rest None r is e = absurd (none-some r e)
+gone_by rest (Some parts) r is e =
+    let k = number_known rest parts.1 parts.0 is in
+    gone_pair parts.0 rest parts.1 (decimal_of parts.1) r refl k.1 e
+
+gone_written : (rest : List ℕ) (r : Reading) → gone_of rest ≡ Some r → IsWritten (codes "gone " ++ rest) r
+unfolding gone_of
+gone_written rest r e = gone_by rest (numbered rest) r refl e
+
 -- ---- `at` and `ask`
 
 at_by : (rest : List ℕ) (o : Option ℕ) (r : Reading) → decimal_of rest ≡ o → at_moment o ≡ Some r → IsWritten (codes "at " ++ rest) r
@@ -226,6 +271,14 @@ word_is word known rest r is fits written =
     let same = (bytes_eq-Decides word known).0 is in
     subst (λ w. IsWritten (w ++ 32 ∷ rest) r) (sym same) (written (subst (λ w. length (w ++ 32 ∷ rest) ≤ most_line) same fits))
 
+container_written : (word rest : List ℕ) (r : Reading) → length (word ++ 32 ∷ rest) ≤ most_line → container_of word rest ≡ Some r → IsWritten (word ++ 32 ∷ rest) r
+unfolding container_of
+container_written word rest r fits e =
+    either (bytes_eq word (codes "begun")) _ _ _ e (λ is e. word_is word (codes "begun") rest r is fits (λ _. begun_written rest r e)) (λ _ e.
+    either (bytes_eq word (codes "lost")) _ _ _ e (λ is e. word_is word (codes "lost") rest r is fits (λ _. lost_written rest r e)) (λ _ e.
+    either (bytes_eq word (codes "gone")) _ _ _ e (λ is e. word_is word (codes "gone") rest r is fits (λ _. gone_written rest r e)) (λ _ e.
+    absurd (none-some r e))))
+
 reply_written : (word rest : List ℕ) (r : Reading) → HasNo 10 rest → length (word ++ 32 ∷ rest) ≤ most_line → reply_of word rest ≡ Some r → IsWritten (word ++ 32 ∷ rest) r
 unfolding reply_of
 reply_written word rest r none fits e =
@@ -233,7 +286,7 @@ reply_written word rest r none fits e =
     either (bytes_eq word (codes "exit")) _ _ _ e (λ is e. word_is word (codes "exit") rest r is fits (λ _. exit_written rest r e)) (λ _ e.
     either (bytes_eq word (codes "nostart")) _ _ _ e (λ is e. word_is word (codes "nostart") rest r is fits (λ fits. no_start_written rest r none fits e)) (λ _ e.
     either (bytes_eq word (codes "fault")) _ _ _ e (λ is e. word_is word (codes "fault") rest r is fits (λ _. fault_written rest r e)) (λ _ e.
-    absurd (none-some r e)))))
+    container_written word rest r fits e))))
 
 worded_written : (word rest : List ℕ) (r : Reading) → HasNo 10 rest → length (word ++ 32 ∷ rest) ≤ most_line → worded word rest ≡ Some r → IsWritten (word ++ 32 ∷ rest) r
 unfolding worded
@@ -262,6 +315,7 @@ line_written line r none e =
     either (nat_lt most_line (length line)) _ _ _ e (λ _ e. absurd (none-some r e)) (λ short e.
     either (bytes_eq line (codes "next")) _ _ _ e (λ is e. only_word line Next r is e tt) (λ _ e.
     either (bytes_eq line (codes "turn")) _ _ _ e (λ is e. only_word line Turn r is e tt) (λ _ e.
+    either (bytes_eq line (codes "sweep")) _ _ _ e (λ is e. only_word line Sweep r is e tt) (λ _ e.
     either (bytes_eq line (codes "drain")) _ _ _ e (λ is e. only_word line Drain r is e tt) (λ _ e.
     either (bytes_eq line (codes "end")) _ _ _ e (λ is e. only_word line End r is e tt) (λ _ e.
-    words_by line (parted line) r refl none (fits_by most_line (length line) short) e)))))
+    words_by line (parted line) r refl none (fits_by most_line (length line) short) e))))))

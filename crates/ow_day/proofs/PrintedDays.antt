@@ -4,7 +4,7 @@ use Rattle.std.specs.List.{All}
 use Rattle.std.proofs.lemmas.List.{take_all}
 use Rattle.std.proofs.lemmas.List.Elements.{All-head, All-tail}
 use Rattle.ow_day.specs.Limits.{most_bytes}
-use Rattle.ow_day.specs.Statement.{Statement, At, Call, Ask, Next, Answer, Logged, Exit, NoStart, Fault, Turn, Collect, Drain, End}
+use Rattle.ow_day.specs.Statement.{Statement, At, Call, Ask, Next, Begun, Answer, Logged, Exit, NoStart, Fault, Lost, Gone, Sweep, Turn, Collect, Drain, End}
 use Rattle.ow_day.specs.Day.{Day, Finished, day_from, day_step, going_on, has_more, window}
 use Rattle.ow_day.specs.Printed.{DayIsReadBack, IsPrintable, before_end, printed, printed_day}
 use Rattle.ow_day.proofs.Choices.{is_short}
@@ -19,11 +19,15 @@ one_more (At moment) ss = refl
 one_more (Call name text) ss = refl
 one_more (Ask request) ss = refl
 one_more Next ss = refl
+one_more (Begun run) ss = refl
 one_more (Answer run text) ss = refl
 one_more (Logged run text logs) ss = refl
 one_more (Exit run code) ss = refl
 one_more (NoStart run text) ss = refl
 one_more (Fault run) ss = refl
+one_more (Lost run) ss = refl
+one_more (Gone slot generation) ss = refl
+one_more Sweep ss = refl
 one_more (Collect id) ss = refl
 one_more Turn ss = refl
 one_more Drain ss = refl

@@ -8,7 +8,7 @@ use Rattle.std.proofs.lemmas.List.{get_or_at}
 use Rattle.std.proofs.lemmas.Str.{is_utf8-from_IsUtf8}
 use Rattle.ow_hall.specs.History.{greatest_moment}
 use Rattle.ow_day.specs.Limits.{most_line}
-use Rattle.ow_day.specs.Statement.{Statement, At, Call, Ask, Next, Answer, Logged, Exit, NoStart, Fault, Turn, Collect, Drain, End, Whole, Asks, Logs, answer_of, ask_of, at_of, call_of, collect_of, exit_of, fault_of, line_of, logged_of, no_start_of, numbered, reply_of, utf8_text, worded}
+use Rattle.ow_day.specs.Statement.{Statement, At, Call, Ask, Next, Begun, Answer, Logged, Exit, NoStart, Fault, Lost, Gone, Sweep, Turn, Collect, Drain, End, Whole, Asks, Logs, answer_of, ask_of, at_of, begun_of, call_of, collect_of, container_of, exit_of, fault_of, gone_of, line_of, logged_of, lost_of, no_start_of, numbered, reply_of, utf8_text, worded}
 use Rattle.ow_day.specs.Day.{Found, asked, behind_line, first_statement, lines_in, logged}
 use Rattle.ow_day.specs.Printed.{EndsInByte, IsLineText, IsPrintable, IsReadBack, IsWord, logs_head, printed, printed_logs}
 use Rattle.ow_day.proofs.Choices.{is_apart, is_short}
@@ -60,6 +60,19 @@ fault_back : (run : ℕ) → run < 2 ^ 64 → fault_of (decimal run) ≡ Some (W
 unfolding fault_of
 fault_back run small = rw (decimal_of-decimal run small) refl
 
+begun_back : (run : ℕ) → run < 2 ^ 64 → begun_of (decimal run) ≡ Some (Whole (Begun run))
+unfolding begun_of
+begun_back run small = rw (decimal_of-decimal run small) refl
+
+lost_back : (run : ℕ) → run < 2 ^ 64 → lost_of (decimal run) ≡ Some (Whole (Lost run))
+unfolding lost_of
+lost_back run small = rw (decimal_of-decimal run small) refl
+
+gone_back : (slot generation : ℕ) → slot < 2 ^ 32 → generation < 2 ^ 32 → gone_of (decimal slot ++ 32 ∷ decimal generation) ≡ Some (Whole (Gone slot generation))
+unfolding gone_of
+gone_back slot generation small few =
+    rw (numbered_back slot (decimal generation) (omega arith), decimal_of-decimal generation (omega arith), is_short 4294967295 slot (omega arith), is_short 4294967295 generation (omega arith)) refl
+
 at_back : (moment : ℕ) → moment ≤ greatest_moment → at_of (decimal moment) ≡ Some (Whole (At moment))
 unfolding at_of
 at_back moment most = rw (decimal_of-decimal moment (omega arith), is_short greatest_moment moment most) refl
@@ -105,6 +118,18 @@ collect_line rest fits = rw (is_short most_line (length (codes "collect " ++ res
 fault_line : (rest : List ℕ) → length (codes "fault " ++ rest) ≤ most_line → line_of (codes "fault " ++ rest) ≡ fault_of rest
 unfolding line_of worded reply_of
 fault_line rest fits = rw (is_short most_line (length (codes "fault " ++ rest)) fits, parted_word (codes "fault") rest refl) refl
+
+begun_line : (rest : List ℕ) → length (codes "begun " ++ rest) ≤ most_line → line_of (codes "begun " ++ rest) ≡ begun_of rest
+unfolding line_of worded reply_of container_of
+begun_line rest fits = rw (is_short most_line (length (codes "begun " ++ rest)) fits, parted_word (codes "begun") rest refl) refl
+
+lost_line : (rest : List ℕ) → length (codes "lost " ++ rest) ≤ most_line → line_of (codes "lost " ++ rest) ≡ lost_of rest
+unfolding line_of worded reply_of container_of
+lost_line rest fits = rw (is_short most_line (length (codes "lost " ++ rest)) fits, parted_word (codes "lost") rest refl) refl
+
+gone_line : (rest : List ℕ) → length (codes "gone " ++ rest) ≤ most_line → line_of (codes "gone " ++ rest) ≡ gone_of rest
+unfolding line_of worded reply_of container_of
+gone_line rest fits = rw (is_short most_line (length (codes "gone " ++ rest)) fits, parted_word (codes "gone") rest refl) refl
 
 -- ---- a line and the bytes behind it
 
@@ -209,6 +234,36 @@ fault_run_back run small =
     (omega arith)
     (fault_line (decimal run) (omega arith) ∙ fault_back run small)
 
+begun_run_back : (run : ℕ) → run < 2 ^ 64 → IsReadBack (Begun run)
+unfolding printed
+begun_run_back run small =
+    let short : length (decimal run) ≤ 20 = length-decimal-le 20 run (omega arith) (omega arith) (omega arith) in
+    whole_back (Begun run)
+    (none_in_both 10 (codes "begun ") (decimal run) refl (none_in_decimal 10 run (omega arith) small))
+    (omega arith)
+    (begun_line (decimal run) (omega arith) ∙ begun_back run small)
+
+lost_run_back : (run : ℕ) → run < 2 ^ 64 → IsReadBack (Lost run)
+unfolding printed
+lost_run_back run small =
+    let short : length (decimal run) ≤ 20 = length-decimal-le 20 run (omega arith) (omega arith) (omega arith) in
+    whole_back (Lost run)
+    (none_in_both 10 (codes "lost ") (decimal run) refl (none_in_decimal 10 run (omega arith) small))
+    (omega arith)
+    (lost_line (decimal run) (omega arith) ∙ lost_back run small)
+
+gone_slot_back : (slot generation : ℕ) → slot < 2 ^ 32 → generation < 2 ^ 32 → IsReadBack (Gone slot generation)
+unfolding printed
+gone_slot_back slot generation small few =
+    let short : length (decimal slot) ≤ 10 = length-decimal-le 10 slot (omega arith) (omega arith) (omega arith) in
+    let short_generation : length (decimal generation) ≤ 10 = length-decimal-le 10 generation (omega arith) (omega arith) (omega arith) in
+    let fits : length (codes "gone " ++ (decimal slot ++ 32 ∷ decimal generation)) ≤ most_line = omega (arith, length-append (decimal slot) (32 ∷ decimal generation)) in
+    whole_back (Gone slot generation)
+    (none_in_both 10 (codes "gone ") (decimal slot ++ 32 ∷ decimal generation) refl
+    (none_in_both 10 (decimal slot) (32 ∷ decimal generation) (none_in_decimal 10 slot (omega arith) (omega arith)) (none_in_both 10 (codes " ") (decimal generation) refl (none_in_decimal 10 generation (omega arith) (omega arith)))))
+    fits
+    (gone_line (decimal slot ++ 32 ∷ decimal generation) fits ∙ gone_back slot generation small few)
+
 id_read_back : (id : Id) → id.namespace < 2 ^ 64 → id.count < 2 ^ 64 → IsReadBack (Collect id)
 unfolding printed
 id_read_back id small few =
@@ -257,11 +312,15 @@ read_back (At moment) can = moment_back moment can
 read_back (Call name text) can = words_back name text can
 read_back (Ask request) can = request_back request can
 read_back Next can = whole_back Next refl (omega arith) refl
+read_back (Begun run) can = begun_run_back run can
 read_back (Answer run text) can = reply_back run text can
 read_back (Logged run text logs) can = logs_back run text logs can
 read_back (Exit run code) can = code_back run code can.0 can.1
 read_back (NoStart run text) can = no_start_text_back run text can
 read_back (Fault run) can = fault_run_back run can
+read_back (Lost run) can = lost_run_back run can
+read_back (Gone slot generation) can = gone_slot_back slot generation can.0 can.1
+read_back Sweep can = whole_back Sweep refl (omega arith) refl
 read_back (Collect id) can = id_read_back id can.0 can.1
 read_back Turn can = whole_back Turn refl (omega arith) refl
 read_back Drain can = whole_back Drain refl (omega arith) refl

@@ -7,7 +7,7 @@ use Rattle.std.proofs.lemmas.Bool.Decides.{nat_tests}
 use Rattle.std.proofs.lemmas.List.{drop_more, take-append-drop}
 use Rattle.std.proofs.lemmas.List.Elements.{All-cons, All-nil}
 use Rattle.ow_day.specs.Limits.{most_line}
-use Rattle.ow_day.specs.Statement.{Statement, At, Call, Ask, Next, Answer, Logged, Exit, NoStart, Fault, Turn, Collect, Drain, End, Reading, Whole, Asks, Logs, line_of}
+use Rattle.ow_day.specs.Statement.{Statement, At, Call, Ask, Next, Begun, Answer, Logged, Exit, NoStart, Fault, Lost, Gone, Sweep, Turn, Collect, Drain, End, Reading, Whole, Asks, Logs, line_of}
 use Rattle.ow_day.specs.Day.{Day, First, Found, Wrong, Cut, Lines, LinesAre, NoLines, CutLines, lines_in, logged, asked, at_end, behind_line, day_from, day_of, day_step, first_in, first_statement, going_on, has_more, line_at, window}
 use Rattle.ow_day.specs.Printed.{HasNo, IsLogLine, IsPrintable, IsPrintedAt, logs_head, printed, printed_logs}
 use Rattle.ow_day.proofs.Choices.{either}
@@ -174,11 +174,15 @@ goes_on (At moment) day can rest = All-cons IsPrintable (At moment) day.statemen
 goes_on (Call name text) day can rest = All-cons IsPrintable (Call name text) day.statements can rest
 goes_on (Ask request) day can rest = All-cons IsPrintable (Ask request) day.statements can rest
 goes_on Next day can rest = All-cons IsPrintable Next day.statements can rest
+goes_on (Begun run) day can rest = All-cons IsPrintable (Begun run) day.statements can rest
 goes_on (Answer run text) day can rest = All-cons IsPrintable (Answer run text) day.statements can rest
 goes_on (Logged run text logs) day can rest = All-cons IsPrintable (Logged run text logs) day.statements can rest
 goes_on (Exit run code) day can rest = All-cons IsPrintable (Exit run code) day.statements can rest
 goes_on (NoStart run text) day can rest = All-cons IsPrintable (NoStart run text) day.statements can rest
 goes_on (Fault run) day can rest = All-cons IsPrintable (Fault run) day.statements can rest
+goes_on (Lost run) day can rest = All-cons IsPrintable (Lost run) day.statements can rest
+goes_on (Gone slot generation) day can rest = All-cons IsPrintable (Gone slot generation) day.statements can rest
+goes_on Sweep day can rest = All-cons IsPrintable Sweep day.statements can rest
 goes_on (Collect id) day can rest = All-cons IsPrintable (Collect id) day.statements can rest
 goes_on Turn day can rest = All-cons IsPrintable Turn day.statements can rest
 goes_on Drain day can rest = All-cons IsPrintable Drain day.statements can rest

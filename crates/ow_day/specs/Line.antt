@@ -4,7 +4,7 @@ use Rattle.ow_day.specs.declared.line.Statement as code
 use Rattle.ow_day.specs.declared.line.Statement.TheVariants as statements
 use Rattle.ow_day.specs.declared.line.Line.{Line}
 use Rattle.ow_day.specs.declared.line.Line.TheVariants as lines
-use Rattle.ow_day.specs.Statement.{Statement, At, Call, Ask, Next, Answer, Logged, Exit, NoStart, Fault, Turn, Collect, Drain, End, Reading, Whole, Asks, Logs}
+use Rattle.ow_day.specs.Statement.{Statement, At, Call, Ask, Next, Begun, Answer, Logged, Exit, NoStart, Fault, Lost, Gone, Sweep, Turn, Collect, Drain, End, Reading, Whole, Asks, Logs}
 use Rattle.ow_day.specs.Day.{Lines, LinesAre, NoLines, CutLines, lines_in}
 
 abbrev pub read_lines : Lines → List (List ℕ)
@@ -21,11 +21,15 @@ statement (statements.At moment) = At moment
 statement (statements.Call name text) = Call name.now text.now
 statement (statements.Ask request) = Ask request.now
 statement statements.Next = Next
+statement (statements.Begun run) = Begun run
 statement (statements.Answer run text) = Answer run text.now
 statement (statements.Logged run text count logs) = Logged run text.now (lines_of count logs.now)
 statement (statements.Exit run code) = Exit run code
 statement (statements.NoStart run text) = NoStart run text.now
 statement (statements.Fault run) = Fault run
+statement (statements.Lost run) = Lost run
+statement (statements.Gone slot generation) = Gone slot generation
+statement statements.Sweep = Sweep
 statement (statements.Collect id) = Collect id
 statement statements.Turn = Turn
 statement statements.Drain = Drain

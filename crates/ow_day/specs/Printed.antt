@@ -6,7 +6,7 @@ use Rattle.std.specs.Str.{IsUtf8}
 use Rattle.ow_records.specs.Id.{id_text}
 use Rattle.ow_hall.specs.History.{greatest_moment}
 use Rattle.ow_day.specs.Limits.{most_line}
-use Rattle.ow_day.specs.Statement.{Statement, At, Call, Ask, Next, Answer, Logged, Exit, NoStart, Fault, Turn, Collect, Drain, End}
+use Rattle.ow_day.specs.Statement.{Statement, At, Call, Ask, Next, Begun, Answer, Logged, Exit, NoStart, Fault, Lost, Gone, Sweep, Turn, Collect, Drain, End}
 use Rattle.ow_day.specs.Day.{Finished, Found, first_statement, day_of}
 
 -- the lines of logs, each with a newline in front
@@ -24,11 +24,15 @@ printed (At moment) = codes "at " ++ decimal moment
 printed (Call name text) = codes "call " ++ (name ++ (codes " " ++ text))
 printed (Ask request) = codes "ask " ++ (decimal (length request) ++ (codes "\n" ++ request))
 printed Next = codes "next"
+printed (Begun run) = codes "begun " ++ decimal run
 printed (Answer run text) = codes "answer " ++ (decimal run ++ (codes " " ++ text))
 printed (Logged run text logs) = logs_head run (length logs) text ++ printed_logs logs
 printed (Exit run code) = codes "exit " ++ (decimal run ++ (codes " " ++ decimal code))
 printed (NoStart run text) = codes "nostart " ++ (decimal run ++ (codes " " ++ text))
 printed (Fault run) = codes "fault " ++ decimal run
+printed (Lost run) = codes "lost " ++ decimal run
+printed (Gone slot generation) = codes "gone " ++ (decimal slot ++ (codes " " ++ decimal generation))
+printed Sweep = codes "sweep"
 printed (Collect id) = codes "collect " ++ id_text id
 printed Turn = codes "turn"
 printed Drain = codes "drain"
@@ -64,11 +68,15 @@ IsPrintable (At moment) = moment ≤ greatest_moment
 IsPrintable (Call name text) = IsWord name × IsLineText text × (length (printed (Call name text)) ≤ most_line)
 IsPrintable (Ask request) = length request ≤ most_line
 IsPrintable Next = Unit {0}
+IsPrintable (Begun run) = run < 2 ^ 64
 IsPrintable (Answer run text) = (run < 2 ^ 64) × IsLineText text × (length (printed (Answer run text)) ≤ most_line)
 IsPrintable (Logged run text logs) = (run < 2 ^ 64) × (length logs < 2 ^ 64) × IsLineText text × (length (logs_head run (length logs) text) ≤ most_line) × All IsLogLine logs
 IsPrintable (Exit run code) = (run < 2 ^ 64) × (code ≤ 255)
 IsPrintable (NoStart run text) = (run < 2 ^ 64) × IsLineText text × (length (printed (NoStart run text)) ≤ most_line)
 IsPrintable (Fault run) = run < 2 ^ 64
+IsPrintable (Lost run) = run < 2 ^ 64
+IsPrintable (Gone slot generation) = (slot < 2 ^ 32) × (generation < 2 ^ 32)
+IsPrintable Sweep = Unit {0}
 IsPrintable (Collect id) = (id.namespace < 2 ^ 64) × (id.count < 2 ^ 64)
 IsPrintable Turn = Unit {0}
 IsPrintable Drain = Unit {0}

@@ -1,10 +1,11 @@
 -- What a statement does to a session.
-use Rattle.std.specs.Prelude.{◌≡◌, ◌++◌, ℕ, List, Result, IfOk}
+use Rattle.std.specs.Prelude.{◌≡◌, ◌++◌, ℕ, List, Result, Ok, Err, IfOk}
 use Rattle.ow_value.specs.declared.memory.NoMemory.{NoMemory as Want}
 use Rattle.ow_floor.specs.declared.answers.AnswerRefusal.{AnswerRefusal}
 use Rattle.ow_floor.specs.declared.answers.AnswerRefusal.TheVariants as refusals
+use Rattle.ow_floor.specs.declared.answers.FloorRefusal.{FloorRefusal}
 use Rattle.ow_day.specs.declared.done.Done.{Done}
-use Rattle.ow_day.specs.declared.done.Done.TheVariants.{NoRun}
+use Rattle.ow_day.specs.declared.done.Done.TheVariants.{NoRun, Taken, Denied}
 use Rattle.ow_day.specs.declared.session.Session.{Session}
 use Rattle.ow_day.specs.declared.session.Step.{Step}
 use Rattle.ow_day.specs.declared.session.Step.TheVariants as steps
@@ -14,12 +15,17 @@ use Rattle.ow_day.specs.Texts.{lines_of}
 
 -- the machine that a session of the code is
 abbrev pub machine_of : {P : Type 0} → Session P → Machine
-machine_of s = record { tenants = s.hall.tenants; ledger = s.hall.ledger; given = s.given }
+machine_of s = record { tenants = s.hall.tenants; ledger = s.hall.ledger; given = s.given; shelf = s.shelf }
 
 -- why a runner's reply isn't taken: no live run has its number, or memory is wanted
 abbrev pub Denies : AnswerRefusal → Result Done Want → Type 0
 Denies (refusals.NoRun run reply) result = IfOk result (λ done. done ≡ NoRun run)
 Denies (refusals.NoMemory reply) result = IfOk result (λ done. ⊥)
+
+-- what is told of a container was taken, or why not
+abbrev pub told_of : Result (Unit {0}) FloorRefusal → Done
+told_of (Ok taken) = Taken
+told_of (Err refusal) = Denied refusal
 
 -- a statement was carried out, and its lines stand behind what was written before
 abbrev pub Performs : {P : Type 0} → Session P → Session P → Statement → List ℕ → List ℕ → Type 0

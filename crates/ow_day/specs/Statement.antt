@@ -12,11 +12,15 @@ pub data Statement : Type 0 where
   Call : (name text : List ℕ) → Statement
   Ask : (request : List ℕ) → Statement
   Next : Statement
+  Begun : (run : ℕ) → Statement
   Answer : (run : ℕ) (text : List ℕ) → Statement
   Logged : (run : ℕ) (text : List ℕ) (logs : List (List ℕ)) → Statement
   Exit : (run code : ℕ) → Statement
   NoStart : (run : ℕ) (text : List ℕ) → Statement
   Fault : (run : ℕ) → Statement
+  Lost : (run : ℕ) → Statement
+  Gone : (slot generation : ℕ) → Statement
+  Sweep : Statement
   Collect : (id : Id) → Statement
   Turn : Statement
   Drain : Statement
@@ -129,6 +133,35 @@ failed (Some run) = Some (Whole (Fault run))
 unfoldable pub fault_of : List ℕ → Option Reading
 fault_of rest = failed (decimal_of rest)
 
+abbrev pub begun : Option ℕ → Option Reading
+begun None = None
+begun (Some run) = Some (Whole (Begun run))
+
+-- `begun RUN`
+unfoldable pub begun_of : List ℕ → Option Reading
+begun_of rest = begun (decimal_of rest)
+
+abbrev pub lost : Option ℕ → Option Reading
+lost None = None
+lost (Some run) = Some (Whole (Lost run))
+
+-- `lost RUN`
+unfoldable pub lost_of : List ℕ → Option Reading
+lost_of rest = lost (decimal_of rest)
+
+abbrev pub gone : ℕ → Option ℕ → Option Reading
+gone slot None = None
+gone slot (Some generation) = if nat_lt 4294967295 slot then None
+    else (if nat_lt 4294967295 generation then None else Some (Whole (Gone slot generation)))
+
+abbrev pub gone_in : Option (ℕ × List ℕ) → Option Reading
+gone_in None = None
+gone_in (Some parts) = gone parts.0 (decimal_of parts.1)
+
+-- `gone SLOT GENERATION`: each a number of 32 bits
+unfoldable pub gone_of : List ℕ → Option Reading
+gone_of rest = gone_in (numbered rest)
+
 abbrev pub at_moment : Option ℕ → Option Reading
 at_moment None = None
 at_moment (Some moment) = if nat_lt greatest_moment moment then None else Some (Whole (At moment))
@@ -153,12 +186,18 @@ collected (Some id) = Some (Whole (Collect id))
 unfoldable pub collect_of : List ℕ → Option Reading
 collect_of rest = collected (id_of rest)
 
+-- the line that tells of a container
+unfoldable pub container_of : List ℕ → List ℕ → Option Reading
+container_of word rest = if bytes_eq word (codes "begun") then begun_of rest
+    else (if bytes_eq word (codes "lost") then lost_of rest
+    else (if bytes_eq word (codes "gone") then gone_of rest else None))
+
 -- the line of another reply of a runner
 unfoldable pub reply_of : List ℕ → List ℕ → Option Reading
 reply_of word rest = if bytes_eq word (codes "logged") then logged_of rest
     else (if bytes_eq word (codes "exit") then exit_of rest
     else (if bytes_eq word (codes "nostart") then no_start_of rest
-    else (if bytes_eq word (codes "fault") then fault_of rest else None)))
+    else (if bytes_eq word (codes "fault") then fault_of rest else container_of word rest)))
 
 -- the line that begins with this word, and goes on with the rest
 unfoldable pub worded : List ℕ → List ℕ → Option Reading
@@ -177,6 +216,7 @@ unfoldable pub line_of : List ℕ → Option Reading
 line_of line = if nat_lt most_line (length line) then None
     else (if bytes_eq line (codes "next") then Some (Whole Next)
     else (if bytes_eq line (codes "turn") then Some (Whole Turn)
+    else (if bytes_eq line (codes "sweep") then Some (Whole Sweep)
     else (if bytes_eq line (codes "drain") then Some (Whole Drain)
     else (if bytes_eq line (codes "end") then Some (Whole End)
-    else worded_in (parted line)))))
+    else worded_in (parted line))))))

@@ -1,10 +1,21 @@
 -- The lines that answer statements.
 use Rattle.std.specs.Prelude.{◌++◌, ℕ, List, [], ◌∷◌, codes, length}
 use Rattle.std.specs.Fmt.{decimal}
+use Rattle.ow_traits.specs.declared.replies.Kind.{Kind}
+use Rattle.ow_traits.specs.declared.replies.Kind.TheVariants.{Plain, Program}
+use Rattle.ow_slots.specs.declared.keys.Start.{Start}
+use Rattle.ow_slots.specs.declared.keys.Start.TheVariants.{Warm, Prewarmed, Cold}
 use Rattle.ow_records.specs.Id.{id_text}
+use Rattle.ow_floor.specs.declared.answers.Container.{Container}
+use Rattle.ow_floor.specs.declared.answers.PrewarmOrder.{PrewarmOrder}
 use Rattle.ow_floor.specs.declared.answers.RunOrder.{RunOrder}
 use Rattle.ow_floor.specs.declared.answers.Order.{Order}
-use Rattle.ow_floor.specs.declared.answers.Order.TheVariants.{Run, Nothing}
+use Rattle.ow_floor.specs.declared.answers.Order.TheVariants.{Run, Prewarm, Remove, Nothing}
+use Rattle.ow_floor.specs.declared.answers.Idle.{Idle}
+use Rattle.ow_floor.specs.declared.answers.Idle.TheVariants.{Empty, NoRoom}
+use Rattle.ow_floor.specs.declared.answers.FloorRefusal.{FloorRefusal}
+use Rattle.ow_floor.specs.declared.answers.FloorRefusal.TheVariants as refusals
+use Rattle.ow_floor.specs.declared.answers.Swept.{Swept}
 use Rattle.ow_floor.specs.declared.answers.Happening.{Happening}
 use Rattle.ow_floor.specs.declared.answers.Happening.TheVariants.{Accepted, Recorded}
 use Rattle.ow_floor.specs.declared.answers.Answered.{Answered}
@@ -37,13 +48,45 @@ abbrev pub happenings_text : List Happening → List ℕ
 happenings_text [] = []
 happenings_text (h ∷ hs) = happening_text h ++ happenings_text hs
 
-abbrev pub run_text : RunOrder → List ℕ
-run_text order = codes "run " ++ (decimal order.run ++ (codes " " ++ (id_text order.id ++ codes "\n")))
+-- where a container is
+abbrev pub place_text : ℕ → ℕ → List ℕ
+place_text slot generation = codes " slot " ++ (decimal slot ++ (codes " gen " ++ decimal generation))
 
--- what is to run
+-- from which container a run starts
+abbrev pub start_text : Start → List ℕ
+start_text Warm = codes " warm\n"
+start_text Prewarmed = codes " prewarmed\n"
+start_text Cold = codes " cold\n"
+
+abbrev pub run_text : RunOrder → List ℕ
+run_text order = codes "run " ++ (decimal order.run ++ (codes " " ++ (id_text order.id ++ (place_text order.slot order.generation ++ start_text order.start))))
+
+-- the runner that a container is for
+abbrev pub kind_text : Kind → List ℕ
+kind_text Plain = codes " plain:1"
+kind_text Program = codes " program:1"
+
+abbrev pub prewarm_text : PrewarmOrder → List ℕ
+prewarm_text order = codes "prewarm " ++ (decimal order.run ++ (place_text order.slot order.generation ++ (kind_text order.kind ++ (codes " " ++ (decimal order.memory ++ codes "\n")))))
+
+abbrev pub container_text : Container → List ℕ
+container_text c = codes " " ++ (decimal c.slot ++ (codes ":" ++ decimal c.generation))
+
+abbrev pub containers_text : List Container → List ℕ
+containers_text [] = []
+containers_text (c ∷ cs) = container_text c ++ containers_text cs
+
+-- why nothing is to be done
+abbrev pub idle_text : Idle → List ℕ
+idle_text Empty = codes "nothing empty\n"
+idle_text NoRoom = codes "nothing no room\n"
+
+-- what is to be done
 abbrev pub order_text : Order → List ℕ
 order_text (Run order) = run_text order
-order_text (Nothing idle) = codes "nothing empty\n"
+order_text (Prewarm order) = prewarm_text order
+order_text (Remove containers) = codes "remove" ++ (containers_text containers ++ codes "\n")
+order_text (Nothing idle) = idle_text idle
 
 -- a refusal
 abbrev pub refused_text : Reason → List ℕ
@@ -52,6 +95,16 @@ refused_text reason = codes "refused " ++ (decimal (number_of reason) ++ (codes 
 -- a runner's reply to a number that no live run has
 abbrev pub no_run_text : ℕ → List ℕ
 no_run_text run = codes "refused 29 No run " ++ (decimal run ++ codes ".\n")
+
+-- why what is told of a container isn't taken
+abbrev pub denied_text : FloorRefusal → List ℕ
+denied_text (refusals.NoRun run) = no_run_text run
+denied_text (refusals.NoSlot slot kept) = codes "refused 28 No slot " ++ (decimal slot ++ (codes " of that generation: " ++ (decimal kept ++ codes " kept.\n")))
+denied_text refusals.NotFound = codes "refused 14 The resource does not exist.\n"
+
+-- what a sweep did
+abbrev pub swept_text : Swept → List ℕ
+swept_text swept = happenings_text swept.happened ++ (codes "swept " ++ (decimal swept.late ++ codes "\n"))
 
 -- what a run carried had ended before, at this moment
 abbrev pub late_text : ℕ → ℕ → List ℕ
@@ -111,6 +164,9 @@ lines_of (done.Called called) = called_text called
 lines_of (done.Ordered order) = order_text order
 lines_of (done.Answered answered) = answered_text answered
 lines_of (done.NoRun run) = no_run_text run
+lines_of done.Taken = codes "ok\n"
+lines_of (done.Denied refusal) = denied_text refusal
+lines_of (done.Swept swept) = swept_text swept
 lines_of (done.Collected collected) = collected_text collected
 lines_of (done.Turned turned) = turned_text turned
 lines_of (done.Drained drain) = drain_text drain

@@ -1,6 +1,6 @@
 // What comes of statements.
 use ow_decide::{Called, HallCollected, Reply};
-use ow_floor::{Answered, Drain, Order};
+use ow_floor::{Answered, Drain, FloorRefusal, Order, Swept};
 use ow_http::Reason;
 use ow_invoker::Turned;
 
@@ -15,14 +15,20 @@ pub enum Done {
     Asked(Reply),
     /// What became of a call.
     Called(Called),
-    /// What is to run.
+    /// What is to be done.
     Ordered(Order),
-    /// What was to run in a turn, and what came of it.
+    /// What was to be done in a turn, and what came of it.
     Turned(Turned),
     /// What became of a runner's reply.
     Answered(Answered),
     /// No live run has the number to which a runner replies.
     NoRun(u64),
+    /// What is told of a container was taken.
+    Taken,
+    /// Why it was not.
+    Denied(FloorRefusal),
+    /// What a sweep did.
+    Swept(Swept),
     /// What is answered of an activation that is collected.
     Collected(HallCollected),
     /// Whether all that was accepted has ended.

@@ -1,7 +1,7 @@
 // The lines of a day, and the statements that they are.
 ghost use Rattle.std.specs.Prelude.{◌≡◌, ◌==◌, position};
 ghost use Rattle.std.specs.Option.{option_map};
-ghost use Rattle.ow_day.specs.Statement.{answer_of, ask_of, at_of, call_of, collect_of, exit_of, fault_of, line_of, logged_of, no_start_of, numbered, parted, reply_of, utf8_text, worded};
+ghost use Rattle.ow_day.specs.Statement.{answer_of, ask_of, at_of, begun_of, call_of, collect_of, container_of, exit_of, fault_of, gone_of, line_of, logged_of, lost_of, no_start_of, numbered, parted, reply_of, utf8_text, worded};
 ghost use Rattle.ow_day.specs.Line.{reading};
 
 use crate::ids::id_of;
@@ -15,6 +15,9 @@ pub const LONGEST_LINE: usize = 8_388_608;
 /// The most bytes of a request.
 const MOST_ASKED: u64 = 8_388_608;
 
+/// The greatest number of a slot, and of a generation.
+const GREATEST_OF_SLOT: u64 = 4_294_967_295;
+
 /// A statement, its words and its request lent from the day.
 #[derive(Clone, Copy)]
 pub enum Statement<'a> {
@@ -24,8 +27,10 @@ pub enum Statement<'a> {
     Call(&'a str, &'a str),
     /// A request of these bytes.
     Ask(&'a [u8]),
-    /// What has waited longest is ordered to run.
+    /// A runner asks what is to be done.
     Next,
+    /// The container of the run of this number is up.
+    Begun(u64),
     /// A runner's answer to the run of this number.
     Answer(u64, &'a str),
     /// The same, with so many lines of logs at the front of these bytes.
@@ -36,9 +41,15 @@ pub enum Statement<'a> {
     NoStart(u64, &'a str),
     /// The runner of the run of this number failed.
     Fault(u64),
+    /// No reply to the run of this number comes any more.
+    Lost(u64),
+    /// The container in the slot of this number, of this generation, is gone.
+    Gone(u32, u32),
+    /// What has run longer than it may is ended.
+    Sweep,
     /// The answer to the request that waits for the activation of this id.
     Collect(Id),
-    /// What has waited longest is ordered to run, run and replied to.
+    /// What is to be done is done, and told.
     Turn,
     /// No more calls are taken from now on.
     Drain,
@@ -70,6 +81,9 @@ pub fn line_of(line: &[u8]) -> Option<Line<'_>>
     }
     if line == b"turn".as_slice() {
         return Some(Line::Whole(Statement::Turn));
+    }
+    if line == b"sweep".as_slice() {
+        return Some(Line::Whole(Statement::Sweep));
     }
     if line == b"drain".as_slice() {
         return Some(Line::Whole(Statement::Drain));
@@ -120,6 +134,23 @@ fn reply_of<'a>(word: &[u8], rest: &'a [u8]) -> Option<Line<'a>>
     }
     if word == b"fault".as_slice() {
         return fault_of(rest);
+    }
+    container_of(word, rest)
+}
+
+// The line that tells of a container.
+#[tactic(auto, unfolding(crate::specs::Statement::container_of))]
+fn container_of<'a>(word: &[u8], rest: &'a [u8]) -> Option<Line<'a>>
+    ensures { option_map reading result ≡ container_of word.now rest.now }
+{
+    if word == b"begun".as_slice() {
+        return begun_of(rest);
+    }
+    if word == b"lost".as_slice() {
+        return lost_of(rest);
+    }
+    if word == b"gone".as_slice() {
+        return gone_of(rest);
     }
     None
 }
@@ -183,6 +214,37 @@ fn fault_of(rest: &[u8]) -> Option<Line<'_>>
 {
     let run = decimal_of(rest)?;
     Some(Line::Whole(Statement::Fault(run)))
+}
+
+#[tactic(auto, unfolding(crate::specs::Statement::begun_of))]
+fn begun_of(rest: &[u8]) -> Option<Line<'_>>
+    ensures { option_map reading result ≡ begun_of rest.now }
+{
+    let run = decimal_of(rest)?;
+    Some(Line::Whole(Statement::Begun(run)))
+}
+
+#[tactic(auto, unfolding(crate::specs::Statement::lost_of))]
+fn lost_of(rest: &[u8]) -> Option<Line<'_>>
+    ensures { option_map reading result ≡ lost_of rest.now }
+{
+    let run = decimal_of(rest)?;
+    Some(Line::Whole(Statement::Lost(run)))
+}
+
+#[tactic(auto, unfolding(crate::specs::Statement::gone_of))]
+fn gone_of(rest: &[u8]) -> Option<Line<'_>>
+    ensures { option_map reading result ≡ gone_of rest.now }
+{
+    let (slot, generation) = numbered(rest)?;
+    let generation = decimal_of(generation)?;
+    if slot > GREATEST_OF_SLOT {
+        return None;
+    }
+    if generation > GREATEST_OF_SLOT {
+        return None;
+    }
+    Some(Line::Whole(Statement::Gone(slot as u32, generation as u32)))
 }
 
 #[tactic(auto, unfolding(crate::specs::Statement::collect_of))]

@@ -5,7 +5,7 @@ ghost use Rattle.ow_http.specs.Read.{IsRead};
 ghost use Rattle.ow_traits.specs.declared.replies.RunReply.TheVariants as replies;
 ghost use Rattle.ow_day.specs.Line.{lines_of, statement};
 ghost use Rattle.ow_day.specs.Machine.{Calls, Does, Meets, start, unread};
-ghost use Rattle.ow_day.specs.Session.{CarriesOut, Denies, machine_of};
+ghost use Rattle.ow_day.specs.Session.{CarriesOut, Denies, machine_of, told_of};
 ghost use Rattle.ow_day.specs.Statement.{Answer, Ask, At, Call, Exit, Fault, Logged, NoStart, Turn};
 
 use crate::call_words::{CallWords, call_words};
@@ -14,7 +14,7 @@ use crate::line::Statement;
 use crate::logs::lines_of;
 use crate::texts::push_done;
 use ow_decide::Reply;
-use ow_floor::AnswerRefusal;
+use ow_floor::{AnswerRefusal, FloorRefusal};
 use ow_hall::Hall;
 use ow_http::{HttpRefusal, Reason, Request, Routes, refusal};
 use ow_invoker::{PlainContainer, PlainRunner, Shelf, day_turn};
@@ -106,6 +106,7 @@ impl<P: Keeper + Drop> Session<P> {
             Statement::Call(name, text) => self.call(alloc, name, text),
             Statement::Ask(request) => self.ask(alloc, request),
             Statement::Next => self.next(alloc),
+            Statement::Begun(run) => Ok(self.begun(run)),
             Statement::Answer(run, text) => self.answer(alloc, run, text),
             Statement::Logged(run, text, count, logs) => {
                 self.logged(alloc, run, text, count, logs)
@@ -113,6 +114,9 @@ impl<P: Keeper + Drop> Session<P> {
             Statement::Exit(run, code) => self.exit(alloc, run, code),
             Statement::NoStart(run, text) => self.no_start(alloc, run, text),
             Statement::Fault(run) => self.reply(alloc, run, RunReply::Fault),
+            Statement::Lost(run) => Ok(self.lost(run)),
+            Statement::Gone(slot, generation) => Ok(self.gone(slot, generation)),
+            Statement::Sweep => self.sweep(alloc),
             Statement::Collect(id) => self.collect(alloc, id),
             Statement::Turn => self.turn(alloc),
             Statement::Drain => self.drain(alloc),
@@ -232,6 +236,35 @@ impl<P: Keeper + Drop> Session<P> {
         }
     }
 
+    fn begun(&mut self, run: u64) -> Done
+        ensures meets { Meets (machine_of self.old) (events.Begun run) result (machine_of self.new) }
+        ensures store { self.new.hall.store ≡ self.old.hall.store }
+    {
+        told_of(self.hall.begun(self.given, run))
+    }
+
+    fn lost(&mut self, run: u64) -> Done
+        ensures meets { Meets (machine_of self.old) (events.Lost run) result (machine_of self.new) }
+        ensures store { self.new.hall.store ≡ self.old.hall.store }
+    {
+        told_of(self.hall.lost(self.given, run))
+    }
+
+    fn gone(&mut self, slot: u32, generation: u32) -> Done
+        ensures meets { Meets (machine_of self.old) (events.Gone slot generation) result (machine_of self.new) }
+        ensures store { self.new.hall.store ≡ self.old.hall.store }
+    {
+        told_of(self.hall.gone(self.given, slot, generation))
+    }
+
+    fn sweep(&mut self, alloc: Global) -> Result<Done, NoMemory>
+        ensures meets { IfOk result (λ done. Meets (machine_of self.old) events.Sweep done (machine_of self.new)) }
+        ensures store { self.new.hall.store ≡ self.old.hall.store }
+    {
+        let swept = self.hall.sweep(alloc, self.given)?;
+        Ok(Done::Swept(swept))
+    }
+
     fn collect(&mut self, alloc: Global, id: Id) -> Result<Done, NoMemory>
         ensures meets { IfOk result (λ done. Meets (machine_of self.old) (events.Collected id) done (machine_of self.new)) }
         ensures store { self.new.hall.store ≡ self.old.hall.store }
@@ -297,6 +330,16 @@ fn exited(code: u8) -> RunReply
     let code = i32::from(code);
     let logs = Lines::new();
     RunReply::Exit { code, logs }
+}
+
+// What is told of a container was taken, or why not.
+fn told_of(told: Result<(), FloorRefusal>) -> Done
+    ensures { result ≡ told_of told }
+{
+    match told {
+        Ok(()) => Done::Taken,
+        Err(refusal) => Done::Denied(refusal),
+    }
 }
 
 // Why a runner's reply isn't taken.

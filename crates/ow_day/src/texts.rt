@@ -2,15 +2,20 @@
 ghost use Rattle.std.specs.Prelude.{◌≡◌, ◌++◌, OnOk, codes};
 ghost use Rattle.std.specs.Fmt.{decimal};
 ghost use Rattle.ow_records.specs.Id.{id_text};
-ghost use Rattle.ow_day.specs.Texts.{answered_text, asked_text, called_text, collected_text, drain_text, happening_text, happenings_text, late_text, lines_of, no_run_text, order_text, refused_text, reply_text, run_text, step_text, steps_text, turned_text};
+ghost use Rattle.ow_day.specs.Texts.{answered_text, asked_text, called_text, collected_text, container_text, containers_text, denied_text, drain_text, happening_text, happenings_text, idle_text, kind_text, late_text, lines_of, no_run_text, order_text, place_text, prewarm_text, refused_text, reply_text, run_text, start_text, step_text, steps_text, swept_text, turned_text};
 
 use crate::done::Done;
 use itoa::Buffer;
 use ow_decide::{Called, HallCollected, Reply};
-use ow_floor::{Answered, Drain, Happened, Happening, Order, RunOrder};
+use ow_floor::{
+    Answered, Container, Drain, FloorRefusal, Happened, Happening, Idle, Order, PrewarmOrder,
+    RunOrder, Swept,
+};
 use ow_http::{Answer, Reason, reason_text, write_reply};
 use ow_invoker::{TurnStep, Turned};
 use ow_records::Id;
+use ow_slots::Start;
+use ow_traits::Kind;
 use ow_value::NoMemory;
 use std::alloc::Global;
 
@@ -26,6 +31,9 @@ pub fn push_done(alloc: Global, answers: &mut Vec<u8>, done: &Done) -> Result<()
         Done::Ordered(order) => push_order(answers, order),
         Done::Answered(answered) => push_answered(answers, answered),
         Done::NoRun(run) => push_no_run(answers, *run),
+        Done::Taken => push(answers, b"ok\n"),
+        Done::Denied(refusal) => push_denied(answers, *refusal),
+        Done::Swept(swept) => push_swept(answers, swept),
         Done::Collected(collected) => push_collected(alloc, answers, collected),
         Done::Turned(turned) => push_turned(answers, turned),
         Done::Drained(drain) => push_drain(answers, *drain),
@@ -81,18 +89,88 @@ fn push_order(answers: &mut Vec<u8>, order: &Order) -> Result<(), NoMemory>
 {
     match order {
         Order::Run(order) => push_run(answers, order),
-        Order::Nothing(_) => push(answers, b"nothing empty\n"),
+        Order::Prewarm(order) => push_prewarm(answers, *order),
+        Order::Remove(containers) => push_removal(answers, containers.as_slice()),
+        Order::Nothing(idle) => push_idle(answers, *idle),
+    }
+}
+
+fn push_idle(answers: &mut Vec<u8>, idle: Idle) -> Result<(), NoMemory>
+    ensures ok { OnOk result (answers.new.items ≡ answers.old.items ++ idle_text idle) }
+{
+    match idle {
+        Idle::Empty => push(answers, b"nothing empty\n"),
+        Idle::NoRoom => push(answers, b"nothing no room\n"),
     }
 }
 
 fn push_run(answers: &mut Vec<u8>, order: &RunOrder) -> Result<(), NoMemory>
     ensures ok { OnOk result (answers.new.items ≡ answers.old.items ++ run_text order.now) }
 {
-    push(answers, b"run ")?;
-    push_number(answers, order.run)?;
-    push(answers, b" ")?;
+    push_with(answers, b"run ", order.run, b" ")?;
     order.id.push_text(answers)?;
+    push_place(answers, order.slot, order.generation)?;
+    push_start(answers, order.start)
+}
+
+// Puts where a container is.
+fn push_place(answers: &mut Vec<u8>, slot: u32, generation: u32) -> Result<(), NoMemory>
+    ensures ok { OnOk result (answers.new.items ≡ answers.old.items ++ place_text slot generation) }
+{
+    push_with(answers, b" slot ", u64::from(slot), b" gen ")?;
+    push_number(answers, u64::from(generation))
+}
+
+fn push_start(answers: &mut Vec<u8>, start: Start) -> Result<(), NoMemory>
+    ensures ok { OnOk result (answers.new.items ≡ answers.old.items ++ start_text start) }
+{
+    match start {
+        Start::Warm => push(answers, b" warm\n"),
+        Start::Prewarmed => push(answers, b" prewarmed\n"),
+        Start::Cold => push(answers, b" cold\n"),
+    }
+}
+
+fn push_prewarm(answers: &mut Vec<u8>, order: PrewarmOrder) -> Result<(), NoMemory>
+    ensures ok { OnOk result (answers.new.items ≡ answers.old.items ++ prewarm_text order) }
+{
+    push_with(answers, b"prewarm ", order.run, b"")?;
+    push_place(answers, order.slot, order.generation)?;
+    push_kind(answers, order.kind)?;
+    push_counted(answers, b" ", u64::from(order.memory))
+}
+
+fn push_kind(answers: &mut Vec<u8>, kind: Kind) -> Result<(), NoMemory>
+    ensures ok { OnOk result (answers.new.items ≡ answers.old.items ++ kind_text kind) }
+{
+    match kind {
+        Kind::Plain => push(answers, b" plain:1"),
+        Kind::Program => push(answers, b" program:1"),
+    }
+}
+
+fn push_removal(answers: &mut Vec<u8>, containers: &[Container]) -> Result<(), NoMemory>
+    ensures ok { OnOk result (answers.new.items ≡ answers.old.items ++ order_text (Order.Remove containers.now)) }
+{
+    push(answers, b"remove")?;
+    push_containers(answers, containers)?;
     push(answers, b"\n")
+}
+
+fn push_containers(answers: &mut Vec<u8>, containers: &[Container]) -> Result<(), NoMemory>
+    ensures ok { OnOk result (answers.new.items ≡ answers.old.items ++ containers_text containers.now) }
+{
+    for container in containers {
+        push_container(answers, *container)?;
+    }
+    Ok(())
+}
+
+fn push_container(answers: &mut Vec<u8>, container: Container) -> Result<(), NoMemory>
+    ensures ok { OnOk result (answers.new.items ≡ answers.old.items ++ container_text container) }
+{
+    push_with(answers, b" ", u64::from(container.slot), b":")?;
+    push_number(answers, u64::from(container.generation))
 }
 
 // Puts what became of a runner's reply.
@@ -120,9 +198,38 @@ fn push_late(answers: &mut Vec<u8>, run: u64, at: u64) -> Result<(), NoMemory>
 fn push_no_run(answers: &mut Vec<u8>, run: u64) -> Result<(), NoMemory>
     ensures ok { OnOk result (answers.new.items ≡ answers.old.items ++ no_run_text run) }
 {
-    push(answers, b"refused 29 No run ")?;
-    push_number(answers, run)?;
-    push(answers, b".\n")
+    push_with(answers, b"refused 29 No run ", run, b".\n")
+}
+
+// Puts the line of what is told of a container, and isn't taken.
+fn push_denied(answers: &mut Vec<u8>, refusal: FloorRefusal) -> Result<(), NoMemory>
+    ensures ok { OnOk result (answers.new.items ≡ answers.old.items ++ denied_text refusal) }
+{
+    match refusal {
+        FloorRefusal::NoRun { run } => push_no_run(answers, run),
+        FloorRefusal::NoSlot { slot, kept } => push_no_slot(answers, slot, kept),
+        FloorRefusal::NotFound => push(answers, b"refused 14 The resource does not exist.\n"),
+    }
+}
+
+fn push_no_slot(answers: &mut Vec<u8>, slot: u32, kept: u32) -> Result<(), NoMemory>
+    ensures ok { OnOk result (answers.new.items ≡ answers.old.items ++ denied_text (FloorRefusal.NoSlot slot kept)) }
+{
+    push_with(
+        answers,
+        b"refused 28 No slot ",
+        u64::from(slot),
+        b" of that generation: ",
+    )?;
+    push_with(answers, b"", u64::from(kept), b" kept.\n")
+}
+
+// Puts what a sweep did.
+fn push_swept(answers: &mut Vec<u8>, swept: &Swept) -> Result<(), NoMemory>
+    ensures ok { OnOk result (answers.new.items ≡ answers.old.items ++ swept_text swept.now) }
+{
+    push_happened(answers, &swept.happened)?;
+    push_counted(answers, b"swept ", swept.late)
 }
 
 fn push_lost(answers: &mut Vec<u8>, run: u64) -> Result<(), NoMemory>
@@ -134,9 +241,7 @@ fn push_lost(answers: &mut Vec<u8>, run: u64) -> Result<(), NoMemory>
 fn push_gone(answers: &mut Vec<u8>, slot: u32, generation: u32) -> Result<(), NoMemory>
     ensures ok { OnOk result (answers.new.items ≡ answers.old.items ++ (codes "gone " ++ (decimal slot ++ (codes " " ++ (decimal generation ++ codes "\n"))))) }
 {
-    push(answers, b"gone ")?;
-    push_number(answers, u64::from(slot))?;
-    push(answers, b" ")?;
+    push_with(answers, b"gone ", u64::from(slot), b" ")?;
     push_number(answers, u64::from(generation))?;
     push(answers, b"\n")
 }
@@ -184,9 +289,16 @@ fn push_drain(answers: &mut Vec<u8>, drain: Drain) -> Result<(), NoMemory>
 fn push_counted(answers: &mut Vec<u8>, word: &[u8], n: u64) -> Result<(), NoMemory>
     ensures ok { OnOk result (answers.new.items ≡ answers.old.items ++ (word.now ++ (decimal n ++ codes "\n"))) }
 {
-    push(answers, word)?;
+    push_with(answers, word, n, b"\n")
+}
+
+// Puts a number between two words.
+fn push_with(answers: &mut Vec<u8>, before: &[u8], n: u64, behind: &[u8]) -> Result<(), NoMemory>
+    ensures ok { OnOk result (answers.new.items ≡ answers.old.items ++ (before.now ++ (decimal n ++ behind.now))) }
+{
+    push(answers, before)?;
     push_number(answers, n)?;
-    push(answers, b"\n")
+    push(answers, behind)
 }
 
 // Puts the line of a refusal.

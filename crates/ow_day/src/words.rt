@@ -23,7 +23,8 @@ usage: ow_whisk day < FILE     carries out the statements of a day, and writes e
 A day has one statement a line, of at most 8388608 bytes. Its words are parted by one space, its
 numbers are decimal without leading zeros. NAME is an action's full name, percent-encoded, as
 /guest/hello, or /whisk.system/utils/echo, which is built in. TEXT is the rest of the line: a JSON
-object with whole numbers of 64 bits, nested at most 100 deep. An ID has 32 hexadecimal digits.
+object with whole numbers of 64 bits, nested at most 100 deep. An ID has 32 hexadecimal digits. A
+container stands in a SLOT, and GEN is its generation there, from 1: both are numbers of 32 bits.
 Below each statement stand the forms of its answer.
 
   at MOMENT          sets the moment, in milliseconds, at most 253402300799999; it is 0 at first
@@ -34,15 +35,28 @@ Below each statement stand the forms of its answer.
   call NAME TEXT     calls an action with this object
                        accepted ID           it waits
                        refused NUMBER WHY    it was not accepted
-  next               orders what has waited longest to run
-                       run RUN ID            RUN is its number, from 1
+  next               asks what is to be done
+                       run RUN ID slot SLOT gen GEN START
+                                             RUN is its number, from 1. START is warm where its
+                                             container ran the action before, prewarmed where it
+                                             was started ahead, and cold where it is to be started
+                       prewarm RUN slot SLOT gen GEN KIND MEMORY
+                                             a container is to be started ahead
+                       remove SLOT:GEN ..    these containers, one to four, are to go
                        nothing empty         nothing waits
-  turn               orders what has waited longest to run, runs it, and replies to the run
-                       run RUN ID            and behind it
+                       nothing no room       what waits needs memory that is held
+  turn               asks what is to be done, and does it: a run is replied to, and its container
+                     is kept for later turns
+                       as below next, and behind it
                        recorded ID CODE      as below answer
-                       nothing empty         nothing waits
+                       lost RUN              as if that were told: its container isn't there
+                       gone SLOT GEN         as if that were told
+  begun RUN          tells that the container of that run is up, and initialised
+                       ok                    it was awaited
+                       refused 29 WHY        no such run awaits it
   answer RUN TEXT    is a runner's answer to that run, of at most 1048576 bytes
                        recorded ID CODE      0 success, 1 it has the name error, 2 no such object
+                       late RUN MOMENT       a sweep ended what it carries, at that moment
                        refused 29 WHY        no such run is under way
   logged RUN K TEXT  is such an answer with logs: K lines follow, of at most 8388608 bytes each
                        recorded, refused     as below answer
@@ -52,6 +66,15 @@ Below each statement stand the forms of its answer.
                        recorded ID 3         or refused, as below answer
   fault RUN          tells that the run's runner failed
                        recorded ID 3         or refused, as below answer
+  lost RUN           tells that no reply to that run will come; what it carries waits again
+                       ok                    a slot had it
+                       refused 29 WHY        none has such a run
+  gone SLOT GEN      tells that this container is gone
+                       ok                    its slot is free, once its run is replied to or lost
+                       refused 28 WHY        the slot has no container of that generation to go
+  sweep              ends what has run longer than its time limit
+                       recorded ID 2         for each
+                       swept N               behind these: there were N
   collect ID         is how a request that waits for this activation is answered by now
                        reply M               as below ask
                        not yet               it has not ended, and its request still waits

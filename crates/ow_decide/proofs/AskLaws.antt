@@ -31,14 +31,14 @@ replies_if false a = refl
 -- a request is always answered
 pub ask_replies : (at : ℕ) (d : Result Done Reason) → IsSome (reply_in (ask_decision at d).told)
 ask_replies at (Ok (Shown value)) = refl
-ask_replies at (Ok (Changed change)) = refl
+ask_replies at (Ok (Changed change value)) = refl
 ask_replies at (Ok (Invoked plan shows)) = refl
 ask_replies at (Err reason) = replies_if (tells_full reason) (refusal_of reason)
 
 done_items : (at : ℕ) (d : CodeDone) → (ask_decision at (done_of d)).items ≡ []
 done_items at (codes.Refused reason) = refl
 done_items at (codes.Shown value) = refl
-done_items at (codes.Changed ready) = refl
+done_items at (codes.Changed ready shown) = refl
 
 -- nothing is added on the floor but where an activation is accepted
 pub done_grows : (v : FloorShown) (at : ℕ) (d : CodeDone) → Grows v v (λ T. (ask_decision at (done_of d)).items)

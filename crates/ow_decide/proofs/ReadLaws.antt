@@ -1,6 +1,7 @@
 -- What is seen by whoever asks, where what is asked is granted.
-use Rattle.std.proofs.Common.{◌≡◌, ◌∙◌, ◌&&◌, ◌||◌, ◌==◌, ℕ, Bool, true, false, not, List, [], Option, Some, None, Result, Ok, Err, codes, map, take, drop, Ordering, Less, Equal, Greater, is_eq, refl, sym, ap}
+use Rattle.std.proofs.Common.{◌≡◌, ◌∙◌, ◌&&◌, ◌||◌, ◌==◌, ◌⊎◌, ℕ, Bool, true, false, not, List, [], Option, Some, None, option_map, Result, Ok, Err, codes, map, take, drop, refl, sym, ap, subst, inl, inr}
 use Rattle.std.specs.List.{filter}
+use Rattle.std.specs.Result.{result_ok}
 use Rattle.std.specs.Str.{bytes_eq}
 use Rattle.std.proofs.lemmas.Slice.Eq.{bytes_eq-Decides}
 use Rattle.ow_names.specs.Path.{home, named, named_in, or_fault}
@@ -8,10 +9,12 @@ use Rattle.ow_names.specs.Name.{first_fault}
 use Rattle.ow_names.specs.declared.full.FullName.{FullName}
 use Rattle.ow_names.specs.declared.refusal.NameRefusal.{NameRefusal}
 use Rattle.ow_entity.specs.declared.kinds.EntityKind.{EntityKind}
+use Rattle.ow_entity.specs.declared.kinds.EntityKind.TheVariants as kinds
 use Rattle.ow_entity.specs.declared.rows.Row.{Row}
 use Rattle.ow_entity.specs.Row.{kind_of as row_kind, name_of}
 use Rattle.ow_entity.specs.Written.{summary_value}
-use Rattle.ow_tables.specs.Rows.{found, is_row, key, key_of, kind_place, listing, stands_in}
+use Rattle.ow_packages.specs.Access.{package_of}
+use Rattle.ow_tables.specs.Rows.{AreRows, kind_place, listing, stands_in}
 use Rattle.ow_http.specs.CallOf.{as_call, bare_call, call_of_kind, checked_query, draft_of, filled_call, name_of as name_of_path, params_of}
 use Rattle.ow_http.specs.CallKind.{kind_of}
 use Rattle.ow_http.specs.Pair.{Pair}
@@ -25,24 +28,24 @@ use Rattle.ow_http.specs.declared.call_refusal.CallRefusal.TheVariants.{BadName}
 use Rattle.ow_http.specs.declared.reason.Reason.{Reason}
 use Rattle.ow_http.specs.declared.route.Route.{Route}
 use Rattle.ow_http.specs.declared.route.Route.TheVariants as route
-use Rattle.ow_decide.specs.Asking.{Done, Shown, call_for, granted_call, shown_done}
-use Rattle.ow_decide.specs.Reading.{namespace_of, or_call_reason, read_call, read_done, read_value}
+use Rattle.ow_decide.specs.Asking.{Done, Shown, call_for, granted_call, opened_kind, shown_done}
+use Rattle.ow_decide.specs.Named.{AreNamed}
+use Rattle.ow_decide.specs.Reading.{is_opened, is_shared_at, namespace_of, or_call_reason, path_package, read_call, read_done, read_kind, read_value, row_read}
+use Rattle.ow_decide.specs.Shown.{shown_row}
 use Rattle.ow_decide.specs.declared.acts.Reading.{Reading}
-use Rattle.ow_decide.specs.declared.acts.Reading.TheVariants.{Rows}
+use Rattle.ow_decide.specs.declared.acts.Act.{Act}
+use Rattle.ow_decide.specs.declared.acts.Act.TheVariants.{Reads}
+use Rattle.ow_decide.specs.declared.acts.Reading.TheVariants.{Rows, Row as OneRow}
+use Rattle.ow_value.specs.Value.{V, list, items_of}
 use Rattle.ow_decide.specs.declared.tenants.Tenants.{Tenants}
-use Rattle.ow_value.specs.Value.{V, list, items_of, text_cmp}
-use Rattle.ow_names.specs.FullName.{full_text}
-use Rattle.std.proofs.lemmas.Map.Text.{is_eq-slice_cmp}
-use Rattle.ow_decide.specs.Reasons.{not_granted}
-use Rattle.ow_decide.specs.Sight.{Sight, unless}
+use Rattle.ow_decide.specs.Reasons.{no_route, not_found, not_granted}
+use Rattle.ow_decide.specs.Sight.{Sight, or_else, unless}
 use Rattle.ow_decide.specs.Tenants.{is_granted}
-use Rattle.ow_decide.specs.View.{is_visible, may_read, own_rights, view_of}
-use Rattle.ow_decide.proofs.Filters.{filter_filter, find_filter_some}
+use Rattle.ow_decide.specs.View.{Grant, is_visible, may_read, own_rights, view_of, visible_rows}
+use Rattle.ow_decide.proofs.Filters.{filter_filter}
+use Rattle.ow_decide.proofs.SeenLaws.{IsOpenTo, granting, only_left, option_shown, same_bytes, shared_at_seen, value_seen, visible_own}
 
 -- ---- the grant
-
-same_bytes : (xs : List ℕ) → bytes_eq xs xs ≡ true
-same_bytes xs = (bytes_eq-Decides xs xs).1 refl
 
 one_only : (b : Bool) → (b && true) || false ≡ b
 one_only true = refl
@@ -61,9 +64,15 @@ granted_at S namespace false e = rw e refl
 pub reads_granted : (S : Sight) (namespace : List ℕ) → may_read (own_rights S.tenants.home) (home S.tenants.home namespace) ≡ is_granted S.tenants namespace
 reads_granted S namespace = own_read S.tenants.home (home S.tenants.home namespace) ∙ granted_at S namespace (bytes_eq namespace (codes "_")) refl
 
+opened_seen : (rights : List Grant) (rs : List Row) (here : List ℕ) (r : Route) (kind : Option EntityKind) → AreRows rs → is_opened here (visible_rows rights rs) r kind ≡ is_opened here rs r kind
+opened_seen rights rs here r None ordered = refl
+opened_seen rights rs here r (Some kind) ordered = shared_at_seen rights rs (path_package here r kind) ordered
+
 -- what is granted of a read is granted of any request
-pub same_call : (S : Sight) (p : Parts) → read_call (view_of S) p ≡ granted_call S p
-same_call S p = ap (λ (b : Bool). unless (not b) not_granted >>= (λ (u : Unit {0}). call_for S p)) (reads_granted S (namespace_of p.route))
+pub same_call : (S : Sight) (reading : Reading) (p : Parts) → AreRows S.rows → read_call (view_of S) reading p ≡ granted_call S.tenants S.rows (Reads reading) p
+same_call S reading p ordered =
+    ap (λ (b : Bool). unless (not (b || is_opened S.tenants.home (visible_rows (own_rights S.tenants.home) S.rows) p.route (read_kind reading))) not_granted >>= (λ (u : Unit {0}). call_for S.tenants p)) (reads_granted S (namespace_of p.route))
+    ∙ ap (λ (b : Bool). unless (not (is_granted S.tenants (namespace_of p.route) || b)) not_granted >>= (λ (u : Unit {0}). call_for S.tenants p)) (opened_seen (own_rights S.tenants.home) S.rows S.tenants.home p.route (read_kind reading) ordered)
 
 -- ---- what is granted is in the own namespace
 
@@ -76,8 +85,12 @@ then_granted : (b : Bool) (r : Result Call Reason) (c : Call) → (unless (not b
 then_granted true r c is = (refl, is)
 then_granted false r c is = cc
 
-pub granted_home : (S : Sight) (p : Parts) (c : Call) → granted_call S p ≡ Ok c → home S.tenants.home (namespace_of p.route) ≡ S.tenants.home
-granted_home S p c is = home_at S (namespace_of p.route) _ refl (then_granted (is_granted S.tenants (namespace_of p.route)) (call_for S p) c is).0
+-- where no shared package grants it
+pub granted_home : (S : Sight) (rs : List Row) (act : Act) (p : Parts) (c : Call) → opened_kind act ≡ None → granted_call S.tenants rs act p ≡ Ok c → home S.tenants.home (namespace_of p.route) ≡ S.tenants.home
+granted_home S rs act p c closed is =
+    let g = then_granted (is_granted S.tenants (namespace_of p.route) || is_opened S.tenants.home rs p.route (opened_kind act)) (call_for S.tenants p) c is in
+    home_at S (namespace_of p.route) _ refl
+    (only_left _ (ap (λ (k : Option EntityKind). is_granted S.tenants (namespace_of p.route) || is_opened S.tenants.home rs p.route k) (sym closed) ∙ g.0))
 
 or_ok : (r : Result Call CallRefusal) (c : Call) → or_call_reason r ≡ Ok c → r ≡ Ok c
 or_ok (Ok x) c is = let h : x ≡ c = cc in ap Ok h
@@ -138,21 +151,60 @@ path_namespace here route.Namespaces n is = absurd (no_name n is)
 path_namespace here (route.Activation namespace id part) n is = absurd (no_name n is)
 path_namespace here (route.Web namespace inside name rest) n is = absurd (no_name n is)
 
-call_name : (here : List ℕ) (kind : CallKind) (p : Parts) (c : Call) (n : FullName) → call_of_kind here kind p ≡ Ok c → c.name ≡ Some n → n.namespace ≡ home here (namespace_of p.route)
-call_name here kind p c n is name_is =
+path_name : (here : List ℕ) (kind : CallKind) (p : Parts) (c : Call) (n : FullName) → call_of_kind here kind p ≡ Ok c → c.name ≡ Some n → name_of_path here p.route ≡ Ok (Some n)
+path_name here kind p c n is name_is =
     let q = then_by (checked_query kind p.query) _ c is in
     let m = then_by (name_of_path here p.route) _ c q.2 in
     let d = then_by (draft_of kind m.0 p.body) _ c m.2 in
     let ps = then_by (params_of kind p.body) _ c d.2 in
     let made : filled_call kind p.query (bare_call kind m.0 d.0 ps.0) ≡ c = cc in
     let same : m.0 ≡ Some n = sym (filled_name kind p.query (bare_call kind m.0 d.0 ps.0)) ∙ (ap (λ (x : Call). x.name) made ∙ name_is) in
-    path_namespace here p.route n (m.1 ∙ ap Ok same)
+    m.1 ∙ ap Ok same
 
--- the name of a call that is granted stands in the own namespace
-pub granted_name : (S : Sight) (p : Parts) (c : Call) (n : FullName) → granted_call S p ≡ Ok c → c.name ≡ Some n → n.namespace ≡ S.tenants.home
-granted_name S p c n is name_is =
-    call_name S.tenants.home (kind_of p.route p.method) p c n (or_ok _ c (then_granted (is_granted S.tenants (namespace_of p.route)) (call_for S p) c is).1) name_is
-    ∙ granted_home S p c is
+-- ---- what a shared package grants
+
+fault_none : (o : Option NameRefusal) (r : Result FullName NameRefusal) (n : FullName) → or_fault o r ≡ Ok n → o ≡ None
+fault_none None r n is = refl
+fault_none (Some e) r n is = cc
+
+-- the package of an action's path is the one in which its name lies
+lying_package : (here namespace parent name : List ℕ) (n : FullName) → named_in here namespace (Some parent) name ≡ Ok n → result_ok (named_in here namespace None parent) ≡ package_of n
+lying_package here namespace parent name n is =
+    let a = fault_none (first_fault namespace) _ n is in
+    let a' = fault_free (first_fault namespace) _ n is in
+    let b = fault_none (first_fault parent) _ n a' in
+    let b' = fault_free (first_fault parent) _ n a' in
+    let d = fault_free (first_fault name) _ n b' in
+    let made : record { namespace = home here namespace; «package» = Some parent; name = name } ≡ n = cc in
+    rw (a, b) (ap package_of made)
+
+package_named : (here : List ℕ) (r : Route) (kind : EntityKind) (n : FullName) → name_of_path here r ≡ Ok (Some n) → (path_package here r kind ≡ None) ⊎ (path_package here r kind ≡ granting kind n)
+package_named here (route.Entity namespace k None name) kinds.Action n is = inl refl
+package_named here (route.Entity namespace k (Some parent) name) kinds.Action n is = inr (lying_package here namespace parent name n (as_named _ n is))
+package_named here (route.Entity namespace k inside name) kinds.Package n is = inr (ap result_ok (as_named _ n is))
+package_named here (route.Entity namespace k inside name) kinds.Rule n is = inl refl
+package_named here (route.Entity namespace k inside name) kinds.Trigger n is = inl refl
+package_named here (route.List namespace k) kind n is = inl refl
+package_named here (route.Activations namespace) kind n is = inl refl
+package_named here route.Namespaces kind n is = inl refl
+package_named here (route.Activation namespace id part) kind n is = inl refl
+package_named here (route.Web namespace inside name rest) kind n is = inl refl
+
+open_by : (rs : List Row) (a : Bool) (o e : Option FullName) → (o ≡ None) ⊎ (o ≡ e) → (a || is_shared_at rs o) ≡ true → (a || is_shared_at rs e) ≡ true
+open_by rs true o e either opened = refl
+open_by rs false o e (inl none) opened = let h : is_shared_at rs None ≡ true = subst (λ (x : Option FullName). is_shared_at rs x ≡ true) none opened in cc
+open_by rs false o e (inr same) opened = subst (λ (x : Option FullName). is_shared_at rs x ≡ true) same opened
+
+-- an entity whose reading is granted stands in the own namespace, or belongs to a shared package
+pub granted_open : (S : Sight) (rs : List Row) (kind : EntityKind) (p : Parts) (c : Call) (n : FullName) → granted_call S.tenants rs (Reads (OneRow kind)) p ≡ Ok c → c.name ≡ Some n
+    → IsOpenTo (own_rights S.tenants.home) rs kind n
+granted_open S rs kind p c n is name_is =
+    let g = then_granted (is_granted S.tenants (namespace_of p.route) || is_shared_at rs (path_package S.tenants.home p.route kind)) (call_for S.tenants p) c is in
+    let path = path_name S.tenants.home (kind_of p.route p.method) p c n (or_ok _ c g.1) name_is in
+    let there = path_namespace S.tenants.home p.route n path in
+    let reads : may_read (own_rights S.tenants.home) n.namespace ≡ is_granted S.tenants (namespace_of p.route) = ap (may_read (own_rights S.tenants.home)) there ∙ reads_granted S (namespace_of p.route) in
+    ap (λ (b : Bool). b || is_shared_at rs (granting kind n)) reads
+    ∙ open_by rs (is_granted S.tenants (namespace_of p.route)) (path_package S.tenants.home p.route kind) (granting kind n) (package_named S.tenants.home p.route kind n path) g.0
 
 -- ---- rows
 
@@ -163,60 +215,53 @@ second false b both = cc
 pub turned : (xs ys : List ℕ) → bytes_eq xs ys ≡ true → bytes_eq ys xs ≡ true
 turned xs ys same = (bytes_eq-Decides ys xs).1 (sym ((bytes_eq-Decides xs ys).0 same))
 
-stands_visible : (here : List ℕ) (kind : EntityKind) (r : Row) → stands_in kind here r ≡ true → is_visible (own_rights here) r ≡ true
-stands_visible here kind r stands = own_read here (name_of r).namespace
-    ∙ turned here (name_of r).namespace (second (kind_place kind == kind_place (row_kind r)) _ stands)
+stands_visible : (here : List ℕ) (rs : List Row) (kind : EntityKind) (r : Row) → stands_in kind here r ≡ true → is_visible (own_rights here) rs r ≡ true
+stands_visible here rs kind r stands = visible_own (own_rights here) rs r
+    (own_read here (name_of r).namespace ∙ turned here (name_of r).namespace (second (kind_place kind == kind_place (row_kind r)) _ stands))
 
 -- the list of the own rows is a list of all rows
 pub own_listing : (here : List ℕ) (kind : EntityKind) (skip limit : ℕ) (rs : List Row)
-    → listing kind here skip limit (filter (is_visible (own_rights here)) rs) ≡ listing kind here skip limit rs
+    → listing kind here skip limit (visible_rows (own_rights here) rs) ≡ listing kind here skip limit rs
 own_listing here kind skip limit rs = ap (λ (xs : List Row). map summary_value (take limit (drop skip xs)))
-    (filter_filter (stands_in kind here) (is_visible (own_rights here)) rs (stands_visible here kind))
+    (filter_filter (stands_in kind here) (is_visible (own_rights here) rs) rs (stands_visible here rs kind))
 
 -- a value is shown
 abbrev pub shows : V → Result Done Reason
 shows v = Ok (Shown v)
 
 -- what a list of the own rows shows
-pub rows_shown : (S : Sight) (p : Parts) (c : Call) (kind : EntityKind) (vs : List V) → granted_call S p ≡ Ok c → vs ≡ listing kind S.tenants.home c.skip c.limit S.rows
+pub rows_shown : (S : Sight) (p : Parts) (c : Call) (kind : EntityKind) (vs : List V) → granted_call S.tenants S.rows (Reads (Rows kind)) p ≡ Ok c → vs ≡ listing kind S.tenants.home c.skip c.limit S.rows
     → shows (list (items_of vs)) ≡ shown_done (read_value (view_of S) (Rows kind) p c)
 rows_shown S p c kind vs granted is = ap (λ (xs : List V). shows (list (items_of xs)))
     (is ∙ (sym (own_listing S.tenants.home kind c.skip c.limit S.rows)
-    ∙ ap (λ (n : List ℕ). listing kind n c.skip c.limit (filter (is_visible (own_rights S.tenants.home)) S.rows)) (sym (granted_home S p c granted))))
+    ∙ ap (λ (n : List ℕ). listing kind n c.skip c.limit (visible_rows (own_rights S.tenants.home) S.rows)) (sym (granted_home S S.rows (Reads (Rows kind)) p c refl granted))))
 
--- what is seen where nothing has happened
-abbrev bare : Tenants → Sight
-bare t = record { tenants = t; rows = []; trace = []; waits = []; counted = 0; moment = 0 }
+or_shown : (rs : List Row) (o : Option Row) → shown_done (or_else o not_found >>= (λ (r : Row). Ok (shown_row rs r))) ≡ shown_done (or_else (option_shown rs o) not_found)
+or_shown rs None = refl
+or_shown rs (Some r) = refl
 
-pub named_home : (t : Tenants) (p : Parts) (c : Call) (n : FullName) → ((S : Sight) → S.tenants ≡ t → granted_call S p ≡ Ok c) → c.name ≡ Some n → n.namespace ≡ t.home
-named_home t p c n granted is = granted_name (bare t) p c n (granted (bare t) refl) is
+-- what is shown of the row of a name
+pub row_shown : (S : Sight) (p : Parts) (c : Call) (kind : EntityKind) (n : FullName) (o : Option V) → AreRows S.rows → granted_call S.tenants S.rows (Reads (OneRow kind)) p ≡ Ok c → c.name ≡ Some n
+    → AreNamed S.rows kind n → option_shown S.rows (row_read S.rows kind n) ≡ o → shown_done (or_else o not_found) ≡ shown_done (read_value (view_of S) (OneRow kind) p c)
+row_shown S p c kind n o ordered granted name_is named is =
+    let V' = visible_rows (own_rights S.tenants.home) S.rows in
+    ap (λ (x : Option V). shown_done (or_else x not_found)) (sym is ∙ sym (value_seen (own_rights S.tenants.home) S.rows kind n ordered (granted_open S S.rows kind p c n granted name_is) named))
+    ∙ (sym (or_shown V' (row_read V' kind n))
+    ∙ ap (λ (x : Option FullName). shown_done (or_else x no_route >>= (λ (name : FullName). or_else (row_read V' kind name) not_found >>= (λ (r : Row). Ok (shown_row V' r))))) (sym name_is))
 
--- ---- a row that is found has the name
-
-cmp_is : (o : Ordering) → is_eq o ≡ true → o ≡ Equal
-cmp_is Less e = cc
-cmp_is Equal e = refl
-cmp_is Greater e = cc
-
-cmp_self : (xs : List ℕ) → text_cmp xs xs ≡ Equal
-cmp_self xs = cmp_is _ (is_eq-slice_cmp xs xs ∙ same_bytes xs)
-
-same_text : (kind : EntityKind) (name : FullName) (r : Row) → is_row kind name r ≡ true → full_text name ≡ full_text (name_of r)
-same_text kind name r is = let h = (bytes_eq-Decides (key kind name) (key_of r)).0 is in cc
-
-pub found_equal : (kind : EntityKind) (name : FullName) (r : Row) (o : Ordering) → is_row kind name r ≡ true → o ≡ text_cmp (full_text (name_of r)) (full_text name) → o ≡ Equal
-found_equal kind name r o is order = order ∙ (ap (λ (t : List ℕ). text_cmp (full_text (name_of r)) t) (same_text kind name r is) ∙ cmp_self (full_text (name_of r)))
-
-pub row_found : (here : List ℕ) (kind : EntityKind) (name : FullName) (r : Row) (rs : List Row) → found kind name rs ≡ Some r → name_of r ≡ name → name.namespace ≡ here
-    → found kind name (filter (is_visible (own_rights here)) rs) ≡ Some r
-row_found here kind name r rs is named home_is =
-    let same : (name_of r).namespace ≡ here = ap (λ (n : FullName). n.namespace) named ∙ home_is in
-    find_filter_some (is_row kind name) (is_visible (own_rights here)) r rs is (own_read here (name_of r).namespace ∙ (bytes_eq-Decides (name_of r).namespace here).1 same)
+-- the same over the rows of tables
+pub row_shown_at : (t : Tenants) (rs : List Row) (p : Parts) (c : Call) (kind : EntityKind) (n : FullName) (o : Option V) → AreRows rs → granted_call t rs (Reads (OneRow kind)) p ≡ Ok c → c.name ≡ Some n
+    → AreNamed rs kind n → option_shown rs (row_read rs kind n) ≡ o → (S : Sight) → S.tenants ≡ t → S.rows ≡ rs → shown_done (or_else o not_found) ≡ shown_done (read_value (view_of S) (OneRow kind) p c)
+row_shown_at t rs p c kind n o ordered granted name_is named is S tenants_are rows_are =
+    row_shown S p c kind n o (subst (λ (xs : List Row). AreRows xs) (sym rows_are) ordered)
+    (subst (λ (u : Tenants). granted_call u S.rows (Reads (OneRow kind)) p ≡ Ok c) (sym tenants_are) (subst (λ (xs : List Row). granted_call t xs (Reads (OneRow kind)) p ≡ Ok c) (sym rows_are) granted))
+    name_is (subst (λ (xs : List Row). AreNamed xs kind n) (sym rows_are) named) (subst (λ (xs : List Row). option_shown xs (row_read xs kind n) ≡ o) (sym rows_are) is)
 
 -- ---- what is shown of a call that is granted
 
-pub read_so : (S : Sight) (reading : Reading) (p : Parts) (c : Call) → granted_call S p ≡ Ok c → shown_done (read_done (view_of S) reading p) ≡ shown_done (read_value (view_of S) reading p c)
-read_so S reading p c granted = ap (λ (r : Result Call Reason). shown_done (r >>= read_value (view_of S) reading p)) (same_call S p ∙ granted)
+pub read_so : (S : Sight) (reading : Reading) (p : Parts) (c : Call) → AreRows S.rows → granted_call S.tenants S.rows (Reads reading) p ≡ Ok c
+    → shown_done (read_done (view_of S) reading p) ≡ shown_done (read_value (view_of S) reading p c)
+read_so S reading p c ordered granted = ap (λ (r : Result Call Reason). shown_done (r >>= read_value (view_of S) reading p)) (same_call S reading p ordered ∙ granted)
 
-pub read_refused : (S : Sight) (reading : Reading) (p : Parts) (e : Reason) → granted_call S p ≡ Err e → shown_done (read_done (view_of S) reading p) ≡ Err e
-read_refused S reading p e refused = ap (λ (r : Result Call Reason). shown_done (r >>= read_value (view_of S) reading p)) (same_call S p ∙ refused)
+pub read_refused : (S : Sight) (reading : Reading) (p : Parts) (e : Reason) → AreRows S.rows → granted_call S.tenants S.rows (Reads reading) p ≡ Err e → shown_done (read_done (view_of S) reading p) ≡ Err e
+read_refused S reading p e ordered refused = ap (λ (r : Result Call Reason). shown_done (r >>= read_value (view_of S) reading p)) (same_call S reading p ordered ∙ refused)

@@ -18,6 +18,7 @@ use Rattle.ow_http.specs.Parts.{Parts}
 use Rattle.ow_http.specs.Steps.{◌>>=◌}
 use Rattle.ow_http.specs.declared.route.Part.{Part}
 use Rattle.ow_http.specs.declared.call.Call.{Call}
+use Rattle.ow_decide.specs.declared.acts.Act.TheVariants.{Reads}
 use Rattle.ow_decide.specs.declared.acts.Reading.TheVariants.{Activations, Activation}
 use Rattle.ow_decide.specs.Asking.{granted_call, shown_done}
 use Rattle.ow_decide.specs.Reading.{id_of, is_recorded, part_value, read_value, recorded, recorded_under}
@@ -37,11 +38,11 @@ own_listing here skip limit rs = ap (λ (xs : List Record). map summary_value (t
     (filter_filter (is_in here) (is_visible_record (own_rights here)) rs (is_in_visible here))
 
 -- what a list of the own records shows
-pub records_shown : (S : Sight) (p : Parts) (c : Call) (vs : List V) → granted_call S p ≡ Ok c → vs ≡ listing S.tenants.home c.skip c.limit (records S.trace)
+pub records_shown : (S : Sight) (p : Parts) (c : Call) (vs : List V) → granted_call S.tenants [] (Reads Activations) p ≡ Ok c → vs ≡ listing S.tenants.home c.skip c.limit (records S.trace)
     → shows (list (items_of vs)) ≡ shown_done (read_value (view_of S) Activations p c)
 records_shown S p c vs granted is = ap (λ (xs : List V). shows (list (items_of xs)))
     (is ∙ (sym (own_listing S.tenants.home c.skip c.limit (records S.trace))
-    ∙ ap (λ (n : List ℕ). listing n c.skip c.limit (filter (is_visible_record (own_rights S.tenants.home)) (records S.trace))) (sym (granted_home S p c granted))))
+    ∙ ap (λ (n : List ℕ). listing n c.skip c.limit (filter (is_visible_record (own_rights S.tenants.home)) (records S.trace))) (sym (granted_home S [] (Reads Activations) p c refl granted))))
 
 -- ---- one record
 
@@ -127,8 +128,8 @@ own_recorded here id v T o stands found =
     sym (own_record here id T o stands.sound (sym (ap (λ (w : FloorShown). find (is_of_id id) w.ended) stands.is) ∙ found))
 
 -- what is shown of a record
-pub record_read : (S : Sight) (p : Parts) (c : Call) (part : Part) (o : Option Record) → granted_call S p ≡ Ok c
+pub record_read : (S : Sight) (p : Parts) (c : Call) (part : Part) (o : Option Record) → granted_call S.tenants [] (Reads (Activation part)) p ≡ Ok c
     → o ≡ recorded S.tenants.home (id_of p.route) (filter (is_visible_record (own_rights S.tenants.home)) (records S.trace))
     → shown_done (or_else o not_found >>= (λ (r : Record). Ok (part_value part r))) ≡ shown_done (read_value (view_of S) (Activation part) p c)
 record_read S p c part o granted is = ap (λ (x : Option Record). shown_done (or_else x not_found >>= (λ (r : Record). Ok (part_value part r))))
-    (is ∙ ap (λ (n : List ℕ). recorded n (id_of p.route) (filter (is_visible_record (own_rights S.tenants.home)) (records S.trace))) (sym (granted_home S p c granted)))
+    (is ∙ ap (λ (n : List ℕ). recorded n (id_of p.route) (filter (is_visible_record (own_rights S.tenants.home)) (records S.trace))) (sym (granted_home S [] (Reads (Activation part)) p c refl granted)))

@@ -1,10 +1,8 @@
 -- What reads are answered.
-use Rattle.std.proofs.Common.{◌≡◌, ◌∙◌, ℕ, Bool, true, false, not, Option, Some, None, Result, Ok, Err, IfErr, refl, ap}
+use Rattle.std.proofs.Common.{◌≡◌, ◌∙◌, ◌||◌, ℕ, Bool, true, false, not, Option, Some, None, Result, Ok, Err, IfErr, refl, ap}
 use Rattle.ow_value.specs.Value.{V}
 use Rattle.ow_names.specs.declared.full.FullName.{FullName}
-use Rattle.ow_entity.specs.Written.{row_value}
 use Rattle.ow_entity.specs.declared.rows.Row.{Row}
-use Rattle.ow_tables.specs.Rows.{found}
 use Rattle.ow_records.specs.declared.record.Record.{Record}
 use Rattle.ow_http.specs.CallOf.{call_of}
 use Rattle.ow_http.specs.Parts.{Parts}
@@ -18,7 +16,8 @@ use Rattle.ow_decide.specs.declared.acts.Act.TheVariants.{Reads}
 use Rattle.ow_decide.specs.declared.acts.Reading.{Reading}
 use Rattle.ow_decide.specs.declared.acts.Reading.TheVariants.{Rows, Row as OneRow, Activations, Activation}
 use Rattle.ow_decide.specs.Asking.{act_done, act_of, ask_decision, at_once, request_done, shown_done}
-use Rattle.ow_decide.specs.Reading.{answer_of, id_of, name_in, or_call_reason, part_value, read_answer, read_call, read_done, read_grant, read_namespace, read_value, recorded}
+use Rattle.ow_decide.specs.Reading.{answer_of, id_of, is_opened, name_in, or_call_reason, part_value, read_answer, read_call, read_done, read_grant, read_kind, read_namespace, read_value, recorded, row_read}
+use Rattle.ow_decide.specs.Shown.{shown_row}
 use Rattle.ow_decide.specs.Reasons.{book_full, no_route, not_found, not_granted, tells_full}
 use Rattle.ow_decide.specs.Sight.{Sight, is_full, or_else, room_for, unless}
 use Rattle.ow_decide.specs.View.{View, may_read, view_of}
@@ -46,9 +45,9 @@ call_other (Err e) = refl
 abbrev shown : V → Result V Reason
 shown v = Ok v
 
-row_other : (o : Option Row) → IfErr (or_else o not_found >>= (λ (r : Row). shown (row_value r))) IsOther
-row_other None = refl
-row_other (Some r) = tt
+row_other : (W : View) (o : Option Row) → IfErr (or_else o not_found >>= (λ (r : Row). shown (shown_row W.rows r))) IsOther
+row_other W None = refl
+row_other W (Some r) = tt
 
 record_other : (part : Part) (o : Option Record) → IfErr (or_else o not_found >>= (λ (r : Record). shown (part_value part r))) IsOther
 record_other part None = refl
@@ -56,14 +55,15 @@ record_other part (Some r) = tt
 
 value_other : (W : View) (reading : Reading) (p : Parts) (c : Call) → IfErr (read_value W reading p c) IsOther
 value_other W (Rows kind) p c = tt
-value_other W (OneRow kind) p c = then_other (name_in c) (λ (name : FullName). or_else (found kind name W.rows) not_found >>= (λ (r : Row). shown (row_value r)))
-    (or_other c.name no_route refl) (λ name. row_other (found kind name W.rows))
+value_other W (OneRow kind) p c = then_other (name_in c) (λ (name : FullName). or_else (row_read W.rows kind name) not_found >>= (λ (r : Row). shown (shown_row W.rows r)))
+    (or_other c.name no_route refl) (λ name. row_other W (row_read W.rows kind name))
 value_other W Activations p c = tt
 value_other W (Activation part) p c = record_other part (recorded (read_namespace W p) (id_of p.route) W.records)
 
 done_other : (W : View) (reading : Reading) (p : Parts) → IfErr (read_done W reading p) IsOther
-done_other W reading p = then_other (read_call W p) (read_value W reading p)
-    (then_other (read_grant W p) (λ (u : Unit {0}). or_call_reason (call_of W.home p)) (unless_other (not (may_read W.rights (read_namespace W p))) not_granted refl) (λ grant. call_other (call_of W.home p)))
+done_other W reading p = then_other (read_call W reading p) (read_value W reading p)
+    (then_other (read_grant W reading p) (λ (u : Unit {0}). or_call_reason (call_of W.home p))
+    (unless_other (not (may_read W.rights (read_namespace W p) || is_opened W.home W.rows p.route (read_kind reading))) not_granted refl) (λ grant. call_other (call_of W.home p)))
     (value_other W reading p)
 
 told_so : (at : ℕ) (r : Result V Reason) → IfErr r IsOther → (ask_decision at (shown_done r)).told ≡ at_once (answer_of r)

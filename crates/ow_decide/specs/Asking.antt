@@ -1,9 +1,8 @@
 -- What a request is answered: its first refusal, in the order of their places, or what it reads and changes.
-use Rattle.std.specs.Prelude.{◌≡◌, ℕ, Bool, true, false, not, [], ◌∷◌, Option, Some, None, Result, Ok, Err, if◌then◌else◌}
+use Rattle.std.specs.Prelude.{◌≡◌, ◌||◌, ℕ, Bool, true, false, not, List, [], ◌∷◌, Option, Some, None, Result, Ok, Err, if◌then◌else◌}
 use Rattle.ow_value.specs.Value.{V}
 use Rattle.ow_names.specs.declared.full.FullName.{FullName}
 use Rattle.ow_entity.specs.Finish.{finished_row}
-use Rattle.ow_entity.specs.Written.{row_value}
 use Rattle.ow_entity.specs.declared.kinds.EntityKind.{EntityKind}
 use Rattle.ow_entity.specs.declared.kinds.EntityKind.TheVariants as kinds
 use Rattle.ow_entity.specs.declared.refusal.EntityRefusal.{EntityRefusal}
@@ -11,7 +10,7 @@ use Rattle.ow_entity.specs.declared.rows.Draft.{Draft}
 use Rattle.ow_entity.specs.declared.rows.Row.{Row}
 use Rattle.ow_tables.specs.Contents.{Change}
 use Rattle.ow_tables.specs.Refusal.{table_refusal, old_row, put_refusal, remove_refusal}
-use Rattle.ow_tables.specs.Rows.{found}
+use Rattle.ow_tables.specs.Rows.{found, with_row}
 use Rattle.ow_floor.specs.Calls.{accept_items}
 use Rattle.ow_floor.specs.declared.activations.Plan.{Plan}
 use Rattle.ow_tables.specs.declared.refusal.TableRefusal.{TableRefusal}
@@ -26,7 +25,6 @@ use Rattle.ow_http.specs.declared.call_kind.CallKind.{CallKind}
 use Rattle.ow_http.specs.declared.call_kind.CallKind.TheVariants.{ListEntities, GetEntity, PutEntity, DeleteEntity, Invoke, ListActivations, GetActivation}
 use Rattle.ow_http.specs.declared.reason.Reason.{Reason}
 use Rattle.ow_http.specs.declared.route.Route.{Route}
-use Rattle.ow_http.specs.declared.route.Route.TheVariants as route
 use Rattle.ow_http.specs.declared.verb.Verb.{Verb}
 use Rattle.ow_decide.specs.declared.acts.Act.{Act}
 use Rattle.ow_decide.specs.declared.acts.Act.TheVariants.{Reads, Puts, Removes, Invokes}
@@ -34,30 +32,39 @@ use Rattle.ow_decide.specs.declared.acts.Reading.{Reading}
 use Rattle.ow_decide.specs.declared.acts.Reading.TheVariants.{Rows, Row as OneRow, Activations, Activation}
 use Rattle.ow_decide.specs.declared.events.Told.{Told}
 use Rattle.ow_decide.specs.declared.events.Told.TheVariants as told
+use Rattle.ow_decide.specs.declared.replies.Reply.{Reply}
 use Rattle.ow_decide.specs.declared.replies.Reply.TheVariants as replies
 use Rattle.ow_decide.specs.declared.waits.Shows.{Shows}
 use Rattle.ow_decide.specs.declared.waits.Waits.TheVariants.{Keep}
 use Rattle.ow_decide.specs.Tenants.{is_granted}
+use Rattle.ow_decide.specs.declared.tenants.Tenants.{Tenants}
 use Rattle.ow_decide.specs.Reasons.{no_route, not_found, not_granted, table_reason, tells_full}
 use Rattle.ow_decide.specs.Sight.{Sight, is_full, or_else, room_for, unless}
 use Rattle.ow_decide.specs.Decision.{Decision, tells}
 use Rattle.ow_decide.specs.View.{view_of}
-use Rattle.ow_decide.specs.Reading.{good, name_in, namespace_of, or_call_reason, read_answer, read_done}
-use Rattle.ow_decide.specs.Calling.{invocation_plan}
+use Rattle.ow_decide.specs.Reading.{good, is_opened, name_in, namespace_of, or_call_reason, read_answer, read_done, read_kind}
+use Rattle.ow_decide.specs.Calling.{charged_namespace, invocation_plan}
+use Rattle.ow_decide.specs.Shown.{shown_row}
 use Rattle.ow_decide.specs.Waiting.{invoked_reply, shows_of, waits_of}
+
+-- entities of this kind are served yet
+abbrev pub is_served : EntityKind → Bool
+is_served kinds.Action = true
+is_served kinds.Package = true
+is_served kind = false
 
 -- what a call of this kind reads, where it is served yet
 abbrev pub reading_in : CallKind → Option Reading
-reading_in (ListEntities kinds.Action) = Some (Rows kinds.Action)
-reading_in (GetEntity kinds.Action) = Some (OneRow kinds.Action)
+reading_in (ListEntities kind) = if is_served kind then Some (Rows kind) else None
+reading_in (GetEntity kind) = if is_served kind then Some (OneRow kind) else None
 reading_in ListActivations = Some Activations
 reading_in (GetActivation part) = Some (Activation part)
 reading_in kind = None
 
--- what it is to do, where it is served yet: actions are put, deleted and invoked
+-- what it is to do, where it is served yet: entities are put and deleted, and actions invoked
 abbrev pub change_in : CallKind → Option Act
-change_in (PutEntity kinds.Action) = Some Puts
-change_in (DeleteEntity kinds.Action) = Some (Removes kinds.Action)
+change_in (PutEntity kind) = if is_served kind then Some Puts else None
+change_in (DeleteEntity kind) = if is_served kind then Some (Removes kind) else None
 change_in Invoke = Some Invokes
 change_in kind = None
 
@@ -68,13 +75,8 @@ reads_or (Some reading) act = Some (Reads reading)
 abbrev pub act_in : CallKind → Option Act
 act_in kind = reads_or (reading_in kind) (change_in kind)
 
--- what stands in a package isn't served yet
-abbrev pub is_inside : Route → Bool
-is_inside (route.Entity namespace kind (Some p) name) = true
-is_inside other = false
-
 abbrev pub act_of : Route → Verb → Option Act
-act_of r method = if is_inside r then None else act_in (kind_of r method)
+act_of r method = act_in (kind_of r method)
 
 -- ---- what is wanted, or why it isn't there
 
@@ -82,19 +84,25 @@ act_of r method = if is_inside r then None else act_in (kind_of r method)
 abbrev pub act_for : Parts → Result Act Reason
 act_for p = or_else (act_of p.route p.method) no_route
 
--- whoever asks may read and write in it
-abbrev pub grant_for : Sight → Parts → Result (Unit {0}) Reason
-grant_for S p = unless (not (is_granted S.tenants (namespace_of p.route))) not_granted
+-- the kind of the entity that is shown alone or invoked
+abbrev pub opened_kind : Act → Option EntityKind
+opened_kind (Reads reading) = read_kind reading
+opened_kind Invokes = Some kinds.Action
+opened_kind act = None
+
+-- whoever asks may read and write in the namespace of the path, or what is wanted is granted by a shared package
+abbrev pub grant_for : Tenants → List Row → Act → Parts → Result (Unit {0}) Reason
+grant_for t rs act p = unless (not (is_granted t (namespace_of p.route) || is_opened t.home rs p.route (opened_kind act))) not_granted
 
 -- query, names of the path and body
-abbrev pub call_for : Sight → Parts → Result Call Reason
-call_for S p = or_call_reason (call_of S.tenants.home p)
+abbrev pub call_for : Tenants → Parts → Result Call Reason
+call_for t p = or_call_reason (call_of t.home p)
 
 -- the call, where it is granted
-abbrev pub granted_call : Sight → Parts → Result Call Reason
-granted_call S p = do
-  grant ← grant_for S p
-  call_for S p
+abbrev pub granted_call : Tenants → List Row → Act → Parts → Result Call Reason
+granted_call t rs act p = do
+  grant ← grant_for t rs act p
+  call_for t p
 
 -- the entity that is given
 abbrev pub draft_in : Call → Result Draft Reason
@@ -120,17 +128,17 @@ row_of S draft overwrite = do
 
 -- ---- what comes of it
 
--- a value is shown, a change is made of which the row is shown, or an activation is accepted
+-- a value is shown, a change is made of which this is shown, or an activation is accepted
 pub data Done : Type 0 where
   Shown : (value : V) → Done
-  Changed : (change : Change) → Done
+  Changed : (change : Change) (value : V) → Done
   Invoked : (plan : Plan) (shows : Shows) → Done
 
--- the row that is put is stored
+-- the row that is put is stored, and shown as all stands then
 abbrev pub put_done : Sight → Draft → Bool → Result Done Reason
 put_done S draft overwrite = do
   row ← row_of S draft overwrite
-  Ok (Changed (record { row = row; removes = false }))
+  Ok (Changed (record { row = row; removes = false }) (shown_row (with_row row S.rows) row))
 
 -- what comes of an act that isn't a read, of what a request wants
 abbrev pub change_done : Sight → Act → Call → Result Done Reason
@@ -142,10 +150,10 @@ change_done S (Removes kind) c = do
   name ← name_in c
   free ← unless_refused (remove_refusal kind name S.rows)
   row ← row_for S kind name
-  Ok (Changed (record { row = row; removes = true }))
+  Ok (Changed (record { row = row; removes = true }) (shown_row S.rows row))
 change_done S Invokes c = do
   name ← name_in c
-  plan ← invocation_plan S S.tenants.subject c.blocking name c.params
+  plan ← invocation_plan S S.tenants.subject (charged_namespace S.tenants name) c.blocking name c.params
   Ok (Invoked plan (shows_of c.result_only))
 
 abbrev pub shown_done : Result V Reason → Result Done Reason
@@ -154,7 +162,7 @@ shown_done (Err reason) = Err reason
 
 abbrev pub called_done : Sight → Act → Parts → Result Done Reason
 called_done S act p = do
-  call ← granted_call S p
+  call ← granted_call S.tenants S.rows act p
   change_done S act call
 
 -- a read is answered of what whoever asks may see
@@ -185,7 +193,7 @@ refusal_told reason = if tells_full reason then told.Full (refusal_of reason) el
 -- what is done at a request, at a moment
 abbrev pub ask_decision : ℕ → Result Done Reason → Decision
 ask_decision at (Ok (Shown value)) = tells (at_once (good value))
-ask_decision at (Ok (Changed change)) = record { told = at_once (good (row_value change.row)); items = []; changes = change ∷ []; waits = Keep }
+ask_decision at (Ok (Changed change value)) = record { told = at_once (good value); items = []; changes = change ∷ []; waits = Keep }
 ask_decision at (Ok (Invoked plan shows)) = record {
   told = told.Asked (invoked_reply plan.id plan.until);
   items = accept_items at plan;

@@ -1,9 +1,11 @@
 pub mod Tenants
+pub mod Shown
 pub mod Sight
 pub mod Reasons
 pub mod Ids
 pub mod View
 pub mod Reading
+pub mod Named
 pub mod Calling
 pub mod Waiting
 pub mod Decision

@@ -26,7 +26,7 @@ use Rattle.ow_decide.specs.Decision.{Decision}
 abbrev pub done_of : Done → Result asking.Done Reason
 done_of (codes.Refused reason) = Err reason
 done_of (codes.Shown value) = Ok (asking.Shown (view value))
-done_of (codes.Changed ready) = Ok (asking.Changed ready)
+done_of (codes.Changed ready shown) = Ok (asking.Changed ready (view shown))
 
 abbrev pub served_of : Served → Result asking.Done Reason
 served_of (served.Done done) = done_of done
@@ -38,7 +38,7 @@ HasPlace None room = Unit {0}
 HasPlace (Some change) room = change.removes ≡ false → 1 ≤ room
 
 abbrev pub change_of : Done → Option Change
-change_of (codes.Changed ready) = Some ready
+change_of (codes.Changed ready shown) = Some ready
 change_of done = None
 
 abbrev pub served_change : Served → Option Change

@@ -1,6 +1,7 @@
 // What a request is to do.
-ghost use Rattle.std.specs.Prelude.{◌≡◌};
-ghost use Rattle.ow_decide.specs.Asking.{act_in, act_of, change_in, is_inside, reading_in};
+ghost use Rattle.std.specs.Prelude.{◌≡◌, Some, None, if◌then◌else◌};
+ghost use Rattle.ow_decide.specs.Asking.{act_in, act_of, change_in, is_served, opened_kind, reading_in};
+ghost use Rattle.ow_decide.specs.Reading.{read_kind};
 
 use ow_entity::EntityKind;
 use ow_http::{CallKind, Part, Route, Verb};
@@ -31,27 +32,35 @@ pub(crate) enum Act {
     Invokes,
 }
 
+impl Act {
+    /// The kind of the entity that is shown alone or invoked: a shared package grants that.
+    pub(crate) fn opened_kind(self) -> Option<EntityKind>
+        ensures { result ≡ opened_kind self }
+    {
+        match self {
+            Act::Reads(reading) => reading.kind(),
+            Act::Invokes => Some(EntityKind::Action),
+            _ => None,
+        }
+    }
+}
+
+impl Reading {
+    fn kind(self) -> Option<EntityKind>
+        ensures { result ≡ read_kind self }
+    {
+        match self {
+            Reading::Row(kind) => Some(kind),
+            _ => None,
+        }
+    }
+}
+
 /// What a request of this route and method is to do, where that is served yet.
 pub(crate) fn act_of(route: &Route, method: Verb) -> Option<Act>
     ensures { result ≡ act_of route.now method }
 {
-    if is_inside(route) {
-        return None;
-    }
     act_in(CallKind::of(route, method))
-}
-
-// Whether what is named stands in a package.
-fn is_inside(route: &Route) -> bool
-    ensures { result ≡ is_inside route.now }
-{
-    match route {
-        Route::Entity {
-            package: Some(_),
-            ..
-        } => true,
-        _ => false,
-    }
 }
 
 fn act_in(kind: CallKind) -> Option<Act>
@@ -63,12 +72,22 @@ fn act_in(kind: CallKind) -> Option<Act>
     }
 }
 
+// Whether entities of this kind are served yet.
+fn is_served(kind: EntityKind) -> bool
+    ensures { result ≡ is_served kind }
+{
+    match kind {
+        EntityKind::Action | EntityKind::Package => true,
+        _ => false,
+    }
+}
+
 fn reading_in(kind: CallKind) -> Option<Reading>
     ensures { result ≡ reading_in kind }
 {
     match kind {
-        CallKind::ListEntities(EntityKind::Action) => Some(Reading::Rows(EntityKind::Action)),
-        CallKind::GetEntity(EntityKind::Action) => Some(Reading::Row(EntityKind::Action)),
+        CallKind::ListEntities(kind) => served(kind, Reading::Rows(kind)),
+        CallKind::GetEntity(kind) => served(kind, Reading::Row(kind)),
         CallKind::ListActivations => Some(Reading::Activations),
         CallKind::GetActivation(part) => Some(Reading::Activation(part)),
         _ => None,
@@ -79,9 +98,16 @@ fn change_in(kind: CallKind) -> Option<Act>
     ensures { result ≡ change_in kind }
 {
     match kind {
-        CallKind::PutEntity(EntityKind::Action) => Some(Act::Puts),
-        CallKind::DeleteEntity(EntityKind::Action) => Some(Act::Removes(EntityKind::Action)),
+        CallKind::PutEntity(kind) => served(kind, Act::Puts),
+        CallKind::DeleteEntity(kind) => served(kind, Act::Removes(kind)),
         CallKind::Invoke => Some(Act::Invokes),
         _ => None,
     }
+}
+
+// This, where entities of the kind are served.
+fn served<T: Copy>(kind: EntityKind, value: T) -> Option<T>
+    ensures { result ≡ if is_served kind then Some value else None }
+{
+    if is_served(kind) { Some(value) } else { None }
 }

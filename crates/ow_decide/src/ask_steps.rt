@@ -1,25 +1,29 @@
 // What comes of a request: its first refusal, in the order of their places, or what it reads and changes.
-ghost use Rattle.std.specs.Prelude.{◌≡◌, None, IfOk};
+ghost use Rattle.std.specs.Prelude.{◌≡◌, None, Some, Ok, IfOk};
 ghost use Rattle.ow_floor.specs.Laws.{Stands};
 ghost use Rattle.ow_http.specs.Request.{parts_of};
-ghost use Rattle.ow_decide.specs.Asking.{ask_decision, called_done, change_done, grant_for, granted_call, put_done, request_done};
-ghost use Rattle.ow_decide.specs.Reading.{namespace_of};
+ghost use Rattle.ow_tables.specs.Rows.{with_row};
+ghost use Rattle.ow_decide.specs.Asking as asking;
+ghost use Rattle.ow_decide.specs.Shown.{shown_row};
+ghost use Rattle.ow_decide.specs.Asking.{ask_decision, called_done, change_done, put_done, request_done};
 ghost use Rattle.ow_decide.specs.Sight.{Sight};
 ghost use Rattle.ow_decide.specs.Making.{HasPlace, IsNextOf, IsSeen, Makes, change_of, done_of, served_change, served_of};
 
 use crate::acts::{Act, act_of};
-use crate::call_steps::invocation_plan;
+use crate::call_steps::{charged_namespace, invocation_plan};
 use crate::done::{Done, Served, accepted};
+use crate::grants::granted_call;
 use crate::reads::read;
 use crate::reasons::table_reason;
 use crate::room::room_for;
+use crate::shown::{shown_once_put, shown_row};
 use crate::step::{Now, Step};
 use crate::tenants::Tenants;
 use crate::waits::shows_of;
 use ow_entity::{Draft, EntityKind};
 use ow_floor::Floor;
-use ow_http::{Call, CallRefusal, HttpRefusal, Reason, Request, Route, ServiceRefusal, read_call};
-use ow_tables::{TableRefusal, Tables};
+use ow_http::{Call, HttpRefusal, Reason, Request};
+use ow_tables::{Ready, TableRefusal, Tables};
 use ow_value::NoMemory;
 use std::alloc::Global;
 
@@ -71,46 +75,6 @@ fn request_served(
     }
 }
 
-// That whoever asks may read and write in the namespace of the path.
-fn grant_for(tenants: &Tenants, request: &Request) -> Result<(), Reason>
-    ensures { (S : Sight) → S.tenants ≡ tenants.now → result ≡ grant_for S (parts_of request.now) }
-{
-    if tenants.is_granted(namespace_of(&request.route)) {
-        return Ok(());
-    }
-    Err(Reason::Service(ServiceRefusal::NotGranted))
-}
-
-fn namespace_of(route: &Route) -> &[u8]
-    ensures { result.now ≡ namespace_of route.now }
-{
-    match route {
-        Route::List { namespace, .. }
-        | Route::Entity { namespace, .. }
-        | Route::Activations { namespace }
-        | Route::Activation { namespace, .. } => namespace.as_slice(),
-        _ => b"".as_slice(),
-    }
-}
-
-/// The call that a request makes, where whoever asks may make it.
-pub(crate) fn granted_call(
-    alloc: Global,
-    tenants: &Tenants,
-    request: &Request,
-) -> Result<Result<Call, Reason>, NoMemory>
-    ensures { IfOk result (λ r. (S : Sight) → S.tenants ≡ tenants.now → r ≡ granted_call S (parts_of request.now)) }
-{
-    if let Err(reason) = grant_for(tenants, request) {
-        return Ok(Err(reason));
-    }
-    match read_call(alloc, request, &tenants.home) {
-        Ok(call) => Ok(Ok(call)),
-        Err(CallRefusal::NoMemory) => Err(NoMemory),
-        Err(refusal) => Ok(Err(Reason::Call(refusal))),
-    }
-}
-
 // What comes of a change or an invocation.
 fn called_served(
     alloc: Global,
@@ -127,7 +91,7 @@ fn called_served(
     ensures place { IfOk result (λ d. HasPlace (served_change d) tables.new.room) }
     ensures next { IfOk result (IsNextOf floor.now.now.drawn) }
 {
-    match granted_call(alloc, tenants, request)? {
+    match granted_call(alloc, tenants, tables, act, request)? {
         Ok(call) => call_served(alloc, tenants, floor, tables, at, act, call),
         Err(reason) => Ok(Served::Done(Done::Refused(reason))),
     }
@@ -180,6 +144,7 @@ fn invoked(
         tables,
         at,
         &tenants.subject,
+        charged_namespace(tenants, name),
         call.blocking,
         name,
         &call.params,
@@ -220,9 +185,37 @@ fn put_draft(
     ensures place { IfOk result (λ d. HasPlace (change_of d) tables.new.room) }
 {
     match tables.prepare_put(alloc, draft, overwrite) {
-        Ok(ready) => Ok(Done::Changed(ready)),
+        Ok(ready) => put_shown(alloc, tables, ready),
         Err(TableRefusal::NoMemory) => Err(NoMemory),
         Err(refusal) => Ok(Done::Refused(table_reason(refusal))),
+    }
+}
+
+// A put that was made ready, with its row as it is shown then.
+fn put_shown(alloc: Global, tables: &Tables, ready: Ready) -> Result<Done, NoMemory>
+    ensures done { IfOk result (λ d. done_of d ≡ Ok (asking.Changed ready (shown_row (with_row ready.row tables.now.rows) ready.row))) }
+    ensures change { IfOk result (λ d. change_of d ≡ Some ready) }
+{
+    match shown_once_put(alloc, tables, ready.row()) {
+        Ok(shown) => Ok(Done::Changed { ready, shown }),
+        Err(e) => {
+            drop(ready);
+            Err(e)
+        }
+    }
+}
+
+// A removal that was made ready, with its row as it is shown still.
+fn removal_shown(alloc: Global, tables: &Tables, ready: Ready) -> Result<Done, NoMemory>
+    ensures done { IfOk result (λ d. done_of d ≡ Ok (asking.Changed ready (shown_row tables.now.rows ready.row))) }
+    ensures change { IfOk result (λ d. change_of d ≡ Some ready) }
+{
+    match shown_row(alloc, tables, ready.row()) {
+        Ok(shown) => Ok(Done::Changed { ready, shown }),
+        Err(e) => {
+            drop(ready);
+            Err(e)
+        }
     }
 }
 
@@ -240,7 +233,7 @@ fn removed(
         return Ok(Done::Refused(Reason::Http(HttpRefusal::NoRoute)));
     };
     match tables.prepare_remove(alloc, kind, name) {
-        Ok(ready) => Ok(Done::Changed(ready)),
+        Ok(ready) => removal_shown(alloc, tables, ready),
         Err(TableRefusal::NoMemory) => Err(NoMemory),
         Err(refusal) => Ok(Done::Refused(table_reason(refusal))),
     }

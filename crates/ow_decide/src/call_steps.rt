@@ -1,8 +1,8 @@
 // Invocations of actions: by requests, and the office's own.
-ghost use Rattle.std.specs.Prelude.{◌≡◌, ◌+◌, None, IfOk, option_map};
+ghost use Rattle.std.specs.Prelude.{◌≡◌, ◌+◌, None, IfOk};
 ghost use Rattle.ow_floor.specs.View.{last_of};
 ghost use Rattle.ow_floor.specs.Laws.{Stands};
-ghost use Rattle.ow_decide.specs.Calling.{call_decision, call_plan, callee_in, fitting, invocation_plan, own_effective, pairs_of, plan_for, until_of};
+ghost use Rattle.ow_decide.specs.Calling.{call_decision, call_plan, called_plan, callee_in, charged_namespace, fitting, given_over, invocation_plan, merged_plan, pairs_of, plan_for, until_of};
 ghost use Rattle.ow_decide.specs.Sight.{Sight};
 ghost use Rattle.ow_decide.specs.Making.{IsSeen, Makes};
 
@@ -11,18 +11,25 @@ use crate::replies::Called;
 use crate::room::room_for;
 use crate::step::{Now, Step};
 use crate::tenants::Tenants;
-use ow_entity::{Action, EntityKind, EntityRefusal, Row};
+use ow_entity::{Action, EntityRefusal};
 use ow_floor::{Floor, Plan};
 use ow_http::{CallRefusal, Reason, ServiceRefusal};
-use ow_names::FullName;
-use ow_packages::Effective;
+use ow_names::{EntityName, FullName};
+use ow_packages::{Effective, PackageRefusal, check_override, effective};
 use ow_records::Id;
 use ow_tables::Tables;
-use ow_value::{MEGABYTE, NoMemory, Params, PlainData, Shared, Str, Val, merge, size};
+use ow_value::{MEGABYTE, NoMemory, Params, PlainData, Str, Val, merge, size};
 use std::alloc::Global;
 
 /// How long a blocking invocation waits at most, in milliseconds.
 const MOST_WAITED: u64 = 60_000;
+
+/// What is called: the number of the namespace that is charged, and what the name calls.
+#[derive(Drop)]
+pub(crate) struct Callee {
+    pub(crate) number: u64,
+    pub(crate) effective: Effective,
+}
 
 /// What is done at a call: the action is accepted, unless the call is refused.
 pub(crate) fn call(
@@ -70,6 +77,7 @@ fn call_plan(
         tables,
         now.at,
         &tenants.office,
+        &name.namespace,
         false,
         name,
         params,
@@ -84,24 +92,72 @@ pub(crate) fn invocation_plan(
     tables: &Tables,
     at: u64,
     subject: &Str,
+    namespace: &EntityName,
     blocking: bool,
     name: &FullName,
     params: &Params,
 ) -> Result<Result<Plan, Reason>, NoMemory>
     ensures plan { IfOk result (λ p. (S : Sight) → S.tenants ≡ tenants.now → S.rows ≡ tables.now.rows → Stands floor.now.now S.trace → S.moment ≡ at
-        → p ≡ invocation_plan S subject.now blocking name.now params.now) }
+        → p ≡ invocation_plan S subject.now namespace.now blocking name.now params.now) }
     ensures next { IfOk result (λ p. IfOk p (λ plan. plan.id.count ≡ last_of floor.now.now.drawn plan.id.namespace + 1)) }
 {
-    let Some((number, action)) = callee(tenants, tables, name) else {
-        return Ok(Err(Reason::Service(ServiceRefusal::NotFound)));
-    };
-    let until = until_of(at, blocking, action.get())?;
-    let Some(params) = merged(alloc, action.get(), params)? else {
-        return Ok(Err(Reason::Call(CallRefusal::BadEntity(EntityRefusal::TooLarge))));
-    };
+    match callee_in(alloc, tenants, tables, name, namespace)? {
+        Some(called) => called_plan(
+            alloc, floor, at, subject, namespace, blocking, called, params,
+        ),
+        None => Ok(Err(Reason::Service(ServiceRefusal::NotFound))),
+    }
+}
+
+// The same of what is called.
+fn called_plan(
+    alloc: Global,
+    floor: &Floor,
+    at: u64,
+    subject: &Str,
+    namespace: &EntityName,
+    blocking: bool,
+    called: Callee,
+    params: &Params,
+) -> Result<Result<Plan, Reason>, NoMemory>
+    ensures plan { IfOk result (λ p. (S : Sight) → Stands floor.now.now S.trace → S.moment ≡ at → p ≡ called_plan S subject.now namespace.now blocking called params.now) }
+    ensures next { IfOk result (λ p. IfOk p (λ plan. plan.id.count ≡ last_of floor.now.now.drawn plan.id.namespace + 1)) }
+{
+    let Callee { number, effective } = called;
+    match given_over(alloc, &effective, params) {
+        Ok(Ok(merged)) => merged_plan(
+            alloc, floor, at, subject, namespace, blocking, number, effective, merged,
+        ),
+        Ok(Err(reason)) => {
+            drop(effective);
+            Ok(Err(reason))
+        }
+        Err(e) => {
+            drop(effective);
+            Err(e)
+        }
+    }
+}
+
+// The same with merged parameters.
+fn merged_plan(
+    alloc: Global,
+    floor: &Floor,
+    at: u64,
+    subject: &Str,
+    namespace: &EntityName,
+    blocking: bool,
+    number: u64,
+    effective: Effective,
+    merged: Params,
+) -> Result<Result<Plan, Reason>, NoMemory>
+    ensures plan { IfOk result (λ p. (S : Sight) → Stands floor.now.now S.trace → S.moment ≡ at → p ≡ merged_plan S subject.now namespace.now blocking (record { number = number; effective = effective }) merged) }
+    ensures next { IfOk result (λ p. IfOk p (λ plan. plan.id.count ≡ last_of floor.now.now.drawn plan.id.namespace + 1)) }
+{
     if floor.is_draining() {
         return Ok(Err(Reason::Service(ServiceRefusal::Draining)));
     }
+    let until = until_of(at, blocking, effective.action.get())?;
     let Some(count) = floor.last(number).checked_add(1) else {
         return Err(NoMemory);
     };
@@ -109,7 +165,7 @@ pub(crate) fn invocation_plan(
         namespace: number,
         count,
     };
-    Ok(Ok(plan_for(alloc, subject, until, id, name, action, params)?))
+    Ok(Ok(plan_for(alloc, subject, until, id, namespace, effective, merged)?))
 }
 
 // Up to which moment a blocking invocation waits. A moment that would pass its type is answered as want of memory.
@@ -132,15 +188,14 @@ fn plan_for(
     subject: &Str,
     until: Option<u64>,
     id: Id,
-    name: &FullName,
-    action: &Shared<Action>,
+    namespace: &EntityName,
+    effective: Effective,
     params: Params,
 ) -> Result<Plan, NoMemory>
-    ensures { IfOk result (λ p. p ≡ plan_for subject.now until id name.now action.now params) }
+    ensures { IfOk result (λ p. p ≡ plan_for subject.now until id namespace.now effective params) }
 {
     let subject = subject.copy(alloc)?;
-    let namespace = name.namespace.copy(alloc)?;
-    let effective = own_effective(alloc, action)?;
+    let namespace = namespace.copy(alloc)?;
     Ok(Plan {
         id,
         namespace,
@@ -152,40 +207,61 @@ fn plan_for(
     })
 }
 
-// What an action outside packages is called with: its own parameters.
-fn own_effective(alloc: Global, action: &Shared<Action>) -> Result<Effective, NoMemory>
-    ensures { IfOk result (λ e. e ≡ own_effective action.now) }
+/// Which namespace is charged for an invocation: the caller's own where it has no right on that of the action.
+pub(crate) fn charged_namespace<'a>(tenants: &'a Tenants, name: &'a FullName) -> &'a EntityName
+    ensures { result.now ≡ charged_namespace tenants.now name.now }
 {
-    let params = action.get().params.get().copy(alloc)?;
-    let action = action.copy(alloc)?;
-    Ok(Effective {
-        action,
-        params,
-        binding: None,
-    })
-}
-
-// The action of the name, and the number of the namespace that is charged.
-fn callee<'a>(
-    tenants: &Tenants,
-    tables: &'a Tables,
-    name: &FullName,
-) -> Option<(u64, &'a Shared<Action>)>
-    ensures { option_map (λ c. record { number = c.0; action = c.1.now }) result ≡ callee_in tenants.now tables.now.rows name.now }
-{
-    let number = tenants.number_of(name.namespace.as_str());
-    match (number, tables.get(EntityKind::Action, name)) {
-        (Some(number), Ok(Row::Action(action))) => Some((number, action)),
-        _ => None,
+    if tenants.is_granted(name.namespace.as_str().as_bytes()) {
+        &name.namespace
+    } else {
+        &tenants.home
     }
 }
 
-// What is given over the action's own parameters, unless it has too many bytes.
-#[tactic(auto, unfolding(crate::specs::Calling::is_oversized))]
-fn merged(alloc: Global, action: &Action, params: &Params) -> Result<Option<Params>, NoMemory>
-    ensures { IfOk result (λ p. p ≡ fitting action.now params.now) }
+// What the name calls for one in the namespace, where that has a number.
+fn callee_in(
+    alloc: Global,
+    tenants: &Tenants,
+    tables: &Tables,
+    name: &FullName,
+    namespace: &EntityName,
+) -> Result<Option<Callee>, NoMemory>
+    ensures { IfOk result (λ c. c ≡ callee_in tenants.now tables.now.rows name.now namespace.now) }
 {
-    let merged = Val::Object(merge(alloc, action.params.get(), params)?);
+    let Some(number) = tenants.number_of(namespace.as_str()) else {
+        return Ok(None);
+    };
+    match effective(alloc, tables, name, namespace) {
+        Ok(effective) => Ok(Some(Callee { number, effective })),
+        Err(PackageRefusal::NoMemory) => Err(NoMemory),
+        Err(_) => Ok(None),
+    }
+}
+
+// What is given over what is called with, where none of it is fixed and it has not too many bytes.
+fn given_over(
+    alloc: Global,
+    called: &Effective,
+    given: &Params,
+) -> Result<Result<Params, Reason>, NoMemory>
+    ensures { IfOk result (λ r. r ≡ given_over called.now given.now) }
+{
+    match check_override(alloc, called, given, false) {
+        Ok(()) => match fitting(alloc, &called.params, given)? {
+            Some(merged) => Ok(Ok(merged)),
+            None => Ok(Err(Reason::Call(CallRefusal::BadEntity(EntityRefusal::TooLarge)))),
+        },
+        Err(PackageRefusal::Fixed { name }) => Ok(Err(Reason::Fixed { name })),
+        Err(_) => Err(NoMemory),
+    }
+}
+
+// What is given over these, unless it has too many bytes.
+#[tactic(auto, unfolding(crate::specs::Calling::is_oversized))]
+fn fitting(alloc: Global, own: &Params, given: &Params) -> Result<Option<Params>, NoMemory>
+    ensures { IfOk result (λ p. p ≡ fitting own.now given.now) }
+{
+    let merged = Val::Object(merge(alloc, own, given)?);
     if size(&merged) > MEGABYTE {
         return Ok(None);
     }

@@ -13,7 +13,6 @@ use crate::reasons::tells_full;
 use crate::replies::Reply;
 use crate::step::Step;
 use crate::waits::{Shows, Waits, invoked_reply, waits_of};
-use ow_entity::write_entity;
 use ow_floor::{Floor, Plan};
 use ow_http::{Answer, Reason, refusal};
 use ow_tables::Ready;
@@ -36,8 +35,8 @@ pub(crate) enum Done {
     Refused(Reason),
     /// This is shown.
     Shown(Val),
-    /// The row of the change is shown.
-    Changed(Ready),
+    /// This change was made ready, of which this is shown.
+    Changed { ready: Ready, shown: Val },
 }
 
 impl Done {
@@ -62,10 +61,8 @@ impl Done {
     {
         match self {
             Done::Refused(reason) => refusal_told(alloc, reason),
-            Done::Shown(value) => Ok(Told::Asked(Reply::Now(good(alloc, value)?))),
-            Done::Changed(ready) => {
-                let value = write_entity(alloc, ready.row())?;
-                Ok(Told::Asked(Reply::Now(good(alloc, &value)?)))
+            Done::Shown(value) | Done::Changed { shown: value, .. } => {
+                Ok(Told::Asked(Reply::Now(good(alloc, value)?)))
             }
         }
     }
@@ -74,7 +71,7 @@ impl Done {
         ensures { result ≡ change_of self }
     {
         match self {
-            Done::Changed(ready) => Some(ready),
+            Done::Changed { ready, .. } => Some(ready),
             _ => None,
         }
     }

@@ -1,30 +1,35 @@
 // What reads show, of what whoever asks may see.
-ghost use Rattle.std.specs.Prelude.{◌≡◌, Some, None, Ok, true, if◌then◌else◌, filter, IfOk, option_copied};
+ghost use Rattle.std.specs.Prelude.{◌≡◌, [], Some, None, Ok, if◌then◌else◌, filter, option_and_then, IfOk, OnOk, IfSome, option_copied};
 ghost use Rattle.ow_value.specs.View.{view};
 ghost use Rattle.ow_entity.specs.Row.{name_of};
 ghost use Rattle.ow_floor.specs.Laws.{Stands};
 ghost use Rattle.ow_floor.specs.Trace.{Trace, records};
 ghost use Rattle.ow_http.specs.Request.{parts_of};
 ghost use Rattle.ow_records.specs.Records.{is_in};
-ghost use Rattle.ow_tables.specs.Rows.{found, is_row};
+ghost use Rattle.ow_entity.specs.declared.kinds.EntityKind.TheVariants as kinds;
+ghost use Rattle.ow_packages.specs.Access.{lying_in, package_at, package_of, reached_package};
+ghost use Rattle.ow_tables.specs.Rows.{found, standing};
 ghost use Rattle.ow_decide.specs.Asking.{granted_call, shown_done};
-ghost use Rattle.ow_decide.specs.Reading.{id_of, part_value, read_done, read_value, recorded, recorded_under};
+ghost use Rattle.ow_decide.specs.Reading.{action_behind, action_read, id_of, part_value, read_done, read_value, recorded, recorded_under, row_read};
+ghost use Rattle.ow_decide.specs.Named.{AreNamed, IsNamed, action_bound, action_in, bound_name};
 ghost use Rattle.ow_decide.specs.Sight.{Sight};
 ghost use Rattle.ow_decide.specs.Making.{change_of, done_of};
-ghost use Rattle.ow_decide.specs.View.{is_visible, is_visible_record, own_rights, view_of};
+ghost use Rattle.ow_decide.specs.View.{is_visible_record, own_rights, view_of};
 
-use crate::acts::Reading;
-use crate::ask_steps::granted_call;
+use crate::acts::{Act, Reading};
 use crate::done::Done;
+use crate::grants::granted_call;
 use crate::ids::id_in;
+use crate::shown::shown_row;
 use crate::tenants::Tenants;
-use ow_entity::{EntityKind, Row, write_entity};
+use ow_entity::{EntityKind, Lookup, Package, Row};
 use ow_floor::Floor;
 use ow_http::{Call, HttpRefusal, Part, Reason, Request, Route, ServiceRefusal};
-use ow_names::FullName;
+use ow_names::{EntityName, FullName};
+use ow_packages::{package_of, reached_package};
 use ow_records::{Id, Record, write_logs, write_record, write_response};
 use ow_tables::Tables;
-use ow_value::{NoMemory, Val};
+use ow_value::{NoMemory, PlainData, Val};
 use std::alloc::Global;
 
 /// What a read shows, or its first refusal.
@@ -40,7 +45,8 @@ pub(crate) fn read(
         → done_of d ≡ shown_done (read_done (view_of S) reading (parts_of request.now))) }
     ensures change { IfOk result (λ d. change_of d ≡ None) }
 {
-    let granted = granted_call(alloc, tenants, request)?;
+    tables.are_ordered();
+    let granted = granted_call(alloc, tenants, tables, Act::Reads(reading), request)?;
     match granted {
         Ok(call) => shown(alloc, tenants, floor, tables, reading, request, &call),
         Err(reason) => Ok(Done::Refused(reason)),
@@ -57,7 +63,7 @@ fn shown(
     request: &Request,
     call: &Call,
 ) -> Result<Done, NoMemory>
-    requires { (S : Sight) → S.tenants ≡ tenants.now → granted_call S (parts_of request.now) ≡ Ok call.now }
+    requires { granted_call tenants.now tables.now.rows (Act.Reads reading) (parts_of request.now) ≡ Ok call.now }
     ensures done { IfOk result (λ d. (S : Sight) → S.tenants ≡ tenants.now → S.rows ≡ tables.now.rows → Stands floor.now.now S.trace
         → done_of d ≡ shown_done (read_value (view_of S) reading (parts_of request.now) call.now)) }
     ensures change { IfOk result (λ d. change_of d ≡ None) }
@@ -78,7 +84,7 @@ fn listed(
     request: &Request,
     call: &Call,
 ) -> Result<Done, NoMemory>
-    requires { (S : Sight) → S.tenants ≡ tenants.now → granted_call S (parts_of request.now) ≡ Ok call.now }
+    requires { granted_call tenants.now tables.now.rows (Act.Reads (Reading.Rows kind)) (parts_of request.now) ≡ Ok call.now }
     ensures done { IfOk result (λ d. (S : Sight) → S.tenants ≡ tenants.now → S.rows ≡ tables.now.rows
         → done_of d ≡ shown_done (read_value (view_of S) (Reading.Rows kind) (parts_of request.now) call.now)) }
     ensures change { IfOk result (λ d. change_of d ≡ None) }
@@ -95,7 +101,7 @@ fn row_shown(
     request: &Request,
     call: &Call,
 ) -> Result<Done, NoMemory>
-    requires { (S : Sight) → S.tenants ≡ tenants.now → granted_call S (parts_of request.now) ≡ Ok call.now }
+    requires { granted_call tenants.now tables.now.rows (Act.Reads (Reading.Row kind)) (parts_of request.now) ≡ Ok call.now }
     ensures done { IfOk result (λ d. (S : Sight) → S.tenants ≡ tenants.now → S.rows ≡ tables.now.rows
         → done_of d ≡ shown_done (read_value (view_of S) (Reading.Row kind) (parts_of request.now) call.now)) }
     ensures change { IfOk result (λ d. change_of d ≡ None) }
@@ -103,37 +109,113 @@ fn row_shown(
     let Some(name) = &call.name else {
         return Ok(Done::Refused(Reason::Http(HttpRefusal::NoRoute)));
     };
-    match visible_row(tenants, tables, kind, name) {
-        Some(row) => Ok(Done::Shown(write_entity(alloc, row)?)),
+    tables.are_ordered();
+    match row_read(alloc, tables, kind, name)? {
+        Some(row) => Ok(Done::Shown(shown_row(alloc, tables, row)?)),
         None => Ok(Done::Refused(Reason::Service(ServiceRefusal::NotFound))),
     }
 }
 
-// The row of the name, which stands in the namespace of whoever asks.
-fn visible_row<'a>(
-    tenants: &Tenants,
+// The row of the name. Of an action in a binding it is the one behind the name.
+fn row_read<'a>(
+    alloc: Global,
     tables: &'a Tables,
     kind: EntityKind,
     name: &FullName,
-) -> Option<&'a Row>
-    requires { name.now.namespace ≡ tenants.now.home }
-    ensures { option_copied result ≡ found kind name.now (filter (is_visible (own_rights tenants.now.home)) tables.now.rows) }
+) -> Result<Option<&'a Row>, NoMemory>
+    ensures value { IfOk result (λ r. option_copied r ≡ row_read tables.now.rows kind name.now) }
+    ensures named { OnOk result (AreNamed tables.now.rows kind name.now) }
 {
-    match tables.get(kind, name) {
-        Ok(row) => {
-            has_name(row, kind, name);
-            Some(row)
-        }
-        Err(_) => None,
+    match kind {
+        EntityKind::Action => action_read(alloc, tables, name),
+        _ => Ok(row_named(tables, kind, name)),
     }
 }
 
-// Makes known that a row which is found by a name has it.
-fn has_name(row: &Row, kind: EntityKind, name: &FullName)
-    requires { is_row kind name.now row.now ≡ true }
-    ensures { name_of row.now ≡ name.now }
+// The row that stands there.
+fn row_named<'a>(tables: &'a Tables, kind: EntityKind, name: &FullName) -> Option<&'a Row>
+    ensures value { option_copied result ≡ found kind name.now tables.now.rows }
+    ensures named { IsNamed tables.now.rows kind name.now }
 {
-    row.name().compare(name);
+    tables.row(kind, name)
+}
+
+// The action of the name: in a binding the one behind it.
+fn action_read<'a>(
+    alloc: Global,
+    tables: &'a Tables,
+    name: &FullName,
+) -> Result<Option<&'a Row>, NoMemory>
+    ensures value { IfOk result (λ r. option_copied r ≡ action_read tables.now.rows name.now) }
+    ensures named { OnOk result (AreNamed tables.now.rows kinds.Action name.now) }
+{
+    let Some(bundle) = package_of(alloc, name)? else {
+        return Ok(row_named(tables, EntityKind::Action, name));
+    };
+    match package_named(tables, &bundle) {
+        Some(bundle) => action_in(alloc, tables, name, bundle),
+        None => Ok(row_named(tables, EntityKind::Action, name)),
+    }
+}
+
+// The package of the name.
+fn package_named<'a>(tables: &'a Tables, name: &FullName) -> Option<&'a Package>
+    ensures value { option_copied result ≡ package_at (standing tables.now.rows) name.now }
+    ensures named { IsNamed tables.now.rows kinds.Package name.now }
+{
+    match row_named(tables, EntityKind::Package, name) {
+        Some(Row::Package(bundle)) => Some(bundle.get()),
+        _ => None,
+    }
+}
+
+// The action of the name in this package.
+fn action_in<'a>(
+    alloc: Global,
+    tables: &'a Tables,
+    name: &FullName,
+    bundle: &Package,
+) -> Result<Option<&'a Row>, NoMemory>
+    ensures value { IfOk result (λ r. option_copied r ≡ action_in tables.now.rows name.now bundle.now.name.namespace bundle.now.binding) }
+    ensures named { OnOk result (IsNamed tables.now.rows kinds.Action (bound_name name.now bundle.now.binding)) }
+{
+    match &bundle.binding {
+        Some(target) => action_bound(alloc, tables, name, &bundle.name.namespace, target),
+        None => Ok(row_named(tables, EntityKind::Action, name)),
+    }
+}
+
+// The action of the name in the package that is bound, where the binding's namespace reaches that.
+fn action_bound<'a>(
+    alloc: Global,
+    tables: &'a Tables,
+    name: &FullName,
+    from: &EntityName,
+    target: &FullName,
+) -> Result<Option<&'a Row>, NoMemory>
+    ensures value { IfOk result (λ r. option_copied r ≡ action_bound tables.now.rows name.now from.now target.now) }
+    ensures named { OnOk result (IsNamed tables.now.rows kinds.Action (lying_in target.now name.now.name)) }
+{
+    let inside = lying_in(alloc, target, name)?;
+    let row = row_named(tables, EntityKind::Action, &inside);
+    match reached_package(tables, target, from) {
+        Some(_) => Ok(row),
+        None => Ok(None),
+    }
+}
+
+// What the name is called in the package.
+fn lying_in(alloc: Global, bundle: &FullName, name: &FullName) -> Result<FullName, NoMemory>
+    ensures { IfOk result (λ n. n ≡ lying_in bundle.now name.now.name) }
+{
+    let namespace = bundle.namespace.copy(alloc)?;
+    let inside = bundle.name.copy(alloc)?;
+    let name = name.name.copy(alloc)?;
+    Ok(FullName {
+        namespace,
+        package: Some(inside),
+        name,
+    })
 }
 
 fn records_listed(
@@ -143,7 +225,7 @@ fn records_listed(
     request: &Request,
     call: &Call,
 ) -> Result<Done, NoMemory>
-    requires { (S : Sight) → S.tenants ≡ tenants.now → granted_call S (parts_of request.now) ≡ Ok call.now }
+    requires { granted_call tenants.now [] (Act.Reads Reading.Activations) (parts_of request.now) ≡ Ok call.now }
     ensures done { IfOk result (λ d. (S : Sight) → S.tenants ≡ tenants.now → Stands floor.now.now S.trace
         → done_of d ≡ shown_done (read_value (view_of S) Reading.Activations (parts_of request.now) call.now)) }
     ensures change { IfOk result (λ d. change_of d ≡ None) }
@@ -161,7 +243,7 @@ fn record_shown(
     request: &Request,
     call: &Call,
 ) -> Result<Done, NoMemory>
-    requires { (S : Sight) → S.tenants ≡ tenants.now → granted_call S (parts_of request.now) ≡ Ok call.now }
+    requires { granted_call tenants.now [] (Act.Reads (Reading.Activation part)) (parts_of request.now) ≡ Ok call.now }
     ensures done { IfOk result (λ d. (S : Sight) → S.tenants ≡ tenants.now → Stands floor.now.now S.trace
         → done_of d ≡ shown_done (read_value (view_of S) (Reading.Activation part) (parts_of request.now) call.now)) }
     ensures change { IfOk result (λ d. change_of d ≡ None) }

@@ -8,7 +8,7 @@ use Rattle.ow_floor.specs.declared.lists.Blocking.{Blocking}
 use Rattle.ow_floor.specs.Collecting.{collected, collected_by}
 use Rattle.ow_floor.specs.Laws.{Stands}
 use Rattle.ow_floor.specs.View.{Shown, is_end_of, newest, wait_in}
-use Rattle.ow_floor.specs.Trace.{Trace, Item, Opened, Accepted, Ordered, Begun, Answered, Lost, Gone, Ended, Swept, Drained, Reopened, blocked_by, blocking, end_of, wait_of}
+use Rattle.ow_floor.specs.Trace.{Trace, Item, Opened, Accepted, Ordered, Prewarming, Removed, Begun, Answered, Lost, Gone, Ended, Swept, Drained, Reopened, blocked_by, blocking, end_of, wait_of}
 
 newest_more : {X : Type 0} (a b c : Option X) → newest (newest a b) c ≡ newest a (newest b c)
 newest_more None b c = refl
@@ -40,7 +40,9 @@ wait_told (item ∷ T) id = of_item item T id (wait_told T id)
     of_item : (item : Item) (T : Trace) (id : Id) → wait_in id (blocking T) ≡ wait_of T id → wait_in id (blocking (item ∷ T)) ≡ wait_of (item ∷ T) id
     of_item (Opened pool wants) T id e = e
     of_item (Accepted a) T id e = wait_accepted id a.id a.until (blocking T) ∙ ap (newest (cond (same_id a.id id) a.until None)) e
-    of_item (Ordered run) T id e = e
+    of_item (Ordered run key) T id e = e
+    of_item (Prewarming order at) T id e = e
+    of_item (Removed containers at) T id e = e
     of_item (Begun run at) T id e = e
     of_item (Answered run alive at) T id e = e
     of_item (Lost run at) T id e = e

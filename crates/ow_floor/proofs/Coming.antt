@@ -1,24 +1,37 @@
 -- The items of each call may come.
-use Rattle.std.proofs.Common.{◌≡◌, ◌≤◌, ◌+◌, ◌++◌, ℕ, Bool, true, false, cond, List, [], ◌∷◌, Option, Some, None, refl, sym, ap, ◌∙◌, subst}
-use Rattle.std.specs.Prelude.{is_some}
-use Rattle.std.specs.List.{find, AllByRecursion}
+use Rattle.std.proofs.Common.{◌≡◌, ◌≤◌, ◌+◌, ◌++◌, ◌&&◌, ℕ, Bool, true, false, cond, List, [], ◌∷◌, Option, Some, None, map, refl, sym, ap, ◌∙◌, arith, subst}
+use Rattle.std.specs.Prelude.{is_none, is_some}
+use Rattle.std.specs.List.{find, slice_get, AllByRecursion}
 use Rattle.ow_records.specs.declared.ids.Id.{Id}
 use Rattle.ow_records.specs.declared.outcomes.Ending.{Ending}
 use Rattle.ow_records.specs.declared.outcomes.Ending.TheVariants.{Replied, Overran, Abandoned}
 use Rattle.ow_traits.specs.declared.replies.RunReply.{RunReply}
+use Rattle.ow_slots.specs.declared.states.Slot.{Slot}
+use Rattle.ow_slots.specs.Slots.{IsThere, first_with, memory_held}
+use Rattle.ow_slots.specs.State.{awaits, holds, recorded_of, runs}
+use Rattle.ow_slots.proofs.KeyLaws.{key_told}
+use Rattle.ow_pool.specs.declared.answers.Place.{Place}
+use Rattle.ow_pool.specs.declared.answers.Place.TheVariants as places
+use Rattle.ow_pool.proofs.OrderLaws.{KeysTell}
+use Rattle.ow_lifecycle.specs.Life as lives
+use Rattle.ow_lifecycle.specs.Life.{Event}
+use Rattle.ow_lifecycle.specs.Fitting.{Goes, IsAny, IsFit}
 use Rattle.ow_floor.specs.declared.activations.Open.{Open}
+use Rattle.ow_floor.specs.declared.answers.Container.{Container}
 use Rattle.ow_records.specs.declared.record.Record.{Record}
 use Rattle.ow_floor.specs.declared.runs.Run.{Run}
-use Rattle.ow_floor.specs.View.{Shown, is_of, is_number, is_end_of, remove_first, waits}
-use Rattle.ow_floor.specs.Trace.{Trace, End, Answered, Begun, Drained, Ended, Gone, Lost, Reopened, Swept, end_of, live, live_run, open_items, record_of, records, shown}
-use Rattle.ow_floor.specs.Growth.{grow, grown, IsLive, IsRight, AreRight}
+use Rattle.ow_floor.specs.View.{Shown, containers_of, is_of, is_number, is_end_of, remove_first, waits}
+use Rattle.ow_floor.specs.Trace.{Trace, End, Answered, Begun, Drained, Ended, Gone, Lost, Removed, Reopened, Swept, end_of, live, live_run, open_items, overrun_of, record_of, records, shown, slots}
+use Rattle.ow_floor.specs.Growth.{grow, grown, IsEventRight, IsLive, IsRight, AreRight}
 use Rattle.ow_floor.specs.Laws.{IsSound, bearers}
-use Rattle.ow_floor.specs.Calls.{KeepSound, abandoned_items, accept_items, answered_items, begins, goes, end_items, ended_by, is_late, items_if, late_items, leaves_alive, next_items, order_items, overrun_items, reply_items, reopened_items, swept_items}
+use Rattle.ow_floor.specs.Calls.{KeepSound, abandoned_items, accept_items, answered_items, end_items, ended_by, goes_by, head_by, is_late, items_if, items_on, late_items, late_of, leaves_alive, next_items, order_items, overrun_items, place_on, reply_items, reopened_items, run_by, swept_items}
 use Rattle.ow_floor.proofs.Alters.{same_id_refl}
 use Rattle.ow_floor.proofs.Drawn.{drawn_last}
 use Rattle.ow_floor.proofs.Tallies.{eq_of}
 use Rattle.ow_floor.proofs.Firsts.{find_passes, find_push, or_new}
 use Rattle.ow_floor.proofs.Numbers.{each_found, found_by_own}
+use Rattle.ow_floor.proofs.Placing.{PlaceFits, place_fits}
+use Rattle.ow_floor.proofs.Serving.{held_less, is_order}
 use Rattle.ow_floor.proofs.Soundness.{sound_items, sound_start}
 use Rattle.ow_floor.proofs.Standing.{ended_not_open, open_ended}
 
@@ -35,29 +48,66 @@ right_append (x ∷ xs) ys v first second =
 
 -- ---- orders
 
-order_at : (at : ℕ) (v : Shown) (o : Option Open) → find waits v.open_items ≡ o → AreRight (order_items (v.runs + 1) at o) v
-order_at at v None found = tt
-order_at at v (Some o) found = ((refl, (o, found, refl)), tt)
+keys_tell : KeysTell
+keys_tell a b e = (key_told a b).0 e
 
-pub right_next : (at : ℕ) (v : Shown) → AreRight (order_items (v.runs + 1) at (find waits v.open_items)) v
-right_next at v = order_at at v (find waits v.open_items) refl
+pub numbers : (ns : List ℕ) (slots : List Slot) → map (λ (c : Container). c.slot) (containers_of ns slots) ≡ ns
+numbers [] slots = refl
+numbers (n ∷ ns) slots = ap (λ xs. n ∷ xs) (numbers ns slots)
+
+-- the removal of these may come
+abbrev RemovalComes : List ℕ → Shown → Type 0
+RemovalComes ns v = IsEventRight (Some (lives.Removed ns)) v
+
+order_at : (at : ℕ) (v : Shown) (o : Option Open) (p : Place) → find waits v.open_items ≡ o → PlaceFits v.slots (head_by o) v.pool p → AreRight (order_items p o at v) v
+order_at at v None (places.Run slot start) found fits = tt
+order_at at v (Some o) (places.Run slot start) found fits =
+    (((o, found, refl), (record { next = refl; fits = fits.fits; own = fits.own }, fits.kept (v.runs + 1) at)), tt)
+order_at at v None (places.Prewarm slot kind memory) found fits = ((tt, (record { next = refl; fits = fits.fits }, fits.kept (v.runs + 1) kind)), tt)
+order_at at v (Some o) (places.Prewarm slot kind memory) found fits = ((tt, (record { next = refl; fits = fits.fits }, fits.kept (v.runs + 1) kind)), tt)
+order_at at v None (places.Remove ns) found fits = ((tt, subst (λ ms. RemovalComes ms v) (sym (numbers ns v.slots)) (fits.fits, fits.kept)), tt)
+order_at at v (Some o) (places.Remove ns) found fits = ((tt, subst (λ ms. RemovalComes ms v) (sym (numbers ns v.slots)) (fits.fits, fits.kept)), tt)
+order_at at v None (places.Nothing reason) found fits = tt
+order_at at v (Some o) (places.Nothing reason) found fits = tt
+
+pub right_next : (at : ℕ) (v : Shown) → memory_held v.slots ≤ v.pool → AreRight (items_on at v) v
+right_next at v within =
+    order_at at v (find waits v.open_items) (place_on v) refl (place_fits keys_tell v.slots (head_by (find waits v.open_items)) v.wants v.pool within)
 
 -- ---- beginnings, losses, goings
 
-pub right_begun : (at run : ℕ) (b : Bool) (v : Shown) → AreRight (items_if b (Begun run at)) v
-right_begun at run true v = (tt, tt)
-right_begun at run false v = tt
+-- an event that is no order leaves what is held within the pool
+pub comes : (e : Event) (v : Shown) → is_order e ≡ false → memory_held v.slots ≤ v.pool → IsFit e v.slots v.runs → IsEventRight (Some e) v
+comes e v plain within fit = (fit, let less = held_less e v.slots plain in omega (arith, less, within))
 
-pub right_gone : (at slot generation : ℕ) (b : Bool) (v : Shown) → AreRight (items_if b (Gone slot generation at)) v
-right_gone at slot generation true v = (tt, tt)
-right_gone at slot generation false v = tt
+pub there : (o : Option Slot) → is_some o ≡ true → IsThere IsAny o
+there None e = cc
+there (Some s) e = tt
 
-lost_at : (at run : ℕ) (r : Option Run) (v : Shown) → find (is_number run) v.live ≡ r → AreRight (items_if (is_some r) (Lost run at)) v
-lost_at at run None v found = tt
-lost_at at run (Some r) v found = ((r, found), tt)
+begun_by : (at run : ℕ) (v : Shown) (b : Bool) → is_some (first_with (awaits run) v.slots) ≡ b → memory_held v.slots ≤ v.pool → AreRight (items_if b (Begun run at)) v
+begun_by at run v true e within = ((tt, comes (lives.Begun run at) v refl within (there (first_with (awaits run) v.slots) e)), tt)
+begun_by at run v false e within = tt
 
-pub right_lost : (at run : ℕ) (v : Shown) → AreRight (items_if (is_some (find (is_number run) v.live)) (Lost run at)) v
-right_lost at run v = lost_at at run (find (is_number run) v.live) v refl
+pub right_begun : (at run : ℕ) (v : Shown) → memory_held v.slots ≤ v.pool → AreRight (items_if (is_some (first_with (awaits run) v.slots)) (Begun run at)) v
+right_begun at run v within = begun_by at run v (is_some (first_with (awaits run) v.slots)) refl within
+
+pub goes_there : (generation : ℕ) (o : Option Slot) → goes_by generation o ≡ true → IsThere (Goes generation) o
+goes_there generation None e = cc
+goes_there generation (Some s) e = e
+
+gone_by : (at slot generation : ℕ) (v : Shown) (b : Bool) → goes_by generation (slice_get v.slots slot) ≡ b → memory_held v.slots ≤ v.pool → AreRight (items_if b (Gone slot generation at)) v
+gone_by at slot generation v true e within = ((tt, comes (lives.Gone slot generation) v refl within (goes_there generation (slice_get v.slots slot) e)), tt)
+gone_by at slot generation v false e within = tt
+
+pub right_gone : (at slot generation : ℕ) (v : Shown) → memory_held v.slots ≤ v.pool → AreRight (items_if (goes_by generation (slice_get v.slots slot)) (Gone slot generation at)) v
+right_gone at slot generation v within = gone_by at slot generation v (goes_by generation (slice_get v.slots slot)) refl within
+
+lost_by : (at run : ℕ) (v : Shown) (b : Bool) → is_some (first_with (holds run) v.slots) ≡ b → memory_held v.slots ≤ v.pool → AreRight (items_if b (Lost run at)) v
+lost_by at run v true e within = ((tt, comes (lives.Lost run) v refl within (there (first_with (holds run) v.slots) e)), tt)
+lost_by at run v false e within = tt
+
+pub right_lost : (at run : ℕ) (v : Shown) → memory_held v.slots ≤ v.pool → AreRight (items_if (is_some (first_with (holds run) v.slots)) (Lost run at)) v
+right_lost at run v within = lost_by at run v (is_some (first_with (holds run) v.slots)) refl within
 
 -- ---- ends
 
@@ -66,12 +116,10 @@ found_id id o os found =
     let same : o.task.id ≡ id = eq_of o.task.id id (find_passes (is_of id) o os found) in
     subst (λ (x : Id). find (is_of x) os ≡ Some o) (sym same) found
 
-end_at : (at : ℕ) (ending : Ending) (run : Option Run) (id : Id) (o : Option Open) (v : Shown) → IsLive run v.live → find (is_of id) v.open_items ≡ o → AreRight (end_items at ending run o) v
-end_at at ending run id None v live found = tt
-end_at at ending run id (Some o) v live found = ((o, found_id id o v.open_items found, refl, live), tt)
-
-pub right_end : (at : ℕ) (ending : Ending) (id : Id) (v : Shown) → AreRight (end_items at ending None (find (is_of id) v.open_items)) v
-right_end at ending id v = end_at at ending None id (find (is_of id) v.open_items) v tt refl
+end_at : (at : ℕ) (ending : Ending) (run : Option Run) (id : Id) (o : Option Open) (v : Shown) → IsLive run v.live → find (is_of id) v.open_items ≡ o → IsEventRight (overrun_of ending run at) v
+    → AreRight (end_items at ending run o) v
+end_at at ending run id None v live found event = tt
+end_at at ending run id (Some o) v live found event = (((o, found_id id o v.open_items found, refl, live), event), tt)
 
 -- ---- replies
 
@@ -87,55 +135,73 @@ open_gone e o T found is sound =
     let none = ended_not_open e.task.id (Ended e ∷ T) some.0 (find_push (is_end_of e.task.id) (record_of e) (records T) ∙ some.1) in
     subst (λ (os : List Open). find (is_of e.task.id) os ≡ None) (open_ended e o T found is sound) none
 
-reply_open : (at run : ℕ) (reply : RunReply) (r : Run) (o : Option Open) (T : Trace) → live_run T run ≡ Some r → find (is_of r.id) (open_items T) ≡ o → IsSound T
+reply_open : (at run : ℕ) (reply : RunReply) (r : Run) (o : Option Open) (T : Trace) → live_run T run ≡ Some r → find (is_of r.id) (open_items T) ≡ o → IsThere IsAny (first_with (runs run) (slots T)) → IsSound T
     → AreRight (Answered run (leaves_alive reply) at ∷ end_items at (Replied reply) (Some r) o) (shown T)
-reply_open at run reply r None T found none sound = ((r, found, none), tt)
-reply_open at run reply r (Some o) T found here sound =
+reply_open at run reply r None T found none busy sound = (((r, found, none), comes (lives.Answered run (leaves_alive reply) at) (shown T) refl sound.slotted.within busy), tt)
+reply_open at run reply r (Some o) T found here busy sound =
     let same : o.task.id ≡ r.id = eq_of o.task.id r.id (find_passes (is_of r.id) o (open_items T) here) in
     let e = ended_by at (Replied reply) (Some r) o.task in
     let there = found_id r.id o (open_items T) here in
     let none = subst (λ (x : Id). find (is_of x) (remove_first (is_of o.task.id) (open_items T)) ≡ None) same (open_gone e o T there refl sound) in
-    ((r, found, none), right_some)
+    (((r, found, none), comes (lives.Answered run (leaves_alive reply) at) (shown T) refl sound.slotted.within busy), right_some)
   where
     right_some : AreRight (end_items at (Replied reply) (Some r) (Some o)) (shown T)
-    right_some = end_at at (Replied reply) (Some r) r.id (Some o) (shown T) (found_by_own run r (live T) found) here
+    right_some = end_at at (Replied reply) (Some r) r.id (Some o) (shown T) (found_by_own run r (live T) found) here tt
 
-reply_at : (at run : ℕ) (reply : RunReply) (r : Option Run) (T : Trace) → live_run T run ≡ r → IsSound T → AreRight (reply_items at run reply (shown T) r) (shown T)
-reply_at at run reply None T found sound = tt
-reply_at at run reply (Some r) T found sound = reply_open at run reply r (find (is_of r.id) (open_items T)) T found refl sound
+reply_at : (at run : ℕ) (reply : RunReply) (r : Option Run) (s : Option Slot) (T : Trace) → live_run T run ≡ r → first_with (runs run) (slots T) ≡ s → IsSound T
+    → AreRight (reply_items at run reply (shown T) (run_by s r)) (shown T)
+reply_at at run reply None None T found here sound = tt
+reply_at at run reply None (Some s) T found here sound = tt
+reply_at at run reply (Some r) None T found here sound = tt
+reply_at at run reply (Some r) (Some s) T found here sound = reply_open at run reply r (find (is_of r.id) (open_items T)) T found refl (rw here tt) sound
 
 pub right_reply : (at run : ℕ) (reply : RunReply) (T : Trace) → IsSound T → AreRight (answered_items at run reply T) (shown T)
-right_reply at run reply T sound = reply_at at run reply (live_run T run) T refl sound
+right_reply at run reply T sound = reply_at at run reply (live_run T run) (first_with (runs run) (slots T)) T refl refl sound
 
 -- ---- sweeps
 
-late_by : (at : ℕ) (r : Run) (o : Open) (b : Bool) (v : Shown) → find (is_number r.number) v.live ≡ Some r → find (is_of r.id) v.open_items ≡ Some o
-    → AreRight (cond b (end_items at Overran (Some r) (Some o)) []) v
-late_by at r o true v live found = end_at at Overran (Some r) r.id (Some o) v live found
-late_by at r o false v live found = tt
+none_of : (o : Option ℕ) (b : Bool) → (is_none o && b) ≡ true → o ≡ None
+none_of None b e = refl
+none_of (Some n) b e = cc
 
-late_at : (at : ℕ) (r : Run) (o : Option Open) (v : Shown) → find (is_number r.number) v.live ≡ Some r → find (is_of r.id) v.open_items ≡ o → AreRight (late_items at r o) v
-late_at at r None v live found = tt
-late_at at r (Some o) v live found = late_by at r o (is_late at r o.task) v live found
+late_by : (at : ℕ) (r : Run) (s : Slot) (o : Open) (b : Bool) (v : Shown) → find (is_number r.number) v.live ≡ Some r → first_with (runs r.number) v.slots ≡ Some s → find (is_of r.id) v.open_items ≡ Some o
+    → (is_none (recorded_of s.state) && is_late at r o.task) ≡ b → memory_held v.slots ≤ v.pool → AreRight (cond b (end_items at Overran (Some r) (Some o)) []) v
+late_by at r s o true v live here found e within =
+    let none = none_of (recorded_of s.state) (is_late at r o.task) e in
+    end_at at Overran (Some r) r.id (Some o) v live found (comes (lives.Overran r.number at) v refl within (rw here none))
+late_by at r s o false v live here found e within = tt
 
--- an end leaves the live runs
-live_by : (at : ℕ) (r : Run) (o : Open) (b : Bool) (v : Shown) → (grown (cond b (end_items at Overran (Some r) (Some o)) []) v).live ≡ v.live
-live_by at r o true v = refl
-live_by at r o false v = refl
+late_at : (at : ℕ) (r : Run) (s : Option Slot) (o : Option Open) (v : Shown) → find (is_number r.number) v.live ≡ Some r → first_with (runs r.number) v.slots ≡ s → find (is_of r.id) v.open_items ≡ o
+    → memory_held v.slots ≤ v.pool → AreRight (late_items at r s o) v
+late_at at r None o v live here found within = tt
+late_at at r (Some s) None v live here found within = tt
+late_at at r (Some s) (Some o) v live here found within = late_by at r s o (is_none (recorded_of s.state) && is_late at r o.task) v live here found refl within
 
-live_late : (at : ℕ) (r : Run) (o : Option Open) (v : Shown) → (grown (late_items at r o) v).live ≡ v.live
-live_late at r None v = refl
-live_late at r (Some o) v = live_by at r o (is_late at r o.task) v
+-- an end leaves the live runs and the pool, and what is held within it
+record LeftLate (items : Trace) (v : Shown) : Type 0 where
+  live : (grown items v).live ≡ v.live
+  within : memory_held (grown items v).slots ≤ (grown items v).pool
 
-right_overrun : (at : ℕ) (rs : List Run) (v : Shown) → AllByRecursion (λ r. find (is_number r.number) v.live ≡ Some r) rs → AreRight (overrun_items at rs v) v
-right_overrun at [] v live = tt
-right_overrun at (r ∷ rs) v live =
-    let late = late_items at r (find (is_of r.id) v.open_items) in
-    let left = subst (λ (ls : List Run). AllByRecursion (λ r. find (is_number r.number) ls ≡ Some r) rs) (sym (live_late at r (find (is_of r.id) v.open_items) v)) live.1 in
-    right_append (overrun_items at rs (grown late v)) late v (right_overrun at rs (grown late v) left) (late_at at r (find (is_of r.id) v.open_items) v live.0 refl)
+left_by : (at : ℕ) (r : Run) (o : Open) (b : Bool) (v : Shown) → memory_held v.slots ≤ v.pool → LeftLate (cond b (end_items at Overran (Some r) (Some o)) []) v
+left_by at r o true v within = record { live = refl; within = let less = held_less (lives.Overran r.number at) v.slots refl in omega (arith, less, within) }
+left_by at r o false v within = record { live = refl; within = within }
 
-pub right_swept : (at : ℕ) (v : Shown) → ((run : ℕ) → bearers run v.live ≤ 1) → AreRight (Swept at ∷ overrun_items at v.live v) v
-right_swept at v single = (tt, right_overrun at v.live v (each_found v.live single))
+left_late : (at : ℕ) (r : Run) (s : Option Slot) (o : Option Open) (v : Shown) → memory_held v.slots ≤ v.pool → LeftLate (late_items at r s o) v
+left_late at r None o v within = record { live = refl; within = within }
+left_late at r (Some s) None v within = record { live = refl; within = within }
+left_late at r (Some s) (Some o) v within = left_by at r o (is_none (recorded_of s.state) && is_late at r o.task) v within
+
+right_overrun : (at : ℕ) (rs : List Run) (v : Shown) → memory_held v.slots ≤ v.pool → AllByRecursion (λ r. find (is_number r.number) v.live ≡ Some r) rs → AreRight (overrun_items at rs v) v
+right_overrun at [] v within live = tt
+right_overrun at (r ∷ rs) v within live =
+    let late = late_of at r v in
+    let left = left_late at r (first_with (runs r.number) v.slots) (find (is_of r.id) v.open_items) v within in
+    let still = subst (λ (ls : List Run). AllByRecursion (λ r. find (is_number r.number) ls ≡ Some r) rs) (sym left.live) live.1 in
+    right_append (overrun_items at rs (grown late v)) late v (right_overrun at rs (grown late v) left.within still)
+    (late_at at r (first_with (runs r.number) v.slots) (find (is_of r.id) v.open_items) v live.0 refl refl within)
+
+pub right_swept : (at : ℕ) (v : Shown) → memory_held v.slots ≤ v.pool → ((run : ℕ) → bearers run v.live ≤ 1) → AreRight (Swept at ∷ overrun_items at v.live v) v
+right_swept at v within single = ((tt, tt), right_overrun at v.live v within (each_found v.live single))
 
 -- ---- openings
 
@@ -154,26 +220,37 @@ right_abandoned at (o ∷ os) v is =
     let found : find (is_of o.task.id) v.open_items ≡ Some o = ap (find (is_of o.task.id)) is ∙ first_found o os in
     let left : (grown last v).open_items ≡ os = ap (remove_first (is_of o.task.id)) is ∙ first_removed o os in
     let rest = right_abandoned at os (grown last v) left in (
-      right_append (abandoned_items at os) last v rest.0 (end_at at Abandoned None o.task.id (Some o) v tt found),
+      right_append (abandoned_items at os) last v rest.0 (end_at at Abandoned None o.task.id (Some o) v tt found tt),
       ap (λ (u : Shown). u.open_items) (grown_append (abandoned_items at os) last v) ∙ rest.1,
     )
 
-pub right_reopened : (at : ℕ) (v : Shown) → AreRight (Reopened at ∷ abandoned_items at v.open_items) v
-right_reopened at v = let both = right_abandoned at v.open_items v refl in (both.1, both.0)
+abandoned_left : (at : ℕ) (os : List Open) (v : Shown) → ((grown (abandoned_items at os) v).slots ≡ v.slots) × ((grown (abandoned_items at os) v).pool ≡ v.pool)
+abandoned_left at [] v = (refl, refl)
+abandoned_left at (o ∷ os) v =
+    let last = end_items at Abandoned None (Some o) in
+    let rest = abandoned_left at os (grown last v) in
+    let both = grown_append (abandoned_items at os) last v in
+    (ap (λ (u : Shown). u.slots) both ∙ rest.0, ap (λ (u : Shown). u.pool) both ∙ rest.1)
+
+pub right_reopened : (at : ℕ) (v : Shown) → memory_held v.slots ≤ v.pool → AreRight (Reopened at ∷ abandoned_items at v.open_items) v
+right_reopened at v within =
+    let both = right_abandoned at v.open_items v refl in
+    let left = abandoned_left at v.open_items v in
+    let ended = grown (abandoned_items at v.open_items) v in
+    ((both.1, comes lives.Reopened ended refl (rw (left.0, left.1) within) tt), both.0)
 
 -- ---- each call keeps a trace sound
 
 pub calls_keep_sound : KeepSound
 calls_keep_sound = record {
   start = sound_start;
-  accept = λ at plan T next sound. (sound_items (accept_items at plan) T (next ∙ ap (λ n. n + 1) (sym (drawn_last T plan.id.namespace)), tt) sound).0;
-  next = λ at T sound. (sound_items (next_items at T) T (right_next at (shown T)) sound).0;
-  begun = λ at run T sound. (sound_items _ T (right_begun at run (begins run T) (shown T)) sound).0;
+  accept = λ at plan T next sound. (sound_items (accept_items at plan) T ((next ∙ ap (λ n. n + 1) (sym (drawn_last T plan.id.namespace)), tt), tt) sound).0;
+  next = λ at T sound. (sound_items (next_items at T) T (right_next at (shown T) sound.slotted.within) sound).0;
+  begun = λ at run T sound. (sound_items _ T (right_begun at run (shown T) sound.slotted.within) sound).0;
   answered = λ at run reply T sound. (sound_items _ T (right_reply at run reply T sound) sound).0;
-  lost = λ at run T sound. (sound_items _ T (right_lost at run (shown T)) sound).0;
-  gone = λ at slot generation T sound. (sound_items _ T (right_gone at slot generation (goes slot generation T) (shown T)) sound).0;
-  end = λ at id ending T sound. (sound_items _ T (right_end at ending id (shown T)) sound).0;
-  sweep = λ at T sound. (sound_items (swept_items at T) T (right_swept at (shown T) sound.single) sound).0;
-  drain = λ at T sound. (sound_items (Drained at ∷ []) T (tt, tt) sound).0;
-  reopen = λ at T sound. (sound_items (reopened_items at T) T (right_reopened at (shown T)) sound).0;
+  lost = λ at run T sound. (sound_items _ T (right_lost at run (shown T) sound.slotted.within) sound).0;
+  gone = λ at slot generation T sound. (sound_items _ T (right_gone at slot generation (shown T) sound.slotted.within) sound).0;
+  sweep = λ at T sound. (sound_items (swept_items at T) T (right_swept at (shown T) sound.slotted.within sound.single) sound).0;
+  drain = λ at T sound. (sound_items (Drained at ∷ []) T ((tt, tt), tt) sound).0;
+  reopen = λ at T sound. (sound_items (reopened_items at T) T (right_reopened at (shown T) sound.slotted.within) sound).0;
 }

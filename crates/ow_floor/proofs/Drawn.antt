@@ -4,7 +4,7 @@ use Rattle.std.specs.List.{find}
 use Rattle.std.proofs.lemmas.Bool.Decides.{nat_tests}
 use Rattle.ow_records.specs.declared.ids.Id.{Id}
 use Rattle.ow_floor.specs.View.{count_or_zero, is_in, last_of, put_id, update_first}
-use Rattle.ow_floor.specs.Trace.{Trace, Item, Opened, Accepted, Ordered, Begun, Answered, Lost, Gone, Ended, Swept, Drained, Reopened, drawn, last}
+use Rattle.ow_floor.specs.Trace.{Trace, Item, Opened, Accepted, Ordered, Prewarming, Removed, Begun, Answered, Lost, Gone, Ended, Swept, Drained, Reopened, drawn, last}
 
 last_here : (id x : Id) (n before after : ℕ) (b c : Bool) → (x.namespace == id.namespace) ≡ false → (x.namespace == n) ≡ b → (id.namespace == n) ≡ c
     → after ≡ cond c id.count before → cond b x.count after ≡ cond c id.count (cond b x.count before)
@@ -72,7 +72,9 @@ drawn_last (item ∷ T) n = of_item item T n (drawn_last T n)
     of_item : (item : Item) (T : Trace) (n : ℕ) → last_of (drawn T) n ≡ last T n → last_of (drawn (item ∷ T)) n ≡ last (item ∷ T) n
     of_item (Opened pool wants) T n e = e
     of_item (Accepted a) T n e = last_put a.id (drawn T) n ∙ ap (λ k. cond (a.id.namespace == n) a.id.count k) e
-    of_item (Ordered run) T n e = e
+    of_item (Ordered run key) T n e = e
+    of_item (Prewarming order at) T n e = e
+    of_item (Removed containers at) T n e = e
     of_item (Begun run at) T n e = e
     of_item (Answered run alive at) T n e = e
     of_item (Lost run at) T n e = e

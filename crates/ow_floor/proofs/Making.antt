@@ -1,7 +1,7 @@
 -- Which items ends over the kept lists make.
-use Rattle.std.proofs.Common.{◌≡◌, ◌<◌, ◌+◌, ◌++◌, ℕ, suc, Bool, List, [], ◌∷◌, Option, Some, None, length, get_or, take, drop, drop-cons, refl, sym, ap, ◌∙◌, arith, subst, append_assoc, append-nil}
+use Rattle.std.proofs.Common.{◌≡◌, ◌<◌, ◌+◌, ◌++◌, ℕ, suc, Bool, true, List, [], ◌∷◌, Option, Some, None, length, get_or, take, drop, drop-cons, refl, sym, ap, ◌∙◌, arith, subst, append_assoc, append-nil}
 use Rattle.std.specs.List.{find}
-use Rattle.std.specs.Prelude.{slice_set}
+use Rattle.std.specs.Prelude.{is_none, slice_set}
 use Rattle.std.proofs.lemmas.List.{length-set, take-set-le, get_or-set_same}
 use Rattle.ow_records.specs.declared.ids.Id.{Id}
 use Rattle.ow_records.specs.declared.outcomes.Ending.{Ending}
@@ -10,23 +10,27 @@ use Rattle.ow_records.specs.Outcome.{outcome}
 use Rattle.ow_traits.specs.declared.replies.RunReply.{RunReply}
 use Rattle.ow_records.specs.declared.activations.Activation.{Activation}
 use Rattle.ow_floor.specs.declared.activations.Open.{Open}
-use Rattle.ow_floor.specs.declared.answers.Answered.TheVariants as answers
 use Rattle.ow_floor.specs.declared.answers.Happening.{Happening}
 use Rattle.ow_floor.specs.declared.answers.Happening.TheVariants as happenings
 use Rattle.ow_floor.specs.declared.activations.State.TheVariants.{Waiting}
 use Rattle.ow_floor.specs.declared.lists.Berth.{Berth}
 use Rattle.ow_floor.specs.declared.runs.Run.{Run}
-use Rattle.ow_floor.specs.View.{Shown, is_of, is_end_of, remove_first}
-use Rattle.ow_floor.specs.Trace.{Trace, record_of}
+use Rattle.ow_floor.specs.View.{Shown, is_of, remove_first}
+use Rattle.ow_slots.specs.declared.states.Slot.{Slot}
+use Rattle.ow_slots.specs.Slots.{IsThere, first_with}
+use Rattle.ow_slots.specs.State.{IsUnrecorded, recorded_of, runs}
+use Rattle.ow_lifecycle.specs.Life as lives
+use Rattle.ow_floor.specs.Trace.{Trace, overrun_of, record_of}
 use Rattle.ow_floor.specs.Growth.{grown}
-use Rattle.ow_floor.specs.Calls.{abandoned_items, end_items, ended_by, happened, happened_by, overrun_items, since}
-use Rattle.ow_floor.specs.Store.{IsGood, IsSpot, Store, ended_in, opens, run_in, show, there}
-use Rattle.ow_floor.specs.Ends.{IsAbandonedAt, IsAbandoning, IsEndedAt, IsEndedRun, IsLateEnd, IsMade, IsSweeping, IsSweptOne, abandons, always, late_of, sweeps}
+use Rattle.ow_floor.specs.Calls.{abandoned_items, end_items, ended_by, happened, happened_by, overrun_items}
+use Rattle.ow_floor.specs.Store.{IsGood, IsSpot, Store, ended_in, event_in, opens, run_in, show, there}
+use Rattle.ow_floor.specs.Ends.{IsAbandonedAt, IsAbandoning, IsEndedAt, IsEndedRun, IsLateEnd, IsLateSpot, IsMade, IsOverrunAt, IsSweeping, IsSweptOne, abandons, always, late_at, sweeps}
 use Rattle.ow_floor.proofs.Alters.{same_id_refl}
 use Rattle.ow_floor.proofs.Coming.{grown_append}
 use Rattle.ow_floor.proofs.Finding.{none_at_all, none_more, spot_at}
 use Rattle.ow_floor.proofs.Firsts.{find_passes}
-use Rattle.ow_floor.proofs.Showing.{good_ended, show_ended}
+use Rattle.ow_floor.proofs.Serving.{within_kept}
+use Rattle.ow_floor.proofs.Showing.{good_ended, good_event, show_ended, show_overran}
 use Rattle.ow_floor.proofs.Tallies.{eq_of}
 
 pub happened_append : (xs ys : Trace) → happened (xs ++ ys) ≡ happened ys ++ happened xs
@@ -40,40 +44,36 @@ same_task R p place spot a here =
     let e : Some a ≡ Some spot.item.task = sym here ∙ spot.task None in
     cc
 
-pub ended_made : (at : ℕ) (ending : Ending) (place : ℕ) (run : Option Run) (id : Id) (R S : Store) (h : Happening) → IsGood R → (spot : IsSpot (is_of id) R.spots R.tasks place)
+pub ended_made : (at : ℕ) (ending : Ending) (place : ℕ) (run : Option Run) (id : Id) (R S : Store) (h : Happening) → overrun_of ending run at ≡ None → IsGood R → (spot : IsSpot (is_of id) R.spots R.tasks place)
     → IsEndedAt at ending run place R S h → IsMade (end_items at ending run (Some spot.item)) R S (h ∷ [])
-ended_made at ending place run id R S h good spot x =
+ended_made at ending place run id R S h plain good spot x =
     let task = same_task R (is_of id) place spot x.task x.here in
     let e = ended_by at ending run spot.item.task in
     let now : S ≡ ended_in at place (record_of e) R = x.now ∙ ap (λ a. ended_in at place (record_of (ended_by at ending run a)) R) task in
     let same : e.task.id ≡ id = eq_of e.task.id id (find_passes (is_of id) spot.item (opens R.spots R.tasks) spot.found) in
     record {
-      shows = ap show now ∙ show_ended R place id e same spot;
+      shows = ap show now ∙ show_ended R place id e same plain spot;
       good = subst (λ (U : Store). IsGood U) (sym now) (good_ended R (is_of id) at place (record_of e) spot good);
       runs = ap (λ (U : Store). U.runs) now;
       tells = ap (λ (y : Happening). y ∷ []) (x.told ∙ ap (λ (a : Activation). happenings.Recorded a.id (outcome ending a.action.limits).code) task);
     }
 
-owed_same : (at : ℕ) (ending : Ending) (run : Option Run) (place : ℕ) (R S : Store) (h : Happening) → IsEndedAt at ending run place R S h → S.marks.owed ≡ R.marks.owed
-owed_same at ending run place R S h x = ap (λ (U : Store). U.marks.owed) x.now
-
 -- ---- replies
 
 pub run_ended : (at : ℕ) (r : Run) (reply : RunReply) (place : ℕ) (R S : Store) (h : Happening) → IsGood R → IsSpot (is_of r.id) R.spots R.tasks place
-    → IsEndedAt at (Replied reply) (Some r) place R S h → IsEndedRun at r reply R S (answers.Recorded (h ∷ []))
+    → IsEndedAt at (Replied reply) (Some r) place R S h → IsEndedRun at r reply R S (h ∷ [])
 run_ended at r reply place R S h good spot x =
-    let made = ended_made at (Replied reply) place (Some r) r.id R S h good spot x in
+    let made = ended_made at (Replied reply) place (Some r) r.id R S h refl good spot x in
     record {
       shows = rw spot.found made.shows;
       good = made.good;
       runs = made.runs;
-      marks = owed_same at (Replied reply) (Some r) place R S h x;
-      tells = rw spot.found (ap answers.Recorded made.tells);
+      slots = ap (λ (U : Store). U.slots) x.now;
+      tells = rw spot.found made.tells;
     }
 
-pub run_late : (at : ℕ) (r : Run) (reply : RunReply) (R : Store) → IsGood R → find (is_of r.id) (opens R.spots R.tasks) ≡ None
-    → IsEndedRun at r reply R R (answers.Late r.number (since (find (is_end_of r.id) R.ended)))
-run_late at r reply R good none = record { shows = rw none refl; good = good; runs = refl; marks = refl; tells = rw none refl }
+pub run_late : (at : ℕ) (r : Run) (reply : RunReply) (R : Store) → IsGood R → find (is_of r.id) (opens R.spots R.tasks) ≡ None → IsEndedRun at r reply R R []
+run_late at r reply R good none = record { shows = rw none refl; good = good; runs = refl; slots = refl; tells = rw none refl }
 
 -- ---- sweeps
 
@@ -87,15 +87,37 @@ pub swept_in_time : (at : ℕ) (b : Berth) (R : Store) (told : List Happening) �
 swept_in_time at b R told good late =
     ([], subst (λ (items : Trace). IsMade items R R []) (sym late) (made_none R good), sym (append-nil told))
 
-pub swept_late : (at : ℕ) (b : Berth) (place : ℕ) (R S : Store) (h : Happening) (told after : List Happening) → IsGood R → IsLateEnd at b.run R (Some place)
-    → IsEndedAt at Overran (Some b.run) place R S h → after ≡ told ++ h ∷ [] → IsSweptOne at (Some b) R S told after
+unrecorded : (o : Option Slot) → IsThere IsUnrecorded o → (s : Slot) × (o ≡ Some s) × (is_none (recorded_of s.state) ≡ true)
+unrecorded None h = absurd h
+unrecorded (Some s) h = (s, refl, rw h refl)
+
+-- what overran has ended, and is recorded so in the slot of its run
+pub overran_made : (at : ℕ) (r : Run) (place : ℕ) (R S : Store) (h : Happening) → IsGood R → (spot : IsSpot (is_of r.id) R.spots R.tasks place) → IsOverrunAt at r place R S h
+    → IsMade (end_items at Overran (Some r) (Some spot.item)) R S (h ∷ [])
+overran_made at r place R S h good spot x =
+    let task = same_task R (is_of r.id) place spot x.ended.task x.ended.here in
+    let e = ended_by at Overran (Some r) spot.item.task in
+    let middle : x.middle ≡ ended_in at place (record_of e) R = x.ended.now ∙ ap (λ a. ended_in at place (record_of (ended_by at Overran (Some r) a)) R) task in
+    let now : S ≡ event_in at (lives.Overran r.number at) (ended_in at place (record_of e) R) = x.now ∙ ap (event_in at (lives.Overran r.number at)) middle in
+    let same : e.task.id ≡ r.id = eq_of e.task.id r.id (find_passes (is_of r.id) spot.item (opens R.spots R.tasks) spot.found) in
+    record {
+      shows = ap show now ∙ show_overran R place r.id e (lives.Overran r.number at) same refl spot;
+      good = subst (λ (U : Store). IsGood U) (sym now)
+          (good_event _ at (lives.Overran r.number at) (within_kept (lives.Overran r.number at) R.slots R.pool refl good.pool) (good_ended R (is_of r.id) at place (record_of e) spot good));
+      runs = ap (λ (U : Store). U.runs) now;
+      tells = ap (λ (y : Happening). y ∷ []) (x.ended.told ∙ ap (λ (a : Activation). happenings.Recorded a.id (outcome Overran a.action.limits).code) task);
+    }
+
+pub swept_late : (at : ℕ) (b : Berth) (place : ℕ) (R S : Store) (h : Happening) (told after : List Happening) → IsGood R → IsLateSpot at b.run R place
+    → IsOverrunAt at b.run place R S h → after ≡ told ++ h ∷ [] → IsSweptOne at (Some b) R S told after
 swept_late at b place R S h told after good late x is =
-    let spot = late.0 in
-    let items : late_of at (Some b) R ≡ end_items at Overran (Some b.run) (Some spot.item) = rw spot.found (rw late.1 refl) in
-    (h ∷ [], subst (λ (items : Trace). IsMade items R S (h ∷ [])) (sym items) (ended_made at Overran place (Some b.run) b.run.id R S h good spot x), is)
+    let spot = late.spot in
+    let slot = unrecorded (first_with (runs b.run.number) R.slots) late.unrecorded in
+    let items : late_at at (Some b) R ≡ end_items at Overran (Some b.run) (Some spot.item) = rw (slot.1, spot.found) (rw (slot.2, late.late) refl) in
+    (h ∷ [], subst (λ (items : Trace). IsMade items R S (h ∷ [])) (sym items) (overran_made at b.run place R S h good spot x), is)
 
 overrun_on : (at : ℕ) (c : Option Berth) (cells : List (Option Berth)) (R : Store)
-    → overrun_items at (there run_in (c ∷ cells)) (show R) ≡ overrun_items at (there run_in cells) (grown (late_of at c R) (show R)) ++ late_of at c R
+    → overrun_items at (there run_in (c ∷ cells)) (show R) ≡ overrun_items at (there run_in cells) (grown (late_at at c R) (show R)) ++ late_at at c R
 overrun_on at None cells R = sym (append-nil (overrun_items at (there run_in cells) (show R)))
 overrun_on at (Some b) cells R = refl
 
@@ -104,7 +126,7 @@ pub sweeps_on : (at : ℕ) (old now new : Store) (c : Option Berth) (cells : Lis
     → IsSweeping at old now (c ∷ cells) told → IsSweptOne at c now new told after → IsSweeping at old new cells after
 sweeps_on at old now new c cells told after before one =
     let made = one.1 in
-    let late = late_of at c now in
+    let late = late_at at c now in
     let rest : Shown → Trace = λ v. overrun_items at (there run_in cells) v in
     let both = overrun_on at c cells now in
     record {

@@ -1,150 +1,85 @@
 -- What items do to what is owed.
-use Rattle.std.proofs.Common.{◌≡◌, ◌+◌, ◌≤◌, ◌++◌, ℕ, Bool, true, false, cond, not, List, [], ◌∷◌, Option, Some, None, length, refl, arith, subst, length-append}
+use Rattle.std.proofs.Common.{◌≡◌, ◌+◌, ◌≤◌, ◌++◌, ◌&&◌, ℕ, Bool, true, false, cond, List, [], ◌∷◌, Option, Some, None, map, refl, sym, arith, subst}
 use Rattle.std.specs.List.{find}
-use Rattle.std.specs.Prelude.{is_some}
-use Rattle.ow_records.specs.declared.outcomes.Ending.TheVariants.{Overran, Abandoned}
+use Rattle.std.specs.Prelude.{is_none, slice_get}
+use Rattle.ow_records.specs.declared.outcomes.Ending.{Ending}
+use Rattle.ow_records.specs.declared.outcomes.Ending.TheVariants.{Replied, Overran, Abandoned}
+use Rattle.ow_traits.specs.declared.replies.RunReply.{RunReply}
+use Rattle.ow_slots.specs.declared.states.Slot.{Slot}
+use Rattle.ow_slots.specs.Slots.{first_with}
+use Rattle.ow_slots.specs.State.{awaits, holds, recorded_of, runs}
+use Rattle.ow_pool.specs.declared.answers.Place.{Place}
+use Rattle.ow_pool.specs.declared.answers.Place.TheVariants as places
+use Rattle.ow_lifecycle.specs.Owed as lives
+use Rattle.ow_lifecycle.specs.Life as events
+use Rattle.ow_lifecycle.proofs.Owing.{falls, rises as raises}
 use Rattle.ow_floor.specs.declared.activations.Open.{Open}
+use Rattle.ow_floor.specs.declared.answers.Container.{Container}
 use Rattle.ow_floor.specs.declared.runs.Run.{Run}
-use Rattle.ow_floor.specs.declared.runs.Slot.{Slot}
-use Rattle.ow_floor.specs.View.{Shown, begun, is_number, is_of, is_slot, update_first, remove_first}
-use Rattle.ow_floor.specs.Trace.{Trace, Item, Opened, Accepted, Ordered, Begun, Answered, Lost, Gone, Ended, Swept, Drained, Reopened, live, live_run, open_items, shown, slots}
-use Rattle.ow_floor.specs.Growth.{grown}
-use Rattle.ow_floor.specs.Calls.{abandoned_items, begins, end_items, goes, is_late, is_new, late_items, loses, overrun_items, reopened_items, swept_items}
-use Rattle.ow_floor.specs.Owed.{owed_by, owed_run, owed_runs, owed, rise, rises}
-
-pub runs_push : (r : Run) (rs : List Run) → owed_runs (rs ++ r ∷ []) ≡ owed_runs rs + owed_run r
-runs_push r [] = omega arith
-runs_push r (x ∷ rs) = let h = runs_push r rs in omega (arith, h)
-
-run_small : (o : Option ℕ) → owed_by o ≤ 2
-run_small None = omega arith
-run_small (Some at) = omega arith
-
-run_some : (o : Option ℕ) → 1 ≤ owed_by o
-run_some None = omega arith
-run_some (Some at) = omega arith
-
-cut_at : (p : Run → Bool) (r x : Run) (xs : List Run) (b : Bool) → p x ≡ b → (find p xs ≡ Some r → owed_runs (remove_first p xs) + owed_run r ≡ owed_runs xs)
-    → find p (x ∷ xs) ≡ Some r → owed_runs (remove_first p (x ∷ xs)) + owed_run r ≡ owed_runs (x ∷ xs)
-unfolding remove_first
-cut_at p r x xs true e rest found =
-    let h : Some x ≡ Some r = rw e at found in
-    let same : x ≡ r = cc in
-    rw e (subst (λ (z : Run). owed_runs xs + owed_run z ≡ owed_run x + owed_runs xs) same (omega arith))
-cut_at p r x xs false e rest found = let h = rest (rw e at found) in rw e (omega (arith, h))
-
-pub runs_removed : (p : Run → Bool) (r : Run) (xs : List Run) → find p xs ≡ Some r → owed_runs (remove_first p xs) + owed_run r ≡ owed_runs xs
-runs_removed p r [] found = cc
-runs_removed p r (x ∷ xs) found = cut_at p r x xs (p x) refl (runs_removed p r xs) found
-
-less_at : (p : Run → Bool) (x : Run) (xs : List Run) (b : Bool) → owed_runs (remove_first p xs) ≤ owed_runs xs → owed_runs (cond b xs (x ∷ remove_first p xs)) ≤ owed_runs (x ∷ xs)
-less_at p x xs true rest = omega arith
-less_at p x xs false rest = omega (arith, rest)
-
-runs_fewer : (p : Run → Bool) (xs : List Run) → owed_runs (remove_first p xs) ≤ owed_runs xs
-unfolding remove_first
-runs_fewer p [] = omega arith
-runs_fewer p (x ∷ xs) = less_at p x xs (p x) (runs_fewer p xs)
-
-mark_at : (at : ℕ) (p : Run → Bool) (r x : Run) (xs : List Run) (b : Bool) → p x ≡ b → (find p xs ≡ Some r → owed_runs (update_first p (begun at) xs) + owed_run r ≡ owed_runs xs + 1)
-    → find p (x ∷ xs) ≡ Some r → owed_runs (update_first p (begun at) (x ∷ xs)) + owed_run r ≡ owed_runs (x ∷ xs) + 1
-unfolding update_first
-mark_at at p r x xs true e rest found =
-    let h : Some x ≡ Some r = rw e at found in
-    let same : x ≡ r = cc in
-    rw e (subst (λ (z : Run). (1 + owed_runs xs) + owed_run z ≡ (owed_run x + owed_runs xs) + 1) same (omega arith))
-mark_at at p r x xs false e rest found = let h = rest (rw e at found) in rw e (omega (arith, h))
-
-pub runs_begun : (at : ℕ) (p : Run → Bool) (r : Run) (xs : List Run) → find p xs ≡ Some r → owed_runs (update_first p (begun at) xs) + owed_run r ≡ owed_runs xs + 1
-runs_begun at p r [] found = cc
-runs_begun at p r (x ∷ xs) found = mark_at at p r x xs (p x) refl (runs_begun at p r xs) found
-
-same_at : (at : ℕ) (p : Run → Bool) (x : Run) (xs : List Run) (b : Bool) → owed_runs (update_first p (begun at) xs) ≤ owed_runs xs
-    → owed_runs (cond b (begun at x ∷ xs) (x ∷ update_first p (begun at) xs)) ≤ owed_runs (x ∷ xs)
-same_at at p x xs true rest = let k = run_some x.begun in omega (arith, k)
-same_at at p x xs false rest = omega (arith, rest)
-
-begun_fewer : (at : ℕ) (p : Run → Bool) (xs : List Run) → owed_runs (update_first p (begun at) xs) ≤ owed_runs xs
-unfolding update_first
-begun_fewer at p [] = omega arith
-begun_fewer at p (x ∷ xs) = same_at at p x xs (p x) (begun_fewer at p xs)
-
-shorter_at : (p : Slot → Bool) (s x : Slot) (xs : List Slot) (b : Bool) → p x ≡ b → (find p xs ≡ Some s → length (remove_first p xs) + 1 ≡ length xs)
-    → find p (x ∷ xs) ≡ Some s → length (remove_first p (x ∷ xs)) + 1 ≡ length (x ∷ xs)
-unfolding remove_first
-shorter_at p s x xs true e rest found = rw e (omega arith)
-shorter_at p s x xs false e rest found = let h = rest (rw e at found) in rw e (omega (arith, h))
-
-pub slots_removed : (p : Slot → Bool) (s : Slot) (xs : List Slot) → find p xs ≡ Some s → length (remove_first p xs) + 1 ≡ length xs
-slots_removed p s [] found = cc
-slots_removed p s (x ∷ xs) found = shorter_at p s x xs (p x) refl (slots_removed p s xs) found
-
-most_at : (p : Slot → Bool) (x : Slot) (xs : List Slot) (b : Bool) → length (remove_first p xs) ≤ length xs → length (cond b xs (x ∷ remove_first p xs)) ≤ length (x ∷ xs)
-most_at p x xs true rest = omega arith
-most_at p x xs false rest = omega (arith, rest)
-
-slots_fewer : (p : Slot → Bool) (xs : List Slot) → length (remove_first p xs) ≤ length xs
-unfolding remove_first
-slots_fewer p [] = omega arith
-slots_fewer p (x ∷ xs) = most_at p x xs (p x) (slots_fewer p xs)
+use Rattle.ow_floor.specs.View.{Shown, is_of, waits}
+use Rattle.ow_floor.specs.Trace.{Trace, Item, Opened, Accepted, Ordered, Prewarming, Removed, Begun, Answered, Lost, Gone, Ended, Swept, Drained, Reopened, event_of, live, overrun_of, run_count, shown, slots, slots_by}
+use Rattle.ow_floor.specs.Growth.{AreRight, IsRight, grown}
+use Rattle.ow_floor.specs.Laws.{IsSound}
+use Rattle.ow_floor.specs.Calls.{RaisesLittle, abandoned_items, begins, end_items, goes, is_late, late_items, late_of, loses, overrun_items, reply_items, reopened_items, busy_run, order_items, place_on, swept_items}
+use Rattle.ow_floor.specs.Owed.{owed, rise, rises}
+use Rattle.ow_floor.proofs.Coming.{comes, goes_there, there}
+use Rattle.ow_floor.proofs.Slotting.{slots_item}
+use Rattle.ow_floor.proofs.Soundness.{sound_items}
 
 -- ---- one item
 
-owed_item : (item : Item) (T : Trace) → owed (item ∷ T) ≤ owed T + rise item
-owed_item (Opened pool wants) T = omega arith
-owed_item (Accepted a) T = omega arith
-owed_item (Ordered r) T =
-    let a = runs_push r (live T) in
-    let b = run_small r.begun in
-    let d = length-append (slots T) (record { place = r.slot; generation = r.generation } ∷ []) in
-    omega (arith, a, b, d)
-owed_item (Begun run at) T = let d = begun_fewer at (is_number run) (live T) in omega (arith, d)
-owed_item (Answered run alive at) T = let d = runs_fewer (is_number run) (live T) in omega (arith, d)
-owed_item (Lost run at) T = let d = runs_fewer (is_number run) (live T) in omega (arith, d)
-owed_item (Gone slot generation at) T = let d = slots_fewer (is_slot slot generation) (slots T) in omega (arith, d)
-owed_item (Ended e) T = omega arith
-owed_item (Swept at) T = omega arith
-owed_item (Drained at) T = omega arith
-owed_item (Reopened at) T = omega arith
+ended_rises : (ending : Ending) (run : Option Run) (at : ℕ) (slots : List Slot) → lives.owed (slots_by (overrun_of ending run at) slots) ≤ lives.owed slots
+ended_rises (Replied reply) run at slots = omega arith
+ended_rises Overran None at slots = omega arith
+ended_rises Overran (Some r) at slots = let h = raises (events.Overran r.number at) slots in omega (arith, h)
+ended_rises Abandoned run at slots = omega arith
 
-pub owed_items : (items T : Trace) → owed (items ++ T) ≤ owed T + rises items
-owed_items [] T = omega arith
-owed_items (item ∷ items) T = let a = owed_item item (items ++ T) in let b = owed_items items T in omega (arith, a, b)
+item_rises : (item : Item) (slots : List Slot) → lives.owed (slots_by (event_of item) slots) ≤ lives.owed slots + rise item
+item_rises (Opened pool wants) slots = omega arith
+item_rises (Accepted a) slots = omega arith
+item_rises (Ordered r key) slots = raises (events.Ran r.slot r.number key r.start r.at) slots
+item_rises (Prewarming o at) slots = raises (events.Prewarming o.slot o.run o.kind o.memory) slots
+item_rises (Removed containers at) slots = raises (events.Removed (map (λ (c : Container). c.slot) containers)) slots
+item_rises (Begun run at) slots = raises (events.Begun run at) slots
+item_rises (Answered run alive at) slots = raises (events.Answered run alive at) slots
+item_rises (Lost run at) slots = raises (events.Lost run) slots
+item_rises (Gone slot generation at) slots = raises (events.Gone slot generation) slots
+item_rises (Ended e) slots = let h = ended_rises e.ending e.run e.at slots in omega (arith, h)
+item_rises (Swept at) slots = omega arith
+item_rises (Drained at) slots = omega arith
+item_rises (Reopened at) slots = raises events.Reopened slots
+
+grown_rises : (items : Trace) (v : Shown) → lives.owed (grown items v).slots ≤ lives.owed v.slots + rises items
+grown_rises [] v = omega arith
+grown_rises (item ∷ items) v =
+    let a = item_rises item (grown items v).slots in
+    let b = grown_rises items v in
+    omega (arith, a, b)
+
+pub owed_items : (items T : Trace) → AreRight items (shown T) → IsSound T → owed (items ++ T) ≤ owed T + rises items
+owed_items items T right sound =
+    let both = sound_items items T right sound in
+    let h = grown_rises items (shown T) in
+    subst (λ (v : Shown). lives.owed v.slots ≤ owed T + rises items) (sym both.1) h
 
 -- ---- what is booked without memory was owed
 
-fresh : (o : Option ℕ) → not (is_some o) ≡ true → owed_by o ≡ 2
-fresh None h = refl
-fresh (Some at) h = cc
+pub owed_begun : (run at : ℕ) (T : Trace) → IsSound T → begins run T ≡ true → owed (Begun run at ∷ T) + 1 ≤ owed T
+owed_begun run at T sound new =
+    let right : IsRight (Begun run at) (shown T) = (tt, comes (events.Begun run at) (shown T) refl sound.slotted.within (there (first_with (awaits run) (slots T)) new)) in
+    rw (slots_item (Begun run at) T right sound.slotted) (let h = falls (events.Begun run at) (slots T) (run_count T) right.1.0 in omega (arith, h))
 
-begun_by : (run at : ℕ) (T : Trace) (o : Option Run) → live_run T run ≡ o → is_new o ≡ true → owed (Begun run at ∷ T) + 1 ≤ owed T
-begun_by run at T None found new = cc
-begun_by run at T (Some r) found new =
-    let d = runs_begun at (is_number run) r (live T) found in
-    let two : owed_run r ≡ 2 = fresh r.begun new in
-    omega (arith, d, two)
+pub owed_lost : (run at : ℕ) (T : Trace) → IsSound T → loses run T ≡ true → owed (Lost run at ∷ T) + 1 ≤ owed T
+owed_lost run at T sound new =
+    let right : IsRight (Lost run at) (shown T) = (tt, comes (events.Lost run) (shown T) refl sound.slotted.within (there (first_with (holds run) (slots T)) new)) in
+    rw (slots_item (Lost run at) T right sound.slotted) (let h = falls (events.Lost run) (slots T) (run_count T) right.1.0 in omega (arith, h))
 
-pub owed_begun : (run at : ℕ) (T : Trace) → begins run T ≡ true → owed (Begun run at ∷ T) + 1 ≤ owed T
-owed_begun run at T new = begun_by run at T (live_run T run) refl new
+pub owed_gone : (slot generation at : ℕ) (T : Trace) → IsSound T → goes slot generation T ≡ true → owed (Gone slot generation at ∷ T) + 1 ≤ owed T
+owed_gone slot generation at T sound new =
+    let right : IsRight (Gone slot generation at) (shown T) = (tt, comes (events.Gone slot generation) (shown T) refl sound.slotted.within (goes_there generation (slice_get (slots T) slot) new)) in
+    rw (slots_item (Gone slot generation at) T right sound.slotted) (let h = falls (events.Gone slot generation) (slots T) (run_count T) right.1.0 in omega (arith, h))
 
-lost_by : (run at : ℕ) (T : Trace) (o : Option Run) → live_run T run ≡ o → is_some o ≡ true → owed (Lost run at ∷ T) + 1 ≤ owed T
-lost_by run at T None found new = cc
-lost_by run at T (Some r) found new =
-    let d = runs_removed (is_number run) r (live T) found in
-    let k = run_some r.begun in
-    omega (arith, d, k)
-
-pub owed_lost : (run at : ℕ) (T : Trace) → loses run T ≡ true → owed (Lost run at ∷ T) + 1 ≤ owed T
-owed_lost run at T new = lost_by run at T (live_run T run) refl new
-
-gone_by : (slot generation at : ℕ) (T : Trace) (o : Option Slot) → find (is_slot slot generation) (slots T) ≡ o → is_some o ≡ true → owed (Gone slot generation at ∷ T) + 1 ≤ owed T
-gone_by slot generation at T None found new = cc
-gone_by slot generation at T (Some s) found new = let d = slots_removed (is_slot slot generation) s (slots T) found in omega (arith, d)
-
-pub owed_gone : (slot generation at : ℕ) (T : Trace) → goes slot generation T ≡ true → owed (Gone slot generation at ∷ T) + 1 ≤ owed T
-owed_gone slot generation at T new = gone_by slot generation at T (find (is_slot slot generation) (slots T)) refl new
-
--- ---- items that raise nothing
+-- ---- the items of calls
 
 rises_append : (xs ys : Trace) → rises (xs ++ ys) ≡ rises xs + rises ys
 rises_append [] ys = omega arith
@@ -154,21 +89,19 @@ rises_by : (at : ℕ) (r : Run) (o : Open) (b : Bool) → rises (cond b (end_ite
 rises_by at r o true = refl
 rises_by at r o false = refl
 
-rises_late : (at : ℕ) (r : Run) (o : Option Open) → rises (late_items at r o) ≡ 0
-rises_late at r None = refl
-rises_late at r (Some o) = rises_by at r o (is_late at r o.task)
+rises_late : (at : ℕ) (r : Run) (s : Option Slot) (o : Option Open) → rises (late_items at r s o) ≡ 0
+rises_late at r None o = refl
+rises_late at r (Some s) None = refl
+rises_late at r (Some s) (Some o) = rises_by at r o (is_none (recorded_of s.state) && is_late at r o.task)
 
 rises_overrun : (at : ℕ) (rs : List Run) (v : Shown) → rises (overrun_items at rs v) ≡ 0
 rises_overrun at [] v = refl
 rises_overrun at (r ∷ rs) v =
-    let late = late_items at r (find (is_of r.id) v.open_items) in
+    let late = late_of at r v in
     let a = rises_overrun at rs (grown late v) in
-    let b = rises_late at r (find (is_of r.id) v.open_items) in
+    let b = rises_late at r (first_with (runs r.number) v.slots) (find (is_of r.id) v.open_items) in
     let d = rises_append (overrun_items at rs (grown late v)) late in
     omega (arith, a, b, d)
-
-pub rises_swept : (at : ℕ) (T : Trace) → rises (swept_items at T) ≡ 0
-rises_swept at T = let h = rises_overrun at (live T) (shown T) in omega (arith, h)
 
 rises_abandoned : (at : ℕ) (os : List Open) → rises (abandoned_items at os) ≡ 0
 rises_abandoned at [] = refl
@@ -177,5 +110,26 @@ rises_abandoned at (o ∷ os) =
     let d = rises_append (abandoned_items at os) (end_items at Abandoned None (Some o)) in
     omega (arith, a, d)
 
-pub rises_reopened : (at : ℕ) (T : Trace) → rises (reopened_items at T) ≡ 0
-rises_reopened at T = let h = rises_abandoned at (open_items T) in omega (arith, h)
+rises_order : (p : Place) (o : Option Open) (at : ℕ) (v : Shown) → rises (order_items p o at v) ≤ 3
+rises_order (places.Run slot start) None at v = omega arith
+rises_order (places.Run slot start) (Some o) at v = omega arith
+rises_order (places.Prewarm slot kind memory) o at v = omega arith
+rises_order (places.Remove slots) o at v = omega arith
+rises_order (places.Nothing reason) o at v = omega arith
+
+rises_end : (at : ℕ) (reply : RunReply) (r : Run) (o : Option Open) → rises (end_items at (Replied reply) (Some r) o) ≡ 0
+rises_end at reply r None = refl
+rises_end at reply r (Some o) = refl
+
+rises_reply : (at run : ℕ) (reply : RunReply) (v : Shown) (r : Option Run) → rises (reply_items at run reply v r) ≡ 0
+rises_reply at run reply v None = refl
+rises_reply at run reply v (Some r) = let h = rises_end at reply r (find (is_of r.id) v.open_items) in omega (arith, h)
+
+pub raises_little : RaisesLittle
+raises_little = record {
+  accept = λ at plan. refl;
+  next = λ at T. rises_order (place_on (shown T)) (find waits (shown T).open_items) at (shown T);
+  answered = λ at run reply T. rises_reply at run reply (shown T) (busy_run run (shown T));
+  sweep = λ at T. let h = rises_overrun at (live T) (shown T) in omega (arith, h);
+  reopen = λ at T. let h = rises_abandoned at (shown T).open_items in omega (arith, h);
+}

@@ -1,23 +1,41 @@
 -- What changes of the kept lists show.
-use Rattle.std.proofs.Common.{◌≡◌, ◌≤◌, ◌+◌, ◌-◌, ◌++◌, ℕ, zero, suc, Bool, false, List, [], ◌∷◌, Option, Some, None, length, get_or, refl, sym, ap, ◌∙◌, arith, length-append}
+use Rattle.std.proofs.Common.{◌≡◌, ◌≤◌, ◌+◌, ◌-◌, ◌++◌, ℕ, zero, suc, Bool, false, List, [], ◌∷◌, Option, Some, None, length, get_or, map, refl, sym, ap, ◌∙◌, arith, length-append}
 use Rattle.std.specs.List.{find}
-use Rattle.std.specs.Prelude.{is_some, slice_set}
+use Rattle.std.specs.Prelude.{slice_set}
 use Rattle.std.proofs.lemmas.List.{length-set}
 use Rattle.ow_records.specs.declared.ids.Id.{Id}
 use Rattle.ow_records.specs.declared.activations.Activation.{Activation}
+use Rattle.ow_slots.specs.declared.keys.Key.{Key}
+use Rattle.ow_pool.specs.Rules.{AreWantsSized, IsWithinPool}
+use Rattle.ow_lifecycle.specs.Life as lives
+use Rattle.ow_lifecycle.specs.Life.{Event}
+use Rattle.ow_lifecycle.specs.Fitting.{changed}
 use Rattle.ow_floor.specs.declared.activations.Open.{Open}
+use Rattle.ow_floor.specs.declared.answers.Container.{Container}
+use Rattle.ow_floor.specs.declared.answers.PrewarmOrder.{PrewarmOrder}
 use Rattle.ow_records.specs.declared.record.Record.{Record}
 use Rattle.ow_floor.specs.declared.activations.State.TheVariants.{Waiting, Running}
 use Rattle.ow_floor.specs.declared.lists.Berth.{Berth}
 use Rattle.ow_floor.specs.declared.lists.Spot.{Spot}
 use Rattle.ow_floor.specs.declared.runs.Run.{Run}
-use Rattle.ow_floor.specs.View.{begun, is_number, is_of, is_slot, slot_of, waits, with_state}
-use Rattle.ow_floor.specs.Trace.{End, Accepted, Answered, Begun, Drained, Ended, Gone, Lost, Ordered, Reopened, Swept, record_of}
+use Rattle.ow_floor.specs.View.{begun, is_number, is_of, waits, with_state}
+use Rattle.ow_floor.specs.Trace.{End, Accepted, Answered, Drained, Ended, Opened, Ordered, Prewarming, Removed, Reopened, Swept, overrun_of, record_of, slot_count}
 use Rattle.ow_floor.specs.Growth.{grow}
-use Rattle.ow_floor.specs.Owed.{owed_by, owed_of, owed_run, owed_runs}
-use Rattle.ow_floor.specs.Store.{Store, IsCell, IsGood, IsSpot, accepted_in, at_moment, drained_in, ended_in, freed_in, empty_of, opens, ordered_in, reopened_in, run_in, run_put, show, slot_cut, slot_in, there}
-use Rattle.ow_floor.proofs.Firsts.{update_none}
-use Rattle.ow_floor.proofs.Owing.{runs_begun, runs_push, runs_removed, slots_removed}
+use Rattle.ow_floor.specs.Ends.{IsRunBegun, IsRunLost}
+use Rattle.ow_floor.specs.Store.{Store, IsCell, IsGood, IsSpot, accepted_in, answered_in, at_moment, counted_in, drained_in, ended_in, event_in, freed_in, empty_of, opens, ordered_in, prewarmed_in, reopened_in, run_in, run_put, show, started_in, there}
+use Rattle.ow_floor.proofs.Firsts.{remove_none, update_none}
+use Rattle.ow_floor.proofs.Serving.{within_kept}
+use Rattle.ow_floor.proofs.Slotting.{slots_opened, vacant_held}
+use Rattle.ow_floor.proofs.Soundness.{sound_start}
+use Rattle.ow_floor.proofs.Counting.{owed_slot}
+use Rattle.ow_floor.specs.Laws.{Stands}
+use Rattle.std.specs.List.{AllByRecursion}
+use Rattle.std.specs.Prelude.{replicate}
+use Rattle.std.proofs.lemmas.List.Sums.{sum_by-cons}
+use Rattle.ow_traits.specs.declared.prewarms.Prewarm.{Prewarm}
+use Rattle.ow_slots.specs.Slots.{vacant_slot}
+use Rattle.ow_slots.specs.State.{IsSized}
+use Rattle.ow_lifecycle.specs.Owed.{owed}
 use Rattle.ow_floor.proofs.Tallies.{length-removed, length-started}
 
 opens_push : (ss : List Spot) (ts : List (Option Activation)) (s : Spot) (a : Activation) → length ts ≡ length ss
@@ -31,6 +49,11 @@ opens_push (x ∷ ss) (t ∷ ts) s a same = at t (opens_push ss ts s a (omega (a
         → opens ((x ∷ ss) ++ s ∷ []) ((t ∷ ts) ++ Some a ∷ []) ≡ opens (x ∷ ss) (t ∷ ts) ++ record { task = a; state = s.state } ∷ []
     at None rest = rest
     at (Some b) rest = ap (λ (os : List Open). record { task = b; state = x.state } ∷ os) rest
+
+there_none_push : {X Y : Type 0} (g : X → Y) (xs : List (Option X)) → there g (xs ++ None ∷ []) ≡ there g xs
+there_none_push g [] = refl
+there_none_push g (None ∷ xs) = there_none_push g xs
+there_none_push g (Some y ∷ xs) = ap (λ zs. g y ∷ zs) (there_none_push g xs)
 
 pub there_push : {X Y : Type 0} (g : X → Y) (xs : List (Option X)) (x : X) → there g (xs ++ Some x ∷ []) ≡ there g xs ++ g x ∷ []
 there_push g [] x = refl
@@ -66,60 +89,61 @@ good_accepted R a good =
       opened = omega (arith, one, good.opened);
       number = rw (opens_push R.spots R.tasks (record { state = Waiting }) a good.paired) (omega (arith, one, three, good.number));
       owed = good.owed;
+      pool = good.pool;
+      wants = good.wants;
     }
+
+-- ---- events of slots
+
+pub good_event : (R : Store) (at : ℕ) (e : Event) → IsWithinPool (changed e R.slots) R.pool → IsGood R → IsGood (event_in at e R)
+good_event R at e within good = record { paired = good.paired; opened = good.opened; number = good.number; owed = refl; pool = within; wants = good.wants }
 
 -- ---- orders
 
-pub show_ordered : (R : Store) (k : ℕ) (r : Run) → IsSpot waits R.spots R.tasks k → show (ordered_in k r R) ≡ grow (Ordered r) (show R)
-show_ordered R k r spot =
+pub show_ordered : (R : Store) (k : ℕ) (r : Run) (key : Key) → IsSpot waits R.spots R.tasks k → show (ordered_in k r key R) ≡ grow (Ordered r key) (show R)
+show_ordered R k r key spot =
     let runs : length (R.runs ++ Some (record { run = r; place = k }) ∷ []) ≡ length R.runs + 1 = length-append R.runs (Some (record { run = r; place = k }) ∷ []) in
     rw (
       spot.changed (record { state = Running r.number }),
       there_push run_in R.runs (record { run = r; place = k }),
-      there_push slot_in R.slots (slot_of r),
       runs,
       length-set R.spots k (record { state = Running r.number }),
     ) refl
 
-pub good_ordered : (R : Store) (k : ℕ) (r : Run) → r.begun ≡ None → IsSpot waits R.spots R.tasks k → IsGood R → IsGood (ordered_in k r R)
-good_ordered R k r new spot good =
+pub good_started : (R : Store) (k : ℕ) (r : Run) → IsSpot waits R.spots R.tasks k → IsGood R → IsGood (started_in k r R)
+good_started R k r spot good =
     let s : Spot = record { state = Running r.number } in
     let len : length (slice_set R.spots k s) ≡ length R.spots = length-set R.spots k s in
-    let owes : owed_runs (there run_in R.runs ++ r ∷ []) ≡ owed_runs (there run_in R.runs) + 2 = runs_push r (there run_in R.runs) ∙ ap (λ b. owed_runs (there run_in R.runs) + owed_by b) new in
-    let more : length (there slot_in R.slots ++ slot_of r ∷ []) ≡ length (there slot_in R.slots) + 1 = length-append (there slot_in R.slots) (slot_of r ∷ []) in
     record {
       paired = good.paired ∙ sym len;
       opened = rw len good.opened;
       number = rw (spot.changed s, length-started waits (Running r.number) (opens R.spots R.tasks), len) good.number;
-      owed = rw (there_push run_in R.runs (record { run = r; place = k }), there_push slot_in R.slots (slot_of r)) (omega (arith, owes, more, good.owed));
+      owed = good.owed;
+      pool = good.pool;
+      wants = good.wants;
     }
+
+pub show_prewarmed : (R : Store) (at : ℕ) (o : PrewarmOrder) → show (prewarmed_in at o R) ≡ grow (Prewarming o at) (show R)
+show_prewarmed R at o =
+    let runs : length (R.runs ++ None ∷ []) ≡ length R.runs + 1 = length-append R.runs (None ∷ []) in
+    rw (there_none_push run_in R.runs, runs) refl
+
+pub good_counted : (R : Store) → IsGood R → IsGood (counted_in R)
+good_counted R good = record { paired = good.paired; opened = good.opened; number = good.number; owed = good.owed; pool = good.pool; wants = good.wants }
+
+pub show_removed : (R : Store) (at : ℕ) (ns : List ℕ) (containers : List Container) → map (λ (c : Container). c.slot) containers ≡ ns → show (event_in at (lives.Removed ns) R) ≡ grow (Removed containers at) (show R)
+show_removed R at ns containers is = rw (← is) refl
 
 -- ---- runs
 
-owed_new : (o : Option ℕ) → is_some o ≡ false → owed_by o ≡ 2
-owed_new None new = refl
-owed_new (Some at) new = cc
+pub good_put : (R : Store) (k : ℕ) (cell : Option Berth) → IsGood R → IsGood (run_put k cell R)
+good_put R k cell good = record { paired = good.paired; opened = good.opened; number = good.number; owed = good.owed; pool = good.pool; wants = good.wants }
 
-pub show_begun : (R : Store) (at run owed k : ℕ) (b : Berth) (c : IsCell run_in (is_number run) R.runs k) → b.run ≡ begun at c.item.run → show (run_put at owed k (Some b) R) ≡ grow (Begun run at) (show R)
-show_begun R at run owed k b c is = rw (c.changed (begun at) b is, length-set R.runs k (Some b)) refl
+pub show_put : (R : Store) (at run k : ℕ) (b : Berth) (c : IsCell run_in (is_number run) R.runs k) → b.run ≡ begun at c.item.run → IsRunBegun at run R (run_put k (Some b) R)
+show_put R at run k b c is = rw (c.changed (begun at) b is, length-set R.runs k (Some b)) refl
 
-pub show_answered : (R : Store) (at run owed k : ℕ) (alive : Bool) → IsCell run_in (is_number run) R.runs k → show (run_put at owed k None R) ≡ grow (Answered run alive at) (show R)
-show_answered R at run owed k alive c = rw (c.removed, length-set R.runs k None) refl
-
-good_run : (R : Store) (at owed k : ℕ) (cell : Option Berth) → IsGood R → owed ≡ owed_of (show (run_put at owed k cell R)) → IsGood (run_put at owed k cell R)
-good_run R at owed k cell good owes = record { paired = good.paired; opened = good.opened; number = good.number; owed = owes }
-
-pub good_begun : (R : Store) (at run k : ℕ) (b : Berth) (c : IsCell run_in (is_number run) R.runs k) → b.run ≡ begun at c.item.run → is_some c.item.run.begun ≡ false → IsGood R
-    → IsGood (run_put at (R.marks.owed - 1) k (Some b) R)
-good_begun R at run k b c is new good =
-    let less = runs_begun at (is_number run) c.item.run (there run_in R.runs) c.found in
-    let two : owed_run c.item.run ≡ 2 = owed_new c.item.run.begun new in
-    good_run R at (R.marks.owed - 1) k (Some b) good (rw (c.changed (begun at) b is) (omega (arith, less, two, good.owed)))
-
-pub good_left : (R : Store) (at run k : ℕ) (c : IsCell run_in (is_number run) R.runs k) → IsGood R → IsGood (run_put at (R.marks.owed - owed_run c.item.run) k None R)
-good_left R at run k c good =
-    let less = runs_removed (is_number run) c.item.run (there run_in R.runs) c.found in
-    good_run R at (R.marks.owed - owed_run c.item.run) k None good (rw c.removed (omega (arith, less, good.owed)))
+pub show_answered : (R : Store) (at run k : ℕ) (alive : Bool) → IsCell run_in (is_number run) R.runs k → show (answered_in at run alive k R) ≡ grow (Answered run alive at) (show R)
+show_answered R at run k alive c = rw (c.removed, length-set R.runs k None) refl
 
 pub good_freed : (R : Store) (p : Open → Bool) (k : ℕ) → IsSpot p R.spots R.tasks k → IsGood R → IsGood (freed_in k R)
 good_freed R p k spot good =
@@ -130,41 +154,44 @@ good_freed R p k spot good =
       opened = rw len good.opened;
       number = rw (spot.changed s, length-started p Waiting (opens R.spots R.tasks), len) good.number;
       owed = good.owed;
+      pool = good.pool;
+      wants = good.wants;
     }
 
 -- what a lost run carries isn't open
-pub show_lost : (R : Store) (at run owed k : ℕ) (c : IsCell run_in (is_number run) R.runs k) → find (is_of c.item.run.id) (opens R.spots R.tasks) ≡ None
-    → show (run_put at owed k None R) ≡ grow (Lost run at) (show R)
-show_lost R at run owed k c none =
+pub show_lost : (R : Store) (run k : ℕ) (c : IsCell run_in (is_number run) R.runs k) → find (is_of c.item.run.id) (opens R.spots R.tasks) ≡ None → IsRunLost run R (run_put k None R)
+show_lost R run k c none =
     rw (c.removed, length-set R.runs k None, c.found, update_none (is_of c.item.run.id) (with_state Waiting) (opens R.spots R.tasks) none) refl
 
 -- it is open, at this place
-pub show_freed : (R : Store) (at run owed k place : ℕ) (c : IsCell run_in (is_number run) R.runs k) → IsSpot (is_of c.item.run.id) R.spots R.tasks place
-    → show (run_put at owed k None (freed_in place R)) ≡ grow (Lost run at) (show R)
-show_freed R at run owed k place c spot =
+pub show_freed : (R : Store) (run k place : ℕ) (c : IsCell run_in (is_number run) R.runs k) → IsSpot (is_of c.item.run.id) R.spots R.tasks place → IsRunLost run R (run_put k None (freed_in place R))
+show_freed R run k place c spot =
     rw (c.removed, length-set R.runs k None, length-set R.spots place (record { state = Waiting }), c.found, spot.changed (record { state = Waiting })) refl
 
--- ---- slots
+-- no live run has the number
+pub show_no_run : (R : Store) (run : ℕ) → find (is_number run) (there run_in R.runs) ≡ None → IsRunLost run R R
+show_no_run R run none = rw (remove_none (is_number run) (there run_in R.runs) none, none) refl
 
-pub show_gone : (R : Store) (at slot generation k : ℕ) → IsCell slot_in (is_slot slot generation) R.slots k → show (slot_cut at k R) ≡ grow (Gone slot generation at) (show R)
-show_gone R at slot generation k c = rw c.removed refl
-
-pub good_gone : (R : Store) (at slot generation k : ℕ) → IsCell slot_in (is_slot slot generation) R.slots k → IsGood R → IsGood (slot_cut at k R)
-good_gone R at slot generation k c good =
-    let less = slots_removed (is_slot slot generation) c.item (there slot_in R.slots) c.found in
-    record { paired = good.paired; opened = good.opened; number = good.number; owed = rw c.removed (omega (arith, less, good.owed)) }
+pub show_not_begun : (R : Store) (at run : ℕ) → find (is_number run) (there run_in R.runs) ≡ None → IsRunBegun at run R R
+show_not_begun R at run none = rw (update_none (is_number run) (begun at) (there run_in R.runs) none) refl
 
 -- ---- ends
 
-pub show_ended : (R : Store) (k : ℕ) (id : Id) (e : End) → e.task.id ≡ id → IsSpot (is_of id) R.spots R.tasks k → show (ended_in e.at k (record_of e) R) ≡ grow (Ended e) (show R)
-show_ended R k id e is spot = rw (spot.removed, ← is) refl
+pub show_ended : (R : Store) (k : ℕ) (id : Id) (e : End) → e.task.id ≡ id → overrun_of e.ending e.run e.at ≡ None → IsSpot (is_of id) R.spots R.tasks k
+    → show (ended_in e.at k (record_of e) R) ≡ grow (Ended e) (show R)
+show_ended R k id e is plain spot = rw (spot.removed, ← is, plain) refl
+
+-- what overran is recorded so in the slot of its run
+pub show_overran : (R : Store) (k : ℕ) (id : Id) (e : End) (event : Event) → e.task.id ≡ id → overrun_of e.ending e.run e.at ≡ Some event → IsSpot (is_of id) R.spots R.tasks k
+    → show (event_in e.at event (ended_in e.at k (record_of e) R)) ≡ grow (Ended e) (show R)
+show_overran R k id e event is event_is spot = rw (spot.removed, ← is, event_is) refl
 
 pub good_ended : (R : Store) (p : Open → Bool) (at k : ℕ) (e : Record) → IsSpot p R.spots R.tasks k → IsGood R → IsGood (ended_in at k e R)
 good_ended R p at k e spot good =
     let len : length (slice_set R.tasks k None) ≡ length R.tasks = length-set R.tasks k None in
     let less = length-removed p (opens R.spots R.tasks) spot.item spot.found in
     let more : length (R.ended ++ e ∷ []) ≡ length R.ended + 1 = length-append R.ended (e ∷ []) in
-    record { paired = len ∙ good.paired; opened = good.opened; number = rw spot.removed (omega (arith, less, more, good.number)); owed = good.owed }
+    record { paired = len ∙ good.paired; opened = good.opened; number = rw spot.removed (omega (arith, less, more, good.number)); owed = good.owed; pool = good.pool; wants = good.wants }
 
 -- ---- marks
 
@@ -177,13 +204,16 @@ show_drained R at = refl
 pub show_reopened : (R : Store) (at : ℕ) → show (reopened_in at R) ≡ grow (Reopened at) (show R)
 show_reopened R at =
     let none : length R.spots - length R.spots ≡ 0 = omega arith in
-    rw (there_none run_in R.runs, there_none slot_in R.slots, none_length Berth R.runs, none) refl
+    rw (there_none run_in R.runs, none_length Berth R.runs, none) refl
 
 pub good_reopened : (R : Store) (at : ℕ) → IsGood R → IsGood (reopened_in at R)
-good_reopened R at good = record { paired = good.paired; opened = omega arith; number = good.number; owed = rw (there_none run_in R.runs, there_none slot_in R.slots) refl }
+good_reopened R at good = record { paired = good.paired; opened = omega arith; number = good.number; owed = refl; pool = within_kept lives.Reopened R.slots R.pool refl good.pool; wants = good.wants }
 
 pub good_marked : (R : Store) (at : ℕ) → IsGood R → IsGood (at_moment at R) × IsGood (drained_in at R)
-good_marked R at good = (record { paired = good.paired; opened = good.opened; number = good.number; owed = good.owed }, record { paired = good.paired; opened = good.opened; number = good.number; owed = good.owed })
+good_marked R at good = (
+  record { paired = good.paired; opened = good.opened; number = good.number; owed = good.owed; pool = good.pool; wants = good.wants },
+  record { paired = good.paired; opened = good.opened; number = good.number; owed = good.owed; pool = good.pool; wants = good.wants },
+)
 
 -- ---- what an end leaves good, wherever it is
 
@@ -205,4 +235,44 @@ good_cut R at k a e here good =
     let len : length (slice_set R.tasks k None) ≡ length R.tasks = length-set R.tasks k None in
     let less = cut_length R.spots R.tasks k a good.paired here in
     let more : length (R.ended ++ e ∷ []) ≡ length R.ended + 1 = length-append R.ended (e ∷ []) in
-    record { paired = len ∙ good.paired; opened = good.opened; number = omega (arith, less, more, good.number); owed = good.owed }
+    record { paired = len ∙ good.paired; opened = good.opened; number = omega (arith, less, more, good.number); owed = good.owed; pool = good.pool; wants = good.wants }
+
+-- ---- at first
+
+-- the lists of a floor where nothing has happened
+abbrev pub opened_store : ℕ → List Prewarm → Store
+opened_store pool wants = record {
+  spots = [];
+  tasks = [];
+  runs = [];
+  slots = replicate (slot_count pool) vacant_slot;
+  ended = [];
+  drawn = [];
+  blocking = [];
+  marks = record { latest = 0; opened = 0; owed = 0; draining = false };
+  pool = pool;
+  wants = wants;
+}
+
+vacant_owed : (n : ℕ) → owed (replicate n vacant_slot) ≡ 0
+vacant_owed zero = refl
+vacant_owed (suc n) = let rest = vacant_owed n in let sum = sum_by-cons owed_slot vacant_slot (replicate n vacant_slot) in omega (arith, rest, sum)
+
+vacant_sized : (n : ℕ) → AllByRecursion (λ s. IsSized s.state) (replicate n vacant_slot)
+vacant_sized zero = tt
+vacant_sized (suc n) = (tt, vacant_sized n)
+
+pub good_opened : (pool : ℕ) (wants : List Prewarm) → AreWantsSized wants → IsGood (opened_store pool wants)
+good_opened pool wants sized =
+    let none = vacant_held (slot_count pool) in
+    record {
+      paired = refl;
+      opened = omega arith;
+      number = refl;
+      owed = sym (vacant_owed (slot_count pool));
+      pool = record { within = omega (arith, none); sized = vacant_sized (slot_count pool) };
+      wants = sized;
+    }
+
+pub stands_opened : (pool : ℕ) (wants : List Prewarm) → Stands (show (opened_store pool wants)) (Opened pool wants ∷ [])
+stands_opened pool wants = record { is = rw (slots_opened pool wants) refl; sound = sound_start pool wants }

@@ -12,16 +12,21 @@ use Rattle.ow_floor.specs.declared.activations.State.TheVariants.{Waiting, Runni
 use Rattle.ow_floor.specs.declared.answers.Drain.TheVariants as drains
 use Rattle.ow_floor.specs.declared.runs.Run.{Run}
 use Rattle.ow_floor.specs.View.{Shown, waits, carries, begun, ids_of, is_of, is_number, is_end_of, with_state, remove_first}
-use Rattle.ow_floor.specs.Trace.{Trace, Item, End, Opened, Accepted, Ordered, Begun, Answered, Lost, Gone, Ended, Swept, Drained, Reopened, accepted, accepted_ids, count, ends, records, recorded, record_of, last, drawn, standing, open_items, run_count, head, live, live_run, shown}
+use Rattle.ow_floor.specs.Trace.{Trace, Item, End, Opened, Accepted, Ordered, Prewarming, Removed, Begun, Answered, Lost, Gone, Ended, Swept, Drained, Reopened, slots, slots_after, accepted, accepted_ids, count, ends, records, recorded, record_of, last, drawn, standing, open_items, run_count, head, live, live_run, shown}
 use Rattle.ow_floor.specs.Growth.{grow, grown, open_after, IsRight, AreRight}
-use Rattle.ow_floor.specs.Laws.{times, IsAmong, loads, bearers, tally, IsApart, AreApart, IsParted, IsSound, RunOnce, Stands, Grows}
+use Rattle.ow_floor.specs.Laws.{AreSlotsSound, times, IsAmong, loads, bearers, tally, IsApart, AreApart, IsParted, IsSound, RunOnce, Stands, Grows}
 use Rattle.ow_floor.specs.Calls.{drain_answer, AllRecorded}
 use Rattle.ow_floor.proofs.Among.{all_among, known_push, known_more, found_among}
 use Rattle.ow_floor.proofs.Alters.{opens_new}
 use Rattle.ow_floor.proofs.Drawn.{drawn_last}
 use Rattle.ow_floor.proofs.Firsts.{all_more, all_push, all_removed, all_updated, find_none, tally_fewer, tally_none, tally_push, tally_updated, update_none}
 use Rattle.ow_floor.proofs.Tallies.{one_if, eq_of, times-push, ids_of-started, times-removed, times-split, times_once}
-use Rattle.ow_floor.proofs.Standing.{open_ended, open_ordered, open_left, open_lost, open_begun, open_reopened, head_waits}
+use Rattle.ow_floor.proofs.Slotting.{slots_item, slotted_item, slotted_start}
+use Rattle.ow_floor.specs.declared.answers.Container.{Container}
+use Rattle.ow_floor.specs.declared.answers.PrewarmOrder.{PrewarmOrder}
+use Rattle.ow_slots.specs.declared.keys.Key.{Key}
+use Rattle.ow_slots.specs.declared.states.Slot.{Slot}
+use Rattle.ow_floor.proofs.Standing.{open_ended, open_ordered, open_kept, open_left, open_lost, open_begun, open_reopened, head_waits}
 
 -- ---- ids
 
@@ -82,10 +87,10 @@ open_drawn p o T found sound =
 -- ---- items
 
 pub sound_start : (pool : ℕ) (wants : List Prewarm) → IsSound (Opened pool wants ∷ [])
-sound_start pool wants = record { apart = tt; drawn = tt; ended_drawn = tt; live_drawn = tt; once = λ id. refl; known = tt; one = λ id. omega arith; single = λ run. omega arith; numbered = tt }
+sound_start pool wants = record { apart = tt; drawn = tt; ended_drawn = tt; live_drawn = tt; once = λ id. refl; known = tt; one = λ id. omega arith; single = λ run. omega arith; numbered = tt; slotted = slotted_start pool wants }
 
-sound_accepted : (a : Activation) (T : Trace) → a.id.count ≡ last T a.id.namespace + 1 → IsSound T → IsSound (Accepted a ∷ T)
-sound_accepted a T new sound =
+sound_accepted : (a : Activation) (T : Trace) → a.id.count ≡ last T a.id.namespace + 1 → AreSlotsSound (Accepted a ∷ T) → IsSound T → IsSound (Accepted a ∷ T)
+sound_accepted a T new slotted sound =
     let is_open = open_accepted a T new sound in
     let rises : (n : ℕ) → last T n ≤ last (Accepted a ∷ T) n = λ n. last_rises a T n new in
     record {
@@ -102,10 +107,11 @@ sound_accepted a T new sound =
       one = sound.one;
       single = sound.single;
       numbered = sound.numbered;
+      slotted = slotted;
     }
 
-sound_ended : (e : End) (o : Open) (T : Trace) → find (is_of e.task.id) (open_items T) ≡ Some o → e.task ≡ o.task → IsSound T → IsSound (Ended e ∷ T)
-sound_ended e o T found is sound =
+sound_ended : (e : End) (o : Open) (T : Trace) → find (is_of e.task.id) (open_items T) ≡ Some o → e.task ≡ o.task → AreSlotsSound (Ended e ∷ T) → IsSound T → IsSound (Ended e ∷ T)
+sound_ended e o T found is slotted sound =
     let is_open = open_ended e o T found is sound in
     let same : e.task.id ≡ o.task.id = ap (λ (a : Activation). a.id) is in
     record {
@@ -125,6 +131,7 @@ sound_ended e o T found is sound =
       one = sound.one;
       single = sound.single;
       numbered = sound.numbered;
+      slotted = slotted;
     }
 
 -- the new run is the only one of its activation, and of its number
@@ -146,9 +153,9 @@ bearers_more r T next sound run =
     (λ e. let same : r.number ≡ run = grind (arith, nat_tests) in
     tally_none (is_number run) (live T) (greater (run_count T) run (live T) (omega (arith, same, next)) sound.numbered))
 
-sound_ordered : (r : Run) (o : Open) (T : Trace) → r.number ≡ run_count T + 1 → head T ≡ Some o → r.id ≡ o.task.id → IsSound T → IsSound (Ordered r ∷ T)
-sound_ordered r o T next found is sound =
-    let is_open = open_ordered r o T found is sound in
+sound_ordered : (r : Run) (key : Key) (o : Open) (T : Trace) → r.number ≡ run_count T + 1 → head T ≡ Some o → r.id ≡ o.task.id → AreSlotsSound (Ordered r key ∷ T) → IsSound T → IsSound (Ordered r key ∷ T)
+sound_ordered r key o T next found is slotted sound =
+    let is_open = open_ordered r key o T found is sound in
     let free : find (carries r.id) (live T) ≡ None = subst (λ (x : Id). find (carries x) (live T) ≡ None) (sym is) (head_waits o T found).1 in
     record {
       apart = sound.apart;
@@ -160,13 +167,14 @@ sound_ordered r o T next found is sound =
       one = loads_more r T free sound;
       single = bearers_more r T next sound;
       numbered = all_push _ r (live T) (omega (arith, next)) (all_more _ _ (live T) (λ x le. omega (arith, le)) sound.numbered);
+      slotted = slotted;
     }
 
 fewer : {X : Type 0} (p q : X → Bool) (xs : List X) → tally q xs ≤ 1 → tally q (remove_first p xs) ≤ 1
 fewer p q xs le = let h = tally_fewer p q xs in omega (arith, h, le)
 
-left_answered : (run : ℕ) (alive : Bool) (at : ℕ) (T : Trace) → ids_of (open_items (Answered run alive at ∷ T)) ≡ ids_of (open_items T) → IsSound T → IsSound (Answered run alive at ∷ T)
-left_answered run alive at T ids sound = record {
+left_answered : (run : ℕ) (alive : Bool) (at : ℕ) (T : Trace) → ids_of (open_items (Answered run alive at ∷ T)) ≡ ids_of (open_items T) → AreSlotsSound (Answered run alive at ∷ T) → IsSound T → IsSound (Answered run alive at ∷ T)
+left_answered run alive at T ids slotted sound = record {
   apart = sound.apart;
   drawn = sound.drawn;
   ended_drawn = sound.ended_drawn;
@@ -176,10 +184,11 @@ left_answered run alive at T ids sound = record {
   one = λ id. fewer (is_number run) (carries id) (live T) (sound.one id);
   single = λ n. fewer (is_number run) (is_number n) (live T) (sound.single n);
   numbered = all_removed _ (is_number run) (live T) sound.numbered;
+  slotted = slotted;
 }
 
-left_lost : (run at : ℕ) (T : Trace) → ids_of (open_items (Lost run at ∷ T)) ≡ ids_of (open_items T) → IsSound T → IsSound (Lost run at ∷ T)
-left_lost run at T ids sound = record {
+left_lost : (run at : ℕ) (T : Trace) → ids_of (open_items (Lost run at ∷ T)) ≡ ids_of (open_items T) → AreSlotsSound (Lost run at ∷ T) → IsSound T → IsSound (Lost run at ∷ T)
+left_lost run at T ids slotted sound = record {
   apart = sound.apart;
   drawn = sound.drawn;
   ended_drawn = sound.ended_drawn;
@@ -189,10 +198,11 @@ left_lost run at T ids sound = record {
   one = λ id. fewer (is_number run) (carries id) (live T) (sound.one id);
   single = λ n. fewer (is_number run) (is_number n) (live T) (sound.single n);
   numbered = all_removed _ (is_number run) (live T) sound.numbered;
+  slotted = slotted;
 }
 
-sound_begun : (run at : ℕ) (T : Trace) → IsSound T → IsSound (Begun run at ∷ T)
-sound_begun run at T sound = record {
+sound_begun : (run at : ℕ) (T : Trace) → AreSlotsSound (Begun run at ∷ T) → IsSound T → IsSound (Begun run at ∷ T)
+sound_begun run at T slotted sound = record {
   apart = sound.apart;
   drawn = sound.drawn;
   ended_drawn = sound.ended_drawn;
@@ -202,19 +212,37 @@ sound_begun run at T sound = record {
   one = λ id. rw (tally_updated (is_number run) (carries id) (begun at) (live T) (λ x. refl)) (sound.one id);
   single = λ n. rw (tally_updated (is_number run) (is_number n) (begun at) (live T) (λ x. refl)) (sound.single n);
   numbered = all_updated _ (is_number run) (begun at) (live T) (λ x le. le) sound.numbered;
+  slotted = slotted;
 }
 
-sound_gone : (slot generation at : ℕ) (T : Trace) → IsSound T → IsSound (Gone slot generation at ∷ T)
-sound_gone slot generation at T sound = record { apart = sound.apart; drawn = sound.drawn; ended_drawn = sound.ended_drawn; live_drawn = sound.live_drawn; once = sound.once; known = sound.known; one = sound.one; single = sound.single; numbered = sound.numbered }
+sound_gone : (slot generation at : ℕ) (T : Trace) → AreSlotsSound (Gone slot generation at ∷ T) → IsSound T → IsSound (Gone slot generation at ∷ T)
+sound_gone slot generation at T slotted sound = record { apart = sound.apart; drawn = sound.drawn; ended_drawn = sound.ended_drawn; live_drawn = sound.live_drawn; once = sound.once; known = sound.known; one = sound.one; single = sound.single; numbered = sound.numbered; slotted = slotted }
 
-sound_swept : (at : ℕ) (T : Trace) → IsSound T → IsSound (Swept at ∷ T)
-sound_swept at T sound = record { apart = sound.apart; drawn = sound.drawn; ended_drawn = sound.ended_drawn; live_drawn = sound.live_drawn; once = sound.once; known = sound.known; one = sound.one; single = sound.single; numbered = sound.numbered }
+sound_prewarming : (o : PrewarmOrder) (at : ℕ) (T : Trace) → AreSlotsSound (Prewarming o at ∷ T) → IsSound T → IsSound (Prewarming o at ∷ T)
+sound_prewarming o at T slotted sound = record {
+  apart = sound.apart;
+  drawn = sound.drawn;
+  ended_drawn = sound.ended_drawn;
+  live_drawn = sound.live_drawn;
+  once = sound.once;
+  known = sound.known;
+  one = sound.one;
+  single = sound.single;
+  numbered = all_more _ _ (live T) (λ x le. omega (arith, le)) sound.numbered;
+  slotted = slotted;
+}
 
-sound_drained : (at : ℕ) (T : Trace) → IsSound T → IsSound (Drained at ∷ T)
-sound_drained at T sound = record { apart = sound.apart; drawn = sound.drawn; ended_drawn = sound.ended_drawn; live_drawn = sound.live_drawn; once = sound.once; known = sound.known; one = sound.one; single = sound.single; numbered = sound.numbered }
+sound_removed : (containers : List Container) (at : ℕ) (T : Trace) → AreSlotsSound (Removed containers at ∷ T) → IsSound T → IsSound (Removed containers at ∷ T)
+sound_removed containers at T slotted sound = record { apart = sound.apart; drawn = sound.drawn; ended_drawn = sound.ended_drawn; live_drawn = sound.live_drawn; once = sound.once; known = sound.known; one = sound.one; single = sound.single; numbered = sound.numbered; slotted = slotted }
 
-sound_reopened : (at : ℕ) (T : Trace) → open_items T ≡ [] → IsSound T → IsSound (Reopened at ∷ T)
-sound_reopened at T none sound = record {
+sound_swept : (at : ℕ) (T : Trace) → AreSlotsSound (Swept at ∷ T) → IsSound T → IsSound (Swept at ∷ T)
+sound_swept at T slotted sound = record { apart = sound.apart; drawn = sound.drawn; ended_drawn = sound.ended_drawn; live_drawn = sound.live_drawn; once = sound.once; known = sound.known; one = sound.one; single = sound.single; numbered = sound.numbered; slotted = slotted }
+
+sound_drained : (at : ℕ) (T : Trace) → AreSlotsSound (Drained at ∷ T) → IsSound T → IsSound (Drained at ∷ T)
+sound_drained at T slotted sound = record { apart = sound.apart; drawn = sound.drawn; ended_drawn = sound.ended_drawn; live_drawn = sound.live_drawn; once = sound.once; known = sound.known; one = sound.one; single = sound.single; numbered = sound.numbered; slotted = slotted }
+
+sound_reopened : (at : ℕ) (T : Trace) → open_items T ≡ [] → AreSlotsSound (Reopened at ∷ T) → IsSound T → IsSound (Reopened at ∷ T)
+sound_reopened at T none slotted sound = record {
   apart = sound.apart;
   drawn = sound.drawn;
   ended_drawn = sound.ended_drawn;
@@ -226,6 +254,7 @@ sound_reopened at T none sound = record {
   one = λ id. omega arith;
   single = λ n. omega arith;
   numbered = tt;
+  slotted = slotted;
 }
 
 -- ---- each item
@@ -234,52 +263,64 @@ sound_reopened at T none sound = record {
 abbrev IsGrown : Item → Trace → Type 0
 IsGrown item T = IsSound (item ∷ T) × (open_items (item ∷ T) ≡ open_after item (live T) (open_items T))
 
-grown_lost : (run at : ℕ) (r : Run) (o : Option Open) (T : Trace) → live_run T run ≡ Some r → find (is_of r.id) (open_items T) ≡ o → IsSound T → IsGrown (Lost run at) T
-grown_lost run at r None T found none sound =
-    let is_open : open_items (Lost run at ∷ T) ≡ open_items T = open_left run r T found none in
-    let same = update_none (is_of r.id) (with_state Waiting) (open_items T) none in
-    (left_lost run at T (ap ids_of is_open) sound, is_open ∙ rw found (sym same))
-grown_lost run at r (Some o) T found here sound =
-    let is_open = open_lost run at r o T found here sound in
-    (left_lost run at T (ap ids_of is_open ∙ ids_of-started (is_of r.id) Waiting (open_items T)) sound, is_open ∙ rw found refl)
+grown_lost : (run at : ℕ) (r : Option Run) (T : Trace) → live_run T run ≡ r → AreSlotsSound (Lost run at ∷ T) → IsSound T → IsGrown (Lost run at) T
+grown_lost run at None T none slotted sound =
+    let is_open = open_kept run at T none in
+    (left_lost run at T (ap ids_of is_open) slotted sound, is_open ∙ rw none refl)
+grown_lost run at (Some r) T found slotted sound = of_open (find (is_of r.id) (open_items T)) refl
+  where
+    of_open : (o : Option Open) → find (is_of r.id) (open_items T) ≡ o → IsGrown (Lost run at) T
+    of_open None none =
+        let is_open : open_items (Lost run at ∷ T) ≡ open_items T = open_left run r T found none in
+        let same = update_none (is_of r.id) (with_state Waiting) (open_items T) none in
+        (left_lost run at T (ap ids_of is_open) slotted sound, is_open ∙ rw found (sym same))
+    of_open (Some o) here =
+        let is_open = open_lost run at r o T found here sound in
+        (left_lost run at T (ap ids_of is_open ∙ ids_of-started (is_of r.id) Waiting (open_items T)) slotted sound, is_open ∙ rw found refl)
 
 grown_item : (item : Item) (T : Trace) → IsRight item (shown T) → IsSound T → IsGrown item T
-grown_item (Opened pool wants) T right sound = absurd right
+grown_item (Opened pool wants) T right sound = absurd right.0
 grown_item (Accepted a) T right sound =
-    let new : a.id.count ≡ last T a.id.namespace + 1 = right ∙ ap (λ n. n + 1) (drawn_last T a.id.namespace) in
-    (sound_accepted a T new sound, open_accepted a T new sound)
-grown_item (Ordered r) T right sound =
-    (sound_ordered r right.1.0 T right.0 right.1.1 right.1.2 sound, open_ordered r right.1.0 T right.1.1 right.1.2 sound)
-grown_item (Begun run at) T right sound = (sound_begun run at T sound, open_begun run at T)
+    let new : a.id.count ≡ last T a.id.namespace + 1 = right.0 ∙ ap (λ n. n + 1) (drawn_last T a.id.namespace) in
+    (sound_accepted a T new (slotted_item (Accepted a) T right sound.slotted) sound, open_accepted a T new sound)
+grown_item (Ordered r key) T right sound = (
+  sound_ordered r key right.0.0 T right.1.0.next right.0.1 right.0.2 (slotted_item (Ordered r key) T right sound.slotted) sound,
+  open_ordered r key right.0.0 T right.0.1 right.0.2 sound,
+)
+grown_item (Prewarming o at) T right sound = (sound_prewarming o at T (slotted_item (Prewarming o at) T right sound.slotted) sound, refl)
+grown_item (Removed containers at) T right sound = (sound_removed containers at T (slotted_item (Removed containers at) T right sound.slotted) sound, refl)
+grown_item (Begun run at) T right sound = (sound_begun run at T (slotted_item (Begun run at) T right sound.slotted) sound, open_begun run at T)
 grown_item (Answered run alive at) T right sound =
-    let is_open : open_items (Answered run alive at ∷ T) ≡ open_items T = open_left run right.0 T right.1 right.2 in
-    (left_answered run alive at T (ap ids_of is_open) sound, is_open)
-grown_item (Lost run at) T right sound = grown_lost run at right.0 (find (is_of right.0.id) (open_items T)) T right.1 refl sound
-grown_item (Gone slot generation at) T right sound = (sound_gone slot generation at T sound, refl)
-grown_item (Ended e) T right sound = (sound_ended e right.0 T right.1 right.2 sound, open_ended e right.0 T right.1 right.2 sound)
-grown_item (Swept at) T right sound = (sound_swept at T sound, refl)
-grown_item (Drained at) T right sound = (sound_drained at T sound, refl)
-grown_item (Reopened at) T right sound = (sound_reopened at T right sound, open_reopened at T right ∙ sym right)
+    let is_open : open_items (Answered run alive at ∷ T) ≡ open_items T = open_left run right.0.0 T right.0.1 right.0.2 in
+    (left_answered run alive at T (ap ids_of is_open) (slotted_item (Answered run alive at) T right sound.slotted) sound, is_open)
+grown_item (Lost run at) T right sound = grown_lost run at (live_run T run) T refl (slotted_item (Lost run at) T right sound.slotted) sound
+grown_item (Gone slot generation at) T right sound = (sound_gone slot generation at T (slotted_item (Gone slot generation at) T right sound.slotted) sound, refl)
+grown_item (Ended e) T right sound =
+    (sound_ended e right.0.0 T right.0.1 right.0.2 (slotted_item (Ended e) T right sound.slotted) sound, open_ended e right.0.0 T right.0.1 right.0.2 sound)
+grown_item (Swept at) T right sound = (sound_swept at T (slotted_item (Swept at) T right sound.slotted) sound, refl)
+grown_item (Drained at) T right sound = (sound_drained at T (slotted_item (Drained at) T right sound.slotted) sound, refl)
+grown_item (Reopened at) T right sound =
+    (sound_reopened at T right.0 (slotted_item (Reopened at) T right sound.slotted) sound, open_reopened at T right.0 ∙ sym right.0)
 
-shown_by : (item : Item) (T : Trace) → open_items (item ∷ T) ≡ open_after item (live T) (open_items T) → shown (item ∷ T) ≡ grow item (shown T)
-shown_by item T is_open = ap (λ (os : List Open). record (grow item (shown T)) { open_items = os }) is_open
+shown_by : (item : Item) (T : Trace) → open_items (item ∷ T) ≡ open_after item (live T) (open_items T) → slots (item ∷ T) ≡ slots_after item (slots T) → shown (item ∷ T) ≡ grow item (shown T)
+shown_by item T is_open is_slots =
+    ap (λ (os : List Open). record (grow item (shown T)) { open_items = os; slots = slots (item ∷ T) }) is_open
+    ∙ ap (λ (ss : List Slot). record (grow item (shown T)) { slots = ss }) is_slots
 
 -- items that may come keep a trace sound, and do to the lists what they should
 pub sound_items : (items T : Trace) → AreRight items (shown T) → IsSound T → IsSound (items ++ T) × (shown (items ++ T) ≡ grown items (shown T))
 sound_items [] T right sound = (sound, refl)
 sound_items (item ∷ items) T right sound =
     let before = sound_items items T right.1 sound in
-    let here = grown_item item (items ++ T) (subst (λ (v : Shown). IsRight item v) (sym before.1) right.0) before.0 in
-    (here.0, shown_by item (items ++ T) here.1 ∙ ap (grow item) before.1)
+    let here = subst (λ (v : Shown). IsRight item v) (sym before.1) right.0 in
+    let grown = grown_item item (items ++ T) here before.0 in
+    (grown.0, shown_by item (items ++ T) grown.1 (slots_item item (items ++ T) here before.0.slotted) ∙ ap (grow item) before.1)
 
 -- where the items of a call may come, a floor of whose lists they are made grows by them
 pub grows : (f : Shown → Trace) (v w : Shown) → ((T : Trace) → Stands v T → AreRight (f (shown T)) (shown T)) → w ≡ grown (f v) v → Grows v w (λ T. f (shown T))
 grows f v w right is T st =
     let both = sound_items (f (shown T)) T (right T st) st.sound in
     record { is = is ∙ (ap (λ (u : Shown). grown (f u) u) st.is ∙ sym both.1); sound = both.0 }
-
-pub stands_start : (pool : ℕ) (wants : List Prewarm) → Stands (shown (Opened pool wants ∷ [])) (Opened pool wants ∷ [])
-stands_start pool wants = record { is = refl; sound = sound_start pool wants }
 
 -- ---- laws
 

@@ -10,12 +10,13 @@ use Rattle.ow_records.specs.declared.record.Record.{Record}
 use Rattle.ow_floor.specs.declared.activations.State.{State}
 use Rattle.ow_floor.specs.declared.activations.State.TheVariants.{Waiting, Running}
 use Rattle.ow_floor.specs.declared.runs.Run.{Run}
+use Rattle.ow_slots.specs.declared.keys.Key.{Key}
 use Rattle.ow_floor.specs.View.{waits, is_waiting, is_of, is_number, is_end_of, carries, with_state, update_first, remove_first, begun}
 use Rattle.ow_floor.specs.Trace.{Trace, End, Ordered, Begun, Lost, Ended, Reopened, accepted, records, record_of, live, open_items, end_of, carrier, live_run, standing, standing_by, state_by, head}
 use Rattle.ow_floor.specs.Laws.{loads, IsSound}
 use Rattle.ow_floor.proofs.Alters.{opens, but_at, agree, alter, alter_update, alter_remove, opens_same}
 use Rattle.ow_floor.proofs.Tallies.{eq_of}
-use Rattle.ow_floor.proofs.Firsts.{none_tail, or_new, find_push, find_other, none_left}
+use Rattle.ow_floor.proofs.Firsts.{none_tail, or_new, find_push, find_other, none_left, remove_none}
 
 -- ---- what is found stands so
 
@@ -108,16 +109,16 @@ head_waits o T found =
     let h = is_found waits (standing T) (accepted T) o found in
     waits_by (end_of T o.task.id) (carrier T o.task.id) (h.0 ∙ ap Some (waits_so o.state h.1))
 
-pub open_ordered : (r : Run) (o : Open) (T : Trace) → head T ≡ Some o → r.id ≡ o.task.id → IsSound T
-    → open_items (Ordered r ∷ T) ≡ update_first waits (with_state (Running r.number)) (open_items T)
-open_ordered r o T found is sound =
+pub open_ordered : (r : Run) (key : Key) (o : Open) (T : Trace) → head T ≡ Some o → r.id ≡ o.task.id → IsSound T
+    → open_items (Ordered r key ∷ T) ≡ update_first waits (with_state (Running r.number)) (open_items T)
+open_ordered r key o T found is sound =
     let same : o.task.id ≡ r.id = sym is in
     let free = head_waits o T found in
     let e0 : end_of T r.id ≡ None = subst (λ n. end_of T n ≡ None) same free.0 in
     let c0 : carrier T r.id ≡ None = subst (λ n. carrier T n ≡ None) same free.1 in
-    let each : (y : Id) → standing (Ordered r ∷ T) y ≡ but_at (standing T) r.id (Some (Running r.number)) y
+    let each : (y : Id) → standing (Ordered r key ∷ T) y ≡ but_at (standing T) r.id (Some (Running r.number)) y
     = λ y. rw (find_push (carries y) r (live T)) (ordered_by r T y (carries y r) refl e0 c0) in
-    opens_same (standing (Ordered r ∷ T)) (but_at (standing T) o.task.id (Some (Running r.number))) (accepted T)
+    opens_same (standing (Ordered r key ∷ T)) (but_at (standing T) o.task.id (Some (Running r.number))) (accepted T)
     (λ y. each y ∙ ap (λ n. but_at (standing T) n (Some (Running r.number)) y) is)
     ∙ (alter waits (standing T) (Some (Running r.number)) (accepted T) o sound.apart found ∙ alter_update waits (Running r.number) (open_items T))
 
@@ -160,6 +161,10 @@ open_lost run at r o T found here sound =
     opens_same (standing (Lost run at ∷ T)) (but_at (standing T) o.task.id (Some Waiting)) (accepted T)
     (λ y. lost_by run r T o.state y (same_id r.id y) refl found (sound.one r.id) stands ∙ ap (λ n. but_at (standing T) n (Some Waiting) y) (sym same))
     ∙ (alter (is_of r.id) (standing T) (Some Waiting) (accepted T) o sound.apart here ∙ alter_update (is_of r.id) Waiting (open_items T))
+
+-- where no live run has the number, nothing changes
+pub open_kept : (run at : ℕ) (T : Trace) → live_run T run ≡ None → open_items (Lost run at ∷ T) ≡ open_items T
+open_kept run at T none = ap (λ rs. opens (λ y. standing_by (end_of T y) (find (carries y) rs)) (accepted T)) (remove_none (is_number run) (live T) none)
 
 -- ---- behind a beginning
 

@@ -1,5 +1,5 @@
 -- What the calls of a floor answer, and which items they add, the newest first.
-use Rattle.std.specs.Prelude.{◌≡◌, ◌==◌, ◌+◌, ◌-◌, ◌%◌, ◌++◌, ℕ, Bool, true, false, List, [], ◌∷◌, Option, Some, None, length, if◌then◌else◌, is_some, nat_lt, not, Result, Ok, Err, IsSome}
+use Rattle.std.specs.Prelude.{◌≡◌, ◌==◌, ◌+◌, ◌-◌, ◌++◌, ◌≤◌, ℕ, Bool, true, false, List, [], ◌∷◌, Option, Some, None, length, if◌then◌else◌, is_some, is_none, nat_lt, ◌&&◌, slice_get, Result, Ok, Err, IsSome}
 use Rattle.std.specs.List.{find}
 use Rattle.ow_traits.specs.declared.replies.RunReply.{RunReply}
 use Rattle.ow_traits.specs.declared.replies.RunReply.TheVariants as runs
@@ -10,11 +10,22 @@ use Rattle.ow_records.specs.Outcome.{outcome}
 use Rattle.ow_floor.specs.declared.activations.Plan.{Plan}
 use Rattle.ow_records.specs.declared.activations.Activation.{Activation}
 use Rattle.ow_floor.specs.declared.activations.Open.{Open}
-use Rattle.ow_records.specs.declared.record.Record.{Record}
 use Rattle.ow_floor.specs.declared.runs.Run.{Run}
 use Rattle.ow_floor.specs.declared.answers.Order.{Order}
 use Rattle.ow_floor.specs.declared.answers.Order.TheVariants as orders
-use Rattle.ow_floor.specs.declared.answers.Idle.TheVariants.{Empty}
+use Rattle.ow_floor.specs.declared.answers.Idle.{Idle}
+use Rattle.ow_floor.specs.declared.answers.Idle.TheVariants.{Empty, NoRoom}
+use Rattle.ow_slots.specs.declared.keys.Start.{Start}
+use Rattle.ow_slots.specs.declared.states.Slot.{Slot}
+use Rattle.ow_slots.specs.Slots.{first_with}
+use Rattle.ow_slots.specs.State.{awaits, holds, recorded_of, runs as is_busy_with}
+use Rattle.ow_slots.specs.State as states
+use Rattle.ow_pool.specs.declared.answers.Head.{Head}
+use Rattle.ow_pool.specs.declared.answers.Place.{Place}
+use Rattle.ow_pool.specs.declared.answers.Place.TheVariants as places
+use Rattle.ow_pool.specs.declared.answers.Unplaced.{Unplaced}
+use Rattle.ow_pool.specs.declared.answers.Unplaced.TheVariants as unplaced
+use Rattle.ow_pool.specs.Rules.{place_of}
 use Rattle.ow_floor.specs.declared.answers.Happening.{Happening}
 use Rattle.ow_floor.specs.declared.answers.Happening.TheVariants as happenings
 use Rattle.ow_floor.specs.declared.answers.Answered.{Answered}
@@ -23,14 +34,14 @@ use Rattle.ow_floor.specs.declared.answers.AnswerRefusal.{AnswerRefusal}
 use Rattle.ow_floor.specs.declared.answers.AnswerRefusal.TheVariants.{NoRun, NoMemory}
 use Rattle.ow_floor.specs.declared.answers.FloorRefusal.{FloorRefusal}
 use Rattle.ow_floor.specs.declared.answers.FloorRefusal.TheVariants as refusals
-use Rattle.ow_slots.specs.declared.keys.Start.TheVariants as starts
 use Rattle.ow_traits.specs.declared.prewarms.Prewarm.{Prewarm}
 use Rattle.ow_floor.specs.declared.answers.Drain.{Drain}
 use Rattle.ow_floor.specs.declared.answers.Drain.TheVariants.{Drained, StillOpen}
-use Rattle.ow_floor.specs.View.{Shown, is_of, is_end_of, is_slot, order_for}
+use Rattle.ow_floor.specs.View.{Shown, waits, containers_of, generation_after, generation_in, is_number, is_of, key_of, order_for, prewarm_of, recorded_in}
 use Rattle.ow_floor.specs.Trace as trace
-use Rattle.ow_floor.specs.Trace.{Trace, Item, End, accepted, count, end_of, head, last, live, live_run, open_item, open_items, records, run_count, shown, slots}
+use Rattle.ow_floor.specs.Trace.{Trace, Item, End, count, last, live, open_items, shown, slots}
 use Rattle.ow_floor.specs.Growth.{grown}
+use Rattle.ow_floor.specs.Owed.{rises}
 use Rattle.ow_floor.specs.Laws.{AreAllRecorded, Grows, IsSound, Stands}
 
 -- ---- what is told of items
@@ -76,51 +87,81 @@ happened_accepted id = happenings.Accepted id ∷ []
 
 -- ---- orders
 
--- the slot of a run
-abbrev pub slot_for : ℕ → ℕ
-slot_for run = run % 4294967296
+-- what is placed for: the first that waits
+abbrev pub head_by : Option Open → Option Head
+head_by None = None
+head_by (Some o) = Some (record { key = key_of o.task })
 
--- what `next` answers, over the first that waits
-abbrev pub order_of : ℕ → Option Open → Order
-order_of run None = orders.Nothing Empty
-order_of run (Some o) = orders.Run (order_for run (slot_for run) 1 starts.Cold o.task)
+-- what the rules place
+abbrev pub place_on : Shown → Place
+place_on v = place_of v.slots (head_by (find waits v.open_items)) v.wants v.pool
 
--- a run has a new slot for itself
-abbrev pub run_of : ℕ → ℕ → Id → Run
-run_of run at id = record { number = run; slot = slot_for run; generation = 1; start = starts.Cold; at = at; id = id; begun = None }
+-- the run of an activation in a slot
+abbrev pub run_of : ℕ → ℕ → Start → ℕ → Activation → List Slot → Run
+run_of run slot start at a slots = record {
+  number = run;
+  slot = slot;
+  generation = generation_after slot start slots;
+  start = start;
+  at = at;
+  id = a.id;
+  begun = None;
+}
 
-abbrev pub order_items : ℕ → ℕ → Option Open → Trace
-order_items run at None = []
-order_items run at (Some o) = trace.Ordered (run_of run at o.task.id) ∷ []
+abbrev pub idle_of : Unplaced → Idle
+idle_of unplaced.Empty = Empty
+idle_of unplaced.NoRoom = NoRoom
+
+-- the order of what is placed, for the first that waits
+abbrev pub order_by : Place → Option Open → Shown → Order
+order_by (places.Run slot start) None v = orders.Nothing Empty
+order_by (places.Run slot start) (Some o) v = orders.Run (order_for (v.runs + 1) slot (generation_after slot start v.slots) start o.task)
+order_by (places.Prewarm slot kind memory) o v = orders.Prewarm (prewarm_of (v.runs + 1) slot kind memory v.slots)
+order_by (places.Remove slots) o v = orders.Remove (containers_of slots v.slots)
+order_by (places.Nothing reason) o v = orders.Nothing (idle_of reason)
+
+abbrev pub order_items : Place → Option Open → ℕ → Shown → Trace
+order_items (places.Run slot start) None at v = []
+order_items (places.Run slot start) (Some o) at v = trace.Ordered (run_of (v.runs + 1) slot start at o.task v.slots) (key_of o.task) ∷ []
+order_items (places.Prewarm slot kind memory) o at v = trace.Prewarming (prewarm_of (v.runs + 1) slot kind memory v.slots) at ∷ []
+order_items (places.Remove slots) o at v = trace.Removed (containers_of slots v.slots) at ∷ []
+order_items (places.Nothing reason) o at v = []
+
+-- the order over the lists of a floor, and its items
+abbrev pub order_on : Shown → Order
+order_on v = order_by (place_on v) (find waits v.open_items) v
+
+abbrev pub items_on : ℕ → Shown → Trace
+items_on at v = order_items (place_on v) (find waits v.open_items) at v
 
 -- what `next` answers
 abbrev pub next_order : Trace → Order
-next_order T = order_of (run_count T + 1) (head T)
+next_order T = order_on (shown T)
 
 -- what it adds
 abbrev pub next_items : ℕ → Trace → Trace
-next_items at T = order_items (run_count T + 1) at (head T)
+next_items at T = items_on at (shown T)
 
 -- ---- beginnings, losses, goings
 
 abbrev pub items_if : Bool → Item → Trace
 items_if b item = if b then item ∷ [] else []
 
-abbrev pub is_new : Option Run → Bool
-is_new None = false
-is_new (Some r) = not (is_some r.begun)
-
--- the run is live and hasn't begun
+-- a slot has the run, which may still begin
 abbrev pub begins : ℕ → Trace → Bool
-begins run T = is_new (live_run T run)
+begins run T = is_some (first_with (awaits run) (slots T))
 
--- the run is live
+-- a slot has the run
 abbrev pub loses : ℕ → Trace → Bool
-loses run T = is_some (live_run T run)
+loses run T = is_some (first_with (holds run) (slots T))
 
--- the container of this slot and generation isn't gone
+abbrev pub goes_by : ℕ → Option Slot → Bool
+goes_by generation None = false
+goes_by generation (Some s) = states.goes generation s
+
+-- the container of this slot and generation can be gone
 abbrev pub goes : ℕ → ℕ → Trace → Bool
-goes slot generation T = is_some (find (is_slot slot generation) (slots T))
+goes slot generation T = goes_by generation (slice_get (slots T) slot)
 
 -- nothing is refused where it holds
 abbrev pub refused_unless : Bool → FloorRefusal → Result (Unit {0}) FloorRefusal
@@ -134,7 +175,7 @@ abbrev pub lost_answer : ℕ → Trace → Result (Unit {0}) FloorRefusal
 lost_answer run T = refused_unless (loses run T) (refusals.NoRun run)
 
 abbrev pub gone_answer : ℕ → ℕ → Trace → Result (Unit {0}) FloorRefusal
-gone_answer slot generation T = refused_unless (goes slot generation T) (refusals.NoSlot slot 0)
+gone_answer slot generation T = refused_unless (goes slot generation T) (refusals.NoSlot slot (generation_in slot (slots T)))
 
 abbrev pub begun_items : ℕ → ℕ → Trace → Trace
 begun_items at run T = items_if (begins run T) (trace.Begun run at)
@@ -158,24 +199,32 @@ end_items at ending run (Some o) = trace.Ended (ended_by at ending run o.task) �
 
 -- ---- replies
 
-abbrev pub since : Option Record → ℕ
-since None = 0
-since (Some e) = e.span.end
-
 -- the container can be used again behind an answer
 abbrev pub leaves_alive : RunReply → Bool
 leaves_alive (runs.Answer text logs) = true
 leaves_alive reply = false
 
--- what becomes of a reply to a live run: its activation ends, or has ended before
-abbrev pub answer_open : ℕ → Run → RunReply → Option Open → Option Record → Answered
-answer_open at r reply None ended = answers.Late r.number (since ended)
-answer_open at r reply (Some o) ended = answers.Recorded (happened (end_items at (Replied reply) (Some r) (Some o)))
+-- what is told of a reply: that it is late, where a sweep recorded what the run carries, or what happened
+abbrev pub answered_by : ℕ → Option ℕ → List Happening → Answered
+answered_by run (Some at) told = answers.Late run at
+answered_by run None told = answers.Recorded told
 
--- and of any reply: none where the run isn't live
+-- what becomes of a reply to a live run: it is late where a sweep recorded what the run carries; else that ends, where it is open
+abbrev pub answer_run : ℕ → Run → RunReply → Option ℕ → Option Open → Answered
+answer_run at r reply recorded o = answered_by r.number recorded (happened (end_items at (Replied reply) (Some r) o))
+
+abbrev pub run_by : Option Slot → Option Run → Option Run
+run_by None r = None
+run_by (Some s) r = r
+
+-- the live run of this number with which a slot is busy
+abbrev pub busy_run : ℕ → Shown → Option Run
+busy_run run v = run_by (first_with (is_busy_with run) v.slots) (find (is_number run) v.live)
+
+-- and of any reply: none where no slot is busy with the run
 abbrev pub answer_by : ℕ → ℕ → RunReply → Shown → Option Run → Option Answered
 answer_by at run reply v None = None
-answer_by at run reply v (Some r) = Some (answer_open at r reply (find (is_of r.id) v.open_items) (find (is_end_of r.id) v.ended))
+answer_by at run reply v (Some r) = Some (answer_run at r reply (recorded_in run v.slots) (find (is_of r.id) v.open_items))
 
 abbrev pub reply_items : ℕ → ℕ → RunReply → Shown → Option Run → Trace
 reply_items at run reply v None = []
@@ -183,11 +232,11 @@ reply_items at run reply v (Some r) = trace.Answered run (leaves_alive reply) at
 
 -- what a runner's reply is answered
 abbrev pub answer_to : ℕ → ℕ → RunReply → Trace → Option Answered
-answer_to at run reply T = answer_by at run reply (shown T) (live_run T run)
+answer_to at run reply T = answer_by at run reply (shown T) (busy_run run (shown T))
 
 -- what it adds: the end of what the run carries, and then the reply
 abbrev pub answered_items : ℕ → ℕ → RunReply → Trace → Trace
-answered_items at run reply T = reply_items at run reply (shown T) (live_run T run)
+answered_items at run reply T = reply_items at run reply (shown T) (busy_run run (shown T))
 
 -- the answer by value, which hands a reply back that isn't taken
 abbrev pub answer_or : ℕ → RunReply → Option Answered → Result Answered AnswerRefusal
@@ -201,7 +250,7 @@ HandsBack run reply (NoMemory back) = back ≡ reply
 
 -- memory is wanted only where the run is live
 abbrev pub AnswersSo : Shown → ℕ → ℕ → RunReply → Result Answered AnswerRefusal → Type 0
-AnswersSo old at run reply (Err (NoMemory back)) = (T : Trace) → Stands old T → IsSome (live_run T run)
+AnswersSo old at run reply (Err (NoMemory back)) = (T : Trace) → Stands old T → IsSome (busy_run run (shown T))
 AnswersSo old at run reply result = (T : Trace) → Stands old T → result ≡ answer_or run reply (answer_to at run reply T)
 
 abbrev pub GrowsBy : Shown → Shown → (Trace → Trace) → Result Answered AnswerRefusal → Type 0
@@ -215,19 +264,23 @@ answer_number (NoMemory reply) = 0
 
 -- ---- sweeps
 
--- a run whose activation hasn't ended is late once it has taken more than the time limit
+-- a run is late once it has taken more than the time limit
 abbrev pub is_late : ℕ → Run → Activation → Bool
 is_late at r task = nat_lt task.action.limits.timeout (at - r.at)
 
-abbrev pub late_items : ℕ → Run → Option Open → Trace
-late_items at r None = []
-late_items at r (Some o) = if is_late at r o.task then end_items at Overran (Some r) (Some o) else []
+-- the end of what a run carries that a slot is busy with, where it is open, no sweep recorded it and it is late
+abbrev pub late_items : ℕ → Run → Option Slot → Option Open → Trace
+late_items at r None o = []
+late_items at r (Some s) None = []
+late_items at r (Some s) (Some o) = if is_none (recorded_of s.state) && is_late at r o.task then end_items at Overran (Some r) (Some o) else []
+
+abbrev pub late_of : ℕ → Run → Shown → Trace
+late_of at r v = late_items at r (first_with (is_busy_with r.number) v.slots) (find (is_of r.id) v.open_items)
 
 -- the ends of what these runs carry, where they are late, one behind another
 abbrev pub overrun_items : ℕ → List Run → Shown → Trace
 overrun_items at [] v = []
-overrun_items at (r ∷ rs) v =
-    overrun_items at rs (grown (late_items at r (find (is_of r.id) v.open_items)) v) ++ late_items at r (find (is_of r.id) v.open_items)
+overrun_items at (r ∷ rs) v = overrun_items at rs (grown (late_of at r v) v) ++ late_of at r v
 
 -- the ends that a sweep makes
 abbrev pub swept_ends : ℕ → Trace → Trace
@@ -271,7 +324,14 @@ pub record KeepSound : Type 0 where
   pub answered : (at run : ℕ) (reply : RunReply) (T : Trace) → IsSound T → IsSound (answered_items at run reply T ++ T)
   pub lost : (at run : ℕ) (T : Trace) → IsSound T → IsSound (lost_items at run T ++ T)
   pub gone : (at slot generation : ℕ) (T : Trace) → IsSound T → IsSound (gone_items at slot generation T ++ T)
-  pub end : (at : ℕ) (id : Id) (ending : Ending) (T : Trace) → IsSound T → IsSound (end_items at ending None (open_item T id) ++ T)
   pub sweep : (at : ℕ) (T : Trace) → IsSound T → IsSound (swept_items at T ++ T)
   pub drain : (at : ℕ) (T : Trace) → IsSound T → IsSound (trace.Drained at ∷ T)
   pub reopen : (at : ℕ) (T : Trace) → IsSound T → IsSound (reopened_items at T ++ T)
+
+-- how much the items of each call raise what is owed
+pub record RaisesLittle : Type 0 where
+  pub accept : (at : ℕ) (plan : Plan) → rises (accept_items at plan) ≡ 0
+  pub next : (at : ℕ) (T : Trace) → rises (next_items at T) ≤ 3
+  pub answered : (at run : ℕ) (reply : RunReply) (T : Trace) → rises (answered_items at run reply T) ≡ 0
+  pub sweep : (at : ℕ) (T : Trace) → rises (swept_items at T) ≡ 0
+  pub reopen : (at : ℕ) (T : Trace) → rises (reopened_items at T) ≡ 0

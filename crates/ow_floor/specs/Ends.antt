@@ -2,21 +2,24 @@
 use Rattle.std.specs.Prelude.{◌≡◌, ◌⊎◌, ◌++◌, ℕ, Bool, true, List, [], ◌∷◌, Option, Some, None, length, take, slice_index_or}
 use Rattle.std.specs.List.{find}
 use Rattle.ow_records.specs.declared.outcomes.Ending.{Ending}
-use Rattle.ow_records.specs.declared.outcomes.Ending.TheVariants.{Abandoned, Replied}
+use Rattle.ow_records.specs.declared.outcomes.Ending.TheVariants.{Abandoned, Overran, Replied}
 use Rattle.ow_traits.specs.declared.replies.RunReply.{RunReply}
 use Rattle.ow_records.specs.Outcome.{outcome}
 use Rattle.ow_records.specs.declared.activations.Activation.{Activation}
 use Rattle.ow_floor.specs.declared.activations.Open.{Open}
-use Rattle.ow_floor.specs.declared.answers.Answered.{Answered}
+use Rattle.ow_floor.specs.declared.answers.Order.{Order}
 use Rattle.ow_floor.specs.declared.answers.Happening.{Happening}
 use Rattle.ow_floor.specs.declared.answers.Happening.TheVariants as happenings
 use Rattle.ow_floor.specs.declared.lists.Berth.{Berth}
 use Rattle.ow_floor.specs.declared.runs.Run.{Run}
-use Rattle.ow_floor.specs.View.{is_end_of, is_of}
+use Rattle.ow_floor.specs.View.{begun, is_number, is_of, remove_first, update_first}
 use Rattle.ow_floor.specs.Trace.{Trace, record_of}
-use Rattle.ow_floor.specs.Growth.{grown}
-use Rattle.ow_floor.specs.Calls.{abandoned_items, answer_open, end_items, ended_by, happened, is_late, late_items, overrun_items}
-use Rattle.ow_floor.specs.Store.{IsGood, IsSpot, Store, ended_in, freed_in, opens, run_in, show, there}
+use Rattle.ow_floor.specs.Growth.{freed, grown}
+use Rattle.ow_lifecycle.specs.Life as lives
+use Rattle.ow_slots.specs.Slots.{IsThere, first_with}
+use Rattle.ow_slots.specs.State.{IsUnrecorded, runs as is_busy_with}
+use Rattle.ow_floor.specs.Calls.{abandoned_items, end_items, ended_by, happened, is_late, items_on, late_of, order_on, overrun_items}
+use Rattle.ow_floor.specs.Store.{IsGood, IsSpot, Store, ended_in, event_in, freed_in, opens, run_in, show, there}
 
 -- what stands there has ended, and it is told so
 pub record IsEndedAt (at : ℕ) (ending : Ending) (run : Option Run) (place : ℕ) (old new : Store) (h : Happening) : Type 0 where
@@ -25,10 +28,22 @@ pub record IsEndedAt (at : ℕ) (ending : Ending) (run : Option Run) (place : �
   pub now : new ≡ ended_in at place (record_of (ended_by at ending run task)) old
   pub told : h ≡ happenings.Recorded task.id (outcome ending task.action.limits).code
 
+-- what the run carries is late and stands there, and no sweep recorded it
+pub record IsLateSpot (at : ℕ) (r : Run) (R : Store) (place : ℕ) : Type 0 where
+  pub spot : IsSpot (is_of r.id) R.spots R.tasks place
+  pub late : is_late at r spot.item.task ≡ true
+  pub unrecorded : IsThere IsUnrecorded (first_with (is_busy_with r.number) R.slots)
+
+-- what stands there has overrun, and is told and recorded so
+pub record IsOverrunAt (at : ℕ) (r : Run) (place : ℕ) (old new : Store) (h : Happening) : Type 0 where
+  pub middle : Store
+  pub ended : IsEndedAt at Overran (Some r) place old middle h
+  pub now : new ≡ event_in at (lives.Overran r.number at) middle
+
 -- what the run carries is late and stands there, or isn't late
 abbrev pub IsLateEnd : ℕ → Run → Store → Option ℕ → Type 0
-IsLateEnd at r R None = late_items at r (find (is_of r.id) (opens R.spots R.tasks)) ≡ []
-IsLateEnd at r R (Some place) = (s : IsSpot (is_of r.id) R.spots R.tasks place) × (is_late at r s.item.task ≡ true)
+IsLateEnd at r R None = late_of at r (show R) ≡ []
+IsLateEnd at r R (Some place) = IsLateSpot at r R place
 
 -- these items were made, and told
 pub record IsMade (items : Trace) (old new : Store) (told : List Happening) : Type 0 where
@@ -38,20 +53,20 @@ pub record IsMade (items : Trace) (old new : Store) (told : List Happening) : Ty
   pub tells : told ≡ happened items
 
 -- what the run carries has ended by a reply, or had ended before
-pub record IsEndedRun (at : ℕ) (r : Run) (reply : RunReply) (old new : Store) (a : Answered) : Type 0 where
+pub record IsEndedRun (at : ℕ) (r : Run) (reply : RunReply) (old new : Store) (told : List Happening) : Type 0 where
   pub shows : show new ≡ grown (end_items at (Replied reply) (Some r) (find (is_of r.id) (opens old.spots old.tasks))) (show old)
   pub good : IsGood new
   pub runs : new.runs ≡ old.runs
-  pub marks : new.marks.owed ≡ old.marks.owed
-  pub tells : a ≡ answer_open at r reply (find (is_of r.id) (opens old.spots old.tasks)) (find (is_end_of r.id) old.ended)
+  pub slots : new.slots ≡ old.slots
+  pub tells : told ≡ happened (end_items at (Replied reply) (Some r) (find (is_of r.id) (opens old.spots old.tasks)))
 
 -- the end of what this run carries, where it is late
-abbrev pub late_of : ℕ → Option Berth → Store → Trace
-late_of at None R = []
-late_of at (Some b) R = late_items at b.run (find (is_of b.run.id) (opens R.spots R.tasks))
+abbrev pub late_at : ℕ → Option Berth → Store → Trace
+late_at at None R = []
+late_at at (Some b) R = late_of at b.run (show R)
 
 abbrev pub IsSweptOne : ℕ → Option Berth → Store → Store → List Happening → List Happening → Type 0
-IsSweptOne at cell old new before after = (told : List Happening) × IsMade (late_of at cell old) old new told × (after ≡ before ++ told)
+IsSweptOne at cell old new before after = (told : List Happening) × IsMade (late_at at cell old) old new told × (after ≡ before ++ told)
 
 abbrev pub sweeps : ℕ → Store → Trace
 sweeps at R = overrun_items at (show R).live (show R)
@@ -88,3 +103,19 @@ IsAbandonedAt at place (Some a) old new before after = (h : Happening) × IsEnde
 abbrev pub IsFreed : Run → Store → Store → Type 0
 IsFreed r old new = ((find (is_of r.id) (opens old.spots old.tasks) ≡ None) × (new ≡ old))
     ⊎ ((place : ℕ) × IsSpot (is_of r.id) old.spots old.tasks place × (new ≡ freed_in place old))
+
+-- an order was carried out and told
+pub record IsOrdered (at : ℕ) (old new : Store) (order : Order) : Type 0 where
+  pub shows : show new ≡ grown (items_on at (show old)) (show old)
+  pub tells : order ≡ order_on (show old)
+
+-- the live run of this number has begun, where there is one
+abbrev pub IsRunBegun : ℕ → ℕ → Store → Store → Type 0
+IsRunBegun at run old new = show new ≡ record (show old) { live = update_first (is_number run) (begun at) (show old).live }
+
+-- the live run of this number is no more, and what it carried waits again, where it is open
+abbrev pub IsRunLost : ℕ → Store → Store → Type 0
+IsRunLost run old new = show new ≡ record (show old) {
+  open_items = freed (find (is_number run) (show old).live) (show old).open_items;
+  live = remove_first (is_number run) (show old).live;
+}

@@ -1,11 +1,14 @@
 -- What items do to the lists of a floor, and which item may come.
-use Rattle.std.specs.Prelude.{◌≡◌, ◌+◌, ◌++◌, List, [], ◌∷◌, Option, Some, None}
+use Rattle.std.specs.Prelude.{◌≡◌, ◌+◌, ◌++◌, ◌≤◌, List, [], ◌∷◌, Option, Some, None}
 use Rattle.std.specs.List.{find}
 use Rattle.ow_floor.specs.declared.activations.Open.{Open}
 use Rattle.ow_floor.specs.declared.activations.State.TheVariants.{Waiting, Running}
 use Rattle.ow_floor.specs.declared.runs.Run.{Run}
+use Rattle.ow_slots.specs.Slots.{memory_held}
+use Rattle.ow_lifecycle.specs.Life.{Event}
+use Rattle.ow_lifecycle.specs.Fitting.{IsFit, changed}
 use Rattle.ow_floor.specs.View.{Shown, is_number, is_of, last_of, remove_first, update_first, waits, with_state}
-use Rattle.ow_floor.specs.Trace.{Item, Trace, Opened, Accepted, Ordered, Answered, Lost, Ended, Reopened, blocking_after, count_after, draining_after, drawn_after, live_after, moment_of, pool_after, records_after, run_count_after, slots_after, wants_after}
+use Rattle.ow_floor.specs.Trace.{Item, Trace, Opened, Accepted, Ordered, Answered, Lost, Ended, Reopened, blocking_after, count_after, draining_after, drawn_after, event_of, live_after, moment_of, pool_after, records_after, run_count_after, slots_after, wants_after}
 
 -- what a lost run carries waits again
 abbrev pub freed : Option Run → List Open → List Open
@@ -15,7 +18,7 @@ freed (Some r) os = update_first (is_of r.id) (with_state Waiting) os
 -- what is open, with one more item
 abbrev pub open_after : Item → List Run → List Open → List Open
 open_after (Accepted a) rs os = os ++ record { task = a; state = Waiting } ∷ []
-open_after (Ordered r) rs os = update_first waits (with_state (Running r.number)) os
+open_after (Ordered r key) rs os = update_first waits (with_state (Running r.number)) os
 open_after (Lost run at) rs os = freed (find (is_number run) rs) os
 open_after (Ended e) rs os = remove_first (is_of e.task.id) os
 open_after item rs os = os
@@ -49,17 +52,24 @@ abbrev pub IsLive : Option Run → List Run → Type 0
 IsLive None rs = Unit {0}
 IsLive (Some r) rs = find (is_number r.number) rs ≡ Some r
 
--- a floor is opened once, first of all; an id is the next of its namespace; a run carries the first that waits, under the next number; a reply comes from a live run
--- whose activation has ended; what is lost is a live run; what ends is open, and the run that it names is live; at an opening nothing is open
+-- a floor is opened once, first of all; an id is the next of its namespace; a run carries the first that waits; a reply comes from a live run
+-- whose activation has ended; what ends is open, and the run that it names is live; at an opening nothing is open
+abbrev pub IsItemRight : Item → Shown → Type 0
+IsItemRight (Opened pool wants) v = ⊥
+IsItemRight (Accepted a) v = a.id.count ≡ last_of v.drawn a.id.namespace + 1
+IsItemRight (Ordered r key) v = (o : Open) × (find waits v.open_items ≡ Some o) × (r.id ≡ o.task.id)
+IsItemRight (Answered run alive at) v = (r : Run) × (find (is_number run) v.live ≡ Some r) × (find (is_of r.id) v.open_items ≡ None)
+IsItemRight (Ended e) v = (o : Open) × (find (is_of e.task.id) v.open_items ≡ Some o) × (e.task ≡ o.task) × IsLive e.run v.live
+IsItemRight (Reopened at) v = v.open_items ≡ []
+IsItemRight item v = Unit {0}
+
+-- what it is for slots fits them, and leaves what they hold within the pool
+abbrev pub IsEventRight : Option Event → Shown → Type 0
+IsEventRight None v = Unit {0}
+IsEventRight (Some e) v = IsFit e v.slots v.runs × (memory_held (changed e v.slots) ≤ v.pool)
+
 abbrev pub IsRight : Item → Shown → Type 0
-IsRight (Opened pool wants) v = ⊥
-IsRight (Accepted a) v = a.id.count ≡ last_of v.drawn a.id.namespace + 1
-IsRight (Ordered r) v = (r.number ≡ v.runs + 1) × ((o : Open) × (find waits v.open_items ≡ Some o) × (r.id ≡ o.task.id))
-IsRight (Answered run alive at) v = (r : Run) × (find (is_number run) v.live ≡ Some r) × (find (is_of r.id) v.open_items ≡ None)
-IsRight (Lost run at) v = (r : Run) × (find (is_number run) v.live ≡ Some r)
-IsRight (Ended e) v = (o : Open) × (find (is_of e.task.id) v.open_items ≡ Some o) × (e.task ≡ o.task) × IsLive e.run v.live
-IsRight (Reopened at) v = v.open_items ≡ []
-IsRight item v = Unit {0}
+IsRight item v = IsItemRight item v × IsEventRight (event_of item) v
 
 -- each may come behind those before it
 abbrev pub AreRight : Trace → Shown → Type 0

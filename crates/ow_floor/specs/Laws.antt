@@ -1,12 +1,15 @@
 -- What is true of every trace that the calls of a floor make, and when a floor stands as a trace says.
-use Rattle.std.specs.Prelude.{◌≡◌, ◌⊎◌, ◌+◌, ◌++◌, ◌≤◌, ℕ, Bool, false, List, [], ◌∷◌, if◌then◌else◌}
+use Rattle.std.specs.Prelude.{◌≡◌, ◌⊎◌, ◌+◌, ◌++◌, ◌≤◌, ℕ, Bool, false, List, [], ◌∷◌, if◌then◌else◌, is_some}
 use Rattle.std.specs.List.{AllByRecursion}
 use Rattle.ow_records.specs.declared.ids.Id.{Id}
 use Rattle.ow_records.specs.Id.{same_id}
 use Rattle.ow_records.specs.declared.activations.Activation.{Activation}
 use Rattle.ow_floor.specs.declared.runs.Run.{Run}
+use Rattle.ow_slots.specs.Slots.{first_with, has, memory_held}
+use Rattle.ow_slots.specs.State.{runs as is_busy_with}
+use Rattle.ow_lifecycle.specs.Fitting.{AreFit}
 use Rattle.ow_floor.specs.View.{Shown, carries, ids_of, is_number, recorded_of, running_of, waiting_of}
-use Rattle.ow_floor.specs.Trace.{Trace, accepted, accepted_ids, ends, last, live, open_items, records, recorded, run_count, running, shown, waiting}
+use Rattle.ow_floor.specs.Trace.{Trace, accepted, accepted_ids, ends, last, life, live, live_run, open_items, pool_of, records, recorded, run_count, running, shown, slot_count, slots, waiting}
 
 -- how often an id stands in a list
 abbrev pub times : Id → List Id → ℕ
@@ -58,6 +61,12 @@ pub record RunOnce (T : Trace) : Type 0 where
   pub one : (id : Id) → loads id (live T) ≤ 1
   pub single : (run : ℕ) → bearers run (live T) ≤ 1
 
+-- what happened to slots fits them, they hold no more than the pool, and as many slots are busy with a run as live runs have its number
+pub record AreSlotsSound (T : Trace) : Type 0 where
+  pub fit : AreFit (life T) (slot_count (pool_of T))
+  pub within : memory_held (slots T) ≤ pool_of T
+  pub busy : (run : ℕ) → bearers run (live T) ≡ tally (has (is_busy_with run)) (slots T)
+
 -- no id is accepted twice; counts are drawn upwards, and what has ended or runs was drawn; each accepted id is open or recorded,
 -- once; what has ended was accepted; an activation has one live run at most; live runs have numbers of their own, drawn upwards
 pub record IsSound (T : Trace) : Type 0 where
@@ -70,6 +79,11 @@ pub record IsSound (T : Trace) : Type 0 where
   pub one : (id : Id) → loads id (live T) ≤ 1
   pub single : (run : ℕ) → bearers run (live T) ≤ 1
   pub numbered : AllByRecursion (λ r. r.number ≤ run_count T) (live T)
+  pub slotted : AreSlotsSound T
+
+-- a run is live exactly where a slot is busy with it, and then one is
+abbrev pub StandInSlots : Trace → Type 0
+StandInSlots T = (run : ℕ) → (is_some (live_run T run) ≡ is_some (first_with (is_busy_with run) (slots T))) × (tally (has (is_busy_with run)) (slots T) ≤ 1)
 
 -- a floor stands as the trace says
 pub record Stands (v : Shown) (T : Trace) : Type 0 where

@@ -6,6 +6,8 @@ use Rattle.ow_records.specs.Id.{same_id}
 use Rattle.ow_records.specs.declared.activations.Activation.{Activation}
 use Rattle.ow_floor.specs.declared.activations.Open.{Open}
 use Rattle.ow_floor.specs.declared.lists.Spot.{Spot}
+use Rattle.ow_slots.specs.declared.states.Slot.{Slot}
+use Rattle.ow_slots.specs.State.{recorded_of}
 use Rattle.ow_floor.specs.View.{update_first}
 
 -- the first that passes stands at this place
@@ -35,3 +37,8 @@ has_open p s (Some a) = p (record { task = a; state = s.state })
 abbrev pub has_id : Id → Option Activation → Bool
 has_id id None = false
 has_id id (Some a) = same_id a.id id
+
+-- what a sweep recorded of the run of a slot, where there is a slot
+abbrev pub recorded_there : Option Slot → Option (Option ℕ)
+recorded_there None = None
+recorded_there (Some s) = Some (recorded_of s.state)

@@ -13,17 +13,23 @@ use Rattle.ow_floor.specs.declared.lists.Blocking.{Blocking}
 use Rattle.ow_floor.specs.declared.lists.Marks.{Marks}
 use Rattle.ow_floor.specs.declared.lists.Spot.{Spot}
 use Rattle.ow_floor.specs.declared.runs.Run.{Run}
-use Rattle.ow_floor.specs.declared.runs.Slot.{Slot}
-use Rattle.ow_floor.specs.Owed.{owed_of}
+use Rattle.ow_slots.specs.declared.keys.Key.{Key}
+use Rattle.ow_slots.specs.declared.states.Slot.{Slot}
+use Rattle.ow_pool.specs.Rules.{AreWantsSized, IsWithinPool}
+use Rattle.ow_lifecycle.specs.Fitting.{changed, emptied}
+use Rattle.ow_lifecycle.specs.Life.{Event}
+use Rattle.ow_lifecycle.specs.Life as lives
+use Rattle.ow_lifecycle.specs.Owed.{owed}
+use Rattle.ow_floor.specs.declared.answers.PrewarmOrder.{PrewarmOrder}
 use Rattle.ow_floor.specs.Trace.{blocked_by}
-use Rattle.ow_floor.specs.View.{Shown, put_id, remove_first, slot_of, update_first, with_state}
+use Rattle.ow_floor.specs.View.{Shown, put_id, remove_first, update_first, with_state}
 
 -- the lists as they are kept
 pub record Store : Type 0 where
   pub spots : List Spot
   pub tasks : List (Option Activation)
   pub runs : List (Option Berth)
-  pub slots : List (Option Slot)
+  pub slots : List Slot
   pub ended : List Record
   pub drawn : List Id
   pub blocking : List Blocking
@@ -37,7 +43,7 @@ pub record StoreView : Type 0 where
   pub past : Option Store
 
 -- all the parts as they were, where they are held. The pool, and what is wanted ahead, never change
-abbrev pub past_of : ℕ → List Prewarm → Option (List Spot) → Option (List (Option Activation)) → Option (List (Option Berth)) → Option (List (Option Slot)) → Option (List Record) → Option (List Id) → Option (List Blocking) → Option Marks → Option Store
+abbrev pub past_of : ℕ → List Prewarm → Option (List Spot) → Option (List (Option Activation)) → Option (List (Option Berth)) → Option (List Slot) → Option (List Record) → Option (List Id) → Option (List Blocking) → Option Marks → Option Store
 past_of pool wants (Some spots) (Some tasks) (Some runs) (Some slots) (Some ended) (Some drawn) (Some blocking) (Some marks) =
     Some (record { spots = spots; tasks = tasks; runs = runs; slots = slots; ended = ended; drawn = drawn; blocking = blocking; marks = marks; pool = pool; wants = wants })
 past_of pool wants spots tasks runs slots ended drawn blocking marks = None
@@ -68,14 +74,11 @@ there g (Some x ∷ xs) = g x ∷ there g xs
 abbrev pub run_in : Berth → Run
 run_in b = b.run
 
-abbrev pub slot_in : Slot → Slot
-slot_in s = s
-
 abbrev pub show : Store → Shown
 show R = record {
   open_items = opens R.spots R.tasks;
   live = there run_in R.runs;
-  slots = there slot_in R.slots;
+  slots = R.slots;
   ended = R.ended;
   drawn = R.drawn;
   runs = length R.runs;
@@ -128,12 +131,15 @@ AreGone (suc k) (x ∷ xs) = (x ≡ None) × AreGone k xs
 
 -- ---- what holds of them
 
--- each place of a spot is one of a task; the last opening stands within; each that was accepted is open or recorded; so much is owed
+-- each place of a spot is one of a task; the last opening stands within; each that was accepted is open or recorded; so much is owed;
+-- the slots are within the pool, and what is wanted ahead has the memory of some action
 pub record IsGood (R : Store) : Type 0 where
   pub paired : length R.tasks ≡ length R.spots
   pub opened : R.marks.opened ≤ length R.spots
   pub number : length (opens R.spots R.tasks) + length R.ended ≡ length R.spots
-  pub owed : R.marks.owed ≡ owed_of (show R)
+  pub owed : R.marks.owed ≡ owed R.slots
+  pub pool : IsWithinPool R.slots R.pool
+  pub wants : AreWantsSized R.wants
 
 abbrev pub IsGoodPast : Option Store → Type 0
 IsGoodPast None = Unit {0}
@@ -166,32 +172,40 @@ accepted_in a R = record {
   wants = R.wants;
 }
 
+-- an event of the slots, at this moment
+abbrev pub event_in : ℕ → Event → Store → Store
+event_in at e R = record R { slots = changed e R.slots; marks = with_owed at (owed (changed e R.slots)) R.marks }
+
 -- the run starts with what stands at this place
-abbrev pub ordered_in : ℕ → Run → Store → Store
-ordered_in place r R = record {
+abbrev pub started_in : ℕ → Run → Store → Store
+started_in place r R = record R {
   spots = slice_set R.spots place (record { state = Running r.number });
-  tasks = R.tasks;
   runs = R.runs ++ Some (record { run = r; place = place }) ∷ [];
-  slots = R.slots ++ Some (slot_of r) ∷ [];
-  ended = R.ended;
-  drawn = R.drawn;
-  blocking = R.blocking;
-  marks = with_owed r.at (R.marks.owed + 3) R.marks;
-  pool = R.pool;
-  wants = R.wants;
 }
 
--- another run, or none, at this place, and so much is owed
-abbrev pub run_put : ℕ → ℕ → ℕ → Option Berth → Store → Store
-run_put at owed place cell R = record R { runs = slice_set R.runs place cell; marks = with_owed at owed R.marks }
+-- and in its slot
+abbrev pub ordered_in : ℕ → Run → Key → Store → Store
+ordered_in place r key R = event_in r.at (lives.Ran r.slot r.number key r.start r.at) (started_in place r R)
+
+-- the run of a container ahead is numbered
+abbrev pub counted_in : Store → Store
+counted_in R = record R { runs = R.runs ++ None ∷ [] }
+
+-- a container is started ahead
+abbrev pub prewarmed_in : ℕ → PrewarmOrder → Store → Store
+prewarmed_in at o R = event_in at (lives.Prewarming o.slot o.run o.kind o.memory) (counted_in R)
+
+-- another run, or none, at this place
+abbrev pub run_put : ℕ → Option Berth → Store → Store
+run_put place cell R = record R { runs = slice_set R.runs place cell }
+
+-- the run at this place is answered
+abbrev pub answered_in : ℕ → ℕ → Bool → ℕ → Store → Store
+answered_in at run alive place R = event_in at (lives.Answered run alive at) (run_put place None R)
 
 -- what stands at this place waits again
 abbrev pub freed_in : ℕ → Store → Store
 freed_in place R = record R { spots = slice_set R.spots place (record { state = Waiting }) }
-
--- no slot at this place
-abbrev pub slot_cut : ℕ → ℕ → Store → Store
-slot_cut at place R = record R { slots = slice_set R.slots place None; marks = with_owed at (R.marks.owed - 1) R.marks }
 
 -- what stands at this place has ended at this moment
 abbrev pub ended_in : ℕ → ℕ → Record → Store → Store
@@ -220,7 +234,7 @@ empty_of (x ∷ xs) = None ∷ empty_of xs
 abbrev pub reopened_in : ℕ → Store → Store
 reopened_in at R = record R {
   runs = empty_of R.runs;
-  slots = empty_of R.slots;
+  slots = emptied R.slots;
   blocking = [];
-  marks = record { latest = at; opened = length R.spots; owed = 0; draining = false };
+  marks = record { latest = at; opened = length R.spots; owed = owed (emptied R.slots); draining = false };
 }

@@ -1,6 +1,6 @@
 -- The trace: what happened on a floor, item by item, the newest first. Each other word here is a recursion
 -- over that list by cases on the newest item, or a filter of such words.
-use Rattle.std.specs.Prelude.{◌==◌, ◌+◌, ◌++◌, ℕ, Bool, true, false, List, [], ◌∷◌, Option, Some, None, if◌then◌else◌, map}
+use Rattle.std.specs.Prelude.{◌==◌, ◌+◌, ◌++◌, ◌/◌, ℕ, Bool, true, false, List, [], ◌∷◌, Option, Some, None, if◌then◌else◌, map}
 use Rattle.std.specs.List.{find, filter, filter_map}
 use Rattle.ow_records.specs.declared.ids.Id.{Id}
 use Rattle.ow_records.specs.declared.outcomes.Ending.{Ending}
@@ -14,8 +14,16 @@ use Rattle.ow_floor.specs.declared.activations.State.TheVariants.{Waiting, Runni
 use Rattle.ow_traits.specs.declared.prewarms.Prewarm.{Prewarm}
 use Rattle.ow_floor.specs.declared.lists.Blocking.{Blocking}
 use Rattle.ow_floor.specs.declared.runs.Run.{Run}
-use Rattle.ow_floor.specs.declared.runs.Slot.{Slot}
-use Rattle.ow_floor.specs.View.{Shown, begun, carries, ids_of, is_end_of, is_number, is_of, is_slot, newest, put_id, remove_first, runs_now, slot_of, update_first, waits}
+use Rattle.ow_floor.specs.declared.answers.Container.{Container}
+use Rattle.ow_floor.specs.declared.answers.PrewarmOrder.{PrewarmOrder}
+use Rattle.ow_entity.specs.declared.bounds.TheConstants.{LEAST_MEMORY}
+use Rattle.ow_records.specs.declared.outcomes.Ending.TheVariants.{Overran}
+use Rattle.ow_slots.specs.declared.keys.Key.{Key}
+use Rattle.ow_slots.specs.declared.states.Slot.{Slot}
+use Rattle.ow_lifecycle.specs.Life as lives
+use Rattle.ow_lifecycle.specs.Life.{Event, Life, slots_of}
+use Rattle.ow_lifecycle.specs.Fitting.{changed}
+use Rattle.ow_floor.specs.View.{Shown, begun, carries, ids_of, is_end_of, is_number, is_of, newest, put_id, remove_first, runs_now, update_first, waits}
 
 -- the end of an activation: what ended it, the run that carried it then as it was then, and the moment
 pub record End : Type 0 where
@@ -29,7 +37,9 @@ pub record End : Type 0 where
 pub data Item : Type 0 where
   Opened : (pool : ℕ) (wants : List Prewarm) → Item
   Accepted : (activation : Activation) → Item
-  Ordered : (run : Run) → Item
+  Ordered : (run : Run) (key : Key) → Item
+  Prewarming : (order : PrewarmOrder) (at : ℕ) → Item
+  Removed : (containers : List Container) (at : ℕ) → Item
   Begun : (run at : ℕ) → Item
   Answered : (run : ℕ) (alive : Bool) (at : ℕ) → Item
   Lost : (run at : ℕ) → Item
@@ -107,9 +117,14 @@ abbrev pub started : Option Run → Option ℕ
 started None = None
 started (Some r) = Some r.at
 
+-- the moment at which a run began, where there is a run and it did. A warm run never begins
+abbrev pub began : Option Run → Option ℕ
+began None = None
+began (Some r) = r.begun
+
 -- the record of an end
 abbrev pub record_of : End → Record
-record_of e = leaf_record e.task e.ending (started e.run) e.at
+record_of e = leaf_record e.task e.ending (started e.run) (began e.run) e.at
 
 abbrev pub records_after : Item → List Record → List Record
 records_after (Ended end) xs = xs ++ record_of end ∷ []
@@ -139,17 +154,18 @@ last [] namespace = 0
 last (item ∷ T) namespace = last_after item namespace (last T namespace)
 
 abbrev pub run_count_after : Item → ℕ → ℕ
-run_count_after (Ordered run) n = n + 1
+run_count_after (Ordered run key) n = n + 1
+run_count_after (Prewarming order at) n = n + 1
 run_count_after item n = n
 
--- how many runs were ordered
+-- how many runs were ordered, those of containers ahead among them
 abbrev pub run_count : Trace → ℕ
 run_count [] = 0
 run_count (item ∷ T) = run_count_after item (run_count T)
 
--- a run is live from its order until its own reply or its loss
+-- a run of an activation is live from its order until its own reply or its loss
 abbrev pub live_after : Item → List Run → List Run
-live_after (Ordered run) rs = rs ++ run ∷ []
+live_after (Ordered run key) rs = rs ++ run ∷ []
 live_after (Begun run at) rs = update_first (is_number run) (begun at) rs
 live_after (Answered run alive at) rs = remove_first (is_number run) rs
 live_after (Lost run at) rs = remove_first (is_number run) rs
@@ -161,22 +177,47 @@ abbrev pub live : Trace → List Run
 live [] = []
 live (item ∷ T) = live_after item (live T)
 
-abbrev pub slots_after : Item → List Slot → List Slot
-slots_after (Ordered run) ss = ss ++ slot_of run ∷ []
-slots_after (Gone slot generation at) ss = remove_first (is_slot slot generation) ss
-slots_after (Reopened at) ss = []
-slots_after item ss = ss
+-- the end of what a run carries by a sweep
+abbrev pub overrun_of : Ending → Option Run → ℕ → Option Event
+overrun_of Overran (Some r) at = Some (lives.Overran r.number at)
+overrun_of ending run at = None
 
--- the slots whose container isn't gone, by their orders
-abbrev pub slots : Trace → List Slot
-slots [] = []
-slots (item ∷ T) = slots_after item (slots T)
+-- what an item is for slots
+abbrev pub event_of : Item → Option Event
+event_of (Ordered r key) = Some (lives.Ran r.slot r.number key r.start r.at)
+event_of (Prewarming o at) = Some (lives.Prewarming o.slot o.run o.kind o.memory)
+event_of (Removed containers at) = Some (lives.Removed (map (λ c. c.slot) containers))
+event_of (Begun run at) = Some (lives.Begun run at)
+event_of (Answered run alive at) = Some (lives.Answered run alive at)
+event_of (Lost run at) = Some (lives.Lost run)
+event_of (Gone slot generation at) = Some (lives.Gone slot generation)
+event_of (Ended end) = overrun_of end.ending end.run end.at
+event_of (Reopened at) = Some lives.Reopened
+event_of item = None
+
+abbrev pub life_by : Option Event → Life → Life
+life_by None L = L
+life_by (Some e) L = e ∷ L
+
+-- what happened to slots
+abbrev pub life : Trace → Life
+life [] = []
+life (item ∷ T) = life_by (event_of item) (life T)
+
+abbrev pub slots_by : Option Event → List Slot → List Slot
+slots_by None slots = slots
+slots_by (Some e) slots = changed e slots
+
+abbrev pub slots_after : Item → List Slot → List Slot
+slots_after item slots = slots_by (event_of item) slots
 
 -- when a thing happened; an opening with a pool has no moment
 abbrev pub moment_of : Item → ℕ
 moment_of (Opened pool wants) = 0
 moment_of (Accepted a) = a.at
-moment_of (Ordered run) = run.at
+moment_of (Ordered run key) = run.at
+moment_of (Prewarming order at) = at
+moment_of (Removed containers at) = at
 moment_of (Begun run at) = at
 moment_of (Answered run alive at) = at
 moment_of (Lost run at) = at
@@ -218,6 +259,14 @@ wants_after item ws = ws
 abbrev pub wants_of : Trace → List Prewarm
 wants_of [] = []
 wants_of (item ∷ T) = wants_after item (wants_of T)
+
+-- how many slots a pool has: one for each container of the least memory
+abbrev pub slot_count : ℕ → ℕ
+slot_count pool = pool / LEAST_MEMORY
+
+-- the slots, each by the last order that names it
+abbrev pub slots : Trace → List Slot
+slots T = slots_of (life T) (slot_count (pool_of T))
 
 -- ---- by filters
 

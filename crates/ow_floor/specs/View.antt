@@ -1,10 +1,7 @@
 -- What a floor is seen as, and the words on its lists.
-use Rattle.std.specs.Prelude.{◌==◌, ◌&&◌, ℕ, Bool, true, false, List, [], ◌∷◌, Option, Some, None, if◌then◌else◌, not, map}
+use Rattle.std.specs.Prelude.{◌==◌, ◌+◌, ℕ, Bool, true, false, List, [], ◌∷◌, Option, Some, None, if◌then◌else◌, not, map, slice_get}
 use Rattle.std.specs.List.{find, filter}
 use Rattle.ow_traits.specs.declared.replies.Kind.{Kind}
-use Rattle.ow_traits.specs.declared.replies.Kind.TheVariants as runners
-use Rattle.ow_entity.specs.declared.exec.Exec.{Exec}
-use Rattle.ow_entity.specs.declared.exec.Exec.TheVariants.{Plain, Program}
 use Rattle.ow_entity.specs.Exec.{exec_code}
 use Rattle.ow_records.specs.declared.ids.Id.{Id}
 use Rattle.ow_records.specs.Id.{same_id}
@@ -15,16 +12,22 @@ use Rattle.ow_floor.specs.declared.activations.State.{State}
 use Rattle.ow_floor.specs.declared.activations.State.TheVariants.{Waiting}
 use Rattle.ow_floor.specs.declared.lists.Blocking.{Blocking}
 use Rattle.ow_floor.specs.declared.runs.Run.{Run}
-use Rattle.ow_floor.specs.declared.runs.Slot.{Slot}
+use Rattle.ow_slots.specs.declared.keys.Key.{Key}
+use Rattle.ow_slots.specs.declared.states.Slot.{Slot}
+use Rattle.ow_slots.specs.Key.{kind_of}
+use Rattle.ow_slots.specs.Slots.{first_with}
+use Rattle.ow_slots.specs.State.{is_cold, recorded_of as recorded_at, runs}
+use Rattle.ow_floor.specs.declared.answers.Container.{Container}
+use Rattle.ow_floor.specs.declared.answers.PrewarmOrder.{PrewarmOrder}
 use Rattle.ow_floor.specs.declared.answers.Order.{Order}
 use Rattle.ow_floor.specs.declared.answers.Order.TheVariants.{Nothing}
 use Rattle.ow_floor.specs.declared.answers.RunOrder.{RunOrder}
 use Rattle.ow_slots.specs.declared.keys.Start.{Start}
 use Rattle.ow_traits.specs.declared.prewarms.Prewarm.{Prewarm}
 
--- the activations that have not ended, by acceptance; the live runs, by their orders; the slots whose container isn't gone, by
--- their orders; the records of the activations that have ended, by their ends; the last id of each namespace; how many runs were
--- ordered; how many were accepted since the last opening; which of these a request waits for; the moment of the newest thing; whether
+-- the activations that have not ended, by acceptance; the live runs, by their orders; the slots, by number;
+-- the records of the activations that have ended, by their ends; the last id of each namespace; how many runs were
+-- ordered, those of containers ahead among them; how many were accepted since the last opening; which of these a request waits for; the moment of the newest thing; whether
 -- it drains; the memory of the pool, in MB, and which containers are wanted ahead
 pub record Shown : Type 0 where
   pub open_items : List Open
@@ -74,10 +77,6 @@ carries id r = same_id r.id id
 -- whether a record is that of this id
 abbrev pub is_end_of : Id → Record → Bool
 is_end_of id e = same_id e.id id
-
--- whether a slot has this number and generation
-abbrev pub is_slot : ℕ → ℕ → Slot → Bool
-is_slot place generation s = (s.place == place) && (s.generation == generation)
 
 -- whether an id is of this namespace
 abbrev pub is_in : ℕ → Id → Bool
@@ -134,20 +133,55 @@ with_state s o = record { task = o.task; state = s }
 abbrev pub begun : ℕ → Run → Run
 begun at r = record { number = r.number; slot = r.slot; generation = r.generation; start = r.start; at = r.at; id = r.id; begun = Some at }
 
--- the slot of a run
-abbrev pub slot_of : Run → Slot
-slot_of r = record { place = r.slot; generation = r.generation }
-
 -- ---- orders
 
 abbrev pub is_nothing : Order → Bool
 is_nothing (Nothing idle) = true
 is_nothing order = false
 
--- the kind of runner that a code needs
-abbrev pub kind_of : Exec → Kind
-kind_of (Plain code) = runners.Plain
-kind_of (Program code) = runners.Program
+-- what a container has to have run to be warm for an activation
+abbrev pub key_of : Activation → Key
+key_of a = record {
+  namespace = a.namespace;
+  action = a.action.name;
+  version = a.action.version;
+  exec = a.action.exec;
+  memory = a.action.limits.memory;
+}
+
+abbrev pub generation_by : Option Slot → ℕ
+generation_by None = 0
+generation_by (Some s) = s.generation
+
+-- the generation of a slot, 0 where it isn't there
+abbrev pub generation_in : ℕ → List Slot → ℕ
+generation_in slot slots = generation_by (slice_get slots slot)
+
+-- the generation of a slot once a run has started in it so
+abbrev pub generation_after : ℕ → Start → List Slot → ℕ
+generation_after slot start slots = generation_in slot slots + (if is_cold start then 1 else 0)
+
+-- the containers of these slots
+abbrev pub containers_of : List ℕ → List Slot → List Container
+containers_of ns slots = map (λ n. record { slot = n; generation = generation_in n slots }) ns
+
+-- a container that is started ahead
+abbrev pub prewarm_of : ℕ → ℕ → Kind → ℕ → List Slot → PrewarmOrder
+prewarm_of run slot kind memory slots = record {
+  run = run;
+  slot = slot;
+  generation = generation_in slot slots + 1;
+  kind = kind;
+  memory = memory;
+}
+
+abbrev pub recorded_by : Option Slot → Option ℕ
+recorded_by None = None
+recorded_by (Some s) = recorded_at s.state
+
+-- the moment at which a sweep recorded what the run carries, by the slot that is busy with it
+abbrev pub recorded_in : ℕ → List Slot → Option ℕ
+recorded_in run slots = recorded_by (first_with (runs run) slots)
 
 -- what a runner is told of an activation
 abbrev pub order_for : ℕ → ℕ → ℕ → Start → Activation → RunOrder

@@ -1,11 +1,9 @@
 // What the calls of a floor answer.
 ghost use Rattle.std.specs.Prelude.{◌≡◌, ◌↔◌, [], ◌∷◌, IsTrue, IfOk};
-ghost use Rattle.ow_floor.specs.View.{kind_of};
 
 use crate::Run;
-use ow_entity::Exec;
 use ow_records::{Activation, Id, Record};
-use ow_slots::Start;
+use ow_slots::{Start, kind_of};
 use ow_traits::{Kind, RunReply};
 use ow_value::{Items, NoMemory, Params, PlainData, Str};
 use std::alloc::Global;
@@ -387,15 +385,5 @@ impl PlainData for Swept {
             happened,
             late: self.late,
         })
-    }
-}
-
-// The kind of runner that a code needs.
-fn kind_of(exec: &Exec) -> Kind
-    ensures { result ≡ kind_of exec.now }
-{
-    match exec {
-        Exec::Plain { .. } => Kind::Plain,
-        Exec::Program { .. } => Kind::Program,
     }
 }

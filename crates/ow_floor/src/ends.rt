@@ -1,15 +1,15 @@
 // Ends of activations.
-ghost use Rattle.std.specs.Prelude.{◌≡◌, ◌<◌, ◌++◌, ◌∷◌, [], length, None, Some, slice_index_or, is_some, IfOk, OnOk};
+ghost use Rattle.std.specs.Prelude.{◌≡◌, ◌<◌, ◌++◌, ◌∷◌, [], length, None, Some, slice_index_or, is_some, ◌↔◌, IsTrue, IfOk, OnOk};
+ghost use Rattle.ow_slots.specs.Slots.{IsThere, first_with};
+ghost use Rattle.ow_slots.specs.State.{IsUnrecorded, runs};
 ghost use Rattle.ow_records.specs.declared.activations.Activation.{Activation};
-ghost use Rattle.std.specs.List.{find};
-ghost use Rattle.ow_floor.specs.View.{is_end_of};
-ghost use Rattle.ow_floor.specs.Trace.{started};
-ghost use Rattle.ow_floor.specs.Calls.{is_late, since};
-ghost use Rattle.ow_floor.specs.Ends.{IsAbandonedAt, IsEndedAt, IsEndedRun, IsFreed, IsLateEnd, IsMade, IsSweptOne, abandons, sweeps};
+ghost use Rattle.ow_floor.specs.Trace.{began, started};
+ghost use Rattle.ow_floor.specs.Calls.{is_late};
+ghost use Rattle.ow_floor.specs.Ends.{IsAbandonedAt, IsEndedAt, IsEndedRun, IsFreed, IsLateEnd, IsLateSpot, IsMade, IsOverrunAt, IsSweptOne, abandons, sweeps};
 ghost use Rattle.ow_floor.specs.Store.{IsGood};
 
 use crate::lists::Lists;
-use crate::{Answered, Happened, Happening, Run};
+use crate::{Happened, Happening, Run};
 use ow_records::{Activation, Ending, ReadyRecord, record_of};
 use ow_traits::RunReply;
 use ow_value::{NoMemory, PlainData, Scratch, Shared};
@@ -36,7 +36,7 @@ pub(crate) fn end_at(
     };
     let task = task.get();
     let id = task.id;
-    let record = record_of(alloc, scratch, task, ending, started(run), at)?;
+    let record = record_of(alloc, scratch, task, ending, started(run), began(run), at)?;
     let code = record.response.code();
     let ready = ReadyRecord::new(alloc, record)?;
     lists.end(at, place, ready)?;
@@ -49,9 +49,28 @@ fn is_late(at: u64, run: Run, task: &Activation) -> bool
     at.saturating_sub(run.at) > u64::from(task.action.get().limits.timeout.get())
 }
 
-// The place of what the run carries, where it is late.
+// The place of what the run carries, where it is late and no sweep recorded it.
 fn late_place(lists: &Lists, at: u64, run: Run) -> Option<usize>
     requires { IsGood lists.now.now }
+    ensures { IsLateEnd at run lists.now.now result }
+{
+    if is_unrecorded(lists, run.number) {
+        return late_spot(lists, at, run);
+    }
+    None
+}
+
+// Whether a slot is busy with the run, and no sweep recorded what it carries.
+fn is_unrecorded(lists: &Lists, run: u64) -> bool
+    ensures { IsTrue result ↔ IsThere IsUnrecorded (first_with (runs run) lists.now.now.slots) }
+{
+    lists.slots().is_unrecorded(run)
+}
+
+// The place of what the run carries, where it is late. No sweep recorded it.
+fn late_spot(lists: &Lists, at: u64, run: Run) -> Option<usize>
+    requires good { IsGood lists.now.now }
+    requires unrecorded { IsThere IsUnrecorded (first_with (runs run.number) lists.now.now.slots) }
     ensures { IsLateEnd at run lists.now.now result }
 {
     let place = lists.open_place(run.id)?;
@@ -64,16 +83,6 @@ fn late_place(lists: &Lists, at: u64, run: Run) -> Option<usize>
     None
 }
 
-// The moment of the record of what the run carries, 0 where there is none.
-fn since(lists: &Lists, run: Run) -> u64
-    ensures { result ≡ since (find (is_end_of run.id) lists.now.now.ended) }
-{
-    match lists.record_of(run.id) {
-        Some(record) => record.span.end(),
-        None => 0,
-    }
-}
-
 // The moment of a run's order, where there is a run.
 fn started(run: Option<Run>) -> Option<u64>
     ensures { result ≡ started run }
@@ -84,7 +93,17 @@ fn started(run: Option<Run>) -> Option<u64>
     }
 }
 
-/// What the run carries ends by a reply, unless it has ended before.
+// The moment at which a run began, where there is a run and it did.
+fn began(run: Option<Run>) -> Option<u64>
+    ensures { result ≡ began run }
+{
+    match run {
+        Some(run) => run.begun,
+        None => None,
+    }
+}
+
+/// What the run carries ends by a reply, unless it has ended before. It tells what happened.
 pub(crate) fn end_run(
     alloc: Global,
     lists: &mut Lists,
@@ -92,23 +111,47 @@ pub(crate) fn end_run(
     at: u64,
     run: Run,
     reply: &RunReply,
-) -> Result<Answered, NoMemory>
+) -> Result<Happened, NoMemory>
     requires { IsGood lists.old.now }
     ensures good { IsGood lists.new.now }
-    ensures made { IfOk result (λ a. IsEndedRun at run reply.now lists.old.now lists.new.now a) }
+    ensures made { IfOk result (λ told. IsEndedRun at run reply.now lists.old.now lists.new.now told) }
     ensures past { lists.new.past ≡ lists.old.past }
 {
     let Some(place) = lists.open_place(run.id) else {
-        let at = since(lists, run);
-        return Ok(Answered::Late {
-            run: run.number,
-            at,
-        });
+        return Ok(Happened::none());
     };
     let ending = Ending::Replied(reply.copy(alloc)?);
     let ended = end_at(alloc, lists, scratch, at, place, &ending, Some(run));
     drop(ending);
-    Ok(Answered::Recorded(Happened::one(alloc, ended?)?))
+    Happened::one(alloc, ended?)
+}
+
+// What stands at this place has overrun, and is recorded so in the slot of its run.
+fn end_overrun(
+    alloc: Global,
+    lists: &mut Lists,
+    scratch: &mut Scratch,
+    at: u64,
+    place: usize,
+    run: Run,
+) -> Result<Happening, NoMemory>
+    requires good { IsGood lists.old.now }
+    requires late { IsLateSpot at run lists.old.now place }
+    ensures good { IsGood lists.new.now }
+    ensures made { IfOk result (λ h. IsOverrunAt at run place lists.old.now lists.new.now h) }
+    ensures past { lists.new.past ≡ lists.old.past }
+{
+    let happening = end_at(
+        alloc,
+        lists,
+        scratch,
+        at,
+        place,
+        &Ending::Overran,
+        Some(run),
+    )?;
+    lists.overrun(alloc, at, run.number)?;
+    Ok(happening)
 }
 
 // What the run at this place carries ends, where it is late.
@@ -130,15 +173,7 @@ fn end_late(
         return Ok(());
     };
     if let Some(spot) = late_place(lists, at, berth.run) {
-        let happening = end_at(
-            alloc,
-            lists,
-            scratch,
-            at,
-            spot,
-            &Ending::Overran,
-            Some(berth.run),
-        )?;
+        let happening = end_overrun(alloc, lists, scratch, at, spot, berth.run)?;
         happened.push(happening)?;
     }
     Ok(())

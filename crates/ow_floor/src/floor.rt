@@ -1,23 +1,24 @@
 // The floor and its calls. Each adds items to the trace. What was before a hold is kept until it is settled.
 ghost use Rattle.std.specs.Prelude.{◌≡◌, ◌+◌, ◌-◌, ◌<◌, ◌≤◌, [], ◌∷◌, length, None, Some, true, false, option_copied, IfOk, IfSome, OnOk, OnErr, IfErr, IsSome};
-ghost use Rattle.ow_floor.specs.View.{begun, is_nothing, last_of};
-ghost use Rattle.ow_floor.specs.Trace.{Drained, Opened, Trace, head, is_draining, last, latest, live_run, open_item, open_items};
+ghost use Rattle.ow_floor.specs.View.{last_of};
+ghost use Rattle.ow_floor.specs.Trace.{Drained, Opened, Trace, is_draining, last, latest, open_items, shown};
 ghost use Rattle.ow_floor.specs.Laws.{Grows, Stands};
 ghost use Rattle.ow_pool.specs.Rules.{AreWantsSized};
 ghost use Rattle.ow_floor.specs.Collecting.{collected, collected_by, collection_of};
-ghost use Rattle.ow_floor.specs.Owed.{owed, owed_of, owed_run};
-ghost use Rattle.ow_floor.specs.Calls.{AllRecorded, AnswersSo, GrowsBy, HandsBack, accept_items, activation_of, answer_to, answered_items, begun_answer, begun_items, drain_answer, drain_by, end_items, gone_answer, gone_items, happened, happened_accepted, lost_answer, lost_items, next_items, next_order, reopened_items, run_of, swept_ends, swept_items};
+ghost use Rattle.ow_floor.specs.Owed.{owed, owed_of};
+ghost use Rattle.ow_floor.specs.Calls.{AllRecorded, AnswersSo, GrowsBy, HandsBack, accept_items, activation_of, answer_to, answered_by, answered_items, begun_answer, begun_items, busy_run, drain_answer, drain_by, gone_answer, gone_items, happened, happened_accepted, leaves_alive, lost_answer, lost_items, next_items, next_order, reopened_items, swept_ends, swept_items};
 
-use crate::ends::{abandon, end_at, end_run, free_run, sweep};
-use crate::lists::{Berth, Lists};
-use crate::places::{last_of, slot_place};
+use crate::ends::{abandon, end_run, sweep};
+use crate::lists::Lists;
+use crate::orders::next_order;
+use crate::places::last_of;
+use crate::runs::{begin_run, generation_in, lose_run, recorded_in};
 use crate::{
-    AnswerRefusal, Answered, Collected, Drain, FloorRefusal, Happened, Happening, Idle, Order,
-    Plan, Run, RunOrder, Swept,
+    AnswerRefusal, Answered, Collected, Drain, FloorRefusal, Happened, Happening, Order, Plan,
+    Swept,
 };
 use ow_packages::Effective;
-use ow_records::{Activation, Ending, Id, Record, Records};
-use ow_slots::Start;
+use ow_records::{Activation, Id, Record, Records};
 use ow_traits::{Prewarms, RunReply};
 use ow_value::{NoMemory, Scratch, Shared};
 use std::alloc::Global;
@@ -56,8 +57,9 @@ impl Floor {
         ensures stands { IfOk result (λ floor. Stands floor.now (Opened pool wants ∷ [])) }
         ensures before { IfOk result (λ floor. floor.before ≡ None) }
     {
+        let lists = Lists::new(alloc, pool, wants)?;
         Ok(Floor {
-            lists: Lists::new(alloc, pool, wants),
+            lists,
             scratch: Scratch::new(alloc),
         })
     }
@@ -151,50 +153,27 @@ impl Floor {
         Ok(happened)
     }
 
-    /// Runs what has waited longest, if anything waits. Runs are numbered from 1.
+    /// What is to be done next: what has waited longest runs, containers are removed to make room for it, or, where nothing waits, a container starts
+    /// ahead. Runs are numbered from 1, and so are those of containers ahead among them.
     pub fn next(&mut self, alloc: Global, at: u64) -> Result<Order, NoMemory>
         ensures told { IfOk result (λ order. (T : Trace) → Stands self.old.now T → order ≡ next_order T) }
         ensures ok { OnOk result (Grows self.old.now self.new.now (λ T. next_items at T)) }
-        ensures wanted { OnErr result ((T : Trace) → Stands self.old.now T → is_nothing (next_order T) ≡ false) }
         ensures before { self.new.before ≡ self.old.before }
     {
-        let Some(place) = self.lists.waiting_place() else {
-            return Ok(Order::Nothing(Idle::Empty));
-        };
-        let Some(task) = &self.lists.tasks()[place] else {
-            return Ok(Order::Nothing(Idle::Empty));
-        };
-        let Some(number) = (self.lists.runs().len() as u64).checked_add(1) else {
-            return Err(NoMemory);
-        };
-        let task = task.get();
-        let run = run_of(number, at, task.id);
-        let order = RunOrder::of(alloc, run, task)?;
-        if self.lists.order(place, run).is_err() {
-            drop(order);
-            return Err(NoMemory);
-        }
-        Ok(Order::Run(order))
+        next_order(alloc, &mut self.lists, at)
     }
 
-    /// The run has begun: its container is up and its action initialised. Refused where no slot awaits the run.
+    /// The container of the run is up and its action initialised. Refused where no slot has the run and awaits its beginning.
     pub fn begun(&mut self, at: u64, run: u64) -> Result<(), FloorRefusal>
         requires { self.old.before ≡ None }
         ensures told { (T : Trace) → Stands self.old.now T → result ≡ begun_answer run T }
         ensures grows { Grows self.old.now self.new.now (λ T. begun_items at run T) }
         ensures before { self.new.before ≡ None }
     {
-        let Some(place) = self.lists.run_place(run) else {
-            return Err(FloorRefusal::NoRun { run });
-        };
-        let Some(berth) = self.lists.runs()[place] else {
-            return Err(FloorRefusal::NoRun { run });
-        };
-        if berth.run.begun.is_some() {
+        if self.lists.begin(at, run).is_err() {
             return Err(FloorRefusal::NoRun { run });
         }
-        let owed = self.lists.marks().owed.saturating_sub(1);
-        let _ = self.lists.put_run(at, owed, place, Some(begun(at, berth)));
+        begin_run(&mut self.lists, at, run);
         Ok(())
     }
 
@@ -205,15 +184,10 @@ impl Floor {
         ensures grows { Grows self.old.now self.new.now (λ T. lost_items at run T) }
         ensures before { self.new.before ≡ None }
     {
-        let Some(place) = self.lists.run_place(run) else {
+        if self.lists.lose(at, run).is_err() {
             return Err(FloorRefusal::NoRun { run });
-        };
-        let Some(berth) = self.lists.runs()[place] else {
-            return Err(FloorRefusal::NoRun { run });
-        };
-        free_run(&mut self.lists, berth.run);
-        let owed = left_owed(&self.lists, berth.run);
-        let _ = self.lists.put_run(at, owed, place, None);
+        }
+        lose_run(&mut self.lists, run);
         Ok(())
     }
 
@@ -224,14 +198,14 @@ impl Floor {
         ensures grows { Grows self.old.now self.new.now (λ T. gone_items at slot generation T) }
         ensures before { self.new.before ≡ None }
     {
-        let Some(place) = slot_place(self.lists.slots(), slot, generation) else {
-            return Err(FloorRefusal::NoSlot { slot, kept: 0 });
-        };
-        let _ = self.lists.cut_slot(at, place);
+        if self.lists.go(at, slot, generation).is_err() {
+            let kept = generation_in(self.lists.slots(), slot);
+            return Err(FloorRefusal::NoSlot { slot, kept });
+        }
         Ok(())
     }
 
-    /// Takes a runner's reply: what the run carries ends, unless it has ended before. None where no live run has this number.
+    /// Takes a runner's reply: what the run carries ends, unless a sweep recorded it before. None where no slot is busy with this run.
     pub fn replied(
         &mut self,
         alloc: Global,
@@ -241,16 +215,19 @@ impl Floor {
     ) -> Result<Option<Answered>, NoMemory>
         ensures told { IfOk result (λ answer. (T : Trace) → Stands self.old.now T → answer ≡ answer_to at run reply.now T) }
         ensures ok { OnOk result (Grows self.old.now self.new.now (λ T. answered_items at run reply.now T)) }
-        ensures live { OnErr result ((T : Trace) → Stands self.old.now T → IsSome (live_run T run)) }
+        ensures live { OnErr result ((T : Trace) → Stands self.old.now T → IsSome (busy_run run (shown T))) }
         ensures before { self.new.before ≡ self.old.before }
     {
+        let Some(recorded) = recorded_in(self.lists.slots(), run) else {
+            return Ok(None);
+        };
         let Some(place) = self.lists.run_place(run) else {
             return Ok(None);
         };
         let Some(berth) = self.lists.runs()[place] else {
             return Ok(None);
         };
-        let answered = end_run(
+        let happened = end_run(
             alloc,
             &mut self.lists,
             &mut self.scratch,
@@ -258,12 +235,15 @@ impl Floor {
             berth.run,
             reply,
         )?;
-        let owed = left_owed(&self.lists, berth.run);
-        if self.lists.put_run(at, owed, place, None).is_err() {
-            drop(answered);
+        if self
+            .lists
+            .answer(alloc, at, run, leaves_alive(reply), place)
+            .is_err()
+        {
+            drop(happened);
             return Err(NoMemory);
         }
-        Ok(Some(answered))
+        Ok(Some(answered_by(run, recorded, happened)))
     }
 
     /// As `replied`, with the reply itself: a refusal hands it back. The floor keeps neither the parameters nor the logs.
@@ -284,33 +264,6 @@ impl Floor {
             Ok(None) => Err(AnswerRefusal::NoRun { run, reply }),
             Err(NoMemory) => Err(AnswerRefusal::NoMemory(reply)),
         }
-    }
-
-    /// Ends an activation that no run ends, where it is open.
-    pub fn end(
-        &mut self,
-        alloc: Global,
-        at: u64,
-        id: Id,
-        ending: &Ending,
-    ) -> Result<Happened, NoMemory>
-        ensures told { IfOk result (λ h. (T : Trace) → Stands self.old.now T → h ≡ happened (end_items at ending.now None (open_item T id))) }
-        ensures ok { OnOk result (Grows self.old.now self.new.now (λ T. end_items at ending.now None (open_item T id))) }
-        ensures before { self.new.before ≡ self.old.before }
-    {
-        let Some(place) = self.lists.open_place(id) else {
-            return Ok(Happened::none());
-        };
-        let happening = end_at(
-            alloc,
-            &mut self.lists,
-            &mut self.scratch,
-            at,
-            place,
-            ending,
-            None,
-        )?;
-        Happened::one(alloc, happening)
     }
 
     /// Ends each activation whose live run is late, by the runs' orders. The runs stay live.
@@ -367,7 +320,9 @@ fn activation_of(at: u64, plan: Plan) -> Activation
         until,
     } = plan;
     let Effective {
-        action, binding, ..
+        action,
+        binding,
+        ..
     } = effective;
     Activation {
         id,
@@ -382,35 +337,21 @@ fn activation_of(at: u64, plan: Plan) -> Activation
     }
 }
 
-// How many numbers of slots there are.
-const SLOT_NUMBERS: u64 = 4_294_967_296;
-
-// A run has a new slot for itself.
-fn run_of(number: u64, at: u64, id: Id) -> Run
-    ensures { result ≡ run_of number at id }
+// What is told of a reply to the run: it is late where a sweep recorded what the run carries.
+fn answered_by(run: u64, recorded: Option<u64>, happened: Happened) -> Answered
+    ensures { result ≡ answered_by run recorded happened }
 {
-    Run {
-        number,
-        slot: (number % SLOT_NUMBERS) as u32,
-        generation: 1,
-        start: Start::Cold,
-        at,
-        id,
-        begun: None,
+    match recorded {
+        Some(at) => Answered::Late { run, at },
+        None => Answered::Recorded(happened),
     }
 }
 
-// The run has begun at this moment.
-fn begun(at: u64, berth: Berth) -> Berth
-    ensures { result ≡ record { run = begun at berth.run; place = berth.place } }
+// Whether the container can be used again.
+fn leaves_alive(reply: &RunReply) -> bool
+    ensures { result ≡ leaves_alive reply.now }
 {
-    Berth {
-        run: Run {
-            begun: Some(at),
-            ..berth.run
-        },
-        place: berth.place,
-    }
+    matches!(reply, RunReply::Answer { .. })
 }
 
 // What is told of an activation whose request waits up to this moment, where one does.
@@ -427,14 +368,6 @@ fn collected_by(
         (Some(until), None) if at < until => Ok(Collected::NotYet),
         (Some(_), None) => Ok(Collected::Elapsed),
     }
-}
-
-// How much is owed without this live run.
-fn left_owed(lists: &Lists, run: Run) -> usize
-    ensures { result ≡ lists.now.now.marks.owed - owed_run run }
-{
-    let owed = if run.begun.is_some() { 1 } else { 2 };
-    lists.marks().owed.saturating_sub(owed)
 }
 
 // How a floor drains where so many have not ended, and so many were accepted.

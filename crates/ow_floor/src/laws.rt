@@ -1,15 +1,15 @@
 // What is true of each floor, and of each trace that its calls make. The functions do nothing: their
 // contracts are the laws.
 ghost use Rattle.std.specs.Prelude.{◌≡◌, ◌≤◌, ◌+◌, ◌++◌, ◌∷◌, ℕ, Some, true};
-ghost use Rattle.ow_records.specs.declared.ids.Id.{Id};
 ghost use Rattle.ow_traits.specs.declared.replies.RunReply.{RunReply};
-ghost use Rattle.ow_records.specs.declared.record.Record.{Record};
 ghost use Rattle.ow_floor.specs.declared.answers.Answered.TheVariants.{Late};
-ghost use Rattle.ow_floor.specs.Trace.{Begun, Gone, Lost, Trace, end_of, live_run, shown};
+ghost use Rattle.ow_floor.specs.Trace.{Begun, Gone, Lost, Trace, life, live_run, pool_of, shown, slots};
 ghost use Rattle.ow_floor.specs.Growth.{AreRight};
-ghost use Rattle.ow_floor.specs.Laws.{EndedWereAccepted, IsParted, IsSound, RunOnce, Shows, Stands};
+ghost use Rattle.ow_floor.specs.Laws.{EndedWereAccepted, IsParted, IsSound, RunOnce, Shows, StandInSlots, Stands};
 ghost use Rattle.ow_floor.specs.Owed.{owed, rises};
-ghost use Rattle.ow_floor.specs.Calls.{AllRecorded, KeepSound, answer_to, begins, drain_answer, goes, loses, reopened_items, swept_items};
+ghost use Rattle.ow_slots.specs.Slots.{memory_held};
+ghost use Rattle.ow_lifecycle.specs.Life.{overran_at};
+ghost use Rattle.ow_floor.specs.Calls.{AllRecorded, KeepSound, RaisesLittle, answer_to, begins, drain_answer, goes, loses};
 
 use crate::{Floor, Run};
 
@@ -42,20 +42,29 @@ pub fn when_drained_all_are_recorded()
     ensures { (T : Trace) → IsSound T → AllRecorded T (drain_answer T) }
 {}
 
-/// A reply of a live run whose activation has ended is late, with the moment of the end.
-pub fn replies_after_the_end_are_late()
-    ensures { (at run : ℕ) (reply : RunReply) (T : Trace) (r : Run) (e : Record) → live_run T run ≡ Some r → end_of T r.id ≡ Some e
-        → answer_to at run reply T ≡ Some (Late run e.span.end) }
+/// A run is live exactly where a slot is busy with it, and no two slots are busy with one run.
+pub fn live_runs_stand_in_slots()
+    ensures { (T : Trace) → IsSound T → StandInSlots T }
+{}
+
+/// The slots hold no more than the pool.
+pub fn slots_are_within_the_pool()
+    ensures { (T : Trace) → IsSound T → memory_held (slots T) ≤ pool_of T }
+{}
+
+/// A reply of a live run that a sweep recorded is late, with the moment of that sweep.
+pub fn replies_after_a_sweep_are_late()
+    ensures { (at run : ℕ) (reply : RunReply) (T : Trace) (r : Run) (sweep : ℕ) → IsSound T → live_run T run ≡ Some r → overran_at run (life T) ≡ Some sweep
+        → answer_to at run reply T ≡ Some (Late run sweep) }
 {}
 
 /// What is owed is raised by orders alone, by three at most, and each beginning, loss and going was owed.
 pub fn entries_are_owed()
-    ensures items { (items T : Trace) → owed (items ++ T) ≤ owed T + rises items }
-    ensures begun { (run at : ℕ) (T : Trace) → begins run T ≡ true → owed (Begun run at ∷ T) + 1 ≤ owed T }
-    ensures lost { (run at : ℕ) (T : Trace) → loses run T ≡ true → owed (Lost run at ∷ T) + 1 ≤ owed T }
-    ensures gone { (slot generation at : ℕ) (T : Trace) → goes slot generation T ≡ true → owed (Gone slot generation at ∷ T) + 1 ≤ owed T }
-    ensures swept { (at : ℕ) (T : Trace) → rises (swept_items at T) ≡ 0 }
-    ensures reopened { (at : ℕ) (T : Trace) → rises (reopened_items at T) ≡ 0 }
+    ensures items { (items T : Trace) → AreRight items (shown T) → IsSound T → owed (items ++ T) ≤ owed T + rises items }
+    ensures begun { (run at : ℕ) (T : Trace) → IsSound T → begins run T ≡ true → owed (Begun run at ∷ T) + 1 ≤ owed T }
+    ensures lost { (run at : ℕ) (T : Trace) → IsSound T → loses run T ≡ true → owed (Lost run at ∷ T) + 1 ≤ owed T }
+    ensures gone { (slot generation at : ℕ) (T : Trace) → IsSound T → goes slot generation T ≡ true → owed (Gone slot generation at ∷ T) + 1 ≤ owed T }
+    ensures calls { RaisesLittle }
 {}
 
 /// Items that may come keep a trace sound, and a floor that stands as it says.

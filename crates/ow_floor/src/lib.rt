@@ -6,8 +6,10 @@ mod answers;
 mod ends;
 mod floor;
 mod kept;
+mod kept_slots;
 mod laws;
 mod lists;
+mod orders;
 mod places;
 mod runs;
 
@@ -19,7 +21,7 @@ pub use answers::{
 pub use floor::Floor;
 pub use laws::{
     activations_run_once, calls_keep_traces_sound, ended_were_accepted, entries_are_owed,
-    replies_after_the_end_are_late, right_items_keep_traces_sound, sound_traces_are_parted,
-    when_drained_all_are_recorded,
+    live_runs_stand_in_slots, replies_after_a_sweep_are_late, right_items_keep_traces_sound,
+    slots_are_within_the_pool, sound_traces_are_parted, when_drained_all_are_recorded,
 };
-pub use runs::{Run, Slot};
+pub use runs::Run;

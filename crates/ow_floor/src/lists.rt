@@ -1,15 +1,28 @@
 // The lists of a floor as they are kept. What is taken out leaves its place empty, so places stay.
-ghost use Rattle.std.specs.Prelude.{◌≡◌, ◌<◌, ◌≤◌, ◌+◌, [], ◌∷◌, length, None, Some, true, false, option_copied, IfOk, IfSome, IsOk, OnOk, OnErr};
+ghost use Rattle.std.specs.Prelude.{◌≡◌, ◌<◌, ◌≤◌, ◌^◌, [], ◌∷◌, length, None, Some, true, false, option_copied, IfOk, IfSome, IsOk, OnOk, OnErr, replicate, slice_get, slice_set};
 ghost use Rattle.std.specs.List.{find};
 ghost use Rattle.ow_floor.specs.Kept.{past};
 ghost use Rattle.ow_floor.specs.View.{is_end_of, is_number, is_of, put_id, wait_in, waits};
 ghost use Rattle.ow_floor.specs.Trace.{blocked_by};
-ghost use Rattle.ow_floor.specs.Store.{AreGone, CellOf, SpotOf, Store, accepted_in, at_moment, drained_in, empty_of, ended_in, freed_in, ordered_in, reopened_in, run_in, run_put, slot_cut, taken_back};
+ghost use Rattle.ow_entity.specs.declared.bounds.TheConstants.{LEAST_MEMORY};
+ghost use Rattle.ow_slots.specs.Slots.{IsThere, first_with, gone_answer, run_answer, vacant_slot};
+ghost use Rattle.ow_slots.specs.State.{IsUnrecorded, IsVacant, StartFits, awaits, holds, recorded_of, runs};
+ghost use Rattle.ow_pool.specs.Keeping.{CanAllGo, IsCarriedOut};
+ghost use Rattle.ow_pool.specs.Rules.{IsHeadSized, IsWithinPool, place_of};
+ghost use Rattle.ow_lifecycle.specs.Life.{Event, Removed};
+ghost use Rattle.ow_lifecycle.specs.Owed.{may_begin, owed, owed_by};
+ghost use Rattle.ow_slots.specs.declared.states.State.TheVariants.{Busy};
+ghost use Rattle.ow_floor.specs.Trace.{slot_count};
+ghost use Rattle.ow_floor.specs.Store.{AreGone, CellOf, IsGood, SpotOf, Store, accepted_in, answered_in, at_moment, drained_in, empty_of, ended_in, event_in, freed_in, ordered_in, prewarmed_in, reopened_in, run_in, run_put, taken_back, with_owed};
 
 use crate::kept::Kept;
+use crate::kept_slots::KeptSlots;
 use crate::places::{namespace_place, open_place, run_place, until, waiting_place};
-use crate::{Run, Slot, State};
+use crate::{PrewarmOrder, Run, State};
+use ow_entity::LEAST_MEMORY;
+use ow_pool::{Head, Place, place};
 use ow_records::{Activation, Id, ReadyRecord, Record, Records};
+use ow_slots::{Key, Slot, SlotRefusal, Slots, Start, State as SlotState, Work};
 use ow_traits::Prewarms;
 use ow_value::{NoMemory, Shared};
 use std::alloc::Global;
@@ -50,7 +63,7 @@ pub(crate) struct Lists {
     spots: Kept<Spot>,
     tasks: Kept<Option<Shared<Activation>>>,
     runs: Kept<Option<Berth>>,
-    slots: Kept<Option<Slot>>,
+    slots: KeptSlots,
     records: Records,
     // How many records there were at the hold.
     records_held: usize,
@@ -112,16 +125,17 @@ const NO_MARKS: Marks = Marks {
 };
 
 impl Lists {
-    /// Nothing stands in them, and they aren't held.
-    pub(crate) fn new(alloc: Global, pool: u32, wants: Prewarms) -> Lists
-        ensures now { result.now ≡ record { spots = []; tasks = []; runs = []; slots = []; ended = []; drawn = []; blocking = []; marks = record { latest = 0; opened = 0; owed = 0; draining = false }; pool = pool; wants = wants } }
-        ensures past { result.past ≡ None }
+    /// Nothing stands in them, and they aren't held. All slots of the pool are vacant.
+    pub(crate) fn new(alloc: Global, pool: u32, wants: Prewarms) -> Result<Lists, NoMemory>
+        ensures now { IfOk result (λ l. l.now ≡ record { spots = []; tasks = []; runs = []; slots = replicate (slot_count pool) vacant_slot; ended = []; drawn = []; blocking = []; marks = record { latest = 0; opened = 0; owed = 0; draining = false }; pool = pool; wants = wants }) }
+        ensures past { IfOk result (λ l. l.past ≡ None) }
     {
-        Lists {
+        let slots = KeptSlots::new(alloc, pool / LEAST_MEMORY)?;
+        Ok(Lists {
             spots: Kept::new(alloc),
             tasks: Kept::new(alloc),
             runs: Kept::new(alloc),
-            slots: Kept::new(alloc),
+            slots,
             records: Records::new(alloc),
             records_held: 0,
             drawn: Kept::new(alloc),
@@ -133,7 +147,7 @@ impl Lists {
             before: NO_MARKS,
             tasks_gone: 0,
             runs_gone: 0,
-        }
+        })
     }
 
     pub(crate) fn spots(&self) -> &[Spot]
@@ -177,10 +191,20 @@ impl Lists {
         self.runs.items()
     }
 
-    pub(crate) fn slots(&self) -> &[Option<Slot>]
+    pub(crate) fn slots(&self) -> &Slots
         ensures { result.now ≡ self.now.now.slots }
     {
-        self.slots.items()
+        self.slots.slots()
+    }
+
+    /// What is to be done next for the head, or ahead of any.
+    pub(crate) fn place(&self, head: Option<&Head>) -> Place
+        requires good { IsGood self.now.now }
+        requires head { IsHeadSized (option_copied head) }
+        ensures value { result ≡ place_of self.now.now.slots (option_copied head.entry) self.now.now.wants self.now.now.pool }
+        ensures kept { IsCarriedOut self.now.now.slots (option_copied head.entry) self.now.now.pool result }
+    {
+        place(self.slots.slots(), head, self.wants.as_slice(), self.pool)
     }
 
     pub(crate) fn records(&self) -> &Records
@@ -305,6 +329,79 @@ fn one_further<T>(cells: &[Option<T>], gone: usize) -> usize
     gone
 }
 
+// Another run, or none, stands at this place. It tells at how many first places none stands. There is room for the change.
+fn set_run(
+    runs: &mut Kept<Option<Berth>>,
+    gone: usize,
+    held: bool,
+    place: usize,
+    cell: Option<Berth>,
+) -> usize
+    requires place { place < length runs.old.now }
+    requires slack { held ≡ true → 1 ≤ runs.old.slack }
+    requires gone { AreGone gone runs.old.now }
+    ensures now { runs.new.now ≡ slice_set runs.old.now place cell }
+    ensures past { past held runs.new.before ≡ past held runs.old.before }
+    ensures gone { AreGone result runs.new.now }
+{
+    runs.set(held, place, cell);
+    further(runs.items(), gone.min(place))
+}
+
+// At this moment, with what these slots owe.
+fn marked(slots: &Slots, marks: Marks, at: u64) -> Marks
+    ensures { result ≡ with_owed at (owed slots.now) marks }
+{
+    Marks {
+        latest: at,
+        owed: owed_in(slots.as_slice()),
+        ..marks
+    }
+}
+
+// How many events may still come of what these slots hold.
+fn owed_in(slots: &[Slot]) -> usize
+    requires { length slots.now < 2 ^ 32 }
+    ensures { result ≡ owed slots.now }
+{
+    let mut sum = 0;
+    for i in 0..slots.len() {
+        sum += owed_by(&slots[i].state);
+    }
+    sum
+}
+
+// How many events may still come of what a slot holds.
+fn owed_by(state: &SlotState) -> usize
+    ensures value { result ≡ owed_by state.now }
+    ensures few { result ≤ 3 }
+{
+    match state {
+        SlotState::Vacant => 0,
+        SlotState::Opening { .. } => 3,
+        SlotState::Busy(work) => owed_work(work),
+        _ => 1,
+    }
+}
+
+fn owed_work(work: &Work) -> usize
+    ensures value { result ≡ owed_by (Busy work.now) }
+    ensures few { result ≤ 3 }
+{
+    let begins = if may_begin(work) { 1 } else { 0 };
+    let goes = if work.gone { 0 } else { 1 };
+    1 + begins + goes
+}
+
+fn may_begin(work: &Work) -> bool
+    ensures { result ≡ may_begin work.now }
+{
+    match work.start {
+        Start::Warm => false,
+        _ => work.begun.is_none(),
+    }
+}
+
 // Makes room for one more.
 fn make_room<T: Drop>(kept: &mut Kept<T>, held: bool) -> Result<(), NoMemory>
     ensures now { kept.new.now ≡ kept.old.now }
@@ -357,56 +454,149 @@ impl Lists {
         Ok(())
     }
 
-    /// A run starts with what stands at this place.
-    pub(crate) fn order(&mut self, place: usize, run: Run) -> Result<(), NoMemory>
-        requires { place < length self.old.now.spots }
-        ensures now { OnOk result (self.new.now ≡ ordered_in place run self.old.now) }
+    /// A run starts in its slot, with what stands at this place.
+    pub(crate) fn order(
+        &mut self,
+        alloc: Global,
+        place: usize,
+        run: Run,
+        key: Key,
+    ) -> Result<(), NoMemory>
+        requires place { place < length self.old.now.spots }
+        requires fits { IsThere (StartFits run.start) (slice_get self.old.now.slots run.slot) }
+        ensures now { OnOk result (self.new.now ≡ ordered_in place run key self.old.now) }
         ensures err { OnErr result (self.new.now ≡ self.old.now) }
         ensures past { self.new.past ≡ self.old.past }
     {
         let held = self.held;
-        let Some(owed) = self.marks.owed.checked_add(3) else {
+        if self.spots.reserve_step(held).is_err() || make_room(&mut self.runs, held).is_err() {
+            drop(key);
             return Err(NoMemory);
-        };
-        self.spots.reserve_step(held)?;
-        make_room(&mut self.runs, held)?;
-        make_room(&mut self.slots, held)?;
+        }
+        self.slots
+            .assign(alloc, held, run.slot, run.number, key, run.start, run.at)?;
         let spot = Spot {
             state: State::Running(run.number),
         };
-        let slot = Slot {
-            place: run.slot,
-            generation: run.generation,
-        };
         self.spots.set(held, place, spot);
         self.runs.push(held, Some(Berth { run, place }));
-        self.slots.push(held, Some(slot));
-        self.marks.latest = run.at;
-        self.marks.owed = owed;
+        self.marks = marked(self.slots.slots(), self.marks, run.at);
         Ok(())
     }
 
-    /// Another run, or none, stands at this place, and so much is owed. Where nothing is held it takes no memory.
-    pub(crate) fn put_run(
+    /// A container starts ahead of any run of an action.
+    pub(crate) fn prewarm(
         &mut self,
+        alloc: Global,
         at: u64,
-        owed: usize,
-        place: usize,
-        cell: Option<Berth>,
+        order: PrewarmOrder,
     ) -> Result<(), NoMemory>
-        requires { place < length self.old.now.runs }
-        ensures now { OnOk result (self.new.now ≡ run_put at owed place cell self.old.now) }
+        requires { IsThere IsVacant (slice_get self.old.now.slots order.slot) }
+        ensures now { OnOk result (self.new.now ≡ prewarmed_in at order self.old.now) }
         ensures err { OnErr result (self.new.now ≡ self.old.now) }
         ensures past { self.new.past ≡ self.old.past }
-        ensures free { self.old.past ≡ None → IsOk result }
+    {
+        let held = self.held;
+        make_room(&mut self.runs, held)?;
+        self.slots.preopen(alloc, held, order.slot, order.run, order.kind, order.memory)?;
+        self.runs.push(held, None);
+        self.marks = marked(self.slots.slots(), self.marks, at);
+        Ok(())
+    }
+
+    /// The containers of these slots are to be removed. Without memory some are.
+    pub(crate) fn remove(&mut self, alloc: Global, at: u64, slots: &[u32]) -> Result<(), NoMemory>
+        requires good { IsGood self.old.now }
+        requires fits { CanAllGo slots.now self.old.now.slots }
+        ensures now { OnOk result (self.new.now ≡ event_in at (Removed slots.now) self.old.now) }
+        ensures good { IsGood self.new.now }
+        ensures past { self.new.past ≡ self.old.past }
+    {
+        let done = self.slots.remove(alloc, self.held, slots);
+        self.marks = marked(self.slots.slots(), self.marks, at);
+        done
+    }
+
+    /// The run at this place is answered; `alive` where its container can run again.
+    pub(crate) fn answer(
+        &mut self,
+        alloc: Global,
+        at: u64,
+        run: u64,
+        alive: bool,
+        place: usize,
+    ) -> Result<(), NoMemory>
+        requires { place < length self.old.now.runs }
+        ensures now { OnOk result (self.new.now ≡ answered_in at run alive place self.old.now) }
+        ensures err { OnErr result (self.new.now ≡ self.old.now) }
+        ensures past { self.new.past ≡ self.old.past }
     {
         self.runs.reserve_step(self.held)?;
-        let gone = self.runs_gone.min(place);
-        self.runs.set(self.held, place, cell);
-        self.runs_gone = further(self.runs.items(), gone);
-        self.marks.latest = at;
-        self.marks.owed = owed;
+        self.slots.answered(alloc, self.held, run, alive, at)?;
+        self.runs_gone = set_run(&mut self.runs, self.runs_gone, self.held, place, None);
+        self.marks = marked(self.slots.slots(), self.marks, at);
         Ok(())
+    }
+
+    /// What the run carries is recorded as overrun.
+    pub(crate) fn overrun(&mut self, alloc: Global, at: u64, run: u64) -> Result<(), NoMemory>
+        requires { IsThere IsUnrecorded (first_with (runs run) self.old.now.slots) }
+        ensures now { OnOk result (self.new.now ≡ event_in at (Event.Overran run at) self.old.now) }
+        ensures err { OnErr result (self.new.now ≡ self.old.now) }
+        ensures past { self.new.past ≡ self.old.past }
+    {
+        self.slots.overrun(alloc, self.held, run, at)?;
+        self.marks = marked(self.slots.slots(), self.marks, at);
+        Ok(())
+    }
+
+    /// The container of the run is initialised. Nothing is held.
+    pub(crate) fn begin(&mut self, at: u64, run: u64) -> Result<(), SlotRefusal>
+        requires { self.old.past ≡ None }
+        ensures answer { result ≡ run_answer run (λ s. tt) (first_with (awaits run) self.old.now.slots) }
+        ensures now { OnOk result (self.new.now ≡ event_in at (Event.Begun run at) self.old.now) }
+        ensures err { OnErr result (self.new.now ≡ self.old.now) }
+        ensures past { self.new.past ≡ None }
+    {
+        self.slots.begun(run, at)?;
+        self.marks = marked(self.slots.slots(), self.marks, at);
+        Ok(())
+    }
+
+    /// The run is lost. Nothing is held.
+    pub(crate) fn lose(&mut self, at: u64, run: u64) -> Result<(), SlotRefusal>
+        requires { self.old.past ≡ None }
+        ensures answer { result ≡ run_answer run (λ s. tt) (first_with (holds run) self.old.now.slots) }
+        ensures now { OnOk result (self.new.now ≡ event_in at (Event.Lost run) self.old.now) }
+        ensures err { OnErr result (self.new.now ≡ self.old.now) }
+        ensures past { self.new.past ≡ None }
+    {
+        self.slots.lost(run)?;
+        self.marks = marked(self.slots.slots(), self.marks, at);
+        Ok(())
+    }
+
+    /// The container of the slot is gone. Nothing is held.
+    pub(crate) fn go(&mut self, at: u64, slot: u32, generation: u32) -> Result<(), SlotRefusal>
+        requires { self.old.past ≡ None }
+        ensures answer { result ≡ gone_answer slot generation (slice_get self.old.now.slots slot) }
+        ensures now { OnOk result (self.new.now ≡ event_in at (Event.Gone slot generation) self.old.now) }
+        ensures err { OnErr result (self.new.now ≡ self.old.now) }
+        ensures past { self.new.past ≡ None }
+    {
+        self.slots.gone(slot, generation)?;
+        self.marks = marked(self.slots.slots(), self.marks, at);
+        Ok(())
+    }
+
+    /// Another run, or none, stands at this place. Nothing is held.
+    pub(crate) fn put_run(&mut self, place: usize, cell: Option<Berth>)
+        requires place { place < length self.old.now.runs }
+        requires free { self.old.past ≡ None }
+        ensures now { self.new.now ≡ run_put place cell self.old.now }
+        ensures past { self.new.past ≡ None }
+    {
+        self.runs_gone = set_run(&mut self.runs, self.runs_gone, self.held, place, cell);
     }
 
     /// What stands at this place waits again. Where nothing is held it takes no memory.
@@ -422,21 +612,6 @@ impl Lists {
         };
         self.spots.reserve_step(self.held)?;
         self.spots.set(self.held, place, spot);
-        Ok(())
-    }
-
-    /// No slot stands at this place any more. Where nothing is held it takes no memory.
-    pub(crate) fn cut_slot(&mut self, at: u64, place: usize) -> Result<(), NoMemory>
-        requires { place < length self.old.now.slots }
-        ensures now { OnOk result (self.new.now ≡ slot_cut at place self.old.now) }
-        ensures err { OnErr result (self.new.now ≡ self.old.now) }
-        ensures past { self.new.past ≡ self.old.past }
-        ensures free { self.old.past ≡ None → IsOk result }
-    {
-        self.slots.reserve_step(self.held)?;
-        self.slots.set(self.held, place, None);
-        self.marks.latest = at;
-        self.marks.owed = self.marks.owed.saturating_sub(1);
         Ok(())
     }
 
@@ -483,22 +658,20 @@ impl Lists {
     {
         let held = self.held;
         self.runs.reserve_step(held)?;
-        self.slots.reserve_step(held)?;
         self.blocking.reserve_step(held)?;
         let runs = empty_places(alloc, self.runs.items())?;
-        let Ok(slots) = empty_places(alloc, self.slots.items()) else {
+        if self.slots.empty(alloc, held).is_err() {
             drop(runs);
             return Err(NoMemory);
-        };
+        }
         self.runs.replace(held, runs);
-        self.slots.replace(held, slots);
         self.blocking.replace(held, Vec::new(alloc));
-        self.marks = Marks {
-            latest: at,
+        let opened = Marks {
             opened: self.spots.items().len(),
-            owed: 0,
             draining: false,
+            ..self.marks
         };
+        self.marks = marked(self.slots.slots(), opened, at);
         Ok(())
     }
 }

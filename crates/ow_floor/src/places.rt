@@ -1,12 +1,12 @@
 // Places in lists.
 ghost use Rattle.std.specs.Prelude.{◌≡◌, length, position};
 ghost use Rattle.std.specs.List.{find};
-ghost use Rattle.ow_floor.specs.View.{is_in, last_of, is_number, is_of, is_slot, wait_in, waits};
-ghost use Rattle.ow_floor.specs.Store.{AreGone, CellOf, SpotOf, run_in, slot_in};
+ghost use Rattle.ow_floor.specs.View.{is_in, last_of, is_number, is_of, wait_in, waits};
+ghost use Rattle.ow_floor.specs.Store.{AreGone, CellOf, SpotOf, run_in};
 ghost use Rattle.ow_floor.specs.Places.{PlaceOf, has, has_id, has_open};
 
+use crate::State;
 use crate::lists::{Berth, Blocking, Spot};
-use crate::{Slot, State};
 use ow_records::{Activation, Id};
 use ow_value::Shared;
 
@@ -44,22 +44,6 @@ fn is_run(cell: &Option<Berth>, run: u64) -> bool
         Some(berth) => berth.run.number == run,
         None => false,
     }
-}
-
-/// The place of the slot of this number and generation.
-pub(crate) fn slot_place(slots: &[Option<Slot>], slot: u32, generation: u32) -> Option<usize>
-    ensures { CellOf slot_in (is_slot slot generation) slots.now result }
-{
-    slot_position(slots, slot, generation)
-}
-
-fn slot_position(slots: &[Option<Slot>], slot: u32, generation: u32) -> Option<usize>
-    ensures { result ≡ position (has slot_in (is_slot slot generation)) slots.now }
-{
-    slots.iter().position(|cell| match cell {
-        Some(found) => found.place == slot && found.generation == generation,
-        None => false,
-    })
 }
 
 /// The place of the first activation that waits. At the first `from` places nothing stands.

@@ -2,9 +2,11 @@
 use Rattle.std.proofs.Common.{◌≡◌, ◌∙◌, ◌+◌, ◌≤◌, ◌++◌, ℕ, Bool, true, false, List, [], ◌∷◌, Option, Some, None, Result, Ok, Err, refl, sym, ap, subst, arith}
 use Rattle.std.proofs.Math.Nat.{le-max_left, max-le, min-le_right}
 use Rattle.ow_traits.specs.declared.replies.RunReply.{RunReply}
-use Rattle.ow_floor.specs.View.{Shown}
-use Rattle.ow_floor.specs.Trace.{Begun, Gone, Item, Lost, Trace, head, live_run, run_count, shown}
-use Rattle.ow_floor.specs.Calls.{answer_by, begins, goes, items_if, loses, order_items, order_of, refused_unless, reply_items}
+use Rattle.ow_pool.specs.declared.answers.Place.{Place}
+use Rattle.ow_pool.specs.declared.answers.Place.TheVariants as places
+use Rattle.ow_floor.specs.View.{Shown, generation_in}
+use Rattle.ow_floor.specs.Trace.{Begun, Gone, Item, Lost, Trace, head, shown, slots}
+use Rattle.ow_floor.specs.Calls.{answer_by, begins, busy_run, goes, items_if, loses, order_by, order_items, place_on, refused_unless, reply_items}
 use Rattle.ow_floor.specs.Laws.{Stands}
 use Rattle.ow_floor.specs.declared.activations.Open.{Open}
 use Rattle.ow_floor.specs.declared.activations.Plan.{Plan}
@@ -36,7 +38,7 @@ use Rattle.ow_floor.specs.Collecting.{collected}
 use Rattle.ow_hall.specs.Posting.{posting_by}
 use Rattle.ow_hall.specs.History.{AreAnswered, History, IsLegal, after, all_changed, answer, counted, decision, greatest_moment, is_idle, is_opening, last_moment, moment, opens_here, posting, seen, sight, waits_after}
 use Rattle.ow_hall.specs.Ledger.{Ledger, no_entries, posted, posted_as}
-use Rattle.ow_decide.specs.Making.{Carries, changes_of}
+use Rattle.ow_decide.specs.Making.{Carries, changes_of, telling}
 use Rattle.ow_hall.specs.State.{Does, IsAt, Keeps, StateView}
 
 -- ---- what isn't booked changes nothing
@@ -62,7 +64,7 @@ tells_so idle t = unless_any (posting_by idle t) (Leaves (tells t)) (refl, refl,
 
 ask_so : (idle : Bool) (at : ℕ) (d : Result Done Reason) → Unbooks idle (ask_decision at d)
 ask_so idle at (Ok (ShownDone value)) = tt
-ask_so idle at (Ok (Changed change)) = tt
+ask_so idle at (Ok (Changed change value)) = tt
 ask_so idle at (Ok (Invoked plan shows)) = tt
 ask_so idle at (Err reason) = tells_so idle (refusal_told reason)
 
@@ -70,9 +72,12 @@ call_so : (idle : Bool) (S : Sight) (p : Result Plan Reason) → Unbooks idle (c
 call_so idle S (Ok plan) = tt
 call_so idle S (Err reason) = tells_so idle (told.Called (called.Refused reason))
 
-order_so : (idle : Bool) (run at : ℕ) (o : Option Open) → Unbooks idle (adds (told.Next (order_of run o)) (order_items run at o))
-order_so idle run at None = tells_so idle (told.Next (order_of run None))
-order_so idle run at (Some o) = tt
+order_so : (idle : Bool) (at : ℕ) (v : Shown) (p : Place) (o : Option Open) → Unbooks idle (adds (told.Next (order_by p o v)) (order_items p o at v))
+order_so idle at v (places.Run slot start) None = tells_so idle (told.Next (order_by (places.Run slot start) None v))
+order_so idle at v (places.Run slot start) (Some o) = tt
+order_so idle at v (places.Prewarm slot kind memory) o = tt
+order_so idle at v (places.Remove slots) o = tt
+order_so idle at v (places.Nothing reason) o = tells_so idle (told.Next (order_by (places.Nothing reason) o v))
 
 reply_so : (idle : Bool) (at run : ℕ) (reply : RunReply) (v : Shown) (r : Option Run)
     → Unbooks idle (adds (reply_told run reply (answer_by at run reply v r)) (reply_items at run reply v r))
@@ -87,12 +92,12 @@ pub unbooked : (idle : Bool) (S : Sight) (event : Event) → Unbooks idle (decid
 unbooked idle S (events.Opened rows) = tt
 unbooked idle S (events.Asked r) = ask_so idle S.moment (request_done S (parts_of r))
 unbooked idle S (events.Called name params) = call_so idle S (call_plan S name params)
-unbooked idle S events.Next = order_so idle (run_count S.trace + 1) S.moment (head S.trace)
+unbooked idle S events.Next = order_so idle S.moment (shown S.trace) (place_on (shown S.trace)) (head S.trace)
 unbooked idle S (events.Begun run) = taken_so idle (begins run S.trace) (refusals.NoRun run) (Begun run S.moment)
 unbooked idle S (events.Lost run) = taken_so idle (loses run S.trace) (refusals.NoRun run) (Lost run S.moment)
-unbooked idle S (events.Gone slot generation) = taken_so idle (goes slot generation S.trace) (refusals.NoSlot slot 0) (Gone slot generation S.moment)
+unbooked idle S (events.Gone slot generation) = taken_so idle (goes slot generation S.trace) (refusals.NoSlot slot (generation_in slot (slots S.trace))) (Gone slot generation S.moment)
 unbooked idle S events.Sweep = tt
-unbooked idle S (events.Answered run reply) = reply_so idle S.moment run reply (shown S.trace) (live_run S.trace run)
+unbooked idle S (events.Answered run reply) = reply_so idle S.moment run reply (shown S.trace) (busy_run run (shown S.trace))
 unbooked idle S (events.Collected id) = tells_so idle (told.Collected (collected_told id (shows_for S.waits id) (collected S.moment id S.trace)))
 unbooked idle S events.Drain = tt
 
@@ -124,7 +129,7 @@ opens_so (events.Collected id) B b later = refl
 opens_so events.Drain B b later = refl
 
 -- an opening takes memory
-pub later_free : (event : Event) → wants_memory event ≡ false → is_opening event ≡ false
+later_free : (event : Event) → wants_memory event ≡ false → is_opening event ≡ false
 later_free (events.Opened rows) free = cc
 later_free (events.Asked r) free = refl
 later_free (events.Called name params) free = refl
@@ -193,6 +198,16 @@ answers t L old new mid now event step keeps count late most later free does flo
     let un = unbooked (is_idle L.entries) (sight t (seen t L.entries) (counted L.entries) now.at) event in
     let un' = subst (λ (x : Told). Unless (posting_by (is_idle L.entries) x) (Leaves (decision t L.entries now.at event))) (sym h.0.told) un in
     (h.0.told, post_by (posting L.entries step.told) t L new now.at event step.told refl keeps.legal late most later h.0.told free h.1 un')
+
+-- a beginning, a loss or a going that is posted
+pub takes : (t : Tenants) (L : Ledger) (old new : StateView) (now : Now) (event : Event) (taken : Result (Unit {0}) FloorRefusal) (at : ℕ) → Keeps old t L → now.counted ≡ counted L.entries
+    → now.at ≡ moment L.entries at → wants_memory event ≡ false → new.floor.before ≡ None → Does old new.floor.now t now (λ S. decide S event) (telling (taken_told taken))
+    → (new.rows ≡ old.rows) × (new.waits ≡ old.waits)
+    → (taken_told taken ≡ answer t L.entries now.at event) × Keeps new t (posted L now.at event (taken_told taken))
+takes t L old new now event taken at keeps count same free before does rest =
+    let late = subst (λ (m : ℕ). last_moment L.entries ≤ m) (sym same) (not_before L.entries at) in
+    let most = subst (λ (m : ℕ). m ≤ greatest_moment) (sym same) (not_after t L.entries at keeps.legal) in
+    answers t L old new new.floor.now now event (telling (taken_told taken)) keeps count late most (later_free event free) before does refl rest.0 rest.1
 
 -- what was taken back stands as before
 pub stays : (old new : StateView) (t : Tenants) (L : Ledger) → new.floor.now ≡ old.floor.now → new.floor.before ≡ None → new.rows ≡ old.rows → new.waits ≡ old.waits

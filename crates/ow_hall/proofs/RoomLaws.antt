@@ -1,9 +1,18 @@
 -- Room that was taken is enough behind an answer.
-use Rattle.std.proofs.Common.{◌≡◌, ◌+◌, ◌≤◌, ◌++◌, ℕ, Bool, true, false, [], Result, Ok, Err, refl, sym, subst, arith}
+use Rattle.std.proofs.Common.{◌≡◌, ◌∙◌, ◌+◌, ◌≤◌, ◌++◌, ℕ, zero, suc, Bool, true, false, List, [], ◌∷◌, Result, Ok, Err, refl, sym, ap, subst, arith}
+use Rattle.std.specs.Prelude.{replicate}
+use Rattle.std.proofs.lemmas.List.Sums.{sum_by-cons}
+use Rattle.ow_traits.specs.declared.prewarms.Prewarm.{Prewarm}
+use Rattle.ow_slots.specs.Slots.{vacant_slot}
+use Rattle.ow_slots.specs.declared.states.Slot.{Slot}
+use Rattle.ow_lifecycle.specs.Owed as lives
+use Rattle.ow_floor.proofs.Slotting.{slots_opened}
 use Rattle.ow_floor.proofs.Owing.{owed_begun, owed_gone, owed_lost}
 use Rattle.ow_floor.specs.Calls.{begins, goes, items_if, loses, refused_unless}
+use Rattle.ow_floor.specs.Laws.{IsSound}
 use Rattle.ow_floor.specs.Owed.{owed}
-use Rattle.ow_floor.specs.Trace.{Begun, Gone, Lost, Trace}
+use Rattle.ow_floor.specs.View.{generation_in}
+use Rattle.ow_floor.specs.Trace.{Begun, Gone, Lost, Opened, Trace, slot_count, slots}
 use Rattle.ow_floor.specs.declared.answers.FloorRefusal.{FloorRefusal}
 use Rattle.ow_floor.specs.declared.answers.FloorRefusal.TheVariants as refusals
 use Rattle.ow_decide.specs.declared.events.Event.{Event}
@@ -15,6 +24,7 @@ use Rattle.ow_hall.specs.declared.posting.Posting.TheVariants.{Booked, Quiet, De
 use Rattle.ow_decide.specs.declared.tenants.Tenants.{Tenants}
 use Rattle.ow_decide.specs.Decisions.{decide, taken_told, wants_memory}
 use Rattle.ow_decide.specs.Sight.{Sight}
+use Rattle.ow_hall.proofs.Beginnings.{seen_sound}
 use Rattle.ow_hall.specs.Posting.{posting_by}
 use Rattle.ow_hall.specs.History.{History, counted, decision, event_bytes, is_idle, posting, seen, sight, told_bytes}
 use Rattle.ow_hall.specs.Ledger.{HasRoom, IsReady, Ledger, cost, no_entries, posted, posted_as}
@@ -41,9 +51,20 @@ pub room_left : (t : Tenants) (L : Ledger) (at before room left n bytes : ℕ) (
     → HasRoom (seen t (posted L at event told_is).entries).trace (posted L at event told_is) left
 room_left t L at before room left n bytes event told_is has more used ready same = room_by (posting L.entries told_is) t L at before room left n bytes event told_is has more used ready same
 
+-- nothing is owed of vacant slots
+vacant_owed : (n : ℕ) → lives.owed (replicate n vacant_slot) ≡ 0
+vacant_owed zero = refl
+vacant_owed (suc n) =
+    let rest = vacant_owed n in
+    let sum = sum_by-cons (λ (s : Slot). lives.owed_by s.state) vacant_slot (replicate n vacant_slot) in
+    omega (arith, rest, sum)
+
+opened_owed : (pool : ℕ) (wants : List Prewarm) → owed (Opened pool wants ∷ []) ≡ 0
+opened_owed pool wants = ap lives.owed (slots_opened pool wants) ∙ vacant_owed (slot_count pool)
+
 -- nothing is owed behind an opening
 pub opened_room : (t : Tenants) (at room : ℕ) → HasRoom (seen t (posted no_entries at (events.Opened []) (told.Opened [])).entries).trace (posted no_entries at (events.Opened []) (told.Opened [])) room
-opened_room t at room = record { within = omega arith; fits = omega arith }
+opened_room t at room = let none = opened_owed t.pool t.wants in record { within = omega (arith, none); fits = omega (arith, none) }
 
 -- an entry that has room with others behind it has room
 pub ready_alone : (B : History) (room n bytes : ℕ) (event : Event) (t : Told) → IsReady B room n event t bytes → IsReady B room 0 event t bytes
@@ -59,34 +80,34 @@ ready_for L M room n bytes event x y same told_so ready booked =
 
 -- ---- what takes no memory
 
-begun_less : (idle b : Bool) (run at : ℕ) (T : Trace) → begins run T ≡ b → posting_by idle (taken_told (refused_unless b (refusals.NoRun run))) ≡ Booked
+begun_less : (idle b : Bool) (run at : ℕ) (T : Trace) → IsSound T → begins run T ≡ b → posting_by idle (taken_told (refused_unless b (refusals.NoRun run))) ≡ Booked
     → owed (items_if b (Begun run at) ++ T) + 1 ≤ owed T
-begun_less idle true run at T is booked = owed_begun run at T is
-begun_less idle false run at T is booked = cc
+begun_less idle true run at T sound is booked = owed_begun run at T sound is
+begun_less idle false run at T sound is booked = cc
 
-lost_less : (idle b : Bool) (run at : ℕ) (T : Trace) → loses run T ≡ b → posting_by idle (taken_told (refused_unless b (refusals.NoRun run))) ≡ Booked
+lost_less : (idle b : Bool) (run at : ℕ) (T : Trace) → IsSound T → loses run T ≡ b → posting_by idle (taken_told (refused_unless b (refusals.NoRun run))) ≡ Booked
     → owed (items_if b (Lost run at) ++ T) + 1 ≤ owed T
-lost_less idle true run at T is booked = owed_lost run at T is
-lost_less idle false run at T is booked = cc
+lost_less idle true run at T sound is booked = owed_lost run at T sound is
+lost_less idle false run at T sound is booked = cc
 
-gone_less : (idle b : Bool) (slot generation at : ℕ) (T : Trace) → goes slot generation T ≡ b → posting_by idle (taken_told (refused_unless b (refusals.NoSlot slot 0))) ≡ Booked
+gone_less : (idle b : Bool) (slot generation at : ℕ) (T : Trace) → IsSound T → goes slot generation T ≡ b → posting_by idle (taken_told (refused_unless b (refusals.NoSlot slot (generation_in slot (slots T))))) ≡ Booked
     → owed (items_if b (Gone slot generation at) ++ T) + 1 ≤ owed T
-gone_less idle true slot generation at T is booked = owed_gone slot generation at T is
-gone_less idle false slot generation at T is booked = cc
+gone_less idle true slot generation at T sound is booked = owed_gone slot generation at T sound is
+gone_less idle false slot generation at T sound is booked = cc
 
 -- what is booked of a beginning, a loss or a going was owed
-owed_less : (idle : Bool) (S : Sight) (event : Event) → wants_memory event ≡ false → posting_by idle (decide S event).told ≡ Booked → owed ((decide S event).items ++ S.trace) + 1 ≤ owed S.trace
-owed_less idle S (events.Opened rows) free booked = cc
-owed_less idle S (events.Asked r) free booked = cc
-owed_less idle S (events.Called name params) free booked = cc
-owed_less idle S events.Next free booked = cc
-owed_less idle S (events.Begun run) free booked = begun_less idle (begins run S.trace) run S.moment S.trace refl booked
-owed_less idle S (events.Answered run reply) free booked = cc
-owed_less idle S (events.Lost run) free booked = lost_less idle (loses run S.trace) run S.moment S.trace refl booked
-owed_less idle S (events.Gone slot generation) free booked = gone_less idle (goes slot generation S.trace) slot generation S.moment S.trace refl booked
-owed_less idle S events.Sweep free booked = cc
-owed_less idle S (events.Collected id) free booked = cc
-owed_less idle S events.Drain free booked = cc
+owed_less : (idle : Bool) (S : Sight) (event : Event) → IsSound S.trace → wants_memory event ≡ false → posting_by idle (decide S event).told ≡ Booked → owed ((decide S event).items ++ S.trace) + 1 ≤ owed S.trace
+owed_less idle S (events.Opened rows) sound free booked = cc
+owed_less idle S (events.Asked r) sound free booked = cc
+owed_less idle S (events.Called name params) sound free booked = cc
+owed_less idle S events.Next sound free booked = cc
+owed_less idle S (events.Begun run) sound free booked = begun_less idle (begins run S.trace) run S.moment S.trace sound refl booked
+owed_less idle S (events.Answered run reply) sound free booked = cc
+owed_less idle S (events.Lost run) sound free booked = lost_less idle (loses run S.trace) run S.moment S.trace sound refl booked
+owed_less idle S (events.Gone slot generation) sound free booked = gone_less idle (goes slot generation S.trace) slot generation S.moment S.trace sound refl booked
+owed_less idle S events.Sweep sound free booked = cc
+owed_less idle S (events.Collected id) sound free booked = cc
+owed_less idle S events.Drain sound free booked = cc
 
 -- its entry counts no more than 64
 no_event_bytes : (event : Event) → wants_memory event ≡ false → event_bytes event ≡ 0
@@ -111,7 +132,7 @@ pub taken_ready : (t : Tenants) (L : Ledger) (at room : ℕ) (event : Event) (ta
     → wants_memory event ≡ false → taken_told taken ≡ (decision t L.entries at event).told → posting L.entries (taken_told taken) ≡ Booked
     → IsReady L.entries room (owed ((decision t L.entries at event).items ++ (seen t L.entries).trace)) event (taken_told taken) 0
 taken_ready t L at room event taken has free same booked =
-    let less = owed_less (is_idle L.entries) (sight t (seen t L.entries) (counted L.entries) at) event free (subst (λ (x : Told). posting L.entries x ≡ Booked) same booked) in
+    let less = owed_less (is_idle L.entries) (sight t (seen t L.entries) (counted L.entries) at) event (seen_sound t L.entries) free (subst (λ (x : Told). posting L.entries x ≡ Booked) same booked) in
     record {
       bytes_are = omega (arith, no_event_bytes event free, no_told_bytes taken);
       within = omega (arith, less, has.within);

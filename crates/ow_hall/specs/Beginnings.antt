@@ -1,18 +1,21 @@
 -- What is kept of every activation, by every legal book and each of its beginnings.
-use Rattle.std.specs.Prelude.{[], ◌∷◌}
-use Rattle.ow_floor.specs.Trace.{Trace}
+use Rattle.std.specs.Prelude.{◌≤◌, [], ◌∷◌}
+use Rattle.ow_slots.specs.Slots.{memory_held}
+use Rattle.ow_floor.specs.Trace.{Trace, pool_of, slots}
 use Rattle.ow_floor.specs.Laws.{EndedWereAccepted, IsParted, RunOnce}
 use Rattle.ow_floor.specs.Calls.{AllRecorded, drain_answer}
 use Rattle.ow_decide.specs.declared.tenants.Tenants.{Tenants}
 use Rattle.ow_hall.specs.History.{History, seen}
 
 -- of what happened on the floor: each accepted activation is exactly one of waiting, running and recorded, once, and has one
--- live run at most; what has ended was accepted, as it was planned; and where `drain` would answer drained, each is recorded, once
+-- live run at most; what has ended was accepted, as it was planned; where `drain` would answer drained, each is recorded, once; and
+-- the containers hold no more memory than the pool
 pub record IsKept (T : Trace) : Type 0 where
   pub parted : IsParted T
   pub once : RunOnce T
   pub known : EndedWereAccepted T
   pub drained : AllRecorded T (drain_answer T)
+  pub within : memory_held (slots T) ≤ pool_of T
 
 -- a book, and each of its beginnings
 abbrev pub KeepsEach : Tenants → History → Type 0

@@ -21,6 +21,7 @@ use Rattle.ow_decide.specs.declared.replies.HallCollected.{HallCollected}
 use Rattle.ow_decide.specs.declared.replies.Reply.{Reply}
 use Rattle.ow_decide.specs.declared.replies.Reply.TheVariants as replies
 use Rattle.ow_decide.specs.declared.tenants.Tenants.{Tenants}
+use Rattle.ow_decide.specs.Asking.{reply_in}
 use Rattle.ow_decide.specs.Decision.{Decision}
 use Rattle.ow_decide.specs.Decisions.{taken_told}
 use Rattle.ow_hall.specs.History.{answer, decision, moment}

@@ -6,6 +6,8 @@ mod of_floor;
 #[cfg(test)]
 mod of_hall;
 #[cfg(test)]
+mod of_packages;
+#[cfg(test)]
 mod of_runners;
 #[cfg(test)]
 mod of_waits;

@@ -4,9 +4,9 @@ ghost use Rattle.ow_floor.specs.View.{last_of};
 
 use ow_entity::{Action, EntityParams, Exec, Limits, ProgramName};
 use ow_floor::{Answered, Drain, Floor, FloorRefusal, Happened, Happening, Order, Plan};
-use ow_packages::Effective;
 use ow_names::{EntityName, read_name, resolve};
-use ow_records::{Ending, Id};
+use ow_packages::Effective;
+use ow_records::Id;
 use ow_traits::{Kind, RunReply};
 use ow_value::{Items, Lines, NoMemory, Params, PlainData, Shared, Str};
 use std::alloc::Global;
@@ -94,11 +94,12 @@ fn accepts(alloc: Global, floor: &mut Floor) -> Result<bool, Fail>
     Ok(copied? && happened.items() == [Happening::Accepted { id: ID }].as_slice())
 }
 
-// Whether the order is to run what was planned, under this number.
+// Whether the order is to run what was planned, under this number, in the first slot.
 fn is_run(order: &Order, number: u64) -> bool {
     match order {
         Order::Run(order) => {
             (order.run, order.id, order.timeout) == (number, ID, 60_000)
+                && order.slot == 0
                 && (order.kind, order.memory) == (Kind::Program, 256)
                 && order.code.as_str() == "greet"
         }
@@ -219,8 +220,8 @@ fn is_lost_and_runs(alloc: Global, floor: &mut Floor) -> Result<bool, Fail>
     let begun = (number(floor.begun(1002, 1)), number(floor.begun(1002, 1)));
     let lost = (number(floor.lost(1002, 1)), number(floor.lost(1002, 1)));
     let gone = (
-        number(floor.gone(1002, 1, 1)),
-        number(floor.gone(1002, 1, 1)),
+        number(floor.gone(1002, 0, 1)),
+        number(floor.gone(1002, 0, 1)),
     );
     let again = runs(alloc, floor, 2)?;
     let ended = ends(alloc, floor, 2)?;
@@ -280,16 +281,16 @@ fn a_reply_behind_a_sweep_is_late(rt: HostRuntime) -> Result<(), Fail> {
     Ok(())
 }
 
-// Whether an end that is taken back leaves the activation open, and one that is kept doesn't.
+// Whether an order that is taken back is made again, and an opening that is kept ends what runs.
 fn settles(alloc: Global, floor: &mut Floor) -> Result<bool, NoMemory> {
     floor.hold();
-    let ended = floor.end(alloc, 1002, ID, &Ending::Overran);
+    let ran = runs(alloc, floor, 1);
     floor.settle(false);
-    let open = floor.busy();
+    let again = runs(alloc, floor, 1);
     floor.hold();
     let reopened = floor.reopen(alloc, 1002);
     floor.settle(true);
-    Ok(tells(&ended?, 2) && open == 1 && tells(&reopened?, 3) && floor.busy() == 0)
+    Ok(ran? && again? && tells(&reopened?, 3) && floor.busy() == 0)
 }
 
 // Whether that holds of an activation that waits on this floor.

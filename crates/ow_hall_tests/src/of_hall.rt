@@ -21,6 +21,10 @@ const FIRST: &str =
 const SECOND: &str =
     r#"{"annotations":[],"exec":{"code":"{\"cases\":[{\"when\":{},\"give\":{\"greeting\":\"Hello\"}}]}","kind":"plain:1"},"limits":{"logs":10,"memory":256,"timeout":60000},"name":"hello","namespace":"guest","parameters":[],"publish":false,"version":"0.0.2"}"#;
 
+// The body of a put after which the parameter y can't be given.
+const FINAL: &str =
+    r#"{"annotations":[{"key":"final","value":true}],"parameters":[{"key":"y","value":2}]}"#;
+
 // Method and target, body, status and the body that answers.
 const ROWS: &str =
     r#"GET /api/v1/namespaces/_/actions/hello||404 Not Found|{"code":14,"error":"The resource does not exist."}
@@ -31,7 +35,7 @@ GET /api/v1/namespaces/_/actions||200 OK|[{"annotations":[],"name":"hello","name
 GET /api/v1/namespaces/_/actions?limit=201||400 Bad Request|{"code":39,"error":"The query value limit is wrong."}
 GET /api/v1/namespaces/whisk.system/actions/hello||403 Forbidden|{"code":24,"error":"The namespace is not granted."}
 GET /api/v1/namespaces/whisk.system/actions?limit=201||403 Forbidden|{"code":24,"error":"The namespace is not granted."}
-GET /api/v1/namespaces/_/packages||404 Not Found|{"code":36,"error":"There is no such route."}
+GET /api/v1/namespaces/_/triggers||404 Not Found|{"code":36,"error":"There is no such route."}
 PUT /api/v1/namespaces/_/actions/other||400 Bad Request|{"code":9,"error":"The field exec is missing."}
 PUT /api/v1/namespaces/_/actions/hello|{"exec":1}|400 Bad Request|{"code":10,"error":"The field exec has a wrong type."}
 PUT /api/v1/namespaces/_/actions/hello?overwrite=true|HELLO|200 OK|SECOND
@@ -41,7 +45,7 @@ DELETE /api/v1/namespaces/guest/actions/hello||404 Not Found|{"code":14,"error":
 
 // What a full book still takes, and what it doesn't.
 const WHEN_FULL: &str =
-    r#"GET /api/v1/namespaces/_/packages||404 Not Found|{"code":36,"error":"There is no such route."}
+    r#"GET /api/v1/namespaces/_/triggers||404 Not Found|{"code":36,"error":"There is no such route."}
 POST /api/v1/namespaces/_/actions/hello||503 Service Unavailable|{"code":33,"error":"The book is full."}
 GET /api/v1/namespaces/_/actions/hello||503 Service Unavailable|{"code":33,"error":"The book is full."}
 "#;
@@ -56,6 +60,8 @@ pub(crate) fn text_of(word: &str) -> &str {
         FIRST
     } else if word == "SECOND" {
         SECOND
+    } else if word == "FINAL" {
+        FINAL
     } else {
         word
     }
@@ -132,7 +138,7 @@ fn holds(alloc: Global, hall: &mut Office, row: &str) -> Result<bool, Fail> {
 }
 
 // Whether each row of a table is answered so.
-fn all_hold(alloc: Global, hall: &mut Office, rows: &str) -> Result<bool, Fail> {
+pub(crate) fn all_hold(alloc: Global, hall: &mut Office, rows: &str) -> Result<bool, Fail> {
     for row in rows.lines() {
         if !holds(alloc, hall, row)? {
             return Ok(false);

@@ -133,7 +133,7 @@ fn is_ordered(alloc: Global, hall: &mut Office, row: &Row) -> Result<bool, Fail>
                 .split_once("run ")
                 .is_some_and(|p| number_of(p.1) == run.run),
         ),
-        Order::Nothing(_) => Ok(false),
+        _ => Ok(false),
     }
 }
 

@@ -39,3 +39,16 @@ down_replied f a b kind code params (NoStart text) x = x code params
 down_replied f a b kind code params Fault x = x
 down_replied f a b kind code params (Answer text logs) x = absurd x
 down_replied f a b kind code params (Exit status logs) x = absurd x
+
+pub steady_refl : (f : Giving) (a : ℕ) → Steady f f a a
+steady_refl f a = record { back = λ kind code params reply x. x; on = λ kind code params reply x. x; later = omega arith }
+
+-- what a call replies it replies too with those behind it
+pub replied_on : {g h : Giving} {a b c : ℕ} (kind : Kind) (code : List ℕ) (params : Pairs) (reply : RunReply)
+    → Steady g h a b → b ≤ c → Replies g a b kind code params reply → Replies g a c kind code params reply
+replied_on {g = g} {a = a} kind code params reply s le x = replied_within kind code params reply (steady_refl g a) s le x
+
+-- and with those before it
+pub replied_from : {f g h : Giving} {a b c : ℕ} (kind : Kind) (code : List ℕ) (params : Pairs) (reply : RunReply)
+    → Steady f g a b → Steady g h b c → Replies g b c kind code params reply → Replies f a c kind code params reply
+replied_from {c = c} kind code params reply s t x = replied_within kind code params reply s t (omega arith) x

@@ -1,58 +1,73 @@
 -- Chains of calls, put together.
-use Rattle.std.proofs.Common.{◌≡◌, ℕ, List, [], ◌∷◌, Ok, Err, refl, sym, ap, inl, inr, ⊎_elim, append-nil, subst, Result, ◌∙◌}
-use Rattle.ow_traits.specs.Runner.{Giving, Replies}
+use Rattle.std.proofs.Common.{◌≡◌, ℕ, Bool, true, false, List, [], ◌∷◌, ◌++◌, Option, refl, sym, ap, inl, append-nil, append_assoc, subst, ◌∙◌}
+use Rattle.ow_slots.specs.State.{is_warm}
+use Rattle.ow_traits.specs.Runner.{Giving}
 use Rattle.ow_traits.specs.declared.replies.RunReply.{RunReply}
-use Rattle.ow_value.specs.declared.memory.NoMemory.{NoMemory as Want}
-use Rattle.ow_floor.specs.declared.answers.Order.{Order}
-use Rattle.ow_floor.specs.declared.answers.Order.TheVariants as orders
 use Rattle.ow_floor.specs.declared.answers.RunOrder.{RunOrder}
 use Rattle.ow_decide.specs.declared.events.Event.{Event}
 use Rattle.ow_decide.specs.declared.events.Event.TheVariants as events
 use Rattle.ow_decide.specs.declared.events.Told.{Told}
-use Rattle.ow_decide.specs.declared.events.Told.TheVariants as told
 use Rattle.ow_hall.specs.Comes.{Answers, Comes, HallView, KeptRows, Wants}
+use Rattle.ow_invoker.specs.Parts.{OpensBy, Tells, TellsAll, both, listed}
+use Rattle.ow_invoker.specs.Turns.{AreBoth, Chain, Exchange, IsAlone, Opens, exchange, steps_in, steps_of}
 use Rattle.ow_invoker.specs.declared.turn.TurnStep.{TurnStep}
-use Rattle.ow_invoker.specs.declared.turn.Turned.{Turned}
-use Rattle.ow_invoker.specs.Turns.{Books, Carries, Chain, Exchange, Follows, Tells, Turns, exchange, steps_of}
+
+pub steps_more : (xs ys : List Exchange) → steps_in (xs ++ ys) ≡ steps_in xs ++ steps_in ys
+steps_more [] ys = refl
+steps_more (x ∷ xs) ys = ap (λ s. steps_of x.event x.answer ++ s) (steps_more xs ys) ∙ sym (append_assoc (steps_of x.event x.answer) (steps_in xs) (steps_in ys))
 
 module _ {P : Type 0} (rows : P → KeptRows) (faults : P → ℕ) where
   -- where memory is wanted the hall is what it was
   pub wants_same : (old new : HallView P) (at : ℕ) (event : Event) → Comes rows faults old new at event Wants → new ≡ old
   wants_same old new at event h = λ i. record { tenants = h.1 i; ledger = h.0 i; store = h.2 i }
 
-  module _ (gives : Giving) (before now : ℕ) where
-    told_of : (order : RunOrder) (reply : RunReply) → Replies gives before now order.kind order.code order.params reply → (answer : Told)
-        → Follows gives before now (orders.Run order) (exchange (events.Answered order.run reply) answer ∷ [])
-    told_of order reply replies answer = (record { reply = reply; replies = replies; event = refl }, refl)
+  pub chain_more : (old middle new : HallView P) (at : ℕ) (xs ys : List Exchange) → Chain rows faults old middle at xs → Chain rows faults middle new at ys → Chain rows faults old new at (xs ++ ys)
+  chain_more old middle new at [] ys first then = subst (λ v. Chain rows faults v new at ys) first then
+  chain_more old middle new at (x ∷ xs) ys first then = (first.0, (first.1.0, chain_more first.0 middle new at xs ys first.1.1 then))
 
-    -- a reply was booked, or memory was wanted for it or behind it
-    pub booked : (old new : HallView P) (at : ℕ) (order : RunOrder) (reply : RunReply) → Replies gives before now order.kind order.code order.params reply
-        → (result : Result (List TurnStep) Want) → Books rows faults old new at order.run reply result → Carries rows faults gives before now old new at (orders.Run order) result
-    booked old new at order reply replies (Ok steps) h = (
-      exchange (events.Answered order.run reply) h.0 ∷ [],
-      (told_of order reply replies h.0, (new, (h.1.0, refl)), h.1.1 ∙ sym (append-nil (steps_of h.0))),
-    )
-    booked old new at order reply replies (Err e) h = ⊎_elim
-        (λ w. ([], (inl refl, wants_same old new at (events.Answered order.run reply) w)))
-        (λ a. (exchange (events.Answered order.run reply) a.0 ∷ [], (inr (told_of order reply replies a.0), (new, (a.1, refl)))))
-        h
+  -- one event
+  pub alone_told : (old new : HallView P) (at : ℕ) (event : Event) (step : Option TurnStep) → Tells rows faults old new at event step
+      → (xs : List Exchange) × (IsAlone event xs × TellsAll rows faults old new at xs (listed step))
+  alone_told old new at event step h = (
+    exchange event h.0 ∷ [],
+    ((h.0, refl), ((new, (h.1.0, refl)), h.1.1 ∙ sym (append-nil (steps_of event h.0)))),
+  )
 
-    -- behind the order
-    pub turned : (old middle new : HallView P) (at : ℕ) (order : Order) → Comes rows faults old middle at events.Next (Answers (told.Next order))
-        → (result : Result Turned Want) → Tells rows faults gives before now middle new at order result → Turns rows faults gives before now old new at result
-    turned old middle new at order first (Ok t) h = (
-      exchange events.Next (told.Next t.order) ∷ h.1.0,
-      (
-        (refl, subst (λ o. Follows gives before now o h.1.0) (sym h.0) h.1.1.0),
-        (middle, (subst (λ o. Comes rows faults old middle at events.Next (Answers (told.Next o))) (sym h.0) first, h.1.1.1)),
-        h.1.1.2,
-      ),
-    )
-    turned old middle new at order first (Err e) h = (exchange events.Next (told.Next order) ∷ h.0, ((order, (refl, h.1.0)), (middle, (first, h.1.1))))
+  -- two events
+  pub both_told : (old middle new : HallView P) (at : ℕ) (e f : Event) (s t : Option TurnStep) → Tells rows faults old middle at e s → Tells rows faults middle new at f t
+      → (xs : List Exchange) × (AreBoth e f xs × Chain rows faults old new at xs × (both (s, t) ≡ steps_in xs))
+  both_told old middle new at e f s t h k = (
+    exchange e h.0 ∷ exchange f k.0 ∷ [],
+    (
+      (h.0, k.0, refl),
+      (middle, (h.1.0, (new, (k.1.0, refl)))),
+      ap (λ a. a ++ listed t) h.1.1 ∙ ap (λ b. steps_of e h.0 ++ b) (k.1.1 ∙ sym (append-nil (steps_of f k.0))),
+    ),
+  )
 
-    -- there was no order for want of memory
-    pub unordered : (old new : HallView P) (at : ℕ) (e : Want) → Comes rows faults old new at events.Next Wants → Turns rows faults gives before now old new at (Err e)
-    unordered old new at e w = ([], (tt, wants_same old new at events.Next w))
+  -- that a run began is told, or needn't be
+  pub opened_cold : (old new : HallView P) (at : ℕ) (order : RunOrder) (a : Told) → is_warm order.start ≡ false → Comes rows faults old new at (events.Begun order.run) (Answers a)
+      → (xs : List Exchange) × (OpensBy (is_warm order.start) order xs × Chain rows faults old new at xs)
+  opened_cold old new at order a cold comes = (
+    exchange (events.Begun order.run) a ∷ [],
+    (subst (λ b. OpensBy b order (exchange (events.Begun order.run) a ∷ [])) (sym cold) (a, refl), (new, (comes, refl))),
+  )
+
+  pub opened_warm : (old : HallView P) (at : ℕ) (order : RunOrder) → is_warm order.start ≡ true
+      → (xs : List Exchange) × (OpensBy (is_warm order.start) order xs × Chain rows faults old old at xs)
+  opened_warm old at order warm = ([], (subst (λ b. OpensBy b order []) (sym warm) refl, refl))
+
+opens_silently : (b : Bool) (order : RunOrder) (xs : List Exchange) → OpensBy b order xs → steps_in xs ≡ []
+opens_silently true order xs h = ap steps_in h
+opens_silently false order xs h = ap steps_in h.1
+
+-- nothing is told of it
+pub told_behind : (b : Bool) (order : RunOrder) (xs ys : List Exchange) (steps : List TurnStep) → OpensBy b order xs → steps ≡ steps_in ys → steps ≡ steps_in (xs ++ ys)
+told_behind b order xs ys steps h e = e ∙ ap (λ s. s ++ steps_in ys) (sym (opens_silently b order xs h)) ∙ sym (steps_more xs ys)
+
+pub opens_so : (gives : Giving) (before now : ℕ) (order : RunOrder) (reply : RunReply) (b : Bool) (xs : List Exchange) → is_warm order.start ≡ b → OpensBy b order xs → Opens gives before now order reply xs
+opens_so gives before now order reply true xs warm h = subst (λ ys. Opens gives before now order reply ys) (sym h) (inl warm)
+opens_so gives before now order reply false xs cold h = subst (λ ys. Opens gives before now order reply ys) (sym h.1) (cold, (refl, refl))
 
 -- while no change is kept by the store, a chain leaves it
 pub chain_store : {P : Type 0} (rows : P → KeptRows) (faults : P → ℕ) (old new : HallView P) (at : ℕ) (xs : List Exchange) → Chain rows faults old new at xs → new.store ≡ old.store

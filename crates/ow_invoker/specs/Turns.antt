@@ -1,19 +1,25 @@
--- What one turn comes to: a chain of calls of the hall, and what the turn tells of them.
-use Rattle.std.specs.Prelude.{◌≡◌, ◌⊎◌, ◌++◌, ℕ, List, [], ◌∷◌, Result, Ok, Err}
-use Rattle.ow_traits.specs.Runner.{Giving, Replies}
+-- What one turn comes to: a chain of calls of the hall, what the turn tells of them, and what lies on the shelf afterwards.
+use Rattle.std.specs.Prelude.{◌≡◌, ◌⊎◌, ◌&&◌, ◌++◌, ℕ, Bool, true, false, not, List, [], ◌∷◌, Result, Ok, Err, if◌then◌else◌}
+use Rattle.ow_traits.specs.Runner.{Giving, RefusesStart, Replies, RepliesToAny}
 use Rattle.ow_traits.specs.declared.replies.RunReply.{RunReply}
+use Rattle.ow_traits.specs.declared.replies.RunReply.TheVariants as replies
 use Rattle.ow_value.specs.declared.memory.NoMemory.{NoMemory as Want}
-use Rattle.ow_floor.specs.declared.answers.Answered.TheVariants.{Recorded}
+use Rattle.ow_slots.specs.State.{is_cold, is_warm}
+use Rattle.ow_floor.specs.declared.answers.Answered.TheVariants.{Late, Recorded}
+use Rattle.ow_floor.specs.declared.answers.Container.{Container}
 use Rattle.ow_floor.specs.declared.answers.Order.{Order}
 use Rattle.ow_floor.specs.declared.answers.Order.TheVariants as orders
+use Rattle.ow_floor.specs.declared.answers.PrewarmOrder.{PrewarmOrder}
 use Rattle.ow_floor.specs.declared.answers.RunOrder.{RunOrder}
 use Rattle.ow_decide.specs.declared.events.Event.{Event}
 use Rattle.ow_decide.specs.declared.events.Event.TheVariants as events
 use Rattle.ow_decide.specs.declared.events.Told.{Told}
 use Rattle.ow_decide.specs.declared.events.Told.TheVariants as told
-use Rattle.ow_hall.specs.Comes.{Answers, Comes, HallView, KeptRows, Wants}
+use Rattle.ow_hall.specs.Comes.{Answers, Comes, HallView, KeptRows}
+use Rattle.ow_invoker.specs.Shelf.{IsLaid, lies, without}
+use Rattle.ow_invoker.specs.declared.shelf.Laid.{Laid}
 use Rattle.ow_invoker.specs.declared.turn.TurnStep.{TurnStep}
-use Rattle.ow_invoker.specs.declared.turn.TurnStep.TheVariants.{Happened}
+use Rattle.ow_invoker.specs.declared.turn.TurnStep.TheVariants.{Gone, Happened, Lost}
 use Rattle.ow_invoker.specs.declared.turn.Turned.{Turned}
 
 -- ---- chains
@@ -33,61 +39,181 @@ Chain {P} rows faults old new at (x ∷ xs) = (middle : HallView P) × (Comes ro
 
 -- ---- what a turn tells
 
--- what happened at an end
-abbrev pub steps_of : Told → List TurnStep
-steps_of (told.Answered (Recorded happened)) = Happened happened ∷ []
-steps_of t = []
+-- a loss and a going that were taken, and what happened at an end
+abbrev pub steps_of : Event → Told → List TurnStep
+steps_of (events.Lost run) told.Done = Lost run ∷ []
+steps_of (events.Gone slot generation) told.Done = Gone slot generation ∷ []
+steps_of (events.Answered run reply) (told.Answered (Recorded happened)) = Happened happened ∷ []
+steps_of event answer = []
 
 abbrev pub steps_in : List Exchange → List TurnStep
 steps_in [] = []
-steps_in (x ∷ xs) = steps_of x.answer ++ steps_in xs
+steps_in (x ∷ xs) = steps_of x.event x.answer ++ steps_in xs
+
+-- ---- events of one order
+
+abbrev pub lost : RunOrder → Event
+lost order = events.Lost order.run
+
+-- the container of the order is gone
+abbrev pub gone : RunOrder → Event
+gone order = events.Gone order.slot order.generation
+
+abbrev pub gone_of : Container → Event
+gone_of container = events.Gone container.slot container.generation
+
+-- this event alone
+abbrev pub IsAlone : Event → List Exchange → Type 0
+IsAlone event xs = (answer : Told) × (xs ≡ exchange event answer ∷ [])
+
+-- these two
+abbrev pub AreBoth : Event → Event → List Exchange → Type 0
+AreBoth first second xs = (answer : Told) × (later : Told) × (xs ≡ exchange first answer ∷ exchange second later ∷ [])
+
+-- ---- runs
+
+abbrev pub is_answer : RunReply → Bool
+is_answer (replies.Answer text logs) = true
+is_answer (replies.Exit code logs) = false
+is_answer (replies.NoStart text) = false
+is_answer replies.Fault = false
+
+-- whether a sweep had ended what the run carried
+abbrev pub is_late : Told → Bool
+is_late (told.Answered (Late run at)) = true
+is_late answer = false
+
+-- whether the run needs a container that doesn't lie there
+abbrev pub is_missing : {B : Type 0} → RunOrder → List (Laid B) → Bool
+is_missing order shelf = not (is_cold order.start) && not (lies order.slot order.generation shelf)
+
+-- the shelf while the run has its container: a new one was started, any other one was taken
+abbrev pub shelf_at : {B : Type 0} → RunOrder → List (Laid B) → List (Laid B)
+shelf_at order shelf = if is_cold order.start then shelf else without order.slot order.generation shelf
+
+-- that the run began is told where its start isn't warm, and left out only where the reply is one to the code whatever the
+-- parameters
+abbrev pub Opens : Giving → ℕ → ℕ → RunOrder → RunReply → List Exchange → Type 0
+Opens gives before now order reply [] = (is_warm order.start ≡ true) ⊎ RepliesToAny gives before now order.kind order.code reply
+Opens gives before now order reply (x ∷ xs) = (is_warm order.start ≡ false) × ((x.event ≡ events.Begun order.run) × (xs ≡ []))
+
+-- behind an answer in time the container lies on the shelf
+abbrev pub StaysLaid : {B : Type 0} → RunOrder → List (Laid B) → List Exchange → List (Laid B) → Type 0
+StaysLaid order shelf xs left = (xs ≡ []) × IsLaid order.slot order.generation shelf left
+
+-- behind one that came late it is taken back, and gone
+abbrev pub TakenBack : {B : Type 0} → RunOrder → List (Laid B) → List Exchange → List (Laid B) → Type 0
+TakenBack {B} order shelf xs left =
+    IsAlone (gone order) xs × ((laid : List (Laid B)) × (IsLaid order.slot order.generation shelf laid × (left ≡ without order.slot order.generation laid)))
+
+-- behind another reply it is gone
+abbrev pub Ended : {B : Type 0} → RunOrder → List (Laid B) → List Exchange → List (Laid B) → Type 0
+Ended order shelf xs left = IsAlone (gone order) xs × (left ≡ shelf)
+
+-- by whether it is an answer, and came late
+abbrev pub Rests : {B : Type 0} → Bool → Bool → RunOrder → List (Laid B) → List Exchange → List (Laid B) → Type 0
+Rests true false order shelf xs left = StaysLaid order shelf xs left
+Rests true true order shelf xs left = TakenBack order shelf xs left
+Rests false late order shelf xs left = Ended order shelf xs left
+
+-- a reply is booked, and what becomes of the container follows
+pub record IsSettled {B : Type 0} (order : RunOrder) (reply : RunReply) (shelf : List (Laid B)) (xs : List Exchange) (left : List (Laid B)) : Type 0 where
+  pub answer : Told
+  pub ending : List Exchange
+  pub is : xs ≡ exchange (events.Answered order.run reply) answer ∷ ending
+  pub rests : Rests (is_answer reply) (is_late answer) order shelf ending left
+
+-- the hall is told that the run began, where that is told, and of a reply that the runner gives, or of a fault where its count rose
+pub record IsCarriedOut {B : Type 0} (gives : Giving) (before now : ℕ) (order : RunOrder) (shelf : List (Laid B)) (xs : List Exchange) (left : List (Laid B)) : Type 0 where
+  pub reply : RunReply
+  pub replies : Replies gives before now order.kind order.code order.params reply
+  pub opening : List Exchange
+  pub opens : Opens gives before now order reply opening
+  pub booking : List Exchange
+  pub settled : IsSettled order reply shelf booking left
+  pub is : xs ≡ opening ++ booking
+
+-- a run whose container doesn't lie there is lost; any other one is carried out
+abbrev pub RunFollows : {B : Type 0} → Bool → Giving → ℕ → ℕ → RunOrder → List (Laid B) → List Exchange → List (Laid B) → Type 0
+RunFollows true gives before now order shelf xs left = IsAlone (lost order) xs × (left ≡ shelf)
+RunFollows false gives before now order shelf xs left = IsCarriedOut gives before now order (shelf_at order shelf) xs left
+
+-- ---- orders
+
+-- a container is laid down before its prewarming has begun
+abbrev pub IsWarmed : {B : Type 0} → PrewarmOrder → List (Laid B) → List Exchange → List (Laid B) → Type 0
+IsWarmed order shelf xs left = IsAlone (events.Begun order.run) xs × IsLaid order.slot order.generation shelf left
+
+-- a prewarming fails
+abbrev pub IsUnwarmed : {B : Type 0} → PrewarmOrder → List (Laid B) → List Exchange → List (Laid B) → Type 0
+IsUnwarmed order shelf xs left = AreBoth (events.Lost order.run) (events.Gone order.slot order.generation) xs × (left ≡ shelf)
+
+-- it fails only where the runner refuses its start
+abbrev pub PrewarmFollows : {B : Type 0} → Giving → ℕ → ℕ → PrewarmOrder → List (Laid B) → List Exchange → List (Laid B) → Type 0
+PrewarmFollows gives before now order shelf xs left =
+    IsWarmed order shelf xs left ⊎ (((reply : RunReply) × RefusesStart gives before now order.kind reply) × IsUnwarmed order shelf xs left)
+
+-- containers are taken where they lie there, and each is gone
+abbrev pub Removes : {B : Type 0} → List Container → List (Laid B) → List Exchange → List (Laid B) → Type 0
+Removes [] shelf xs left = (xs ≡ []) × (left ≡ shelf)
+Removes (c ∷ cs) shelf [] left = ⊥
+Removes (c ∷ cs) shelf (x ∷ xs) left = (x.event ≡ gone_of c) × Removes cs (without c.slot c.generation shelf) xs left
+
+-- what follows an order
+abbrev pub Follows : {B : Type 0} → Giving → ℕ → ℕ → List (Laid B) → Order → List Exchange → List (Laid B) → Type 0
+Follows gives before now shelf (orders.Run order) xs left = RunFollows (is_missing order shelf) gives before now order shelf xs left
+Follows gives before now shelf (orders.Prewarm order) xs left = PrewarmFollows gives before now order shelf xs left
+Follows gives before now shelf (orders.Remove containers) xs left = Removes containers shelf xs left
+Follows gives before now shelf (orders.Nothing why) xs left = (xs ≡ []) × (left ≡ shelf)
+
+-- ---- want of memory
+
+-- before there is a reply: the container is stopped, and the run is lost; that it began may have been told
+pub record IsGivenUp {B : Type 0} (order : RunOrder) (shelf : List (Laid B)) (xs : List Exchange) (left : List (Laid B)) : Type 0 where
+  pub opening : List Exchange
+  pub opens : (opening ≡ []) ⊎ ((is_warm order.start ≡ false) × IsAlone (events.Begun order.run) opening)
+  pub ending : List Exchange
+  pub ends : AreBoth (lost order) (gone order) ending
+  pub is : xs ≡ opening ++ ending
+  pub left_is : left ≡ shelf
+
+-- the reply isn't booked: the container was stopped, or lies on the shelf where the reply is an answer
+abbrev pub RestsUnbooked : {B : Type 0} → RunOrder → RunReply → List (Laid B) → List (Laid B) → Type 0
+RestsUnbooked order reply shelf left = (left ≡ shelf) ⊎ ((is_answer reply ≡ true) × IsLaid order.slot order.generation shelf left)
+
+-- where there is a reply, what was booked before it stands
+pub record IsUnbooked {B : Type 0} (gives : Giving) (before now : ℕ) (order : RunOrder) (shelf : List (Laid B)) (xs : List Exchange) (left : List (Laid B)) : Type 0 where
+  pub reply : RunReply
+  pub replies : Replies gives before now order.kind order.code order.params reply
+  pub opens : Opens gives before now order reply xs
+  pub rests : RestsUnbooked order reply shelf left
+
+abbrev pub RunStops : {B : Type 0} → Bool → Giving → ℕ → ℕ → RunOrder → List (Laid B) → List Exchange → List (Laid B) → Type 0
+RunStops true gives before now order shelf xs left = ⊥
+RunStops false gives before now order shelf xs left = IsGivenUp order (shelf_at order shelf) xs left ⊎ IsUnbooked gives before now order (shelf_at order shelf) xs left
+
+-- what follows an order that isn't carried out to its end
+abbrev pub Stops : {B : Type 0} → Giving → ℕ → ℕ → List (Laid B) → Order → List Exchange → List (Laid B) → Type 0
+Stops gives before now shelf (orders.Run order) xs left = RunStops (is_missing order shelf) gives before now order shelf xs left
+Stops gives before now shelf (orders.Prewarm order) xs left = IsUnwarmed order shelf xs left
+Stops gives before now shelf (orders.Remove containers) xs left = (xs ≡ []) × (left ≡ shelf)
+Stops gives before now shelf (orders.Nothing why) xs left = ⊥
 
 -- ---- turns
 
--- what the hall is told of a run: a reply that the runner gives, or a fault where its count rose
-pub record IsCarriedOut (gives : Giving) (before now : ℕ) (order : RunOrder) (x : Exchange) : Type 0 where
-  pub reply : RunReply
-  pub replies : Replies gives before now order.kind order.code order.params reply
-  pub event : x.event ≡ events.Answered order.run reply
-
--- what follows an order: a run is carried out
-abbrev pub Follows : Giving → ℕ → ℕ → Order → List Exchange → Type 0
-Follows gives before now (orders.Nothing why) xs = xs ≡ []
-Follows gives before now (orders.Run order) [] = ⊥
-Follows gives before now (orders.Run order) (x ∷ xs) = IsCarriedOut gives before now order x × (xs ≡ [])
-
 -- a turn: the order, and all that follows it
-abbrev pub IsTurn : Giving → ℕ → ℕ → Order → List Exchange → Type 0
-IsTurn gives before now order [] = ⊥
-IsTurn gives before now order (x ∷ xs) = (x ≡ exchange events.Next (told.Next order)) × Follows gives before now order xs
+abbrev pub IsTurn : {B : Type 0} → Giving → ℕ → ℕ → List (Laid B) → Order → List Exchange → List (Laid B) → Type 0
+IsTurn gives before now shelf order [] left = ⊥
+IsTurn gives before now shelf order (x ∷ xs) left = (x ≡ exchange events.Next (told.Next order)) × Follows gives before now shelf order xs left
 
--- the front of a turn: nothing, the order alone, or all
-abbrev pub BeginsTurn : Giving → ℕ → ℕ → List Exchange → Type 0
-BeginsTurn gives before now [] = Unit {0}
-BeginsTurn gives before now (x ∷ xs) = (order : Order) × ((x ≡ exchange events.Next (told.Next order)) × ((xs ≡ []) ⊎ Follows gives before now order xs))
+-- the front of a turn: nothing, or the order, and what follows it up to the want of memory
+abbrev pub BeginsTurn : {B : Type 0} → Giving → ℕ → ℕ → List (Laid B) → List Exchange → List (Laid B) → Type 0
+BeginsTurn gives before now shelf [] left = left ≡ shelf
+BeginsTurn gives before now shelf (x ∷ xs) left =
+    (order : Order) × ((x ≡ exchange events.Next (told.Next order)) × (Stops gives before now shelf order xs left ⊎ Follows gives before now shelf order xs left))
 
 -- the turn is made, and told. For want of memory it stops, and what was booked stands
-abbrev pub Turns : {P : Type 0} → (P → KeptRows) → (P → ℕ) → Giving → ℕ → ℕ → HallView P → HallView P → ℕ → Result Turned Want → Type 0
-Turns rows faults gives before now old new at (Ok turned) =
-    (xs : List Exchange) × (IsTurn gives before now turned.order xs × Chain rows faults old new at xs × (turned.steps ≡ steps_in xs))
-Turns rows faults gives before now old new at (Err e) = (xs : List Exchange) × (BeginsTurn gives before now xs × Chain rows faults old new at xs)
-
--- ---- for private clauses
-
--- a reply is booked, and what happened told
-abbrev pub Books : {P : Type 0} → (P → KeptRows) → (P → ℕ) → HallView P → HallView P → ℕ → ℕ → RunReply → Result (List TurnStep) Want → Type 0
-Books rows faults old new at run reply (Ok steps) = (answer : Told) × (Comes rows faults old new at (events.Answered run reply) (Answers answer) × (steps ≡ steps_of answer))
-Books rows faults old new at run reply (Err e) =
-    Comes rows faults old new at (events.Answered run reply) Wants ⊎ ((answer : Told) × Comes rows faults old new at (events.Answered run reply) (Answers answer))
-
--- an order is carried out
-abbrev pub Carries : {P : Type 0} → (P → KeptRows) → (P → ℕ) → Giving → ℕ → ℕ → HallView P → HallView P → ℕ → Order → Result (List TurnStep) Want → Type 0
-Carries rows faults gives before now old new at order (Ok steps) =
-    (xs : List Exchange) × (Follows gives before now order xs × Chain rows faults old new at xs × (steps ≡ steps_in xs))
-Carries rows faults gives before now old new at order (Err e) =
-    (xs : List Exchange) × (((xs ≡ []) ⊎ Follows gives before now order xs) × Chain rows faults old new at xs)
-
--- and told
-abbrev pub Tells : {P : Type 0} → (P → KeptRows) → (P → ℕ) → Giving → ℕ → ℕ → HallView P → HallView P → ℕ → Order → Result Turned Want → Type 0
-Tells rows faults gives before now old new at order (Ok turned) = (turned.order ≡ order) × Carries rows faults gives before now old new at order (Ok turned.steps)
-Tells rows faults gives before now old new at order (Err e) = Carries rows faults gives before now old new at order (Err e)
+abbrev pub Turns : {P B : Type 0} → (P → KeptRows) → (P → ℕ) → Giving → ℕ → ℕ → HallView P → HallView P → ℕ → List (Laid B) → List (Laid B) → Result Turned Want → Type 0
+Turns rows faults gives before now old new at shelf left (Ok turned) =
+    (xs : List Exchange) × (IsTurn gives before now shelf turned.order xs left × Chain rows faults old new at xs × (turned.steps ≡ steps_in xs))
+Turns rows faults gives before now old new at shelf left (Err e) = (xs : List Exchange) × (BeginsTurn gives before now shelf xs left × Chain rows faults old new at xs)

@@ -1,13 +1,16 @@
 // A turn of a day: one order, carried out.
-ghost use Rattle.std.specs.Prelude.{◌≡◌, ◌∷◌, [], IfOk};
 ghost use Rattle.ow_traits.specs.Runner.{Steady};
-ghost use Rattle.ow_invoker.specs.Turns.{Books, Carries, Tells, Turns};
+ghost use Rattle.ow_invoker.specs.Parts.{Carries, TellsOf};
+ghost use Rattle.ow_invoker.specs.Turns.{Turns};
 
+use crate::removal::remove;
+use crate::reports::list;
 use crate::run::run;
 use crate::shelf::Shelf;
-use ow_floor::{AnswerRefusal, Answered, Happened, Order, RunOrder};
+use crate::warming::prewarm;
+use ow_floor::{Happened, Order};
 use ow_hall::Hall;
-use ow_traits::{Keeper, RunReply, Runner};
+use ow_traits::{Keeper, Runner};
 use ow_value::{Items, NoMemory};
 use std::alloc::Global;
 
@@ -30,14 +33,14 @@ pub type TurnSteps = Items<TurnStep>;
 /// What a turn did.
 #[derive(Drop)]
 pub struct Turned {
-    /// What was to be run.
+    /// What was to be done.
     pub order: Order,
     /// What came of it.
     pub steps: TurnSteps,
 }
 
-/// Asks the hall what to run, and carries it out at once: a container is started for the run and stopped behind it, so the shelf stays
-/// as it is. After want of memory what was booked stands.
+/// Asks the hall what to do, and carries it out at once: containers that live lie on the shelf behind it, under their slot and its
+/// generation. After want of memory what was booked stands, and the shelf is as what was booked left it.
 pub fn day_turn<P: Keeper + Drop, R: Runner>(
     alloc: Global,
     hall: &mut Hall<P>,
@@ -45,12 +48,14 @@ pub fn day_turn<P: Keeper + Drop, R: Runner>(
     runner: &mut R,
     at: u64,
 ) -> Result<Turned, NoMemory>
-    ensures turns { Turns P.rows P.faults (R.gives runner.old) (R.faults runner.old) (R.faults runner.new) hall.old hall.new at result }
+    ensures turns { Turns P.rows P.faults (R.gives runner.old) (R.faults runner.old) (R.faults runner.new) hall.old hall.new at shelf.old shelf.new result }
     ensures runner { Steady (R.gives runner.old) (R.gives runner.new) (R.faults runner.old) (R.faults runner.new) }
-    ensures shelf { shelf.new ≡ shelf.old }
 {
+    let Ok(()) = shelf.make_room() else {
+        return Err(NoMemory);
+    };
     match hall.next(alloc, at) {
-        Ok(order) => follow(alloc, hall, runner, at, order),
+        Ok(order) => follow(alloc, hall, shelf, runner, at, order),
         Err(_) => Err(NoMemory),
     }
 }
@@ -59,14 +64,15 @@ pub fn day_turn<P: Keeper + Drop, R: Runner>(
 fn follow<P: Keeper + Drop, R: Runner>(
     alloc: Global,
     hall: &mut Hall<P>,
+    shelf: &mut Shelf<R::Container>,
     runner: &mut R,
     at: u64,
     order: Order,
 ) -> Result<Turned, NoMemory>
-    ensures turns { Tells P.rows P.faults (R.gives runner.old) (R.faults runner.old) (R.faults runner.new) hall.old hall.new at order result }
+    ensures turns { TellsOf P.rows P.faults (R.gives runner.old) (R.faults runner.old) (R.faults runner.new) hall.old hall.new at shelf.old shelf.new order result }
     ensures runner { Steady (R.gives runner.old) (R.gives runner.new) (R.faults runner.old) (R.faults runner.new) }
 {
-    match carry(alloc, hall, runner, at, &order) {
+    match carry(alloc, hall, shelf, runner, at, &order) {
         Ok(steps) => Ok(Turned { order, steps }),
         Err(_) => Err(NoMemory),
     }
@@ -75,58 +81,18 @@ fn follow<P: Keeper + Drop, R: Runner>(
 fn carry<P: Keeper + Drop, R: Runner>(
     alloc: Global,
     hall: &mut Hall<P>,
+    shelf: &mut Shelf<R::Container>,
     runner: &mut R,
     at: u64,
     order: &Order,
 ) -> Result<TurnSteps, NoMemory>
-    ensures turns { Carries P.rows P.faults (R.gives runner.old) (R.faults runner.old) (R.faults runner.new) hall.old hall.new at order.now result }
+    ensures turns { Carries P.rows P.faults (R.gives runner.old) (R.faults runner.old) (R.faults runner.new) hall.old hall.new at shelf.old shelf.new order.now result }
     ensures runner { Steady (R.gives runner.old) (R.gives runner.new) (R.faults runner.old) (R.faults runner.new) }
 {
     match order {
-        Order::Run(order) => run_and_book(alloc, hall, runner, at, order),
+        Order::Run(order) => list(alloc, run(alloc, hall, shelf, runner, at, order)),
+        Order::Prewarm(order) => list(alloc, prewarm(alloc, hall, shelf, runner, at, order)),
+        Order::Remove(containers) => remove(alloc, hall, shelf, runner, at, containers),
         Order::Nothing(_) => Ok(TurnSteps::new()),
     }
-}
-
-// Runs an order and books its reply.
-fn run_and_book<P: Keeper + Drop, R: Runner>(
-    alloc: Global,
-    hall: &mut Hall<P>,
-    runner: &mut R,
-    at: u64,
-    order: &RunOrder,
-) -> Result<TurnSteps, NoMemory>
-    ensures turns { Carries P.rows P.faults (R.gives runner.old) (R.faults runner.old) (R.faults runner.new) hall.old hall.new at (Order.Run order.now) result }
-    ensures runner { Steady (R.gives runner.old) (R.gives runner.new) (R.faults runner.old) (R.faults runner.new) }
-{
-    match run(alloc, runner, order) {
-        Ok(reply) => book(alloc, hall, at, order.run, reply),
-        Err(_) => Err(NoMemory),
-    }
-}
-
-// Books the reply of a run, and tells what happened.
-fn book<P: Keeper + Drop>(
-    alloc: Global,
-    hall: &mut Hall<P>,
-    at: u64,
-    run: u64,
-    reply: RunReply,
-) -> Result<TurnSteps, NoMemory>
-    ensures { Books P.rows P.faults hall.old hall.new at run reply result }
-{
-    match hall.answered(alloc, at, run, reply) {
-        Ok(Answered::Recorded(happened)) => { Ok(one_step(alloc, TurnStep::Happened(happened))?) }
-        Ok(Answered::Late { .. }) => Ok(TurnSteps::new()),
-        Err(AnswerRefusal::NoRun { .. }) => Ok(TurnSteps::new()),
-        Err(AnswerRefusal::NoMemory(_)) => Err(NoMemory),
-    }
-}
-
-fn one_step(alloc: Global, step: TurnStep) -> Result<TurnSteps, NoMemory>
-    ensures { IfOk result (λ steps. steps ≡ step ∷ []) }
-{
-    let mut steps = Vec::with_capacity(alloc, 1)?;
-    steps.push_reserved(step);
-    TurnSteps::from_vec(steps)
 }

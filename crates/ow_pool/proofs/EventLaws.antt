@@ -12,9 +12,9 @@ use Rattle.ow_pool.specs.Rules.{IsWithinPool}
 use Rattle.ow_pool.proofs.Sums.{Sized, all_change, all_first, less_change, less_first, size}
 
 -- a change of states that raises no memory, and leaves each the memory of some action
-record Lessens (f : State → State) : Type 0 where
-  less : (s : State) → state_memory (f s) ≤ state_memory s
-  sized : (s : State) → IsSized s → IsSized (f s)
+pub record Lessens (f : State → State) : Type 0 where
+  pub less : (s : State) → state_memory (f s) ≤ state_memory s
+  pub sized : (s : State) → IsSized s → IsSized (f s)
 
 first_keeps : (p : State → Bool) (f : State → State) → Lessens f → (slots : List Slot) (pool : ℕ) → IsWithinPool slots pool → IsWithinPool (change_first (has p) (with_state f) slots) pool
 first_keeps p f lessens slots pool keeps =
@@ -25,7 +25,7 @@ first_keeps p f lessens slots pool keeps =
       sized = all_first Sized (has p) (with_state f) slots (λ s. lessens.sized s.state) keeps.sized;
     }
 
-begun_lessens : (at : ℕ) → Lessens (begun_state at)
+pub begun_lessens : (at : ℕ) → Lessens (begun_state at)
 begun_lessens at = record { less = less; sized = sized }
   where
     less : (s : State) → state_memory (begun_state at s) ≤ state_memory s
@@ -44,7 +44,7 @@ begun_lessens at = record { less = less; sized = sized }
     sized (Idle key last) h = h
     sized (Closing m) h = h
 
-lost_lessens : Lessens lost_state
+pub lost_lessens : Lessens lost_state
 lost_lessens = record { less = less; sized = sized }
   where
     busy : (g : Bool) (m : ℕ) → state_memory (cond g Vacant (Closing m)) ≤ cond g 0 m
@@ -71,7 +71,7 @@ lost_lessens = record { less = less; sized = sized }
     sized (Idle key last) h = h
     sized (Closing m) h = h
 
-answered_lessens : (alive : Bool) (at : ℕ) → Lessens (answered_state alive at)
+pub answered_lessens : (alive : Bool) (at : ℕ) → Lessens (answered_state alive at)
 answered_lessens alive at = record { less = less; sized = sized }
   where
     busy : (g b : Bool) (key : Key) → state_memory (cond g Vacant (cond b (Idle key at) (Closing key.memory))) ≤ cond g 0 key.memory
@@ -100,7 +100,7 @@ answered_lessens alive at = record { less = less; sized = sized }
     sized (Idle key last) h = h
     sized (Closing m) h = h
 
-overrun_lessens : (at : ℕ) → Lessens (overrun_state at)
+pub overrun_lessens : (at : ℕ) → Lessens (overrun_state at)
 overrun_lessens at = record { less = less; sized = sized }
   where
     less : (s : State) → state_memory (overrun_state at s) ≤ state_memory s
@@ -155,7 +155,7 @@ removed_sized (Busy w) h = h
 removed_sized (Idle key last) h = h
 removed_sized (Closing m) h = h
 
-gone_at : (generation : ℕ) (s : Slot) → size (after_gone generation s) ≤ size s
+pub gone_at : (generation : ℕ) (s : Slot) → size (after_gone generation s) ≤ size s
 gone_at generation s = at (goes generation s)
   where
     at : (b : Bool) → size (cond b (with_state gone_state s) s) ≤ size s

@@ -30,7 +30,7 @@ use Rattle.ow_pool.proofs.EventLaws.{removed_size, removed_sized}
 use Rattle.ow_pool.proofs.Room.{Distinct, all_put, distinct, first_false}
 use Rattle.ow_pool.proofs.Sums.{Sized, all_change, held_change, size}
 
-both_of : (a b : Bool) → (a && b) ≡ true → (a ≡ true) × (b ≡ true)
+pub both_of : (a b : Bool) → (a && b) ≡ true → (a ≡ true) × (b ≡ true)
 both_of true true e = (refl, refl)
 both_of true false e = cc
 both_of false b e = cc
@@ -44,16 +44,16 @@ kind_eq kinds.Program kinds.Program e = refl
 eq_of : (a b : ℕ) → (a == b) ≡ true → a ≡ b
 eq_of a b h = grind (arith, nat_tests)
 
-le_of : (a b : ℕ) → nat_le a b ≡ true → a ≤ b
+pub le_of : (a b : ℕ) → nat_le a b ≡ true → a ≤ b
 le_of a b e = grind (arith, nat_tests)
 
 -- the slot at a position passes
-record At (p : Slot → Bool) (slots : List Slot) (n : ℕ) : Type 0 where
-  slot : Slot
-  there : slice_get slots n ≡ Some slot
-  passes : p slot ≡ true
+pub record At (p : Slot → Bool) (slots : List Slot) (n : ℕ) : Type 0 where
+  pub slot : Slot
+  pub there : slice_get slots n ≡ Some slot
+  pub passes : p slot ≡ true
 
-at_position : (p : Slot → Bool) (slots : List Slot) (n : ℕ) → position p slots ≡ Some n → At p slots n
+pub at_position : (p : Slot → Bool) (slots : List Slot) (n : ℕ) → position p slots ≡ Some n → At p slots n
 at_position p slots n e =
     let h = position-Some p slots n vacant_slot e in
     record { slot = get_or slots n vacant_slot; there = slice_get-get_or slots n vacant_slot h.0; passes = h.1 }
@@ -62,7 +62,7 @@ at_position p slots n e =
 abbrev pub KeysTell : Type 0
 KeysTell = (a b : Key) → same_key a b ≡ true → a ≡ b
 
-warm_fits : KeysTell → (key : Key) (at : ℕ) (s : State) → is_used_at key at s ≡ true → (is_idle s ≡ true) × IsFor starts.Warm key s
+pub warm_fits : KeysTell → (key : Key) (at : ℕ) (s : State) → is_used_at key at s ≡ true → (is_idle s ≡ true) × IsFor starts.Warm key s
 warm_fits tell key at Vacant e = cc
 warm_fits tell key at (Opening r k m) e = cc
 warm_fits tell key at (Prewarmed k m) e = cc
@@ -70,7 +70,7 @@ warm_fits tell key at (Busy w) e = cc
 warm_fits tell key at (Idle own last) e = (refl, tell own key (both_of (same_key own key) (last == at) e).0)
 warm_fits tell key at (Closing m) e = cc
 
-warm_size : (key : Key) (s : State) → IsFor starts.Warm key s → state_memory s ≡ key.memory
+pub warm_size : (key : Key) (s : State) → IsFor starts.Warm key s → state_memory s ≡ key.memory
 warm_size key Vacant fits = absurd fits
 warm_size key (Opening r k m) fits = absurd fits
 warm_size key (Prewarmed k m) fits = absurd fits
@@ -78,7 +78,7 @@ warm_size key (Busy w) fits = absurd fits
 warm_size key (Idle own last) fits = ap (λ (k : Key). k.memory) fits
 warm_size key (Closing m) fits = absurd fits
 
-ready_fits : (key : Key) (s : State) → is_ready (kind_of key.exec) key.memory s ≡ true → (is_prewarmed s ≡ true) × IsFor starts.Prewarmed key s
+pub ready_fits : (key : Key) (s : State) → is_ready (kind_of key.exec) key.memory s ≡ true → (is_prewarmed s ≡ true) × IsFor starts.Prewarmed key s
 ready_fits key Vacant e = cc
 ready_fits key (Opening r k m) e = cc
 ready_fits key (Prewarmed k m) e =
@@ -88,7 +88,7 @@ ready_fits key (Busy w) e = cc
 ready_fits key (Idle own last) e = cc
 ready_fits key (Closing m) e = cc
 
-ready_size : (key : Key) (s : State) → IsFor starts.Prewarmed key s → state_memory s ≡ key.memory
+pub ready_size : (key : Key) (s : State) → IsFor starts.Prewarmed key s → state_memory s ≡ key.memory
 ready_size key Vacant fits = absurd fits
 ready_size key (Opening r k m) fits = absurd fits
 ready_size key (Prewarmed k m) fits = fits.1
@@ -96,7 +96,7 @@ ready_size key (Busy w) fits = absurd fits
 ready_size key (Idle own last) fits = absurd fits
 ready_size key (Closing m) fits = absurd fits
 
-open_fits : (s : Slot) → can_open s ≡ true → IsVacant s
+pub open_fits : (s : Slot) → can_open s ≡ true → IsVacant s
 open_fits s e =
     let h = both_of (is_vacant s.state) (nat_lt s.generation GREATEST_GENERATION) e in
     (h.0, let small = h.1 in grind (arith, nat_tests))
@@ -145,21 +145,21 @@ fresh_keeps slots head pool other keeps sized rest true eb (Some n) e =
     run_keeps starts.Cold slots head pool n here.slot keeps sized here.there (open_fits here.slot here.passes) tt (omega (arith, le))
 
 -- where there is no slot, none is changed
-none_changed : (n : ℕ) (f : Slot → Slot) (slots : List Slot) → slice_get slots n ≡ None → change n f slots ≡ slots
+pub none_changed : (n : ℕ) (f : Slot → Slot) (slots : List Slot) → slice_get slots n ≡ None → change n f slots ≡ slots
 unfolding change
 none_changed n f [] e = refl
 none_changed zero f (s ∷ slots) e = cc
 none_changed (suc n) f (s ∷ slots) e = ap (λ xs. s ∷ xs) (none_changed n f slots e)
 
 -- a removal leaves what is held
-remove_one : (n : ℕ) (slots : List Slot) → memory_held (change n (with_state removed_state) slots) ≡ memory_held slots
+pub remove_one : (n : ℕ) (slots : List Slot) → memory_held (change n (with_state removed_state) slots) ≡ memory_held slots
 remove_one n slots = at (slice_get slots n) refl
   where
     at : (found : Option Slot) → slice_get slots n ≡ found → memory_held (change n (with_state removed_state) slots) ≡ memory_held slots
     at None e = ap memory_held (none_changed n (with_state removed_state) slots e)
     at (Some s) e = let sum = held_change n (with_state removed_state) slots s e in let same : size (with_state removed_state s) ≡ size s = removed_size s.state in omega (arith, sum, same)
 
-removed_keeps : (ns : List ℕ) (slots : List Slot) (pool : ℕ) → IsWithinPool slots pool → IsWithinPool (removed ns slots) pool
+pub removed_keeps : (ns : List ℕ) (slots : List Slot) (pool : ℕ) → IsWithinPool slots pool → IsWithinPool (removed ns slots) pool
 removed_keeps [] slots pool keeps = keeps
 removed_keeps (n ∷ ns) slots pool keeps =
     let same = remove_one n slots in let le = keeps.within in
@@ -169,7 +169,7 @@ removed_keeps (n ∷ ns) slots pool keeps =
     })
 
 -- candidates can go
-abbrev Goable : ℕ → List Slot → Candidate → Type 0
+abbrev pub Goable : ℕ → List Slot → Candidate → Type 0
 Goable k slots c = (k ≤ c.slot) × IsThere CanGo (slice_get slots (c.slot - k))
 
 lift_go : (k : ℕ) (s : Slot) (slots : List Slot) (cs : List Candidate) → AllByRecursion (Goable (suc k) slots) cs → AllByRecursion (Goable k (s ∷ slots)) cs
@@ -192,16 +192,16 @@ put_go k s slots (Idle key last) e cs all =
     all_put (Goable k (s ∷ slots)) (record { slot = k; memory = key.memory; prewarmed = false; last_used = last }) cs (omega arith, rw (none, e) refl) all
 put_go k s slots (Closing m) e cs all = all
 
-can_go : (k : ℕ) (slots : List Slot) → AllByRecursion (Goable k slots) (candidates_from k slots)
+pub can_go : (k : ℕ) (slots : List Slot) → AllByRecursion (Goable k slots) (candidates_from k slots)
 can_go k [] = tt
 can_go k (s ∷ slots) = put_go k s slots s.state refl (candidates_from (suc k) slots) (lift_go k s slots (candidates_from (suc k) slots) (can_go (suc k) slots))
 
 -- what is found is a beginning of the list
-record Beginning (front all : List Candidate) : Type 0 where
-  rest : List Candidate
-  joined : front ++ rest ≡ all
+pub record Beginning (front all : List Candidate) : Type 0 where
+  pub rest : List Candidate
+  pub joined : front ++ rest ≡ all
 
-abbrev IfBeginning : List Candidate → Option (List Candidate) → Type 0
+abbrev pub IfBeginning : List Candidate → Option (List Candidate) → Type 0
 IfBeginning all None = Unit {0}
 IfBeginning all (Some front) = Beginning front all
 
@@ -209,7 +209,7 @@ moved : (done : List Candidate) (c : Candidate) (left : List Candidate) → (don
 moved [] c left = refl
 moved (d ∷ done) c left = ap (λ xs. d ∷ xs) (moved done c left)
 
-shortest_begins : (passes : List Candidate → Bool) (done left : List Candidate) → IfBeginning (done ++ left) (shortest passes done left)
+pub shortest_begins : (passes : List Candidate → Bool) (done left : List Candidate) → IfBeginning (done ++ left) (shortest passes done left)
 shortest_begins passes done [] = tt
 shortest_begins passes done (c ∷ left) = at (passes (done ++ c ∷ []))
     (subst (λ (all : List Candidate). IfBeginning all (shortest passes (done ++ c ∷ []) left)) (moved done c left) (shortest_begins passes (done ++ c ∷ []) left))
@@ -218,7 +218,7 @@ shortest_begins passes done (c ∷ left) = at (passes (done ++ c ∷ []))
     at true rest = record { rest = left; joined = moved done c left }
     at false rest = rest
 
-all_front : (P : Candidate → Type 0) (front rest : List Candidate) → AllByRecursion P (front ++ rest) → AllByRecursion P front
+pub all_front : (P : Candidate → Type 0) (front rest : List Candidate) → AllByRecursion P (front ++ rest) → AllByRecursion P front
 all_front P [] rest all = tt
 all_front P (c ∷ front) rest all = (all.0, all_front P front rest all.1)
 
@@ -228,7 +228,7 @@ front_apart (c ∷ front) rest n e =
     let h = first_false (c.slot == n) (is_among (front ++ rest) n) e in
     rw (h.0, front_apart front rest n h.1) refl
 
-distinct_front : (front rest : List Candidate) → Distinct (front ++ rest) → Distinct front
+pub distinct_front : (front rest : List Candidate) → Distinct (front ++ rest) → Distinct front
 distinct_front [] rest d = tt
 distinct_front (c ∷ front) rest d = (front_apart front rest c.slot d.0, distinct_front front rest d.1)
 
@@ -244,7 +244,7 @@ get_other zero (suc m) f (s ∷ slots) e = refl
 get_other (suc n) zero f (s ∷ slots) e = refl
 get_other (suc n) (suc m) f (s ∷ slots) e = get_other n m f slots (next_apart m n e)
 
-abbrev GoesNow : List Slot → Candidate → Type 0
+abbrev pub GoesNow : List Slot → Candidate → Type 0
 GoesNow slots c = IsThere CanGo (slice_get slots c.slot)
 
 others_go : (n : ℕ) (slots : List Slot) (cs : List Candidate) → is_among cs n ≡ false → AllByRecursion (GoesNow slots) cs
@@ -254,11 +254,11 @@ others_go n slots (c ∷ cs) apart all =
     let h = first_false (c.slot == n) (is_among cs n) apart in
     (rw (get_other n c.slot (with_state removed_state) slots h.0) all.0, others_go n slots cs h.1 all.1)
 
-all_go : (slots : List Slot) (cs : List Candidate) → AllByRecursion (GoesNow slots) cs → Distinct cs → CanAllGo (map (λ (c : Candidate). c.slot) cs) slots
+pub all_go : (slots : List Slot) (cs : List Candidate) → AllByRecursion (GoesNow slots) cs → Distinct cs → CanAllGo (map (λ (c : Candidate). c.slot) cs) slots
 all_go slots [] all d = tt
 all_go slots (c ∷ cs) all d = (all.0, all_go (change c.slot (with_state removed_state) slots) cs (others_go c.slot slots cs d.0 all.1) d.1)
 
-now_go : (slots : List Slot) (cs : List Candidate) → AllByRecursion (Goable 0 slots) cs → AllByRecursion (GoesNow slots) cs
+pub now_go : (slots : List Slot) (cs : List Candidate) → AllByRecursion (Goable 0 slots) cs → AllByRecursion (GoesNow slots) cs
 now_go slots [] all = tt
 now_go slots (c ∷ cs) all =
     let e : c.slot - 0 ≡ c.slot = omega arith in

@@ -26,12 +26,20 @@ wait_of accepted (Replied reply) start = Some (start - accepted)
 wait_of accepted Overran start = Some (start - accepted)
 wait_of accepted Abandoned start = None
 
--- the annotations of an activation that ended so, and started at this moment
-abbrev pub notes_of : Activation → Ending → ℕ → Notes
-notes_of a ending start = record {
+-- how long the last run took to begin from its start, where it began before the end and the activation wasn't abandoned
+abbrev pub init_of : Ending → ℕ → Option ℕ → Option ℕ
+init_of (Replied reply) start None = None
+init_of (Replied reply) start (Some begun) = Some (begun - start)
+init_of Overran start None = None
+init_of Overran start (Some begun) = Some (begun - start)
+init_of Abandoned start begun = None
+
+-- the annotations of an activation that ended so, started at this moment, and whose last run began at that one, where it did
+abbrev pub notes_of : Activation → Ending → ℕ → Option ℕ → Notes
+notes_of a ending start begun = record {
   binding = a.binding;
   caused_by = false;
-  init_time = None;
+  init_time = init_of ending start begun;
   kind = Some (kind_of a.action.exec);
   limits = Some a.action.limits;
   path = Some a.action.name;
@@ -39,9 +47,9 @@ notes_of a ending start = record {
   wait_time = wait_of a.at ending start;
 }
 
--- the record of an activation that ended so at this moment, and started at that one
-abbrev pub record_from : Activation → Ending → ℕ → ℕ → Record
-record_from a ending start at = record {
+-- the record of an activation that ended so at the last moment, and started at the first; the run began between, where it did
+abbrev pub record_from : Activation → Ending → ℕ → Option ℕ → ℕ → Record
+record_from a ending start begun at = record {
   id = a.id;
   name = a.action.name.name;
   namespace = a.namespace;
@@ -49,11 +57,11 @@ record_from a ending start at = record {
   version = a.action.version;
   cause = a.cause;
   span = record { start = start; end = max start at };
-  notes = notes_of a ending start;
+  notes = notes_of a ending start begun;
   logs = kept_lines a.action.limits.logs (lines_of ending);
   response = outcome ending a.action.limits;
 }
 
--- the record of an activation that ended so at this moment, and whose last run, if any, was ordered at that one
-abbrev pub record_of : Activation → Ending → Option ℕ → ℕ → Record
-record_of a ending started at = record_from a ending (start_of a.at ending started) at
+-- the record of an activation that ended so at the last moment, and whose last run, if any, was ordered at the first and began between, where it did
+abbrev pub record_of : Activation → Ending → Option ℕ → Option ℕ → ℕ → Record
+record_of a ending started begun at = record_from a ending (start_of a.at ending started) begun at

@@ -1,6 +1,6 @@
 // Records of activations that have ended.
 ghost use Rattle.std.specs.Prelude.{◌≡◌, ◌↔◌, IsTrue, IfOk};
-ghost use Rattle.ow_records.specs.Record.{notes_of, record_of, start_of, wait_of};
+ghost use Rattle.ow_records.specs.Record.{init_of, notes_of, record_of, start_of, wait_of};
 
 use crate::logs::logs_of;
 use crate::{Activation, Ending, ExecKind, Id, Notes, Response, Span, outcome_in};
@@ -33,24 +33,25 @@ pub struct Record {
     pub response: Response,
 }
 
-/// The record of an activation that ended so at this moment, and whose last run, if any, was ordered at that one. The
-/// scratch is for reading answers.
+/// The record of an activation that ended so at this moment, and whose last run, if any, was ordered at that one, and began at
+/// that, where a container was initialised for it. Moments are in milliseconds. The scratch is for reading answers.
 pub fn record_of(
     alloc: Global,
     scratch: &mut Scratch,
     task: &Activation,
     ending: &Ending,
     started: Option<u64>,
+    begun: Option<u64>,
     at: u64,
 ) -> Result<Record, NoMemory>
-    ensures { IfOk result (λ r. r ≡ record_of task.now ending.now started at) }
+    ensures { IfOk result (λ r. r ≡ record_of task.now ending.now started begun at) }
 {
     let action = task.action.get();
     let start = start_of(task.at, ending, started);
     let name = action.name.name.copy(alloc)?;
     let namespace = task.namespace.copy(alloc)?;
     let subject = task.subject.copy(alloc)?;
-    let notes = notes_of(alloc, task, ending, start)?;
+    let notes = notes_of(alloc, task, ending, start, begun)?;
     let logs = logs_of(alloc, ending, action.limits.logs.get())?;
     let response = outcome_in(alloc, scratch, ending, &action.limits)?;
     Ok(Record {
@@ -81,8 +82,9 @@ fn notes_of(
     task: &Activation,
     ending: &Ending,
     start: u64,
+    begun: Option<u64>,
 ) -> Result<Notes, NoMemory>
-    ensures { IfOk result (λ r. r ≡ notes_of task.now ending.now start) }
+    ensures { IfOk result (λ r. r ≡ notes_of task.now ending.now start begun) }
 {
     let action = task.action.get();
     let path = action.name.copy(alloc)?;
@@ -90,13 +92,22 @@ fn notes_of(
     Ok(Notes {
         binding,
         caused_by: false,
-        init_time: None,
+        init_time: init_of(ending, start, begun),
         kind: Some(ExecKind::of(&action.exec)),
         limits: Some(action.limits),
         path: Some(path),
         topmost: false,
         wait_time: wait_of(task.at, ending, start),
     })
+}
+
+fn init_of(ending: &Ending, start: u64, begun: Option<u64>) -> Option<u64>
+    ensures { result ≡ init_of ending.now start begun }
+{
+    match (ending, begun) {
+        (Ending::Replied(_) | Ending::Overran, Some(moment)) => Some(moment.saturating_sub(start)),
+        _ => None,
+    }
 }
 
 fn wait_of(accepted: u64, ending: &Ending, start: u64) -> Option<u64>

@@ -1,8 +1,9 @@
 // All slots, and their calls.
-ghost use Rattle.std.specs.Prelude.{◌≡◌, ◌<◌, ◌^◌, ◌↔◌, length, IfOk, IsTrue, replicate, slice_get};
+ghost use Rattle.std.specs.Prelude.{◌≡◌, ◌<◌, ◌^◌, ◌↔◌, length, IfOk, IsTrue, map, replicate, slice_get};
 ghost use Rattle.std.specs.Option.{option_copied};
 ghost use Rattle.ow_slots.specs.Slots.{IsThere, change, change_first, first_with, gone_answer, has, run_answer, vacant_slot};
 ghost use Rattle.ow_slots.specs.State.{CanGo, IsUnrecorded, IsVacant, StartFits, after_gone, answered_state, assigned, awaits, begun_state, holds, lost_state, opened, overrun_state, recorded_of, removed_state, runs, with_state};
+ghost use Rattle.ow_slots.specs.declared.states.State.TheVariants.{Vacant};
 
 use crate::keys::{Key, Start};
 use crate::places::{awaiting, holding, running};
@@ -42,6 +43,14 @@ impl Slots {
                 state: State::Vacant,
             })?;
         }
+        Ok(Slots { slots })
+    }
+
+    /// As many slots, of the same generations, all vacant.
+    pub fn emptied(&self, alloc: Global) -> Result<Slots, NoMemory>
+        ensures { IfOk result (λ s. s ≡ map (with_state (λ state. Vacant)) self.now) }
+    {
+        let slots = vacant_slots(alloc, &self.slots)?;
         Ok(Slots { slots })
     }
 
@@ -183,4 +192,15 @@ impl Slots {
     {
         self.slots[slot as usize] = old;
     }
+}
+
+// As many, of the same generations, all vacant.
+fn vacant_slots(alloc: Global, slots: &[Slot]) -> Result<Vec<Slot>, NoMemory>
+    ensures { IfOk result (λ v. v.items ≡ map (with_state (λ state. Vacant)) slots.now) }
+{
+    let mut vacant = Vec::new(alloc);
+    for slot in slots {
+        vacant.push(slot.vacated())?;
+    }
+    Ok(vacant)
 }

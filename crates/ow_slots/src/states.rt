@@ -292,6 +292,16 @@ impl Slot {
         self.generation == generation && self.state.takes_gone()
     }
 
+    // With no container.
+    pub(crate) fn vacated(&self) -> Slot
+        ensures { result ≡ with_state (λ state. Vacant) self.now }
+    {
+        Slot {
+            generation: self.generation,
+            state: State::Vacant,
+        }
+    }
+
     pub(crate) fn assign(&mut self, run: u64, key: Key, start: Start, at: u64)
         requires { StartFits start self.old }
         ensures { self.new ≡ assigned run key start at self.old }

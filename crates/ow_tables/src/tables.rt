@@ -122,6 +122,13 @@ impl Tables {
         self.row(kind, name).ok_or(TableRefusal::NotFound)
     }
 
+    /// Makes known that the rows stand in order, none twice.
+    pub fn are_ordered(&self)
+        ensures { AreRows self.now.rows }
+    {
+        let _rows = self.rows.as_slice();
+    }
+
     /// What lists show of the rows of the kind that stand in the namespace, in packages too: by name, but for the first
     /// `skip`, and at most `limit`.
     pub fn list(

@@ -3,6 +3,10 @@
 //! The program: the words of the command line, standard input, output and error, and the exit status.
 
 #[cfg(test)]
+mod containers;
+#[cfg(test)]
+mod endings;
+#[cfg(test)]
 mod tests;
 #[cfg(test)]
 mod waits;

@@ -6,12 +6,12 @@ use std::test::Fail;
 
 // What came of one call of the office.
 #[derive(Drop)]
-struct Told {
-    status: Status,
+pub struct Told {
+    pub status: Status,
     // How many bytes of the day are left.
     left: usize,
-    out: MemorySink,
-    err: MemorySink,
+    pub out: MemorySink,
+    pub err: MemorySink,
 }
 
 // The office over a source of these bytes, of which the calls of these numbers fail, as those of its sink do.
@@ -45,7 +45,7 @@ fn told_over(
 }
 
 // The office for one word.
-fn office_over(
+pub fn office_over(
     alloc: Global,
     word: &str,
     day: &[u8],
@@ -94,7 +94,7 @@ const CASES: [(&[u8], &[u8], Status); 17] = [
     (
         b"call /whisk.system/utils/echo {\"a\":1}\nnext\nanswer 1 {\"a\":1}\ndrain\nend\n",
         b"accepted 00000000000000000000000000000001
-run 1 00000000000000000000000000000001
+run 1 00000000000000000000000000000001 slot 0 gen 1 cold
 recorded 00000000000000000000000000000001 0
 drained 1
 ",
@@ -103,7 +103,7 @@ drained 1
     (
         b"call /whisk.system/utils/echo {}\nnext\ndrain",
         b"accepted 00000000000000000000000000000001
-run 1 00000000000000000000000000000001
+run 1 00000000000000000000000000000001 slot 0 gen 1 cold
 open 1
 ",
         Status::Ok,
@@ -134,8 +134,8 @@ drain
 ",
         b"accepted 00000000000000000000000000000001
 accepted 00000000000000000000000000000002
-run 1 00000000000000000000000000000001
-run 2 00000000000000000000000000000002
+run 1 00000000000000000000000000000001 slot 0 gen 1 cold
+run 2 00000000000000000000000000000002 slot 1 gen 1 cold
 recorded 00000000000000000000000000000002 1
 refused 29 No run 2.
 recorded 00000000000000000000000000000001 2
@@ -191,7 +191,7 @@ const ASKS: [(&[u8], &[u8], Status); 15] = [
     (
         b"call /whisk.system/utils/echo {}\nnext\ndrain\ncall /whisk.system/utils/echo {}\n",
         b"accepted 00000000000000000000000000000001
-run 1 00000000000000000000000000000001
+run 1 00000000000000000000000000000001 slot 0 gen 1 cold
 open 1
 refused 32 The office is draining.
 ",
@@ -360,7 +360,7 @@ Content-Length: 250\r
 \"timeout\":60000},\"name\":\"hello\",\"namespace\":\"guest\",\"parameters\":[],\"publish\":false,\
 \"version\":\"0.0.1\"}
 accepted 00000000000000010000000000000001
-run 1 00000000000000010000000000000001
+run 1 00000000000000010000000000000001 slot 0 gen 1 cold
 reply 322
 HTTP/1.1 200 OK\r
 Content-Type: application/json\r
@@ -490,10 +490,10 @@ drain
 accepted 00000000000000000000000000000002
 accepted 00000000000000000000000000000003
 accepted 00000000000000000000000000000004
-run 1 00000000000000000000000000000001
-run 2 00000000000000000000000000000002
-run 3 00000000000000000000000000000003
-run 4 00000000000000000000000000000004
+run 1 00000000000000000000000000000001 slot 0 gen 1 cold
+run 2 00000000000000000000000000000002 slot 1 gen 1 cold
+run 3 00000000000000000000000000000003 slot 2 gen 1 cold
+run 4 00000000000000000000000000000004 slot 3 gen 1 cold
 recorded 00000000000000000000000000000004 2
 recorded 00000000000000000000000000000003 1
 recorded 00000000000000000000000000000002 3
@@ -640,153 +640,5 @@ fn what_follows_the_end_is_left(rt: HostRuntime) -> Result<(), Fail> {
 fn what_follows_a_bad_statement_is_left(rt: HostRuntime) -> Result<(), Fail> {
     let day = long_day(rt.alloc(), b"x\n", 70_000, b"")?;
     assert!(rt; leaves(rt.alloc(), &day, Status::BadDay { statement: 1 }, 4_466)?);
-    Ok(())
-}
-
-const HELP: &[u8] = b"ow_whisk: a function service after Apache OpenWhisk
-
-usage: ow_whisk day < FILE     carries out the statements of a day, and writes each answer
-       ow_whisk --help         writes this text
-       ow_whisk --version      writes the version
-
-A day has one statement a line, of at most 8388608 bytes. Its words are parted by one space, its
-numbers are decimal without leading zeros. NAME is an action's full name, percent-encoded, as
-/guest/hello, or /whisk.system/utils/echo, which is built in. TEXT is the rest of the line: a JSON
-object with whole numbers of 64 bits, nested at most 100 deep. An ID has 32 hexadecimal digits.
-Below each statement stand the forms of its answer.
-
-  at MOMENT          sets the moment, in milliseconds, at most 253402300799999; it is 0 at first
-                       no answer
-  ask N              is an HTTP request: N bytes, at most 8388608, follow the line, and a newline
-                       reply M               on the lines behind it its M bytes, and a newline
-                       waiting ID            the request waits for this activation: see collect
-  call NAME TEXT     calls an action with this object
-                       accepted ID           it waits
-                       refused NUMBER WHY    it was not accepted
-  next               orders what has waited longest to run
-                       run RUN ID            RUN is its number, from 1
-                       nothing empty         nothing waits
-  turn               orders what has waited longest to run, runs it, and replies to the run
-                       run RUN ID            and behind it
-                       recorded ID CODE      as below answer
-                       nothing empty         nothing waits
-  answer RUN TEXT    is a runner's answer to that run, of at most 1048576 bytes
-                       recorded ID CODE      0 success, 1 it has the name error, 2 no such object
-                       refused 29 WHY        no such run is under way
-  logged RUN K TEXT  is such an answer with logs: K lines follow, of at most 8388608 bytes each
-                       recorded, refused     as below answer
-  exit RUN CODE      tells that the run's program ended with this status, up to 255, and no answer
-                       recorded ID 2         or refused, as below answer
-  nostart RUN TEXT   tells why what was to run did not start
-                       recorded ID 3         or refused, as below answer
-  fault RUN          tells that the run's runner failed
-                       recorded ID 3         or refused, as below answer
-  collect ID         is how a request that waits for this activation is answered by now
-                       reply M               as below ask
-                       not yet               it has not ended, and its request still waits
-                       refused 14 WHY        no request waits for it
-  drain              takes no more calls from now on
-                       drained N             all N that were accepted have ended
-                       open N                N have not ended
-  end                ends the day; what follows is not acted on
-                       no answer
-
-exit status, and its line on standard error:
-  0  none            all was carried out
-  1  bad day at N    what stands at the Nth place is no statement; an ask and its bytes are one,
-                     as are a logged and its lines
-  2  bad words       the command line is none of the three above
-  3  read fault      the day could not be read on
-  4  write fault     an answer could not be written
-  7  no memory       memory was wanted
-  8  day too long    it has more than 1073741824 bytes
-";
-
-// One call of the office for a word, and what is to come of it.
-struct Ending {
-    word: &'static str,
-    day: &'static [u8],
-    failing_reads: &'static [u64],
-    failing_writes: &'static [u64],
-    status: Status,
-    out: &'static [u8],
-    err: &'static [u8],
-}
-
-const ENDINGS: [Ending; 6] = [
-    Ending {
-        word: "day",
-        day: b"next\nnext",
-        failing_reads: &[1],
-        failing_writes: &[],
-        status: Status::ReadFault,
-        out: b"nothing empty\n",
-        err: b"read fault\n",
-    },
-    Ending {
-        word: "day",
-        day: b"next\nnext\nend\n",
-        failing_reads: &[],
-        failing_writes: &[0],
-        status: Status::WriteFault,
-        out: b"",
-        err: b"write fault\n",
-    },
-    Ending {
-        word: "day",
-        day: b"next\nnex\n",
-        failing_reads: &[],
-        failing_writes: &[],
-        status: Status::BadDay { statement: 2 },
-        out: b"nothing empty\n",
-        err: b"bad day at 2\n",
-    },
-    Ending {
-        word: "days",
-        day: b"next\n",
-        failing_reads: &[],
-        failing_writes: &[],
-        status: Status::BadWords,
-        out: b"",
-        err: b"bad words\n",
-    },
-    Ending {
-        word: "--help",
-        day: b"",
-        failing_reads: &[],
-        failing_writes: &[],
-        status: Status::Ok,
-        out: HELP,
-        err: b"",
-    },
-    Ending {
-        word: "--version",
-        day: b"",
-        failing_reads: &[],
-        failing_writes: &[],
-        status: Status::Ok,
-        out: b"ow_whisk 0.1.0\n",
-        err: b"",
-    },
-];
-
-// Whether the office ends so.
-fn has_ending(alloc: Global, case: &Ending) -> Result<bool, Fail> {
-    let told = office_over(
-        alloc,
-        case.word,
-        case.day,
-        case.failing_reads,
-        case.failing_writes,
-    )?;
-    let is_written = told.out.bytes() == case.out && told.err.bytes() == case.err;
-    Ok(told.status == case.status && is_written)
-}
-
-#[test]
-fn faults_and_words_have_their_status(rt: HostRuntime) -> Result<(), Fail> {
-    for (number, case) in ENDINGS.iter().enumerate() {
-        assert!(rt; has_ending(rt.alloc(), case)?, "ending {number}");
-    }
     Ok(())
 }

@@ -29,7 +29,7 @@ Content-Length: 250\r
 \r
 {\"annotations\":[],\"exec\":{\"code\":\"{\\\"cases\\\":[{\\\"when\\\":{},\\\"give\\\":{\\\"greeting\\\":\\\"Hello\\\"}}]}\",\"kind\":\"plain:1\"},\"limits\":{\"logs\":10,\"memory\":256,\"timeout\":60000},\"name\":\"hello\",\"namespace\":\"guest\",\"parameters\":[],\"publish\":false,\"version\":\"0.0.1\"}
 waiting 00000000000000010000000000000001
-run 1 00000000000000010000000000000001
+run 1 00000000000000010000000000000001 slot 0 gen 1 cold
 recorded 00000000000000010000000000000001 0
 reply 91
 HTTP/1.1 200 OK\r
@@ -78,14 +78,14 @@ Content-Type: application/json\r
 Content-Length: 51\r
 \r
 {\"activationId\":\"00000000000000010000000000000001\"}
-run 1 00000000000000010000000000000001
+run 1 00000000000000010000000000000001 slot 0 gen 1 cold
 recorded 00000000000000010000000000000001 0
-reply 485
+reply 514
 HTTP/1.1 200 OK\r
 Content-Type: application/json\r
-Content-Length: 413\r
+Content-Length: 442\r
 \r
-{\"activationId\":\"00000000000000010000000000000001\",\"annotations\":[{\"key\":\"kind\",\"value\":\"plain:1\"},{\"key\":\"limits\",\"value\":{\"logs\":10,\"memory\":256,\"timeout\":100}},{\"key\":\"path\",\"value\":\"guest/a\"},{\"key\":\"waitTime\",\"value\":100}],\"duration\":0,\"end\":100,\"logs\":[],\"name\":\"a\",\"namespace\":\"guest\",\"response\":{\"result\":{},\"status\":\"success\",\"statusCode\":0,\"success\":true},\"start\":100,\"subject\":\"anna\",\"version\":\"0.0.1\"}
+{\"activationId\":\"00000000000000010000000000000001\",\"annotations\":[{\"key\":\"initTime\",\"value\":0},{\"key\":\"kind\",\"value\":\"plain:1\"},{\"key\":\"limits\",\"value\":{\"logs\":10,\"memory\":256,\"timeout\":100}},{\"key\":\"path\",\"value\":\"guest/a\"},{\"key\":\"waitTime\",\"value\":100}],\"duration\":0,\"end\":100,\"logs\":[],\"name\":\"a\",\"namespace\":\"guest\",\"response\":{\"result\":{},\"status\":\"success\",\"statusCode\":0,\"success\":true},\"start\":100,\"subject\":\"anna\",\"version\":\"0.0.1\"}
 ",
         Status::Ok,
     ),
@@ -112,7 +112,7 @@ Content-Length: 236\r
 \r
 {\"annotations\":[],\"exec\":{\"code\":\"{\\\"cases\\\":[{\\\"when\\\":{},\\\"give\\\":{\\\"$all\\\":true}}]}\",\"kind\":\"plain:1\"},\"limits\":{\"logs\":0,\"memory\":256,\"timeout\":60000},\"name\":\"a\",\"namespace\":\"guest\",\"parameters\":[],\"publish\":false,\"version\":\"0.0.1\"}
 accepted 00000000000000010000000000000001
-run 1 00000000000000010000000000000001
+run 1 00000000000000010000000000000001 slot 0 gen 1 cold
 recorded 00000000000000010000000000000001 0
 reply 104
 HTTP/1.1 200 OK\r
@@ -145,7 +145,7 @@ Content-Length: 237\r
 \r
 {\"annotations\":[],\"exec\":{\"code\":\"{\\\"cases\\\":[{\\\"when\\\":{},\\\"give\\\":{\\\"$all\\\":true}}]}\",\"kind\":\"plain:1\"},\"limits\":{\"logs\":10,\"memory\":256,\"timeout\":60000},\"name\":\"a\",\"namespace\":\"guest\",\"parameters\":[],\"publish\":false,\"version\":\"0.0.1\"}
 accepted 00000000000000010000000000000001
-run 1 00000000000000010000000000000001
+run 1 00000000000000010000000000000001 slot 0 gen 1 cold
 recorded 00000000000000010000000000000001 2
 reply 192
 HTTP/1.1 200 OK\r
@@ -167,7 +167,7 @@ turn
         b"accepted 00000000000000000000000000000001
 refused 14 The resource does not exist.
 refused 14 The resource does not exist.
-run 1 00000000000000000000000000000001
+run 1 00000000000000000000000000000001 slot 0 gen 1 cold
 recorded 00000000000000000000000000000001 0
 nothing empty
 ",

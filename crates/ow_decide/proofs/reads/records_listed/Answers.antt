@@ -7,6 +7,6 @@ use Rattle.ow_decide.proofs.RecordLaws.{records_shown}
 use Rattle.ow_decide.proofs.reads.records_listed.Goals as goal
 
 pub returns-clause-done : goal.returns-clause-done
-returns-clause-done c = λ S t stands. records_shown S (parts_of c.args.request.now) c.args.call.now _ (c.requires S t)
+returns-clause-done c = λ S t stands. records_shown S (parts_of c.args.request.now) c.args.call.now _ (rw t c.requires)
     (rw t (c.in_ok-listed.ensures ∙ ap (λ (rs : List Record). listing c.args.tenants.now.home c.args.call.now.skip c.args.call.now.limit rs)
     (c.records-records.ensures ∙ ap (λ (v : Shown). v.ended) stands.is)))

@@ -20,3 +20,7 @@ returns-in-Drain-clause-ok c = subst (λ (e : Event). MakesFor c.args.waits.now 
 pub returns-in-Collected-clause-ok : goal.returns-in-Collected-clause-ok
 returns-in-Collected-clause-ok c = subst (λ (e : Event). IfOk c.collect.result (MakesFor c.args.waits.now c.args.tenants.now c.args.tables.now.rows c.args.now c.args.floor.now.now c.args.floor.now.now (λ S. decide S e)))
     (sym c.in-Collected.is) (if_ok_map c.collect.result _ _ (λ s h. h c.args.tenants.now c.args.tables.now.rows) c.collect.ensures.ok)
+
+pub returns-in-Sweep-clause-ok : goal.returns-in-Sweep-clause-ok
+returns-in-Sweep-clause-ok c = subst (λ (e : Event). IfOk c.sweep.result (MakesFor c.args.waits.now c.args.tenants.now c.args.tables.now.rows c.args.now c.args.floor.now.now c.sweep.new.floor.now (λ S. decide S e)))
+    (sym c.in-Sweep.is) (if_ok_map c.sweep.result _ _ (λ s h S seen waits. h c.args.tenants.now c.args.tables.now.rows S seen) c.sweep.ensures.ok)

@@ -1,17 +1,29 @@
-use Rattle.std.proofs.Common.{subst}
-use Rattle.ow_traits.specs.Runner.{Starts}
-use Rattle.ow_invoker.proofs.Running.{down_replied, replied_if, steady_trans}
+use Rattle.std.proofs.Common.{refl}
+use Rattle.ow_invoker.proofs.Parts.{carried, early, missed, performs_from, unready}
+use Rattle.ow_invoker.proofs.Running.{replied_on}
 use Rattle.ow_invoker.proofs.run.run.Goals as goal
 
-pub returns-in-Down-clause-reply : goal.returns-in-Down-clause-reply
-returns-in-Down-clause-reply g c =
-    down_replied (g.R.Runner.gives c.args.runner.now) (g.R.Runner.faults c.args.runner.now) (g.R.Runner.faults c.start.new.self) c.args.order.now.kind c.args.order.now.code c.args.order.now.params c.in-Down.reply
-    (subst (λ s. Starts (g.R.Runner.gives c.args.runner.now) (g.R.Runner.faults c.args.runner.now) (g.R.Runner.faults c.start.new.self) c.args.order.now.kind s) c.in-Down.is c.in_ok-reply.ensures.started)
+pub returns-in-Up-clause-turns : goal.returns-in-Up-clause-turns
+returns-in-Up-clause-turns g c =
+    carried g.P.Keeper.rows g.P.Keeper.faults (g.R.Runner.gives c.args.runner.now) (g.R.Runner.faults c.args.runner.now) (g.R.Runner.faults c.perform.new.runner) c.args.hall.now c.perform.new.hall c.args.at
+    c.args.order.now c.args.shelf.now c.make_ready.new.shelf c.perform.new.shelf c.in-Up.ensures.ready.0 c.in-Up.ensures.ready.1 c.perform.result
+    (performs_from g.P.Keeper.rows g.P.Keeper.faults (g.R.Runner.gives c.args.runner.now) (g.R.Runner.gives c.make_ready.new.runner) (g.R.Runner.gives c.perform.new.runner) (g.R.Runner.faults c.args.runner.now)
+    (g.R.Runner.faults c.make_ready.new.runner) (g.R.Runner.faults c.perform.new.runner) c.args.hall.now c.perform.new.hall c.args.at c.args.order.now c.make_ready.new.shelf c.perform.new.shelf c.perform.result
+    c.in-Up.ensures.runner c.perform.ensures.runner c.perform.ensures.performs)
 
-pub returns-in-Up-clause-steady : goal.returns-in-Up-clause-steady
-returns-in-Up-clause-steady g c = steady_trans c.start.ensures.steady (steady_trans c.reply_in-reply.ensures.steady c.stop.ensures)
+pub returns-in-Early-clause-turns : goal.returns-in-Early-clause-turns
+returns-in-Early-clause-turns g c =
+    early g.P.Keeper.rows g.P.Keeper.faults (g.R.Runner.gives c.args.runner.now) (g.R.Runner.faults c.args.runner.now) (g.R.Runner.faults c.settle.new.runner) c.args.hall.now c.settle.new.hall c.args.at
+    c.args.order.now c.args.shelf.now c.make_ready.new.shelf c.settle.new.shelf c.in-Early.ensures.ready.0 c.in-Early.ensures.ready.1 c.in-Early.reply c.settle.result
+    (λ params. replied_on c.args.order.now.kind c.args.order.now.code params c.in-Early.reply c.in-Early.ensures.runner c.settle.ensures.runner.later (c.in-Early.ensures.ready.2.0 params))
+    c.settle.ensures.settles
 
-pub returns-in-Up-clause-reply : goal.returns-in-Up-clause-reply
-returns-in-Up-clause-reply g c =
-    replied_if c.args.order.now.kind c.args.order.now.code c.args.order.now.params c.reply_in-reply.result
-    c.start.ensures.steady c.reply_in-reply.ensures.steady c.stop.ensures.later c.reply_in-reply.ensures.reply
+pub returns-in-Missing-clause-turns : goal.returns-in-Missing-clause-turns
+returns-in-Missing-clause-turns g c =
+    missed g.P.Keeper.rows g.P.Keeper.faults (g.R.Runner.gives c.args.runner.now) (g.R.Runner.faults c.args.runner.now) (g.R.Runner.faults c.make_ready.new.runner) c.args.hall.now c.lose.new.hall c.args.at
+    c.args.order.now c.args.shelf.now c.make_ready.new.shelf c.lose.result c.in-Missing.ensures.ready.0 c.in-Missing.ensures.ready.1 c.lose.ensures
+
+pub returns-in-NoMemory-clause-turns : goal.returns-in-NoMemory-clause-turns
+returns-in-NoMemory-clause-turns g c =
+    unready g.P.Keeper.rows g.P.Keeper.faults (g.R.Runner.gives c.args.runner.now) (g.R.Runner.faults c.args.runner.now) (g.R.Runner.faults c.make_ready.new.runner) c.args.hall.now c.give_up.new.hall c.args.at
+    c.args.order.now c.args.shelf.now c.make_ready.new.shelf c.make_ready.new.shelf c.in-NoMemory.ensures.ready.0 c.in-NoMemory.ensures.ready.1 _ c.give_up.result refl c.give_up.ensures

@@ -10,7 +10,7 @@ returns-clause-does g c =
       record {
         exchanges = t.0;
         turn = t.1.0;
-        met = chained g.P.Keeper.rows g.P.Keeper.faults c.args.self.now c.day_turn.new.hall t.0 t.1.1;
+        met = chained g.P.Keeper.rows g.P.Keeper.faults c.args.self.now c.day_turn.new.hall c.day_turn.new.shelf t.0 t.1.1;
         steps = t.1.2;
       },
     )

@@ -3,7 +3,8 @@ use Rattle.ow_floor.specs.View.{FloorView}
 use Rattle.ow_floor.specs.Laws.{Grows}
 use Rattle.ow_floor.specs.Calls.{reopened_items}
 use Rattle.ow_floor.specs.Store.{show}
-use Rattle.ow_floor.proofs.Growing.{made_reopen, on_ok, past_good}
+use Rattle.ow_floor.proofs.Results.{on_ok}
+use Rattle.ow_floor.proofs.Growing.{made_reopen, past_good}
 use Rattle.ow_floor.proofs.floor.Floor.reopen.Goals as goal
 
 pub returns-clause-ok : goal.returns-clause-ok

@@ -1,0 +1,74 @@
+-- No event of a turn opens the service.
+use Rattle.std.proofs.Common.{◌≡◌, ◌⊎◌, ◌++◌, ℕ, Bool, true, false, List, [], ◌∷◌, inl, inr, refl, ap}
+use Rattle.ow_traits.specs.declared.replies.RunReply.{RunReply}
+use Rattle.ow_floor.specs.declared.answers.Container.{Container}
+use Rattle.ow_floor.specs.declared.answers.Order.{Order}
+use Rattle.ow_floor.specs.declared.answers.Order.TheVariants as orders
+use Rattle.ow_floor.specs.declared.answers.PrewarmOrder.{PrewarmOrder}
+use Rattle.ow_floor.specs.declared.answers.RunOrder.{RunOrder}
+use Rattle.ow_decide.specs.declared.events.Event.{Event}
+use Rattle.ow_hall.specs.History.{is_opening}
+use Rattle.ow_invoker.specs.Plain.{PlainGives}
+use Rattle.ow_invoker.specs.Turns.{AreBoth, Exchange, Follows, IsAlone, IsCarriedOut, IsTurn, Opens, PrewarmFollows, Removes, Rests, RunFollows, is_answer, is_late, is_missing}
+use Rattle.ow_invoker.specs.declared.plain_runner.PlainContainer.{PlainContainer}
+use Rattle.ow_invoker.specs.declared.shelf.Laid.{Laid}
+
+abbrev Shelved : Type 0
+Shelved = List (Laid PlainContainer)
+
+abbrev pub NoneOpens : List Exchange → Type 0
+NoneOpens [] = Unit {0}
+NoneOpens (x ∷ xs) = (is_opening x.event ≡ false) × NoneOpens xs
+
+both_open : (xs ys : List Exchange) → NoneOpens xs → NoneOpens ys → NoneOpens (xs ++ ys)
+both_open [] ys none later = later
+both_open (x ∷ xs) ys (first, none) later = (first, both_open xs ys none later)
+
+alone : (event : Event) (xs : List Exchange) → is_opening event ≡ false → IsAlone event xs → NoneOpens xs
+alone event xs later (answer, is) = rw is (later, tt)
+
+pair : (first second : Event) (xs : List Exchange) → is_opening first ≡ false → is_opening second ≡ false → AreBoth first second xs → NoneOpens xs
+pair first second xs a b (answer, later, is) = rw is (a, b, tt)
+
+-- ---- runs
+
+opening_opens : (order : RunOrder) (reply : RunReply) (xs : List Exchange) → Opens PlainGives 0 0 order reply xs → NoneOpens xs
+opening_opens order reply [] opens = tt
+opening_opens order reply (x ∷ xs) (cold, (event, none)) = (ap is_opening event, rw none tt)
+
+rest_opens : (answers late : Bool) (order : RunOrder) (shelf : Shelved) (xs : List Exchange) (left : Shelved) → Rests answers late order shelf xs left → NoneOpens xs
+rest_opens true false order shelf xs left rests = rw rests.0 tt
+rest_opens true true order shelf xs left rests = alone _ xs refl rests.0
+rest_opens false late order shelf xs left rests = alone _ xs refl rests.0
+
+carried_opens : (order : RunOrder) (shelf : Shelved) (xs : List Exchange) (left : Shelved) → IsCarriedOut PlainGives 0 0 order shelf xs left → NoneOpens xs
+carried_opens order shelf xs left c =
+    let s = c.settled in
+    let ending = rest_opens (is_answer c.reply) (is_late s.answer) order shelf s.ending left s.rests in
+    let booking : NoneOpens c.booking = rw s.is (refl, ending) in
+    rw c.is (both_open c.opening c.booking (opening_opens order c.reply c.opening c.opens) booking)
+
+run_opens : (missing : Bool) (order : RunOrder) (shelf : Shelved) (xs : List Exchange) (left : Shelved) → RunFollows missing PlainGives 0 0 order shelf xs left → NoneOpens xs
+run_opens true order shelf xs left follows = alone _ xs refl follows.0
+run_opens false order shelf xs left follows = carried_opens order _ xs left follows
+
+-- ---- other orders
+
+prewarm_opens : (order : PrewarmOrder) (shelf : Shelved) (xs : List Exchange) (left : Shelved) → PrewarmFollows PlainGives 0 0 order shelf xs left → NoneOpens xs
+prewarm_opens order shelf xs left (inl warmed) = alone _ xs refl warmed.0
+prewarm_opens order shelf xs left (inr (refused, unwarmed)) = pair _ _ xs refl refl unwarmed.0
+
+removal_opens : (cs : List Container) (shelf : Shelved) (xs : List Exchange) (left : Shelved) → Removes cs shelf xs left → NoneOpens xs
+removal_opens [] shelf xs left removes = rw removes.0 tt
+removal_opens (c ∷ cs) shelf [] left never = absurd never
+removal_opens (c ∷ cs) shelf (x ∷ xs) left (event, rest) = (ap is_opening event, removal_opens cs _ xs left rest)
+
+follow_opens : (shelf : Shelved) (order : Order) (xs : List Exchange) (left : Shelved) → Follows PlainGives 0 0 shelf order xs left → NoneOpens xs
+follow_opens shelf (orders.Run order) xs left follows = run_opens (is_missing order shelf) order shelf xs left follows
+follow_opens shelf (orders.Prewarm order) xs left follows = prewarm_opens order shelf xs left follows
+follow_opens shelf (orders.Remove containers) xs left follows = removal_opens containers shelf xs left follows
+follow_opens shelf (orders.Nothing why) xs left follows = rw follows.0 tt
+
+pub turn_opens : (shelf : Shelved) (order : Order) (xs : List Exchange) (left : Shelved) → IsTurn PlainGives 0 0 shelf order xs left → NoneOpens xs
+turn_opens shelf order [] left never = absurd never
+turn_opens shelf order (x ∷ xs) left (is, follows) = (ap (λ (e : Exchange). is_opening e.event) is, follow_opens shelf order xs left follows)

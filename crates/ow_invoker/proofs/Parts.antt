@@ -1,0 +1,227 @@
+-- A run, from the parts that it has.
+use Rattle.std.proofs.Common.{◌≡◌, ◌⊎◌, ℕ, Bool, true, false, List, [], ◌∷◌, ◌++◌, Option, None, Ok, Err, Result, refl, sym, ap, inl, inr, ⊎_elim, append-nil, subst, ◌∙◌}
+use Rattle.ow_slots.specs.State.{is_warm}
+use Rattle.ow_traits.specs.Runner.{Giving, Replies, RepliesToAny, Steady}
+use Rattle.ow_traits.specs.declared.replies.RunReply.{RunReply}
+use Rattle.ow_value.specs.declared.memory.NoMemory.{NoMemory as Want}
+use Rattle.ow_floor.specs.declared.answers.Order.TheVariants as orders
+use Rattle.ow_floor.specs.declared.answers.RunOrder.{RunOrder}
+use Rattle.ow_decide.specs.declared.events.Event.TheVariants as events
+use Rattle.ow_decide.specs.declared.events.Told.{Told}
+use Rattle.ow_hall.specs.Comes.{Answers, Comes, HallView, KeptRows}
+use Rattle.ow_invoker.specs.Parts.{Books, Carries, EndsBy, Initialised, LiesBy, OpensBy, Performs, Settles, Tells, TellsAll, TwoSteps, both, in_order, listed}
+use Rattle.ow_invoker.specs.Shelf.{IsLaid, without}
+use Rattle.ow_invoker.specs.Turns.{AreBoth, Chain, Exchange, IsAlone, IsCarriedOut, IsGivenUp, IsUnbooked, Opens, Rests, RestsUnbooked, RunFollows, RunStops, exchange, gone, is_answer, is_late, is_missing, lost, shelf_at, steps_in, steps_of}
+use Rattle.ow_invoker.specs.declared.readying.Readiness.{Readiness}
+use Rattle.ow_invoker.specs.declared.readying.Readiness.TheVariants.{Early, Missing, NoMemory, Up}
+use Rattle.ow_invoker.specs.declared.shelf.Laid.{Laid}
+use Rattle.ow_invoker.specs.declared.turn.TurnStep.{TurnStep}
+use Rattle.ow_invoker.proofs.Running.{replied_from}
+use Rattle.ow_invoker.proofs.Turning.{alone_told, chain_more, opens_so, told_behind}
+
+opens_from : (f g h : Giving) (a b c : ℕ) (order : RunOrder) (reply : RunReply) (xs : List Exchange) → Steady f g a b → Steady g h b c
+    → Opens g b c order reply xs → Opens f a c order reply xs
+opens_from f g h a b c order reply [] s t x =
+    ⊎_elim (λ w. inl w) (λ any. inr (λ params. replied_from order.kind order.code params reply s t (any params))) x
+opens_from f g h a b c order reply (x ∷ xs) s t k = k
+
+begun_or_not : (b : Bool) (order : RunOrder) (xs : List Exchange) → is_warm order.start ≡ b → OpensBy b order xs
+    → (xs ≡ []) ⊎ ((is_warm order.start ≡ false) × IsAlone (events.Begun order.run) xs)
+begun_or_not true order xs is h = inl h
+begun_or_not false order xs is h = inr (is, h)
+
+module _ {B : Type 0} where
+  rested : (answers late : Bool) (order : RunOrder) (shelf laid : List (Laid B)) (xs : List Exchange) (left : List (Laid B))
+      → LiesBy answers order shelf laid → EndsBy answers late order laid xs left → Rests answers late order shelf xs left
+  rested true false order shelf laid xs left h k = (k.0, subst (λ s. IsLaid order.slot order.generation shelf s) (sym k.1) h)
+  rested true true order shelf laid xs left h k = (k.0, (laid, (h, k.1)))
+  rested false late order shelf laid xs left h k = (k.0, k.1 ∙ h)
+
+  unbooked : (answers : Bool) (order : RunOrder) (reply : RunReply) (shelf laid left : List (Laid B)) → is_answer reply ≡ answers
+      → LiesBy answers order shelf laid → left ≡ laid → RestsUnbooked order reply shelf left
+  unbooked true order reply shelf laid left is h same = inr (is, subst (λ s. IsLaid order.slot order.generation shelf s) (sym same) h)
+  unbooked false order reply shelf laid left is h same = inl (same ∙ h)
+
+  -- ---- windows of calls
+
+  carried_from : (f g h : Giving) (a b c : ℕ) (order : RunOrder) (shelf : List (Laid B)) (xs : List Exchange) (left : List (Laid B)) → Steady f g a b → Steady g h b c
+      → IsCarriedOut g b c order shelf xs left → IsCarriedOut f a c order shelf xs left
+  carried_from f g h a b c order shelf xs left s t k = record {
+    reply = k.reply;
+    replies = replied_from order.kind order.code order.params k.reply s t k.replies;
+    opening = k.opening;
+    opens = opens_from f g h a b c order k.reply k.opening s t k.opens;
+    booking = k.booking;
+    settled = k.settled;
+    is = k.is;
+  }
+
+  unbooked_from : (f g h : Giving) (a b c : ℕ) (order : RunOrder) (shelf : List (Laid B)) (xs : List Exchange) (left : List (Laid B)) → Steady f g a b → Steady g h b c
+      → IsUnbooked g b c order shelf xs left → IsUnbooked f a c order shelf xs left
+  unbooked_from f g h a b c order shelf xs left s t k = record {
+    reply = k.reply;
+    replies = replied_from order.kind order.code order.params k.reply s t k.replies;
+    opens = opens_from f g h a b c order k.reply xs s t k.opens;
+    rests = k.rests;
+  }
+
+module _ {P B : Type 0} (rows : P → KeptRows) (faults : P → ℕ) where
+  -- behind a reply that is no answer
+  pub ended : (old new : HallView P) (at : ℕ) (order : RunOrder) (laid : List (Laid B)) (answers late : Bool) (step : Option TurnStep) → answers ≡ false → Tells rows faults old new at (gone order) step
+      → (xs : List Exchange) × (EndsBy answers late order laid xs laid × TellsAll rows faults old new at xs (listed step))
+  ended old new at order laid answers late step isnt h =
+      let t = alone_told rows faults old new at (gone order) step h in
+      (t.0, (subst (λ b. EndsBy b late order laid t.0 laid) (sym isnt) (t.1.0, refl), t.1.1))
+
+  -- behind an answer that came late
+  pub taken_back : (old new : HallView P) (at : ℕ) (order : RunOrder) (laid left : List (Laid B)) (answers late : Bool) (step : Option TurnStep) → answers ≡ true → late ≡ true
+      → left ≡ without order.slot order.generation laid → Tells rows faults old new at (gone order) step
+      → (xs : List Exchange) × (EndsBy answers late order laid xs left × TellsAll rows faults old new at xs (listed step))
+  taken_back old new at order laid left answers late step does comes_late is h =
+      let t = alone_told rows faults old new at (gone order) step h in
+      (t.0, (subst (λ b. EndsBy b late order laid t.0 left) (sym does) (subst (λ l. EndsBy true l order laid t.0 left) (sym comes_late) (t.1.0, is)), t.1.1))
+
+  -- behind one in time
+  pub stayed : (old : HallView P) (at : ℕ) (order : RunOrder) (laid : List (Laid B)) (answers late : Bool) → answers ≡ true → late ≡ false
+      → (xs : List Exchange) × (EndsBy answers late order laid xs laid × TellsAll rows faults old old at xs [])
+  stayed old at order laid answers late does in_time =
+      ([], (subst (λ b. EndsBy b late order laid [] laid) (sym does) (subst (λ l. EndsBy true l order laid [] laid) (sym in_time) (refl, refl)), (refl, refl)))
+
+  -- a reply was booked, and what is told of its end follows
+  pub booked : (old middle new : HallView P) (at : ℕ) (order : RunOrder) (reply : RunReply) (answers : Bool) (laid left : List (Laid B)) (first : Option TurnStep) (answer : Told) (second : Option TurnStep)
+      → answers ≡ is_answer reply
+      → Comes rows faults old middle at (events.Answered order.run reply) (Answers answer) → listed first ≡ steps_of (events.Answered order.run reply) answer
+      → (xs : List Exchange) × (EndsBy answers (is_late answer) order laid xs left × TellsAll rows faults middle new at xs (listed second))
+      → Books rows faults old new at order reply laid left (Ok (first, second))
+  booked old middle new at order reply answers laid left first answer second same comes told h = (
+    exchange (events.Answered order.run reply) answer ∷ h.0,
+    (
+      record { answer = answer; ending = h.0; is = refl; ends = subst (λ b. EndsBy b (is_late answer) order laid h.0 left) same h.1.0 },
+      ((middle, (comes, h.1.1.0)), ap (λ s. s ++ listed second) told ∙ ap (λ s. steps_of (events.Answered order.run reply) answer ++ s) h.1.1.1),
+    ),
+  )
+
+  pub settled : (old new : HallView P) (at : ℕ) (order : RunOrder) (reply : RunReply) (shelf laid left : List (Laid B)) (result : Result TwoSteps Want)
+      → LiesBy (is_answer reply) order shelf laid → Books rows faults old new at order reply laid left result → Settles rows faults old new at order reply shelf left result
+  settled old new at order reply shelf laid left (Ok steps) h k = (
+    k.0,
+    (
+      record {
+        answer = k.1.0.answer;
+        ending = k.1.0.ending;
+        is = k.1.0.is;
+        rests = rested (is_answer reply) (is_late k.1.0.answer) order shelf laid k.1.0.ending left h k.1.0.ends;
+      },
+      k.1.1,
+    ),
+  )
+  settled old new at order reply shelf laid left (Err e) h k = (k.0, unbooked (is_answer reply) order reply shelf laid left refl h k.1)
+
+  module _ (gives : Giving) (before now : ℕ) where
+    -- the run began, and its reply is settled
+    pub performed : (old middle new : HallView P) (at : ℕ) (order : RunOrder) (reply : RunReply) (shelf left : List (Laid B)) (result : Result TwoSteps Want)
+        → Replies gives before now order.kind order.code order.params reply
+        → (xs : List Exchange) × (OpensBy (is_warm order.start) order xs × Chain rows faults old middle at xs)
+        → Settles rows faults middle new at order reply shelf left result → Performs rows faults gives before now old new at order shelf left result
+    performed old middle new at order reply shelf left (Ok steps) replies b k = (
+      b.0 ++ k.0,
+      (
+        record {
+          reply = reply;
+          replies = replies;
+          opening = b.0;
+          opens = opens_so gives before now order reply (is_warm order.start) b.0 refl b.1.0;
+          booking = k.0;
+          settled = k.1.0;
+          is = refl;
+        },
+        (chain_more rows faults old middle new at b.0 k.0 b.1.1 k.1.1.0, told_behind (is_warm order.start) order b.0 k.0 (both steps) b.1.0 k.1.1.1),
+      ),
+    )
+    performed old middle new at order reply shelf left (Err e) replies b k = (
+      b.0,
+      (
+        inr (record {
+          reply = reply;
+          replies = replies;
+          opens = opens_so gives before now order reply (is_warm order.start) b.0 refl b.1.0;
+          rests = k.1;
+        }),
+        subst (λ v. Chain rows faults old v at b.0) (sym k.0) b.1.1,
+      ),
+    )
+
+    -- there was no reply for want of memory
+    pub given_up : (old middle new : HallView P) (at : ℕ) (order : RunOrder) (shelf : List (Laid B)) (e : Want) (steps : TwoSteps)
+        → (xs : List Exchange) × (OpensBy (is_warm order.start) order xs × Chain rows faults old middle at xs)
+        → (xs : List Exchange) × (AreBoth (lost order) (gone order) xs × Chain rows faults middle new at xs × (both steps ≡ steps_in xs))
+        → Performs rows faults gives before now old new at order shelf shelf (Err e)
+    given_up old middle new at order shelf e steps b k = (
+      b.0 ++ k.0,
+      (
+        inl (record { opening = b.0; opens = begun_or_not (is_warm order.start) order b.0 refl b.1.0; ending = k.0; ends = k.1.0; is = refl; left_is = refl }),
+        chain_more rows faults old middle new at b.0 k.0 b.1.1 k.1.1,
+      ),
+    )
+
+    -- ---- by how the container came up
+
+    module _ (old new : HallView P) (at : ℕ) (order : RunOrder) (shelf there left : List (Laid B)) (had : is_missing order shelf ≡ false) (took : there ≡ shelf_at order shelf) where
+      had_carried : (xs : List Exchange) → IsCarriedOut gives before now order there xs left → RunFollows (is_missing order shelf) gives before now order shelf xs left
+      had_carried xs h = subst (λ b. RunFollows b gives before now order shelf xs left) (sym had) (subst (λ s. IsCarriedOut gives before now order s xs left) took h)
+
+      had_stopped : (xs : List Exchange) → IsGivenUp order there xs left ⊎ IsUnbooked gives before now order there xs left → RunStops (is_missing order shelf) gives before now order shelf xs left
+      had_stopped xs h = subst (λ b. RunStops b gives before now order shelf xs left) (sym had)
+          (subst (λ s. IsGivenUp order s xs left ⊎ IsUnbooked gives before now order s xs left) took h)
+
+      pub carried : (result : Result TwoSteps Want) → Performs rows faults gives before now old new at order there left result
+          → Carries rows faults gives before now old new at shelf left (orders.Run order) (in_order result)
+      carried (Ok steps) h = (h.0, (had_carried h.0 h.1.0, h.1.1))
+      carried (Err e) h = (h.0, (inl (had_stopped h.0 h.1.0), h.1.1))
+
+      -- it replied before any parameters
+      pub early : (reply : RunReply) (result : Result TwoSteps Want) → RepliesToAny gives before now order.kind order.code reply → Settles rows faults old new at order reply there left result
+          → Carries rows faults gives before now old new at shelf left (orders.Run order) (in_order result)
+      early reply (Ok steps) any k = (
+        k.0,
+        (
+          had_carried k.0 (record { reply = reply; replies = any order.params; opening = []; opens = inr any; booking = k.0; settled = k.1.0; is = refl }),
+          k.1.1,
+        ),
+      )
+      early reply (Err e) any k = (
+        [],
+        (inl (had_stopped [] (inr (record { reply = reply; replies = any order.params; opens = inr any; rests = k.1 }))), k.0),
+      )
+
+      -- memory was wanted for it
+      pub unready : (e : Want) (steps : TwoSteps) → left ≡ there
+          → (xs : List Exchange) × (AreBoth (lost order) (gone order) xs × Chain rows faults old new at xs × (both steps ≡ steps_in xs))
+          → Carries rows faults gives before now old new at shelf left (orders.Run order) (Err e)
+      unready e steps same k = (
+        k.0,
+        (inl (had_stopped k.0 (inl (record { opening = []; opens = inl refl; ending = k.0; ends = k.1.0; is = refl; left_is = same }))), k.1.1),
+      )
+
+    -- it doesn't lie there
+    pub missed : (old new : HallView P) (at : ℕ) (order : RunOrder) (shelf left : List (Laid B)) (step : Option TurnStep) → is_missing order shelf ≡ true → left ≡ shelf
+        → Tells rows faults old new at (lost order) step → Carries rows faults gives before now old new at shelf left (orders.Run order) (Ok (both (step, None)))
+    missed old new at order shelf left step none same h =
+        let t = alone_told rows faults old new at (lost order) step h in (
+          t.0,
+          (subst (λ b. RunFollows b gives before now order shelf t.0 left) (sym none) (t.1.0, same), (t.1.1.0, append-nil (listed step) ∙ t.1.1.1)),
+        )
+
+  -- the calls before count too
+  pub performs_from : (f g h : Giving) (a b c : ℕ) (old new : HallView P) (at : ℕ) (order : RunOrder) (shelf left : List (Laid B)) (result : Result TwoSteps Want) → Steady f g a b → Steady g h b c
+      → Performs rows faults g b c old new at order shelf left result → Performs rows faults f a c old new at order shelf left result
+  performs_from f g h a b c old new at order shelf left (Ok steps) s t k = (k.0, (carried_from f g h a b c order shelf k.0 left s t k.1.0, k.1.1))
+  performs_from f g h a b c old new at order shelf left (Err e) s t k =
+      (k.0, (⊎_elim (λ x. inl x) (λ x. inr (unbooked_from f g h a b c order shelf k.0 left s t x)) k.1.0, k.1.1))
+
+-- a container that was started, and initialised by the next call
+pub initialised_from : {B : Type 0} (f g h : Giving) (a b c : ℕ) (order : RunOrder) (ready : Readiness B) → Steady f g a b → Steady g h b c → Initialised g b c order ready → Initialised f a c order ready
+initialised_from f g h a b c order (Up living) s t k = tt
+initialised_from f g h a b c order (Early held reply) s t k = (λ params. replied_from order.kind order.code params reply s t (k.0 params), k.1)
+initialised_from f g h a b c order Missing s t k = k
+initialised_from f g h a b c order NoMemory s t k = tt

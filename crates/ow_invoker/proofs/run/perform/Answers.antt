@@ -1,0 +1,15 @@
+use Rattle.ow_invoker.proofs.Parts.{given_up, performed}
+use Rattle.ow_invoker.proofs.Running.{replied_on}
+use Rattle.ow_invoker.proofs.run.perform.Goals as goal
+
+pub returns-in-Ok-clause-performs : goal.returns-in-Ok-clause-performs
+returns-in-Ok-clause-performs g c =
+    performed g.P.Keeper.rows g.P.Keeper.faults (g.R.Runner.gives c.args.runner.now) (g.R.Runner.faults c.args.runner.now) (g.R.Runner.faults c.settle.new.runner) c.args.hall.now c.begin.new.hall c.settle.new.hall
+    c.args.at c.args.order.now c.in-Ok.reply c.args.shelf.now c.settle.new.shelf c.settle.result
+    (replied_on c.args.order.now.kind c.args.order.now.code c.args.order.now.params c.in-Ok.reply c.run.ensures.steady c.settle.ensures.runner.later c.in-Ok.ensures.reply)
+    c.begin.ensures c.settle.ensures.settles
+
+pub returns-in-Err-clause-performs : goal.returns-in-Err-clause-performs
+returns-in-Err-clause-performs g c =
+    given_up g.P.Keeper.rows g.P.Keeper.faults (g.R.Runner.gives c.args.runner.now) (g.R.Runner.faults c.args.runner.now) (g.R.Runner.faults c.stop.new.runner) c.args.hall.now c.begin.new.hall c.give_up.new.hall
+    c.args.at c.args.order.now c.args.shelf.now _ c.give_up.result c.begin.ensures c.give_up.ensures

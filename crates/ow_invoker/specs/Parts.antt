@@ -1,0 +1,137 @@
+-- The parts of a turn, for private clauses.
+use Rattle.std.specs.Prelude.{◌≡◌, ◌⊎◌, ◌++◌, ℕ, Bool, true, false, List, [], ◌∷◌, Option, Some, None, Result, Ok, Err}
+use Rattle.ow_traits.specs.Runner.{Giving, RefusesStart, RepliesToAny}
+use Rattle.ow_traits.specs.declared.replies.RunReply.{RunReply}
+use Rattle.ow_value.specs.declared.memory.NoMemory.{NoMemory as Want}
+use Rattle.ow_floor.specs.declared.answers.Order.{Order}
+use Rattle.ow_floor.specs.declared.answers.Order.TheVariants as orders
+use Rattle.ow_floor.specs.declared.answers.PrewarmOrder.{PrewarmOrder}
+use Rattle.ow_floor.specs.declared.answers.RunOrder.{RunOrder}
+use Rattle.ow_decide.specs.declared.events.Event.{Event}
+use Rattle.ow_decide.specs.declared.events.Event.TheVariants as events
+use Rattle.ow_decide.specs.declared.events.Told.{Told}
+use Rattle.ow_hall.specs.Comes.{Answers, Comes, HallView, KeptRows}
+use Rattle.ow_invoker.specs.Shelf.{IsLaid, without}
+use Rattle.ow_invoker.specs.Turns.{Chain, Exchange, Follows, IsCarriedOut, IsGivenUp, IsSettled, IsUnbooked, IsAlone, RestsUnbooked, Stops, exchange, gone, is_answer, is_late, is_missing, shelf_at, steps_in, steps_of}
+use Rattle.ow_invoker.specs.declared.readying.Readiness.{Readiness}
+use Rattle.ow_invoker.specs.declared.readying.Readiness.TheVariants.{Early, Missing, NoMemory, Up}
+use Rattle.ow_invoker.specs.declared.shelf.Laid.{Laid}
+use Rattle.ow_invoker.specs.declared.warming.Warming.{Warming}
+use Rattle.ow_invoker.specs.declared.warming.Warming.TheVariants.{Down, Unheld, Warmed}
+use Rattle.ow_invoker.specs.declared.turn.TurnStep.{TurnStep}
+use Rattle.ow_invoker.specs.declared.turn.Turned.{Turned}
+
+-- ---- what is told of an order
+
+abbrev pub listed : Option TurnStep → List TurnStep
+listed None = []
+listed (Some step) = step ∷ []
+
+-- at most two things
+abbrev pub TwoSteps : Type 0
+TwoSteps = Option TurnStep × Option TurnStep
+
+abbrev pub both : TwoSteps → List TurnStep
+both steps = listed steps.0 ++ listed steps.1
+
+abbrev pub in_order : Result TwoSteps Want → Result (List TurnStep) Want
+in_order (Ok steps) = Ok (both steps)
+in_order (Err e) = Err e
+
+-- they are put into a list, or memory is wanted
+abbrev pub Lists : Result TwoSteps Want → Result (List TurnStep) Want → Type 0
+Lists (Ok steps) (Ok list) = list ≡ both steps
+Lists (Ok steps) (Err e) = Unit {0}
+Lists (Err e) (Ok list) = ⊥
+Lists (Err e) (Err f) = Unit {0}
+
+-- ---- one event
+
+-- the hall takes an event or refuses it, and this is told of it
+abbrev pub Tells : {P : Type 0} → (P → KeptRows) → (P → ℕ) → HallView P → HallView P → ℕ → Event → Option TurnStep → Type 0
+Tells rows faults old new at event step = (answer : Told) × (Comes rows faults old new at event (Answers answer) × (listed step ≡ steps_of event answer))
+
+-- these events, and what is told of them
+abbrev pub TellsAll : {P : Type 0} → (P → KeptRows) → (P → ℕ) → HallView P → HallView P → ℕ → List Exchange → List TurnStep → Type 0
+TellsAll rows faults old new at xs steps = Chain rows faults old new at xs × (steps ≡ steps_in xs)
+
+-- ---- runs
+
+-- that the run began, where its start isn't warm
+abbrev pub OpensBy : Bool → RunOrder → List Exchange → Type 0
+OpensBy true order xs = xs ≡ []
+OpensBy false order xs = IsAlone (events.Begun order.run) xs
+
+-- the container lies on the shelf where the reply is an answer
+abbrev pub LiesBy : {B : Type 0} → Bool → RunOrder → List (Laid B) → List (Laid B) → Type 0
+LiesBy true order shelf laid = IsLaid order.slot order.generation shelf laid
+LiesBy false order shelf laid = laid ≡ shelf
+
+abbrev pub LaysDown : {B : Type 0} → RunOrder → RunReply → List (Laid B) → List (Laid B) → Result (Unit {0}) Want → Type 0
+LaysDown order reply shelf laid (Ok done) = LiesBy (is_answer reply) order shelf laid
+LaysDown order reply shelf laid (Err e) = laid ≡ shelf
+
+-- what becomes of it behind the reply, by whether that is an answer, and came late
+abbrev pub EndsBy : {B : Type 0} → Bool → Bool → RunOrder → List (Laid B) → List Exchange → List (Laid B) → Type 0
+EndsBy true false order laid xs left = (xs ≡ []) × (left ≡ laid)
+EndsBy true true order laid xs left = IsAlone (gone order) xs × (left ≡ without order.slot order.generation laid)
+EndsBy false late order laid xs left = IsAlone (gone order) xs × (left ≡ laid)
+
+-- the reply is booked
+pub record IsBooked {B : Type 0} (order : RunOrder) (reply : RunReply) (laid : List (Laid B)) (xs : List Exchange) (left : List (Laid B)) : Type 0 where
+  pub answer : Told
+  pub ending : List Exchange
+  pub is : xs ≡ exchange (events.Answered order.run reply) answer ∷ ending
+  pub ends : EndsBy (is_answer reply) (is_late answer) order laid ending left
+
+abbrev pub Books : {P B : Type 0} → (P → KeptRows) → (P → ℕ) → HallView P → HallView P → ℕ → RunOrder → RunReply → List (Laid B) → List (Laid B) → Result TwoSteps Want → Type 0
+Books rows faults old new at order reply laid left (Ok steps) = (xs : List Exchange) × (IsBooked order reply laid xs left × TellsAll rows faults old new at xs (both steps))
+Books rows faults old new at order reply laid left (Err e) = (new ≡ old) × (left ≡ laid)
+
+-- and the container laid down before
+abbrev pub Settles : {P B : Type 0} → (P → KeptRows) → (P → ℕ) → HallView P → HallView P → ℕ → RunOrder → RunReply → List (Laid B) → List (Laid B) → Result TwoSteps Want → Type 0
+Settles rows faults old new at order reply shelf left (Ok steps) = (xs : List Exchange) × (IsSettled order reply shelf xs left × TellsAll rows faults old new at xs (both steps))
+Settles rows faults old new at order reply shelf left (Err e) = (new ≡ old) × RestsUnbooked order reply shelf left
+
+-- a run takes place in its container
+abbrev pub Performs : {P B : Type 0} → (P → KeptRows) → (P → ℕ) → Giving → ℕ → ℕ → HallView P → HallView P → ℕ → RunOrder → List (Laid B) → List (Laid B) → Result TwoSteps Want → Type 0
+Performs rows faults gives before now old new at order shelf left (Ok steps) =
+    (xs : List Exchange) × (IsCarriedOut gives before now order shelf xs left × TellsAll rows faults old new at xs (both steps))
+Performs rows faults gives before now old new at order shelf left (Err e) =
+    (xs : List Exchange) × ((IsGivenUp order shelf xs left ⊎ IsUnbooked gives before now order shelf xs left) × Chain rows faults old new at xs)
+
+-- ---- getting a container up and initialised
+
+-- a started container, or one in hand
+abbrev pub Initialised : {B : Type 0} → Giving → ℕ → ℕ → RunOrder → Readiness B → Type 0
+Initialised gives before now order (Up living) = Unit {0}
+Initialised gives before now order (Early held reply) = RepliesToAny gives before now order.kind order.code reply × (held ≡ None → is_answer reply ≡ false)
+Initialised gives before now order Missing = ⊥
+Initialised gives before now order NoMemory = Unit {0}
+
+abbrev pub Readied : {B : Type 0} → Giving → ℕ → ℕ → RunOrder → List (Laid B) → List (Laid B) → Readiness B → Type 0
+Readied gives before now order shelf left (Up living) = (is_missing order shelf ≡ false) × (left ≡ shelf_at order shelf)
+Readied gives before now order shelf left (Early held reply) =
+    (is_missing order shelf ≡ false) × (left ≡ shelf_at order shelf) × Initialised gives before now order (Early held reply)
+Readied gives before now order shelf left Missing = (is_missing order shelf ≡ true) × (left ≡ shelf)
+Readied gives before now order shelf left NoMemory = (is_missing order shelf ≡ false) × (left ≡ shelf_at order shelf)
+
+-- ---- orders
+
+-- a container is started ahead
+abbrev pub Warms : {B : Type 0} → Giving → ℕ → ℕ → PrewarmOrder → List (Laid B) → List (Laid B) → Warming → Type 0
+Warms gives before now order shelf left Warmed = IsLaid order.slot order.generation shelf left
+Warms gives before now order shelf left Down = ((reply : RunReply) × RefusesStart gives before now order.kind reply) × (left ≡ shelf)
+Warms gives before now order shelf left Unheld = left ≡ shelf
+
+-- an order is carried out
+abbrev pub Carries : {P B : Type 0} → (P → KeptRows) → (P → ℕ) → Giving → ℕ → ℕ → HallView P → HallView P → ℕ → List (Laid B) → List (Laid B) → Order → Result (List TurnStep) Want → Type 0
+Carries rows faults gives before now old new at shelf left order (Ok steps) =
+    (xs : List Exchange) × (Follows gives before now shelf order xs left × TellsAll rows faults old new at xs steps)
+Carries rows faults gives before now old new at shelf left order (Err e) =
+    (xs : List Exchange) × ((Stops gives before now shelf order xs left ⊎ Follows gives before now shelf order xs left) × Chain rows faults old new at xs)
+
+-- and told
+abbrev pub TellsOf : {P B : Type 0} → (P → KeptRows) → (P → ℕ) → Giving → ℕ → ℕ → HallView P → HallView P → ℕ → List (Laid B) → List (Laid B) → Order → Result Turned Want → Type 0
+TellsOf rows faults gives before now old new at shelf left order (Ok turned) = (turned.order ≡ order) × Carries rows faults gives before now old new at shelf left order (Ok turned.steps)
+TellsOf rows faults gives before now old new at shelf left order (Err e) = Carries rows faults gives before now old new at shelf left order (Err e)

@@ -1,0 +1,53 @@
+// A container in hand.
+ghost use Rattle.std.specs.Prelude.{IfOk};
+ghost use Rattle.ow_traits.specs.Runner.{Initialises, Replies, Steady};
+
+use ow_floor::RunOrder;
+use ow_traits::{RunReply, Runner};
+use ow_value::NoMemory;
+use std::alloc::Global;
+
+/// A container that can't be let go: it is laid down or stopped.
+pub(crate) struct Living<B: Drop> {
+    pub(crate) container: B,
+}
+
+/// Ends the container.
+pub(crate) fn stop<R: Runner>(runner: &mut R, living: Living<R::Container>)
+    ensures { Steady (R.gives runner.old) (R.gives runner.new) (R.faults runner.old) (R.faults runner.new) }
+{
+    let Living { container } = living;
+    runner.stop(container);
+}
+
+/// Makes the container ready for the order's code.
+pub(crate) fn init<R: Runner>(
+    alloc: Global,
+    runner: &mut R,
+    living: &mut Living<R::Container>,
+    order: &RunOrder,
+) -> Result<Option<RunReply>, NoMemory>
+    ensures steady { Steady (R.gives runner.old) (R.gives runner.new) (R.faults runner.old) (R.faults runner.new) }
+    ensures ready { IfOk result (Initialises (R.gives runner.old) (R.faults runner.old) (R.faults runner.new) order.now.kind order.now.code) }
+{
+    runner.init(alloc, &mut living.container, order.kind, &order.code)
+}
+
+/// Runs the order in the container.
+pub(crate) fn run<R: Runner>(
+    alloc: Global,
+    runner: &mut R,
+    living: &mut Living<R::Container>,
+    order: &RunOrder,
+) -> Result<RunReply, NoMemory>
+    ensures steady { Steady (R.gives runner.old) (R.gives runner.new) (R.faults runner.old) (R.faults runner.new) }
+    ensures reply { IfOk result (Replies (R.gives runner.old) (R.faults runner.old) (R.faults runner.new) order.now.kind order.now.code order.now.params) }
+{
+    runner.run(
+        alloc,
+        &mut living.container,
+        order.kind,
+        &order.code,
+        &order.params,
+    )
+}

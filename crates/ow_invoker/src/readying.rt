@@ -1,0 +1,75 @@
+// How the container of a run comes up.
+ghost use Rattle.ow_traits.specs.Runner.{Steady};
+ghost use Rattle.ow_invoker.specs.Parts.{Initialised, Readied};
+
+use crate::living::{Living, init, stop};
+use crate::shelf::Shelf;
+use ow_floor::RunOrder;
+use ow_slots::Start;
+use ow_traits::{RunReply, Runner, Started};
+use std::alloc::Global;
+
+/// How a run came to its container.
+pub(crate) enum Readiness<B: Drop> {
+    // It is up and initialised.
+    Up(Living<B>),
+    // It replied before any parameters, and may live.
+    Early(Option<Living<B>>, RunReply),
+    // It doesn't lie there.
+    Missing,
+    // Memory was wanted, and the container in hand is stopped.
+    NoMemory,
+}
+
+/// Starts the container of a run, or takes it from the shelf, and initialises it where that is due.
+pub(crate) fn make_ready<R: Runner>(
+    alloc: Global,
+    shelf: &mut Shelf<R::Container>,
+    runner: &mut R,
+    order: &RunOrder,
+) -> Readiness<R::Container>
+    ensures runner { Steady (R.gives runner.old) (R.gives runner.new) (R.faults runner.old) (R.faults runner.new) }
+    ensures ready { Readied (R.gives runner.old) (R.faults runner.old) (R.faults runner.new) order.now shelf.old shelf.new result }
+{
+    match order.start {
+        Start::Cold => open(alloc, runner, order),
+        Start::Prewarmed => match shelf.take(order.slot, order.generation) {
+            Some(living) => initialise(alloc, runner, living, order),
+            None => Readiness::Missing,
+        },
+        Start::Warm => match shelf.take(order.slot, order.generation) {
+            Some(living) => Readiness::Up(living),
+            None => Readiness::Missing,
+        },
+    }
+}
+
+fn open<R: Runner>(alloc: Global, runner: &mut R, order: &RunOrder) -> Readiness<R::Container>
+    ensures runner { Steady (R.gives runner.old) (R.gives runner.new) (R.faults runner.old) (R.faults runner.new) }
+    ensures ready { Initialised (R.gives runner.old) (R.faults runner.old) (R.faults runner.new) order.now result }
+{
+    match runner.start(alloc, order.kind, order.memory) {
+        Ok(Started::Up(container)) => initialise(alloc, runner, Living { container }, order),
+        Ok(Started::Down(reply)) => Readiness::Early(None, reply),
+        Err(_) => Readiness::NoMemory,
+    }
+}
+
+fn initialise<R: Runner>(
+    alloc: Global,
+    runner: &mut R,
+    mut living: Living<R::Container>,
+    order: &RunOrder,
+) -> Readiness<R::Container>
+    ensures runner { Steady (R.gives runner.old) (R.gives runner.new) (R.faults runner.old) (R.faults runner.new) }
+    ensures ready { Initialised (R.gives runner.old) (R.faults runner.old) (R.faults runner.new) order.now result }
+{
+    match init(alloc, runner, &mut living, order) {
+        Ok(None) => Readiness::Up(living),
+        Ok(Some(reply)) => Readiness::Early(Some(living), reply),
+        Err(_) => {
+            stop(runner, living);
+            Readiness::NoMemory
+        }
+    }
+}
