@@ -1,0 +1,4 @@
+pub mod Counts
+pub mod Refusal
+pub mod View
+pub mod Within

@@ -1,0 +1,6 @@
+pub mod ByTextLaws
+pub mod QueueLaws
+pub mod RowsLaws
+pub mod TextLaws
+pub mod WindowLaws
+pub mod SizedLaws

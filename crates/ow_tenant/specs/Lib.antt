@@ -1,0 +1,11 @@
+pub mod ByText
+pub mod Limits
+pub mod Notes
+pub mod Queue
+pub mod Reading
+pub mod Refusal
+pub mod Rights
+pub mod Row
+pub mod Table
+pub mod Tenants
+pub mod Windows
