@@ -60,8 +60,7 @@ returns g c =
     let both = takes t L c.self.inside.state c.take-taken.new.self now event taken c.args.at c.self.invariant.0 c.counted.ensures c.moment.ensures c.requires
     c.take-taken.ensures.free (c.take-taken.ensures.ok t) c.take-taken.ensures.rest in
     subst (λ (h : HallView _). (told ≡ answer h.tenants h.ledger.entries (at_hall h c.args.at) event) × (c.post.new.self.ledger ≡ posted h.ledger (at_hall h c.args.at) event told) × (t ≡ h.tenants) × (c.self.inside.store ≡ h.store))
-    c.self.view_is
-    (
+    c.self.view_is (
       subst (λ (m : ℕ). told ≡ answer t L.entries m event) c.moment.ensures both.0,
       c.post.ensures.ledger ∙ (ap (posted L at event) c.taken_told.ensures ∙ ap (λ (m : ℕ). posted L m event told) c.moment.ensures),
       refl,
