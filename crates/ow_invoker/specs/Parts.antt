@@ -4,7 +4,6 @@ use Rattle.ow_traits.specs.Runner.{Giving, RefusesStart, RepliesToAny}
 use Rattle.ow_traits.specs.declared.replies.RunReply.{RunReply}
 use Rattle.ow_value.specs.declared.memory.NoMemory.{NoMemory as Want}
 use Rattle.ow_floor.specs.declared.answers.Order.{Order}
-use Rattle.ow_floor.specs.declared.answers.Order.TheVariants as orders
 use Rattle.ow_floor.specs.declared.answers.PrewarmOrder.{PrewarmOrder}
 use Rattle.ow_floor.specs.declared.answers.RunOrder.{RunOrder}
 use Rattle.ow_decide.specs.declared.events.Event.{Event}
