@@ -28,7 +28,7 @@ alone : (event : Event) (xs : List Exchange) → is_opening event ≡ false → 
 alone event xs later (answer, is) = rw is (later, tt)
 
 pair : (first second : Event) (xs : List Exchange) → is_opening first ≡ false → is_opening second ≡ false → AreBoth first second xs → NoneOpens xs
-pair first second xs a b (answer, later, is) = rw is (a, b, tt)
+pair first second xs a b (answer, later, is) = rw is (a, (b, tt))
 
 -- ---- runs
 
