@@ -9,7 +9,7 @@ use Rattle.ow_floor.specs.declared.answers.RunOrder.{RunOrder}
 use Rattle.ow_decide.specs.declared.events.Event.{Event}
 use Rattle.ow_hall.specs.History.{is_opening}
 use Rattle.ow_invoker.specs.Plain.{PlainGives}
-use Rattle.ow_invoker.specs.Turns.{AreBoth, Exchange, Follows, IsAlone, IsCarriedOut, IsTurn, Opens, PrewarmFollows, Removes, Rests, RunFollows, is_answer, is_late, is_missing}
+use Rattle.ow_invoker.specs.Turns.{AreBoth, Exchange, Follows, IsAlone, IsCarriedOut, IsTurn, Opens, PrewarmFollows, Removes, Rests, RunFollows, exchange, is_answer, is_late, is_missing}
 use Rattle.ow_invoker.specs.declared.plain_runner.PlainContainer.{PlainContainer}
 use Rattle.ow_invoker.specs.declared.shelf.Laid.{Laid}
 
@@ -27,8 +27,11 @@ both_open (x ∷ xs) ys (first, none) later = (first, both_open xs ys none later
 alone : (event : Event) (xs : List Exchange) → is_opening event ≡ false → IsAlone event xs → NoneOpens xs
 alone event xs later (answer, is) = rw is (later, tt)
 
+one : (x : Exchange) → is_opening x.event ≡ false → NoneOpens (x ∷ [])
+one x later = (later, tt)
+
 pair : (first second : Event) (xs : List Exchange) → is_opening first ≡ false → is_opening second ≡ false → AreBoth first second xs → NoneOpens xs
-pair first second xs a b (answer, later, is) = rw is (a, b, tt)
+pair first second xs a b (answer, later, is) = rw is (a, one (exchange second later) b)
 
 -- ---- runs
 

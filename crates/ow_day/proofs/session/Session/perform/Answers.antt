@@ -14,6 +14,3 @@ returns-in-NoStart-clause-does g c = rw c.in-NoStart.is c.no_start.ensures.does
 
 pub returns-in-Gone-clause-does : goal.returns-in-Gone-clause-does
 returns-in-Gone-clause-does g c = rw c.in-Gone.is c.gone.ensures.meets
-
-pub returns-in-Gone-clause-does : goal.returns-in-Gone-clause-does
-returns-in-Gone-clause-does g c = rw c.in-Gone.is c.gone.ensures.meets
