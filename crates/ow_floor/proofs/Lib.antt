@@ -2,6 +2,7 @@ pub mod Firsts
 pub mod Finding
 pub mod Going
 pub mod Undoing
+pub mod Wanting
 pub mod Refusing
 pub mod Lateness
 pub mod Results

@@ -134,6 +134,10 @@ order_on v = order_by (place_on v) (find waits v.open_items) v
 abbrev pub items_on : ℕ → Shown → Trace
 items_on at v = order_items (place_on v) (find waits v.open_items) at v
 
+-- an activation waits, or a container is wanted ahead
+abbrev pub HasWork : Shown → Type 0
+HasWork v = order_on v ≡ orders.Nothing Empty → ⊥
+
 -- what `next` answers
 abbrev pub next_order : Trace → Order
 next_order T = order_on (shown T)

@@ -6,7 +6,7 @@ ghost use Rattle.ow_floor.specs.Laws.{Grows, Stands};
 ghost use Rattle.ow_pool.specs.Rules.{AreWantsSized};
 ghost use Rattle.ow_floor.specs.Collecting.{collected, collected_by, collection_of};
 ghost use Rattle.ow_floor.specs.Owed.{owed, owed_of};
-ghost use Rattle.ow_floor.specs.Calls.{AllRecorded, AnswersSo, GrowsBy, HandsBack, accept_items, activation_of, answer_to, answered_by, answered_items, begun_answer, begun_items, busy_run, drain_answer, drain_by, gone_answer, gone_items, happened, happened_accepted, leaves_alive, lost_answer, lost_items, next_items, next_order, reopened_items, swept_ends, swept_items};
+ghost use Rattle.ow_floor.specs.Calls.{AllRecorded, AnswersSo, GrowsBy, HandsBack, HasWork, accept_items, activation_of, answer_to, answered_by, answered_items, begun_answer, begun_items, busy_run, drain_answer, drain_by, gone_answer, gone_items, happened, happened_accepted, leaves_alive, lost_answer, lost_items, next_items, next_order, reopened_items, swept_ends, swept_items};
 
 use crate::ends::{abandon, end_run, sweep};
 use crate::lists::Lists;
@@ -113,7 +113,8 @@ impl Floor {
 
     /// The end of an activation for which a request waits: its record, where it has ended. It takes no memory.
     pub fn collect(&self, at: u64, id: &Id) -> Result<Collected<'_>, FloorRefusal>
-        ensures { (T : Trace) → Stands self.now.now T → collection_of result ≡ collected at id.now T }
+        ensures told { (T : Trace) → Stands self.now.now T → collection_of result ≡ collected at id.now T }
+        ensures unknown { IfErr result (λ refusal. refusal ≡ FloorRefusal.NotFound) }
     {
         collected_by(at, self.lists.until(*id), self.lists.record_of(*id))
     }
@@ -158,6 +159,7 @@ impl Floor {
     pub fn next(&mut self, alloc: Global, at: u64) -> Result<Order, NoMemory>
         ensures told { IfOk result (λ order. (T : Trace) → Stands self.old.now T → order ≡ next_order T) }
         ensures ok { OnOk result (Grows self.old.now self.new.now (λ T. next_items at T)) }
+        ensures wanted { OnErr result ((T : Trace) → Stands self.old.now T → HasWork (shown T)) }
         ensures before { self.new.before ≡ self.old.before }
     {
         next_order(alloc, &mut self.lists, at)
@@ -360,7 +362,8 @@ fn collected_by(
     until: Option<u64>,
     ended: Option<&Record>,
 ) -> Result<Collected<'_>, FloorRefusal>
-    ensures { collection_of result ≡ collected_by at until (option_copied ended.entry) }
+    ensures told { collection_of result ≡ collected_by at until (option_copied ended.entry) }
+    ensures unknown { IfErr result (λ refusal. refusal ≡ FloorRefusal.NotFound) }
 {
     match (until, ended) {
         (None, _) => Err(FloorRefusal::NotFound),

@@ -1,5 +1,5 @@
 // Orders: what is done next.
-ghost use Rattle.std.specs.Prelude.{◌≡◌, ◌+◌, ◌<◌, length, slice_get, None, Some, option_copied, IfOk, IfSome};
+ghost use Rattle.std.specs.Prelude.{◌≡◌, ◌+◌, ◌<◌, length, slice_get, None, Some, option_copied, IfOk, IfSome, OnErr};
 ghost use Rattle.std.specs.List.{find};
 ghost use Rattle.ow_slots.specs.Slots.{IsThere};
 ghost use Rattle.ow_slots.specs.State.{IsMemory, IsVacant, StartFits};
@@ -7,7 +7,7 @@ ghost use Rattle.ow_pool.specs.Keeping.{IsPrewarming, IsRemoval, IsRun};
 ghost use Rattle.ow_pool.specs.Rules.{IsHeadSized};
 ghost use Rattle.ow_pool.specs.declared.answers.Place.TheVariants as places;
 ghost use Rattle.ow_floor.specs.View.{containers_of, generation_after, key_of, waits};
-ghost use Rattle.ow_floor.specs.Calls.{head_by, idle_of, place_on};
+ghost use Rattle.ow_floor.specs.Calls.{HasWork, head_by, idle_of, place_on};
 ghost use Rattle.ow_floor.specs.Ends.{IsOrdered};
 ghost use Rattle.ow_floor.specs.Store.{IsGood, IsSpot, SpotOf, opens, show};
 
@@ -26,6 +26,7 @@ pub(crate) fn next_order(alloc: Global, lists: &mut Lists, at: u64) -> Result<Or
     requires { IsGood lists.old.now }
     ensures good { IsGood lists.new.now }
     ensures made { IfOk result (λ order. IsOrdered at lists.old.now lists.new.now order) }
+    ensures wanted { OnErr result (HasWork (show lists.old.now)) }
     ensures past { lists.new.past ≡ lists.old.past }
 {
     match lists.waiting_place() {
@@ -59,6 +60,7 @@ fn order_ahead(alloc: Global, lists: &mut Lists, at: u64) -> Result<Order, NoMem
     requires none { find waits (opens lists.old.now.spots lists.old.now.tasks) ≡ None }
     ensures good { IsGood lists.new.now }
     ensures made { IfOk result (λ order. IsOrdered at lists.old.now lists.new.now order) }
+    ensures wanted { OnErr result (HasWork (show lists.old.now)) }
     ensures past { lists.new.past ≡ lists.old.past }
 {
     match lists.place(None) {
