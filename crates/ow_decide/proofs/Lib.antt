@@ -9,3 +9,4 @@ mod RecordLaws
 mod ViewLaws
 mod WaitLaws
 mod FloorLaws
+pub mod NamedLaws

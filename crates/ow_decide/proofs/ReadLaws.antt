@@ -35,64 +35,53 @@ use Rattle.ow_decide.specs.Shown.{shown_row}
 use Rattle.ow_decide.specs.declared.acts.Reading.{Reading}
 use Rattle.ow_decide.specs.declared.acts.Act.{Act}
 use Rattle.ow_decide.specs.declared.acts.Act.TheVariants.{Reads}
-use Rattle.ow_decide.specs.declared.acts.Reading.TheVariants.{Rows, Row as OneRow}
+use Rattle.ow_decide.specs.declared.acts.Reading.TheVariants.{Namespaces, Rows, Row as OneRow, Activations, Activation}
 use Rattle.ow_value.specs.Value.{V, list, items_of}
-use Rattle.ow_decide.specs.declared.tenants.Tenants.{Tenants}
+use Rattle.ow_tenant.specs.ByText.{ByText}
+use Rattle.ow_tenant.specs.declared.entries.Holder.{Holder}
+use Rattle.ow_tenant.specs.declared.rights.Right.TheVariants.{Read}
+use Rattle.ow_tenant.specs.declared.rights.Rights.{Rights}
 use Rattle.ow_decide.specs.Reasons.{no_route, not_found, not_granted}
-use Rattle.ow_decide.specs.Sight.{Sight, or_else, unless}
-use Rattle.ow_decide.specs.Tenants.{is_granted}
-use Rattle.ow_decide.specs.View.{Grant, is_visible, may_read, own_rights, view_of, visible_rows}
+use Rattle.ow_decide.specs.Sight.{Sight}
+use Rattle.ow_decide.specs.Steps.{or_else, unless}
+use Rattle.ow_decide.specs.Tenants.{may}
+use Rattle.ow_decide.specs.View.{is_visible, may_read, view_of, visible_rows}
 use Rattle.ow_decide.proofs.Filters.{filter_filter}
 use Rattle.ow_decide.proofs.SeenLaws.{IsOpenTo, granting, only_left, option_shown, same_bytes, shared_at_seen, value_seen, visible_own}
 
 -- ---- the grant
 
-one_only : (b : Bool) → (b && true) || false ≡ b
-one_only true = refl
-one_only false = refl
-
--- a key may read in its own namespace alone
-pub own_read : (here namespace : List ℕ) → may_read (own_rights here) namespace ≡ bytes_eq namespace here
-unfolding may_read
-own_read here namespace = one_only (bytes_eq namespace here)
-
-granted_at : (S : Sight) (namespace : List ℕ) (b : Bool) → bytes_eq namespace (codes "_") ≡ b → bytes_eq (home S.tenants.home namespace) S.tenants.home ≡ is_granted S.tenants namespace
-unfolding is_granted
-granted_at S namespace true e = rw e (same_bytes S.tenants.home)
-granted_at S namespace false e = rw e refl
-
-pub reads_granted : (S : Sight) (namespace : List ℕ) → may_read (own_rights S.tenants.home) (home S.tenants.home namespace) ≡ is_granted S.tenants namespace
-reads_granted S namespace = own_read S.tenants.home (home S.tenants.home namespace) ∙ granted_at S namespace (bytes_eq namespace (codes "_")) refl
-
-opened_seen : (rights : List Grant) (rs : List Row) (here : List ℕ) (r : Route) (kind : Option EntityKind) → AreRows rs → is_opened here (visible_rows rights rs) r kind ≡ is_opened here rs r kind
+opened_seen : (rights : ByText Rights) (rs : List Row) (here : List ℕ) (r : Route) (kind : Option EntityKind) → AreRows rs → is_opened here (visible_rows rights rs) r kind ≡ is_opened here rs r kind
 opened_seen rights rs here r None ordered = refl
 opened_seen rights rs here r (Some kind) ordered = shared_at_seen rights rs (path_package here r kind) ordered
 
+-- whether what is seen or all that stands is asked, the same shared packages grant
+same_grant : (S : Sight) (h : Holder) (reading : Reading) (p : Parts) → AreRows S.rows
+    → (unless (not (may h Read (namespace_of p.route) || is_opened h.home (visible_rows h.rights S.rows) p.route (read_kind reading))) not_granted >>= (λ (u : Unit {0}). call_for h p))
+    ≡ (unless (not (may h Read (namespace_of p.route) || is_opened h.home S.rows p.route (read_kind reading))) not_granted >>= (λ (u : Unit {0}). call_for h p))
+same_grant S h reading p ordered =
+    ap (λ (b : Bool). unless (not (may h Read (namespace_of p.route) || b)) not_granted >>= (λ (u : Unit {0}). call_for h p)) (opened_seen h.rights S.rows h.home p.route (read_kind reading) ordered)
+
 -- what is granted of a read is granted of any request
-pub same_call : (S : Sight) (reading : Reading) (p : Parts) → AreRows S.rows → read_call (view_of S) reading p ≡ granted_call S.tenants S.rows (Reads reading) p
-same_call S reading p ordered =
-    ap (λ (b : Bool). unless (not (b || is_opened S.tenants.home (visible_rows (own_rights S.tenants.home) S.rows) p.route (read_kind reading))) not_granted >>= (λ (u : Unit {0}). call_for S.tenants p)) (reads_granted S (namespace_of p.route))
-    ∙ ap (λ (b : Bool). unless (not (is_granted S.tenants (namespace_of p.route) || b)) not_granted >>= (λ (u : Unit {0}). call_for S.tenants p)) (opened_seen (own_rights S.tenants.home) S.rows S.tenants.home p.route (read_kind reading) ordered)
+pub same_call : (S : Sight) (h : Holder) (reading : Reading) (p : Parts) → AreRows S.rows → read_call (view_of S h) reading p ≡ granted_call h S.rows (Reads reading) p
+same_call S h Namespaces p ordered = refl
+same_call S h (Rows kind) p ordered = same_grant S h (Rows kind) p ordered
+same_call S h (OneRow kind) p ordered = same_grant S h (OneRow kind) p ordered
+same_call S h Activations p ordered = same_grant S h Activations p ordered
+same_call S h (Activation part) p ordered = same_grant S h (Activation part) p ordered
 
--- ---- what is granted is in the own namespace
+-- ---- what is granted may be read
 
-home_at : (S : Sight) (namespace : List ℕ) (b : Bool) → bytes_eq namespace (codes "_") ≡ b → is_granted S.tenants namespace ≡ true → home S.tenants.home namespace ≡ S.tenants.home
-unfolding is_granted
-home_at S namespace true e granted = rw e refl
-home_at S namespace false e granted = rw e ((bytes_eq-Decides namespace S.tenants.home).0 (rw e at granted))
-
-then_granted : (b : Bool) (r : Result Call Reason) (c : Call) → (unless (not b) not_granted >>= (λ (u : Unit {0}). r)) ≡ Ok c → (b ≡ true) × (r ≡ Ok c)
+pub then_granted : (b : Bool) (r : Result Call Reason) (c : Call) → (unless (not b) not_granted >>= (λ (u : Unit {0}). r)) ≡ Ok c → (b ≡ true) × (r ≡ Ok c)
 then_granted true r c is = (refl, is)
 then_granted false r c is = cc
 
--- where no shared package grants it
-pub granted_home : (S : Sight) (rs : List Row) (act : Act) (p : Parts) (c : Call) → opened_kind act ≡ None → granted_call S.tenants rs act p ≡ Ok c → home S.tenants.home (namespace_of p.route) ≡ S.tenants.home
-granted_home S rs act p c closed is =
-    let g = then_granted (is_granted S.tenants (namespace_of p.route) || is_opened S.tenants.home rs p.route (opened_kind act)) (call_for S.tenants p) c is in
-    home_at S (namespace_of p.route) _ refl
-    (only_left _ (ap (λ (k : Option EntityKind). is_granted S.tenants (namespace_of p.route) || is_opened S.tenants.home rs p.route k) (sym closed) ∙ g.0))
+-- where no shared package grants it, the right was granted
+pub granted_right : (h : Holder) (p : Parts) (c : Call) → (unless (not (may h Read (namespace_of p.route) || false)) not_granted >>= (λ (u : Unit {0}). call_for h p)) ≡ Ok c
+    → may_read h.rights (home h.home (namespace_of p.route)) ≡ true
+granted_right h p c is = only_left _ (then_granted (may h Read (namespace_of p.route) || false) (call_for h p) c is).0
 
-or_ok : (r : Result Call CallRefusal) (c : Call) → or_call_reason r ≡ Ok c → r ≡ Ok c
+pub or_ok : (r : Result Call CallRefusal) (c : Call) → or_call_reason r ≡ Ok c → r ≡ Ok c
 or_ok (Ok x) c is = let h : x ≡ c = cc in ap Ok h
 or_ok (Err e) c is = cc
 
@@ -111,7 +100,7 @@ in_namespace here namespace name (Some parent) n is =
     let b = fault_free (first_fault parent) _ n a in
     let d = fault_free (first_fault name) _ n b in cc
 
-then_by : {A B E : Type 0} (r : Result A E) (f : A → Result B E) (y : B) → (r >>= f) ≡ Ok y → (x : A) × (r ≡ Ok x) × (f x ≡ Ok y)
+pub then_by : {A B E : Type 0} (r : Result A E) (f : A → Result B E) (y : B) → (r >>= f) ≡ Ok y → (x : A) × (r ≡ Ok x) × (f x ≡ Ok y)
 then_by (Ok x) f y is = (x, refl, is)
 then_by (Err e) f y is = cc
 
@@ -195,16 +184,15 @@ open_by rs true o e either opened = refl
 open_by rs false o e (inl none) opened = let h : is_shared_at rs None ≡ true = subst (λ (x : Option FullName). is_shared_at rs x ≡ true) none opened in cc
 open_by rs false o e (inr same) opened = subst (λ (x : Option FullName). is_shared_at rs x ≡ true) same opened
 
--- an entity whose reading is granted stands in the own namespace, or belongs to a shared package
-pub granted_open : (S : Sight) (rs : List Row) (kind : EntityKind) (p : Parts) (c : Call) (n : FullName) → granted_call S.tenants rs (Reads (OneRow kind)) p ≡ Ok c → c.name ≡ Some n
-    → IsOpenTo (own_rights S.tenants.home) rs kind n
-granted_open S rs kind p c n is name_is =
-    let g = then_granted (is_granted S.tenants (namespace_of p.route) || is_shared_at rs (path_package S.tenants.home p.route kind)) (call_for S.tenants p) c is in
-    let path = path_name S.tenants.home (kind_of p.route p.method) p c n (or_ok _ c g.1) name_is in
-    let there = path_namespace S.tenants.home p.route n path in
-    let reads : may_read (own_rights S.tenants.home) n.namespace ≡ is_granted S.tenants (namespace_of p.route) = ap (may_read (own_rights S.tenants.home)) there ∙ reads_granted S (namespace_of p.route) in
-    ap (λ (b : Bool). b || is_shared_at rs (granting kind n)) reads
-    ∙ open_by rs (is_granted S.tenants (namespace_of p.route)) (path_package S.tenants.home p.route kind) (granting kind n) (package_named S.tenants.home p.route kind n path) g.0
+-- an entity whose reading is granted stands in a namespace that may be read, or belongs to a shared package
+pub granted_open : (h : Holder) (rs : List Row) (kind : EntityKind) (p : Parts) (c : Call) (n : FullName) → granted_call h rs (Reads (OneRow kind)) p ≡ Ok c → c.name ≡ Some n
+    → IsOpenTo h.rights rs kind n
+granted_open h rs kind p c n is name_is =
+    let g = then_granted (may h Read (namespace_of p.route) || is_shared_at rs (path_package h.home p.route kind)) (call_for h p) c is in
+    let path = path_name h.home (kind_of p.route p.method) p c n (or_ok _ c g.1) name_is in
+    let there = path_namespace h.home p.route n path in
+    ap (λ (ns : List ℕ). may_read h.rights ns || is_shared_at rs (granting kind n)) there
+    ∙ open_by rs (may h Read (namespace_of p.route)) (path_package h.home p.route kind) (granting kind n) (package_named h.home p.route kind n path) g.0
 
 -- ---- rows
 
@@ -215,53 +203,53 @@ second false b both = cc
 pub turned : (xs ys : List ℕ) → bytes_eq xs ys ≡ true → bytes_eq ys xs ≡ true
 turned xs ys same = (bytes_eq-Decides ys xs).1 (sym ((bytes_eq-Decides xs ys).0 same))
 
-stands_visible : (here : List ℕ) (rs : List Row) (kind : EntityKind) (r : Row) → stands_in kind here r ≡ true → is_visible (own_rights here) rs r ≡ true
-stands_visible here rs kind r stands = visible_own (own_rights here) rs r
-    (own_read here (name_of r).namespace ∙ turned here (name_of r).namespace (second (kind_place kind == kind_place (row_kind r)) _ stands))
+stands_visible : (rights : ByText Rights) (here : List ℕ) (rs : List Row) (kind : EntityKind) (r : Row) → may_read rights here ≡ true → stands_in kind here r ≡ true → is_visible rights rs r ≡ true
+stands_visible rights here rs kind r reads stands =
+    let there : here ≡ (name_of r).namespace = (bytes_eq-Decides here (name_of r).namespace).0 (turned (name_of r).namespace here (turned here (name_of r).namespace (second (kind_place kind == kind_place (row_kind r)) _ stands))) in
+    visible_own rights rs r (ap (may_read rights) (sym there) ∙ reads)
 
--- the list of the own rows is a list of all rows
-pub own_listing : (here : List ℕ) (kind : EntityKind) (skip limit : ℕ) (rs : List Row)
-    → listing kind here skip limit (visible_rows (own_rights here) rs) ≡ listing kind here skip limit rs
-own_listing here kind skip limit rs = ap (λ (xs : List Row). map summary_value (take limit (drop skip xs)))
-    (filter_filter (stands_in kind here) (is_visible (own_rights here) rs) rs (stands_visible here rs kind))
+-- the list of the rows of a namespace that may be read is a list of all rows
+pub read_listing : (rights : ByText Rights) (here : List ℕ) (kind : EntityKind) (skip limit : ℕ) (rs : List Row) → may_read rights here ≡ true
+    → listing kind here skip limit (visible_rows rights rs) ≡ listing kind here skip limit rs
+read_listing rights here kind skip limit rs reads = ap (λ (xs : List Row). map summary_value (take limit (drop skip xs)))
+    (filter_filter (stands_in kind here) (is_visible rights rs) rs (λ r stands. stands_visible rights here rs kind r reads stands))
 
 -- a value is shown
 abbrev pub shows : V → Result Done Reason
 shows v = Ok (Shown v)
 
--- what a list of the own rows shows
-pub rows_shown : (S : Sight) (p : Parts) (c : Call) (kind : EntityKind) (vs : List V) → granted_call S.tenants S.rows (Reads (Rows kind)) p ≡ Ok c → vs ≡ listing kind S.tenants.home c.skip c.limit S.rows
-    → shows (list (items_of vs)) ≡ shown_done (read_value (view_of S) (Rows kind) p c)
-rows_shown S p c kind vs granted is = ap (λ (xs : List V). shows (list (items_of xs)))
-    (is ∙ (sym (own_listing S.tenants.home kind c.skip c.limit S.rows)
-    ∙ ap (λ (n : List ℕ). listing kind n c.skip c.limit (visible_rows (own_rights S.tenants.home) S.rows)) (sym (granted_home S S.rows (Reads (Rows kind)) p c refl granted))))
+-- what a list of the rows of a namespace shows
+pub rows_shown : (S : Sight) (h : Holder) (p : Parts) (c : Call) (kind : EntityKind) (vs : List V) → granted_call h S.rows (Reads (Rows kind)) p ≡ Ok c → vs ≡ listing kind (home h.home (namespace_of p.route)) c.skip c.limit S.rows
+    → shows (list (items_of vs)) ≡ shown_done (read_value (view_of S h) (Rows kind) p c)
+rows_shown S h p c kind vs granted is = ap (λ (xs : List V). shows (list (items_of xs)))
+    (is ∙ sym (read_listing h.rights (home h.home (namespace_of p.route)) kind c.skip c.limit S.rows (granted_right h p c granted)))
 
 or_shown : (rs : List Row) (o : Option Row) → shown_done (or_else o not_found >>= (λ (r : Row). Ok (shown_row rs r))) ≡ shown_done (or_else (option_shown rs o) not_found)
 or_shown rs None = refl
 or_shown rs (Some r) = refl
 
 -- what is shown of the row of a name
-pub row_shown : (S : Sight) (p : Parts) (c : Call) (kind : EntityKind) (n : FullName) (o : Option V) → AreRows S.rows → granted_call S.tenants S.rows (Reads (OneRow kind)) p ≡ Ok c → c.name ≡ Some n
-    → AreNamed S.rows kind n → option_shown S.rows (row_read S.rows kind n) ≡ o → shown_done (or_else o not_found) ≡ shown_done (read_value (view_of S) (OneRow kind) p c)
-row_shown S p c kind n o ordered granted name_is named is =
-    let V' = visible_rows (own_rights S.tenants.home) S.rows in
-    ap (λ (x : Option V). shown_done (or_else x not_found)) (sym is ∙ sym (value_seen (own_rights S.tenants.home) S.rows kind n ordered (granted_open S S.rows kind p c n granted name_is) named))
+pub row_shown : (S : Sight) (h : Holder) (p : Parts) (c : Call) (kind : EntityKind) (n : FullName) (o : Option V) → AreRows S.rows → granted_call h S.rows (Reads (OneRow kind)) p ≡ Ok c → c.name ≡ Some n
+    → AreNamed S.rows kind n → option_shown S.rows (row_read S.rows kind n) ≡ o → shown_done (or_else o not_found) ≡ shown_done (read_value (view_of S h) (OneRow kind) p c)
+row_shown S h p c kind n o ordered granted name_is named is =
+    let V' = visible_rows h.rights S.rows in
+    ap (λ (x : Option V). shown_done (or_else x not_found)) (sym is ∙ sym (value_seen h.rights S.rows kind n ordered (granted_open h S.rows kind p c n granted name_is) named))
     ∙ (sym (or_shown V' (row_read V' kind n))
     ∙ ap (λ (x : Option FullName). shown_done (or_else x no_route >>= (λ (name : FullName). or_else (row_read V' kind name) not_found >>= (λ (r : Row). Ok (shown_row V' r))))) (sym name_is))
 
 -- the same over the rows of tables
-pub row_shown_at : (t : Tenants) (rs : List Row) (p : Parts) (c : Call) (kind : EntityKind) (n : FullName) (o : Option V) → AreRows rs → granted_call t rs (Reads (OneRow kind)) p ≡ Ok c → c.name ≡ Some n
-    → AreNamed rs kind n → option_shown rs (row_read rs kind n) ≡ o → (S : Sight) → S.tenants ≡ t → S.rows ≡ rs → shown_done (or_else o not_found) ≡ shown_done (read_value (view_of S) (OneRow kind) p c)
-row_shown_at t rs p c kind n o ordered granted name_is named is S tenants_are rows_are =
-    row_shown S p c kind n o (subst (λ (xs : List Row). AreRows xs) (sym rows_are) ordered)
-    (subst (λ (u : Tenants). granted_call u S.rows (Reads (OneRow kind)) p ≡ Ok c) (sym tenants_are) (subst (λ (xs : List Row). granted_call t xs (Reads (OneRow kind)) p ≡ Ok c) (sym rows_are) granted))
+pub row_shown_at : (h : Holder) (rs : List Row) (p : Parts) (c : Call) (kind : EntityKind) (n : FullName) (o : Option V) → AreRows rs → granted_call h rs (Reads (OneRow kind)) p ≡ Ok c → c.name ≡ Some n
+    → AreNamed rs kind n → option_shown rs (row_read rs kind n) ≡ o → (S : Sight) → S.rows ≡ rs → shown_done (or_else o not_found) ≡ shown_done (read_value (view_of S h) (OneRow kind) p c)
+row_shown_at h rs p c kind n o ordered granted name_is named is S rows_are =
+    row_shown S h p c kind n o (subst (λ (xs : List Row). AreRows xs) (sym rows_are) ordered)
+    (subst (λ (xs : List Row). granted_call h xs (Reads (OneRow kind)) p ≡ Ok c) (sym rows_are) granted)
     name_is (subst (λ (xs : List Row). AreNamed xs kind n) (sym rows_are) named) (subst (λ (xs : List Row). option_shown xs (row_read xs kind n) ≡ o) (sym rows_are) is)
 
 -- ---- what is shown of a call that is granted
 
-pub read_so : (S : Sight) (reading : Reading) (p : Parts) (c : Call) → AreRows S.rows → granted_call S.tenants S.rows (Reads reading) p ≡ Ok c
-    → shown_done (read_done (view_of S) reading p) ≡ shown_done (read_value (view_of S) reading p c)
-read_so S reading p c ordered granted = ap (λ (r : Result Call Reason). shown_done (r >>= read_value (view_of S) reading p)) (same_call S reading p ordered ∙ granted)
+pub read_so : (S : Sight) (h : Holder) (reading : Reading) (p : Parts) (c : Call) → AreRows S.rows → granted_call h S.rows (Reads reading) p ≡ Ok c
+    → shown_done (read_done (view_of S h) reading p) ≡ shown_done (read_value (view_of S h) reading p c)
+read_so S h reading p c ordered granted = ap (λ (r : Result Call Reason). shown_done (r >>= read_value (view_of S h) reading p)) (same_call S h reading p ordered ∙ granted)
 
-pub read_refused : (S : Sight) (reading : Reading) (p : Parts) (e : Reason) → AreRows S.rows → granted_call S.tenants S.rows (Reads reading) p ≡ Err e → shown_done (read_done (view_of S) reading p) ≡ Err e
-read_refused S reading p e ordered refused = ap (λ (r : Result Call Reason). shown_done (r >>= read_value (view_of S) reading p)) (same_call S reading p ordered ∙ refused)
+pub read_refused : (S : Sight) (h : Holder) (reading : Reading) (p : Parts) (e : Reason) → AreRows S.rows → granted_call h S.rows (Reads reading) p ≡ Err e → shown_done (read_done (view_of S h) reading p) ≡ Err e
+read_refused S h reading p e ordered refused = ap (λ (r : Result Call Reason). shown_done (r >>= read_value (view_of S h) reading p)) (same_call S h reading p ordered ∙ refused)

@@ -21,28 +21,33 @@ use Rattle.ow_http.specs.declared.call.Call.{Call}
 use Rattle.ow_decide.specs.declared.acts.Act.TheVariants.{Reads}
 use Rattle.ow_decide.specs.declared.acts.Reading.TheVariants.{Activations, Activation}
 use Rattle.ow_decide.specs.Asking.{granted_call, shown_done}
-use Rattle.ow_decide.specs.Reading.{id_of, is_recorded, part_value, read_value, recorded, recorded_under}
+use Rattle.ow_decide.specs.Reading.{id_of, is_recorded, namespace_of, part_value, read_value, recorded, recorded_under}
 use Rattle.ow_decide.specs.Reasons.{not_found}
-use Rattle.ow_decide.specs.Sight.{Sight, or_else}
-use Rattle.ow_decide.specs.View.{is_visible_record, own_rights, view_of}
+use Rattle.ow_names.specs.Path.{home}
+use Rattle.std.proofs.lemmas.Slice.Eq.{bytes_eq-Decides}
+use Rattle.ow_tenant.specs.ByText.{ByText}
+use Rattle.ow_tenant.specs.declared.entries.Holder.{Holder}
+use Rattle.ow_tenant.specs.declared.rights.Rights.{Rights}
+use Rattle.ow_decide.specs.Sight.{Sight}
+use Rattle.ow_decide.specs.Steps.{or_else}
+use Rattle.ow_decide.specs.View.{is_visible_record, may_read, view_of}
 use Rattle.ow_decide.proofs.Filters.{filter_filter, find_filter, find_only_none, find_only_some, not_wider}
-use Rattle.ow_decide.proofs.ReadLaws.{granted_home, own_read, second, shows, turned}
+use Rattle.ow_decide.proofs.ReadLaws.{granted_right, second, shows}
 
 -- ---- lists
 
-is_in_visible : (here : List ℕ) (r : Record) → is_in here r ≡ true → is_visible_record (own_rights here) r ≡ true
-is_in_visible here r stands = own_read here r.namespace ∙ turned here r.namespace stands
+is_in_visible : (rights : ByText Rights) (here : List ℕ) (r : Record) → may_read rights here ≡ true → is_in here r ≡ true → is_visible_record rights r ≡ true
+is_in_visible rights here r reads stands = ap (may_read rights) (sym ((bytes_eq-Decides here r.namespace).0 stands)) ∙ reads
 
-own_listing : (here : List ℕ) (skip limit : ℕ) (rs : List Record) → listing here skip limit (filter (is_visible_record (own_rights here)) rs) ≡ listing here skip limit rs
-own_listing here skip limit rs = ap (λ (xs : List Record). map summary_value (take limit (drop skip (reverse (sorted_by id_key xs)))))
-    (filter_filter (is_in here) (is_visible_record (own_rights here)) rs (is_in_visible here))
+read_listing : (rights : ByText Rights) (here : List ℕ) (skip limit : ℕ) (rs : List Record) → may_read rights here ≡ true → listing here skip limit (filter (is_visible_record rights) rs) ≡ listing here skip limit rs
+read_listing rights here skip limit rs reads = ap (λ (xs : List Record). map summary_value (take limit (drop skip (reverse (sorted_by id_key xs)))))
+    (filter_filter (is_in here) (is_visible_record rights) rs (λ r stands. is_in_visible rights here r reads stands))
 
--- what a list of the own records shows
-pub records_shown : (S : Sight) (p : Parts) (c : Call) (vs : List V) → granted_call S.tenants [] (Reads Activations) p ≡ Ok c → vs ≡ listing S.tenants.home c.skip c.limit (records S.trace)
-    → shows (list (items_of vs)) ≡ shown_done (read_value (view_of S) Activations p c)
-records_shown S p c vs granted is = ap (λ (xs : List V). shows (list (items_of xs)))
-    (is ∙ (sym (own_listing S.tenants.home c.skip c.limit (records S.trace))
-    ∙ ap (λ (n : List ℕ). listing n c.skip c.limit (filter (is_visible_record (own_rights S.tenants.home)) (records S.trace))) (sym (granted_home S [] (Reads Activations) p c refl granted))))
+-- what a list of the records of a namespace shows
+pub records_shown : (S : Sight) (h : Holder) (p : Parts) (c : Call) (vs : List V) → granted_call h [] (Reads Activations) p ≡ Ok c → vs ≡ listing (home h.home (namespace_of p.route)) c.skip c.limit (records S.trace)
+    → shows (list (items_of vs)) ≡ shown_done (read_value (view_of S h) Activations p c)
+records_shown S h p c vs granted is = ap (λ (xs : List V). shows (list (items_of xs)))
+    (is ∙ sym (read_listing h.rights (home h.home (namespace_of p.route)) c.skip c.limit (records S.trace) (granted_right h p c granted)))
 
 -- ---- one record
 
@@ -101,8 +106,8 @@ in_own here (Some r) = if is_in here r then Some r else None
 narrow : (here : List ℕ) (id : Id) (r : Record) → is_recorded here id r ≡ true → is_of_id id r ≡ true
 narrow here id r h = second (is_in here r) (same_id r.id id) h
 
-placed : (here : List ℕ) (id : Id) (r : Record) → is_recorded here id r ≡ true → is_visible_record (own_rights here) r ≡ true
-placed here id r h = is_in_visible here r (first (is_in here r) (same_id r.id id) h)
+placed : (rights : ByText Rights) (here : List ℕ) (id : Id) (r : Record) → may_read rights here ≡ true → is_recorded here id r ≡ true → is_visible_record rights r ≡ true
+placed rights here id r reads h = is_in_visible rights here r reads (first (is_in here r) (same_id r.id id) h)
 
 by_place : (here : List ℕ) (id : Id) (T : Trace) (r : Record) (b : Bool) → IsSound T → is_in here r ≡ b → find (is_of_id id) (records T) ≡ Some r
     → find (is_recorded here id) (records T) ≡ in_own here (Some r)
@@ -115,21 +120,20 @@ by_found : (here : List ℕ) (id : Id) (T : Trace) (o : Option Record) → IsSou
 by_found here id T None sound found = find_only_none (is_of_id id) (is_recorded here id) (records T) (narrow here id) found
 by_found here id T (Some r) sound found = by_place here id T r (is_in here r) sound refl found
 
--- a record of the namespace, by its id
-own_record : (here : List ℕ) (id : Id) (T : Trace) (o : Option Record) → IsSound T → find (is_of_id id) (records T) ≡ o
-    → find (is_recorded here id) (filter (is_visible_record (own_rights here)) (records T)) ≡ in_own here o
-own_record here id T o sound found =
-    find_filter (is_recorded here id) (is_visible_record (own_rights here)) (records T) (placed here id) ∙ by_found here id T o sound found
+-- a record of a namespace that may be read, by its id
+read_record : (rights : ByText Rights) (here : List ℕ) (id : Id) (T : Trace) (o : Option Record) → may_read rights here ≡ true → IsSound T → find (is_of_id id) (records T) ≡ o
+    → find (is_recorded here id) (filter (is_visible_record rights) (records T)) ≡ in_own here o
+read_record rights here id T o reads sound found =
+    find_filter (is_recorded here id) (is_visible_record rights) (records T) (λ r h. placed rights here id r reads h) ∙ by_found here id T o sound found
 
 -- the record of the namespace, over a floor
-pub own_recorded : (here : List ℕ) (id : Id) (v : FloorShown) (T : Trace) (o : Option Record) → Stands v T → find (is_of_id id) v.ended ≡ o
-    → in_own here o ≡ recorded_under here (Some id) (filter (is_visible_record (own_rights here)) (records T))
-own_recorded here id v T o stands found =
-    sym (own_record here id T o stands.sound (sym (ap (λ (w : FloorShown). find (is_of_id id) w.ended) stands.is) ∙ found))
+pub read_recorded : (rights : ByText Rights) (here : List ℕ) (id : Id) (v : FloorShown) (T : Trace) (o : Option Record) → may_read rights here ≡ true → Stands v T → find (is_of_id id) v.ended ≡ o
+    → in_own here o ≡ recorded_under here (Some id) (filter (is_visible_record rights) (records T))
+read_recorded rights here id v T o reads stands found =
+    sym (read_record rights here id T o reads stands.sound (sym (ap (λ (w : FloorShown). find (is_of_id id) w.ended) stands.is) ∙ found))
 
 -- what is shown of a record
-pub record_read : (S : Sight) (p : Parts) (c : Call) (part : Part) (o : Option Record) → granted_call S.tenants [] (Reads (Activation part)) p ≡ Ok c
-    → o ≡ recorded S.tenants.home (id_of p.route) (filter (is_visible_record (own_rights S.tenants.home)) (records S.trace))
-    → shown_done (or_else o not_found >>= (λ (r : Record). Ok (part_value part r))) ≡ shown_done (read_value (view_of S) (Activation part) p c)
-record_read S p c part o granted is = ap (λ (x : Option Record). shown_done (or_else x not_found >>= (λ (r : Record). Ok (part_value part r))))
-    (is ∙ ap (λ (n : List ℕ). recorded n (id_of p.route) (filter (is_visible_record (own_rights S.tenants.home)) (records S.trace))) (sym (granted_home S [] (Reads (Activation part)) p c refl granted)))
+pub record_read : (S : Sight) (h : Holder) (p : Parts) (c : Call) (part : Part) (o : Option Record)
+    → o ≡ recorded (home h.home (namespace_of p.route)) (id_of p.route) (filter (is_visible_record h.rights) (records S.trace))
+    → shown_done (or_else o not_found >>= (λ (r : Record). Ok (part_value part r))) ≡ shown_done (read_value (view_of S h) (Activation part) p c)
+record_read S h p c part o is = ap (λ (x : Option Record). shown_done (or_else x not_found >>= (λ (r : Record). Ok (part_value part r)))) is

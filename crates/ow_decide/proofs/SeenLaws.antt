@@ -24,7 +24,9 @@ use Rattle.ow_floor.proofs.Firsts.{find_passes}
 use Rattle.ow_decide.specs.Named.{AreNamed, IsNamed, IsPackageNamed, bound_name}
 use Rattle.ow_decide.specs.Reading.{action_behind, action_read, is_shared_at, row_read, target_of}
 use Rattle.ow_decide.specs.Shown.{shown_row, shown_with}
-use Rattle.ow_decide.specs.View.{Grant, belongs_to, is_bound, is_open, is_shown_by, is_visible, may_read, visible_rows}
+use Rattle.ow_tenant.specs.ByText.{ByText}
+use Rattle.ow_tenant.specs.declared.rights.Rights.{Rights}
+use Rattle.ow_decide.specs.View.{belongs_to, is_bound, is_open, is_shown_by, is_visible, may_read, visible_rows}
 use Rattle.ow_decide.proofs.Filters.{filter_filter, find_filter_none}
 
 -- ---- tests
@@ -100,22 +102,22 @@ any_of {X = X} p q x (y ∷ ys) is passes = by_test (p y) refl (any_of p q x ys)
     by_test false e rest = or_right (q y) (list_any q ys) (rest (rw e at is) passes)
 
 -- those of a namespace in which whoever asks may read
-pub visible_own : (rights : List Grant) (rs : List Row) (r : Row) → may_read rights (name_of r).namespace ≡ true → is_visible rights rs r ≡ true
+pub visible_own : (rights : ByText Rights) (rs : List Row) (r : Row) → may_read rights (name_of r).namespace ≡ true → is_visible rights rs r ≡ true
 unfolding is_visible
 visible_own rights rs r reads = or_left _ _ reads
 
 -- those that a package shows
-visible_by : (rights : List Grant) (rs : List Row) (n : FullName) (p : Package) (r : Row) → found kinds.Package n rs ≡ Some (rows.Package p) → is_open rights p ≡ true
+visible_by : (rights : ByText Rights) (rs : List Row) (n : FullName) (p : Package) (r : Row) → found kinds.Package n rs ≡ Some (rows.Package p) → is_open rights p ≡ true
     → (belongs_to p.name r || is_bound rs p.name.namespace p.binding r) ≡ true → is_visible rights rs r ≡ true
 unfolding is_visible
 visible_by rights rs n p r is opened shows =
     or_right (may_read rights (name_of r).namespace) _ (any_of (is_row kinds.Package n) (λ b. is_shown_by rights rs b r) (rows.Package p) rs is (and_both _ _ opened shows))
 
-visible_inside : (rights : List Grant) (rs : List Row) (n : FullName) (p : Package) (r : Row) → found kinds.Package n rs ≡ Some (rows.Package p) → is_open rights p ≡ true
+visible_inside : (rights : ByText Rights) (rs : List Row) (n : FullName) (p : Package) (r : Row) → found kinds.Package n rs ≡ Some (rows.Package p) → is_open rights p ≡ true
     → belongs_to p.name r ≡ true → is_visible rights rs r ≡ true
 visible_inside rights rs n p r is opened inside = visible_by rights rs n p r is opened (or_left _ _ inside)
 
-visible_bound : (rights : List Grant) (rs : List Row) (n t : FullName) (p : Package) (r : Row) → found kinds.Package n rs ≡ Some (rows.Package p) → is_open rights p ≡ true → p.binding ≡ Some t
+visible_bound : (rights : ByText Rights) (rs : List Row) (n t : FullName) (p : Package) (r : Row) → found kinds.Package n rs ≡ Some (rows.Package p) → is_open rights p ≡ true → p.binding ≡ Some t
     → is_some (reached_package (standing rs) t p.name.namespace) ≡ true → belongs_to t r ≡ true → is_visible rights rs r ≡ true
 visible_bound rights rs n t p r is opened binds reached inside =
     visible_by rights rs n p r is opened (or_right (belongs_to p.name r) _ (subst (λ (o : Option FullName). is_bound rs p.name.namespace o r ≡ true) (sym binds) (and_both _ _ reached inside)))
@@ -127,11 +129,11 @@ as_one None p is = cc
 as_one (Some (rows.Action a)) p is = cc
 as_one (Some (rows.Package q)) p is = let h : q ≡ p = cc in ap (λ (x : Package). Some (rows.Package x)) h
 
-seen_at : (rights : List Grant) (rs : List Row) (kind : EntityKind) (n : FullName) → AreRows rs → found kind n (visible_rows rights rs) ≡ kept (is_visible rights rs) (found kind n rs)
+seen_at : (rights : ByText Rights) (rs : List Row) (kind : EntityKind) (n : FullName) → AreRows rs → found kind n (visible_rows rights rs) ≡ kept (is_visible rights rs) (found kind n rs)
 seen_at rights rs kind n ordered = found_kept (key kind n) (is_visible rights rs) rs ordered
 
 -- a package that is open is seen
-open_seen : (rights : List Grant) (rs : List Row) (n : FullName) (p : Package) → AreRows rs → package_at (standing rs) n ≡ Some p → is_open rights p ≡ true → package_at (standing (visible_rows rights rs)) n ≡ Some p
+open_seen : (rights : ByText Rights) (rs : List Row) (n : FullName) (p : Package) → AreRows rs → package_at (standing rs) n ≡ Some p → is_open rights p ≡ true → package_at (standing (visible_rows rights rs)) n ≡ Some p
 open_seen rights rs n p ordered is opened =
     let stands = as_one (found kinds.Package n rs) p is in
     let visible = visible_inside rights rs n p (rows.Package p) stands opened (or_left _ _ (same_bytes (key kinds.Package p.name))) in
@@ -148,16 +150,16 @@ as_kept q (Some r) = by_test (q r) refl
     by_test true e = inl (rw e refl)
     by_test false e = inr (rw e refl)
 
-seen_or_none : (rights : List Grant) (rs : List Row) (n : FullName) → AreRows rs
+seen_or_none : (rights : ByText Rights) (rs : List Row) (n : FullName) → AreRows rs
     → (package_at (standing (visible_rows rights rs)) n ≡ package_at (standing rs) n) ⊎ (package_at (standing (visible_rows rights rs)) n ≡ None)
 seen_or_none rights rs n ordered = rw (seen_at rights rs kinds.Package n ordered) (as_kept (is_visible rights rs) (found kinds.Package n rs))
 
 -- what holds of the package where it stands so, and where there is none, holds of the one that is seen
-seen_either : (P : Option Package → Type 0) (rights : List Grant) (rs : List Row) (n : FullName) → AreRows rs → P (package_at (standing rs) n) → P None → P (package_at (standing (visible_rows rights rs)) n)
+seen_either : (P : Option Package → Type 0) (rights : ByText Rights) (rs : List Row) (n : FullName) → AreRows rs → P (package_at (standing rs) n) → P None → P (package_at (standing (visible_rows rights rs)) n)
 seen_either P rights rs n ordered stands none =
     elim (seen_or_none rights rs n ordered) [ inl e ↦ subst P (sym e) stands | inr e ↦ subst P (sym e) none ]
 
-shared_seen : (rights : List Grant) (rs : List Row) (n : FullName) → AreRows rs → is_shared (package_at (standing (visible_rows rights rs)) n) ≡ is_shared (package_at (standing rs) n)
+shared_seen : (rights : ByText Rights) (rs : List Row) (n : FullName) → AreRows rs → is_shared (package_at (standing (visible_rows rights rs)) n) ≡ is_shared (package_at (standing rs) n)
 shared_seen rights rs n ordered = by_row (package_at (standing rs) n) refl
   where
     by_row : (o : Option Package) → package_at (standing rs) n ≡ o → is_shared (package_at (standing (visible_rows rights rs)) n) ≡ is_shared (package_at (standing rs) n)
@@ -168,7 +170,7 @@ shared_seen rights rs n ordered = by_row (package_at (standing rs) n) refl
         by_test true f = ap is_shared (open_seen rights rs n p ordered e (or_right (may_read rights p.name.namespace) p.publish f) ∙ sym e)
         by_test false f = seen_either (λ (x : Option Package). is_shared x ≡ is_shared (package_at (standing rs) n)) rights rs n ordered refl (sym (ap is_shared e ∙ f))
 
-pub shared_at_seen : (rights : List Grant) (rs : List Row) (o : Option FullName) → AreRows rs → is_shared_at (visible_rows rights rs) o ≡ is_shared_at rs o
+pub shared_at_seen : (rights : ByText Rights) (rs : List Row) (o : Option FullName) → AreRows rs → is_shared_at (visible_rows rights rs) o ≡ is_shared_at rs o
 shared_at_seen rights rs None ordered = refl
 shared_at_seen rights rs (Some n) ordered = shared_seen rights rs n ordered
 
@@ -182,7 +184,7 @@ reached_at t from (Some q) p is = by_test (q.publish || bytes_eq t.namespace fro
     by_test true e = rw e at is
     by_test false e = let h : None ≡ Some p = rw e at is in cc
 
-target_seen : (rights : List Grant) (rs : List Row) (n t : FullName) (p : Package) → AreRows rs → found kinds.Package n rs ≡ Some (rows.Package p) → is_open rights p ≡ true → p.binding ≡ Some t
+target_seen : (rights : ByText Rights) (rs : List Row) (n t : FullName) (p : Package) → AreRows rs → found kinds.Package n rs ≡ Some (rows.Package p) → is_open rights p ≡ true → p.binding ≡ Some t
     → reached_package (standing (visible_rows rights rs)) t p.name.namespace ≡ reached_package (standing rs) t p.name.namespace
 target_seen rights rs n t p ordered is opened binds = by_reached (reached_package (standing rs) t p.name.namespace) refl
   where
@@ -201,12 +203,12 @@ target_seen rights rs n t p ordered is opened binds = by_reached (reached_packag
 
 -- ---- actions
 
-inside_seen : (rights : List Grant) (rs : List Row) (n : FullName) (p : Package) → found kinds.Package n rs ≡ Some (rows.Package p) → is_open rights p ≡ true
+inside_seen : (rights : ByText Rights) (rs : List Row) (n : FullName) (p : Package) → found kinds.Package n rs ≡ Some (rows.Package p) → is_open rights p ≡ true
     → actions_in p.name (visible_rows rights rs) ≡ actions_in p.name rs
 inside_seen rights rs n p is opened =
     filter_filter (lies_in p.name) (is_visible rights rs) rs (λ r lies. visible_inside rights rs n p r is opened (or_right (is_row kinds.Package p.name r) _ lies))
 
-bound_seen : (rights : List Grant) (rs : List Row) (n t : FullName) (p : Package) → found kinds.Package n rs ≡ Some (rows.Package p) → is_open rights p ≡ true → p.binding ≡ Some t
+bound_seen : (rights : ByText Rights) (rs : List Row) (n t : FullName) (p : Package) → found kinds.Package n rs ≡ Some (rows.Package p) → is_open rights p ≡ true → p.binding ≡ Some t
     → is_some (reached_package (standing rs) t p.name.namespace) ≡ true → actions_in t (visible_rows rights rs) ≡ actions_in t rs
 bound_seen rights rs n t p is opened binds reached =
     filter_filter (lies_in t) (is_visible rights rs) rs (λ r lies. visible_bound rights rs n t p r is opened binds reached (or_right (is_row kinds.Package t r) _ lies))
@@ -215,7 +217,7 @@ actions_if_same : (o : Option Package) (t : FullName) (xs ys : List Row) → (is
 actions_if_same None t xs ys same = refl
 actions_if_same (Some p) t xs ys same = same refl
 
-behind_seen : (rights : List Grant) (rs : List Row) (n : FullName) (p : Package) (o : Option FullName) → AreRows rs → found kinds.Package n rs ≡ Some (rows.Package p) → is_open rights p ≡ true → p.binding ≡ o
+behind_seen : (rights : ByText Rights) (rs : List Row) (n : FullName) (p : Package) (o : Option FullName) → AreRows rs → found kinds.Package n rs ≡ Some (rows.Package p) → is_open rights p ≡ true → p.binding ≡ o
     → actions_behind p o (visible_rows rights rs) ≡ actions_behind p o rs
 behind_seen rights rs n p None ordered is opened binds = inside_seen rights rs n p is opened
 behind_seen rights rs n p (Some t) ordered is opened binds =
@@ -223,7 +225,7 @@ behind_seen rights rs n p (Some t) ordered is opened binds =
     ∙ actions_if_same (reached_package (standing rs) t p.name.namespace) t (visible_rows rights rs) rs (bound_seen rights rs n t p is opened binds)
 
 -- what an open package shows
-shown_seen : (rights : List Grant) (rs : List Row) (n : FullName) (p : Package) → AreRows rs → found kinds.Package n rs ≡ Some (rows.Package p) → is_open rights p ≡ true
+shown_seen : (rights : ByText Rights) (rs : List Row) (n : FullName) (p : Package) → AreRows rs → found kinds.Package n rs ≡ Some (rows.Package p) → is_open rights p ≡ true
     → shown_actions p (visible_rows rights rs) ≡ shown_actions p rs
 shown_seen rights rs n p ordered is opened = ap (λ (xs : List Row). map package_entry xs) (behind_seen rights rs n p p.binding ordered is opened refl)
 
@@ -237,11 +239,11 @@ granting kinds.Rule name = None
 granting kinds.Trigger name = None
 
 -- it stands in a namespace in which whoever asks may read, or belongs to a shared package
-abbrev pub IsOpenTo : List Grant → List Row → EntityKind → FullName → Type 0
+abbrev pub IsOpenTo : ByText Rights → List Row → EntityKind → FullName → Type 0
 IsOpenTo rights rs kind name = (may_read rights name.namespace || is_shared_at rs (granting kind name)) ≡ true
 
 -- what is seen wherever it is found
-seen_if : (rights : List Grant) (rs : List Row) (kind : EntityKind) (n : FullName) → AreRows rs → ((r : Row) → found kind n rs ≡ Some r → is_visible rights rs r ≡ true)
+seen_if : (rights : ByText Rights) (rs : List Row) (kind : EntityKind) (n : FullName) → AreRows rs → ((r : Row) → found kind n rs ≡ Some r → is_visible rights rs r ≡ true)
     → found kind n (visible_rows rights rs) ≡ found kind n rs
 seen_if rights rs kind n ordered visible = seen_at rights rs kind n ordered ∙ by_row (found kind n rs) refl
   where
@@ -276,7 +278,7 @@ place_of name m (Some p) e is =
     (cc, let same : p ≡ m.name = cc in e ∙ ap Some same)
 
 -- what a binding calls
-bound_action : (rights : List Grant) (rs : List Row) (n t : FullName) (p : Package) (name : FullName) → AreRows rs → found kinds.Package n rs ≡ Some (rows.Package p) → is_open rights p ≡ true → p.binding ≡ Some t
+bound_action : (rights : ByText Rights) (rs : List Row) (n t : FullName) (p : Package) (name : FullName) → AreRows rs → found kinds.Package n rs ≡ Some (rows.Package p) → is_open rights p ≡ true → p.binding ≡ Some t
     → IsNamed rs kinds.Action (lying_in t name.name) → behind_in (standing (visible_rows rights rs)) name p (Some t) ≡ behind_in (standing rs) name p (Some t)
 bound_action rights rs n t p name ordered is opened binds named =
     ap (λ (x : Option Package). option_and_then (λ (bound : Package). option_map (made bound) (action_at (standing (visible_rows rights rs)) (lying_in t name.name))) x) (target_seen rights rs n t p ordered is opened binds)
@@ -299,7 +301,7 @@ reached_same standing' standing'' name p true same = same
 reached_same standing' standing'' name p false same = refl
 
 -- what a name in a binding calls
-effective_seen : (rights : List Grant) (rs : List Row) (m t : FullName) (p : Package) (name : FullName) → AreRows rs → package_of name ≡ Some m → package_at (standing rs) m ≡ Some p → is_open rights p ≡ true → p.binding ≡ Some t
+effective_seen : (rights : ByText Rights) (rs : List Row) (m t : FullName) (p : Package) (name : FullName) → AreRows rs → package_of name ≡ Some m → package_at (standing rs) m ≡ Some p → is_open rights p ≡ true → p.binding ≡ Some t
     → IsNamed rs kinds.Action (lying_in t name.name) → effective (standing (visible_rows rights rs)) name name.namespace ≡ effective (standing rs) name name.namespace
 unfolding effective
 effective_seen rights rs m t p name ordered lies is opened binds named =
@@ -317,12 +319,12 @@ effective_seen rights rs m t p name ordered lies is opened binds named =
 abbrev chosen : Option FullName → Option Row → Option Row → Option Row
 chosen target behind stands = if is_some target then behind else stands
 
-own_action : (rights : List Grant) (rs : List Row) (name : FullName) → AreRows rs → may_read rights name.namespace ≡ true → IsNamed rs kinds.Action name
+own_action : (rights : ByText Rights) (rs : List Row) (name : FullName) → AreRows rs → may_read rights name.namespace ≡ true → IsNamed rs kinds.Action name
     → found kinds.Action name (visible_rows rights rs) ≡ found kinds.Action name rs
 own_action rights rs name ordered reads named = seen_if rights rs kinds.Action name ordered (λ r at.
     visible_own rights rs r (ap (λ (x : FullName). may_read rights x.namespace) (named_at rs kinds.Action name r named at) ∙ reads))
 
-action_by : (rights : List Grant) (rs : List Row) (name : FullName) (o : Option FullName) → AreRows rs → package_of name ≡ o → (may_read rights name.namespace || is_shared_at rs o) ≡ true
+action_by : (rights : ByText Rights) (rs : List Row) (name : FullName) (o : Option FullName) → AreRows rs → package_of name ≡ o → (may_read rights name.namespace || is_shared_at rs o) ≡ true
     → IsPackageNamed rs o → IsNamed rs kinds.Action (bound_name name (target_of rs o))
     → chosen (target_of (visible_rows rights rs) o) (action_behind (visible_rows rights rs) name) (found kinds.Action name (visible_rows rights rs))
     ≡ chosen (target_of rs o) (action_behind rs name) (found kinds.Action name rs)
@@ -364,12 +366,12 @@ action_by rights rs name (Some m) ordered lies opened package_named named = by_r
 
 -- ---- the row that is read
 
-open_package : (rights : List Grant) (rs : List Row) (name : FullName) (p : Package) → IsOpenTo rights rs kinds.Package name → IsNamed rs kinds.Package name → found kinds.Package name rs ≡ Some (rows.Package p) → is_open rights p ≡ true
+open_package : (rights : ByText Rights) (rs : List Row) (name : FullName) (p : Package) → IsOpenTo rights rs kinds.Package name → IsNamed rs kinds.Package name → found kinds.Package name rs ≡ Some (rows.Package p) → is_open rights p ≡ true
 open_package rights rs name p opened named stands =
     ap (λ (x : FullName). may_read rights x.namespace || p.publish) (named_at rs kinds.Package name (rows.Package p) named stands)
     ∙ (ap (λ (x : Option Row). may_read rights name.namespace || is_shared (as_package x)) (sym stands) ∙ opened)
 
-package_visible : (rights : List Grant) (rs : List Row) (name : FullName) (r : Row) → IsOpenTo rights rs kinds.Package name → IsNamed rs kinds.Package name → found kinds.Package name rs ≡ Some r → is_visible rights rs r ≡ true
+package_visible : (rights : ByText Rights) (rs : List Row) (name : FullName) (r : Row) → IsOpenTo rights rs kinds.Package name → IsNamed rs kinds.Package name → found kinds.Package name rs ≡ Some r → is_visible rights rs r ≡ true
 package_visible rights rs name (rows.Action a) opened named stands =
     let h = kind_is kinds.Package name (rows.Action a) (find_passes (is_row kinds.Package name) (rows.Action a) rs stands) in cc
 package_visible rights rs name (rows.Package p) opened named stands =
@@ -383,7 +385,7 @@ no_trigger : (name : FullName) (r : Row) → is_row kinds.Trigger name r ≡ tru
 no_trigger name (rows.Action a) is = let h = kind_is kinds.Trigger name (rows.Action a) is in cc
 no_trigger name (rows.Package p) is = let h = kind_is kinds.Trigger name (rows.Package p) is in cc
 
-row_seen : (rights : List Grant) (rs : List Row) (kind : EntityKind) (name : FullName) → AreRows rs → IsOpenTo rights rs kind name → AreNamed rs kind name
+row_seen : (rights : ByText Rights) (rs : List Row) (kind : EntityKind) (name : FullName) → AreRows rs → IsOpenTo rights rs kind name → AreNamed rs kind name
     → row_read (visible_rows rights rs) kind name ≡ row_read rs kind name
 row_seen rights rs kinds.Action name ordered opened named = action_by rights rs name (package_of name) ordered refl opened named.0 named.1
 row_seen rights rs kinds.Package name ordered opened named = seen_if rights rs kinds.Package name ordered (λ r at. package_visible rights rs name r opened named at)
@@ -406,7 +408,7 @@ action_shown : (rs ss : List Row) (name : FullName) (r : Row) (b : Bool) → (if
 action_shown rs ss name r true at = called_action rs ss (effective (standing rs) name name.namespace) r at
 action_shown rs ss name r false at = is_action rs ss name r at
 
-shown_so : (rights : List Grant) (rs : List Row) (kind : EntityKind) (name : FullName) (r : Row) → AreRows rs → IsOpenTo rights rs kind name → AreNamed rs kind name → row_read rs kind name ≡ Some r
+shown_so : (rights : ByText Rights) (rs : List Row) (kind : EntityKind) (name : FullName) (r : Row) → AreRows rs → IsOpenTo rights rs kind name → AreNamed rs kind name → row_read rs kind name ≡ Some r
     → shown_row (visible_rows rights rs) r ≡ shown_row rs r
 shown_so rights rs kinds.Action name r ordered opened named at = action_shown rs (visible_rows rights rs) name r (is_some (target_of rs (package_of name))) at
 shown_so rights rs kinds.Package name (rows.Action a) ordered opened named at = refl
@@ -420,7 +422,7 @@ abbrev pub option_shown : List Row → Option Row → Option V
 option_shown rs o = option_map (shown_row rs) o
 
 -- what is shown of the rows that are seen is what is shown of all
-pub value_seen : (rights : List Grant) (rs : List Row) (kind : EntityKind) (name : FullName) → AreRows rs → IsOpenTo rights rs kind name → AreNamed rs kind name
+pub value_seen : (rights : ByText Rights) (rs : List Row) (kind : EntityKind) (name : FullName) → AreRows rs → IsOpenTo rights rs kind name → AreNamed rs kind name
     → option_shown (visible_rows rights rs) (row_read (visible_rows rights rs) kind name) ≡ option_shown rs (row_read rs kind name)
 value_seen rights rs kind name ordered opened named =
     ap (option_shown (visible_rows rights rs)) (row_seen rights rs kind name ordered opened named) ∙ by_row (row_read rs kind name) refl

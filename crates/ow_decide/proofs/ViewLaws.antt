@@ -14,12 +14,16 @@ use Rattle.ow_http.specs.declared.route.Part.{Part}
 use Rattle.ow_decide.specs.declared.acts.Act.{Act}
 use Rattle.ow_decide.specs.declared.acts.Act.TheVariants.{Reads}
 use Rattle.ow_decide.specs.declared.acts.Reading.{Reading}
-use Rattle.ow_decide.specs.declared.acts.Reading.TheVariants.{Rows, Row as OneRow, Activations, Activation}
+use Rattle.ow_decide.specs.declared.acts.Reading.TheVariants.{Namespaces, Rows, Row as OneRow, Activations, Activation}
 use Rattle.ow_decide.specs.Asking.{act_done, act_of, ask_decision, at_once, request_done, shown_done}
 use Rattle.ow_decide.specs.Reading.{answer_of, id_of, is_opened, name_in, or_call_reason, part_value, read_answer, read_call, read_done, read_grant, read_kind, read_namespace, read_value, recorded, row_read}
 use Rattle.ow_decide.specs.Shown.{shown_row}
-use Rattle.ow_decide.specs.Reasons.{book_full, no_route, not_found, not_granted, tells_full}
-use Rattle.ow_decide.specs.Sight.{Sight, is_full, or_else, room_for, unless}
+use Rattle.ow_decide.specs.Reasons.{book_full, no_route, not_found, not_granted, tells_full, unknown_key}
+use Rattle.ow_tenant.specs.Tenants.{holder_of}
+use Rattle.ow_tenant.specs.declared.entries.Holder.{Holder}
+use Rattle.ow_decide.specs.Sight.{Sight, is_full, room_for}
+use Rattle.ow_decide.specs.Steps.{or_else, unless}
+use Rattle.ow_decide.specs.Tenants.{asker}
 use Rattle.ow_decide.specs.View.{View, may_read, view_of}
 
 -- it isn't that the book is full
@@ -54,26 +58,34 @@ record_other part None = refl
 record_other part (Some r) = tt
 
 value_other : (W : View) (reading : Reading) (p : Parts) (c : Call) → IfErr (read_value W reading p c) IsOther
+value_other W Namespaces p c = tt
 value_other W (Rows kind) p c = tt
 value_other W (OneRow kind) p c = then_other (name_in c) (λ (name : FullName). or_else (row_read W.rows kind name) not_found >>= (λ (r : Row). shown (shown_row W.rows r)))
     (or_other c.name no_route refl) (λ name. row_other W (row_read W.rows kind name))
 value_other W Activations p c = tt
 value_other W (Activation part) p c = record_other part (recorded (read_namespace W p) (id_of p.route) W.records)
 
+grant_other : (W : View) (reading : Reading) (p : Parts) → IfErr (read_grant W reading p) IsOther
+grant_other W Namespaces p = tt
+grant_other W (Rows kind) p = unless_other (not (may_read W.rights (read_namespace W p) || is_opened W.home W.rows p.route (read_kind (Rows kind)))) not_granted refl
+grant_other W (OneRow kind) p = unless_other (not (may_read W.rights (read_namespace W p) || is_opened W.home W.rows p.route (read_kind (OneRow kind)))) not_granted refl
+grant_other W Activations p = unless_other (not (may_read W.rights (read_namespace W p) || is_opened W.home W.rows p.route (read_kind Activations))) not_granted refl
+grant_other W (Activation part) p = unless_other (not (may_read W.rights (read_namespace W p) || is_opened W.home W.rows p.route (read_kind (Activation part)))) not_granted refl
+
 done_other : (W : View) (reading : Reading) (p : Parts) → IfErr (read_done W reading p) IsOther
 done_other W reading p = then_other (read_call W reading p) (read_value W reading p)
-    (then_other (read_grant W reading p) (λ (u : Unit {0}). or_call_reason (call_of W.home p))
-    (unless_other (not (may_read W.rights (read_namespace W p) || is_opened W.home W.rows p.route (read_kind reading))) not_granted refl) (λ grant. call_other (call_of W.home p)))
+    (then_other (read_grant W reading p) (λ (u : Unit {0}). or_call_reason (call_of W.home p)) (grant_other W reading p) (λ grant. call_other (call_of W.home p)))
     (value_other W reading p)
 
 told_so : (at : ℕ) (r : Result V Reason) → IfErr r IsOther → (ask_decision at (shown_done r)).told ≡ at_once (answer_of r)
 told_so at (Ok value) other = refl
 told_so at (Err reason) other = rw other refl
 
--- of a read that the book has room for the answer is the one of the view
-pub read_so : (S : Sight) (reading : Reading) (p : Parts) → act_of p.route p.method ≡ Some (Reads reading) → is_full S.counted p.size ≡ false
-    → (ask_decision S.moment (request_done S p)).told ≡ at_once (read_answer (view_of S) reading p)
-read_so S reading p act room =
-    ap (λ (o : Option Act). (ask_decision S.moment (or_else o no_route >>= (λ (a : Act). room_for S p.size >>= (λ (u : Unit {0}). act_done S a p)))).told) act
-    ∙ (ap (λ (b : Bool). (ask_decision S.moment (unless b book_full >>= (λ (u : Unit {0}). act_done S (Reads reading) p))).told) room
-    ∙ told_so S.moment (read_done (view_of S) reading p) (done_other (view_of S) reading p))
+-- of a read that the book has room for, with a key of the table, the answer is the one of the view
+pub read_so : (S : Sight) (h : Holder) (reading : Reading) (p : Parts) → act_of p.route p.method ≡ Some (Reads reading) → is_full S.counted p.size ≡ false → holder_of p.key S.tenants ≡ Some h
+    → (ask_decision S.moment (request_done S p)).told ≡ at_once (read_answer (view_of S h) reading p)
+read_so S h reading p act room held =
+    ap (λ (o : Option Act). (ask_decision S.moment (or_else o no_route >>= (λ (a : Act). room_for S p.size >>= (λ (u : Unit {0}). asker S.tenants p.key >>= (λ (k : Holder). act_done S k a p))))).told) act
+    ∙ (ap (λ (b : Bool). (ask_decision S.moment (unless b book_full >>= (λ (u : Unit {0}). asker S.tenants p.key >>= (λ (k : Holder). act_done S k (Reads reading) p)))).told) room
+    ∙ (ap (λ (o : Option Holder). (ask_decision S.moment (or_else o unknown_key >>= (λ (k : Holder). act_done S k (Reads reading) p))).told) held
+    ∙ told_so S.moment (read_done (view_of S h) reading p) (done_other (view_of S h) reading p)))

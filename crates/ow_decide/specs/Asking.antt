@@ -22,24 +22,28 @@ use Rattle.ow_http.specs.Steps.{◌>>=◌}
 use Rattle.ow_http.specs.declared.answer.Answer.{Answer}
 use Rattle.ow_http.specs.declared.call.Call.{Call}
 use Rattle.ow_http.specs.declared.call_kind.CallKind.{CallKind}
-use Rattle.ow_http.specs.declared.call_kind.CallKind.TheVariants.{ListEntities, GetEntity, PutEntity, DeleteEntity, Invoke, ListActivations, GetActivation}
+use Rattle.ow_http.specs.declared.call_kind.CallKind.TheVariants.{ListNamespaces, ListEntities, GetEntity, PutEntity, DeleteEntity, Invoke, ListActivations, GetActivation}
 use Rattle.ow_http.specs.declared.reason.Reason.{Reason}
 use Rattle.ow_http.specs.declared.route.Route.{Route}
 use Rattle.ow_http.specs.declared.verb.Verb.{Verb}
 use Rattle.ow_decide.specs.declared.acts.Act.{Act}
 use Rattle.ow_decide.specs.declared.acts.Act.TheVariants.{Reads, Puts, Removes, Invokes}
 use Rattle.ow_decide.specs.declared.acts.Reading.{Reading}
-use Rattle.ow_decide.specs.declared.acts.Reading.TheVariants.{Rows, Row as OneRow, Activations, Activation}
+use Rattle.ow_decide.specs.declared.acts.Reading.TheVariants.{Namespaces, Rows, Row as OneRow, Activations, Activation}
 use Rattle.ow_decide.specs.declared.events.Told.{Told}
 use Rattle.ow_decide.specs.declared.events.Told.TheVariants as told
 use Rattle.ow_decide.specs.declared.replies.Reply.{Reply}
 use Rattle.ow_decide.specs.declared.replies.Reply.TheVariants as replies
 use Rattle.ow_decide.specs.declared.waits.Shows.{Shows}
 use Rattle.ow_decide.specs.declared.waits.Waits.TheVariants.{Keep}
-use Rattle.ow_decide.specs.Tenants.{is_granted}
-use Rattle.ow_decide.specs.declared.tenants.Tenants.{Tenants}
+use Rattle.ow_tenant.specs.declared.entries.Holder.{Holder}
+use Rattle.ow_tenant.specs.declared.rights.Right.{Right}
+use Rattle.ow_tenant.specs.declared.rights.Right.TheVariants.{Read, Write, Invoke as InvokeRight}
+use Rattle.ow_tenant.specs.Tenants.{holder_of}
+use Rattle.ow_decide.specs.Tenants.{asker, may}
+use Rattle.ow_decide.specs.Steps.{or_else, unless}
 use Rattle.ow_decide.specs.Reasons.{no_route, not_found, not_granted, table_reason, tells_full}
-use Rattle.ow_decide.specs.Sight.{Sight, is_full, or_else, room_for, unless}
+use Rattle.ow_decide.specs.Sight.{Sight, is_full, room_for}
 use Rattle.ow_decide.specs.Decision.{Decision, tells}
 use Rattle.ow_decide.specs.View.{view_of}
 use Rattle.ow_decide.specs.Reading.{good, is_opened, name_in, namespace_of, or_call_reason, read_answer, read_done, read_kind}
@@ -57,6 +61,7 @@ is_served kind = false
 abbrev pub reading_in : CallKind → Option Reading
 reading_in (ListEntities kind) = if is_served kind then Some (Rows kind) else None
 reading_in (GetEntity kind) = if is_served kind then Some (OneRow kind) else None
+reading_in ListNamespaces = Some Namespaces
 reading_in ListActivations = Some Activations
 reading_in (GetActivation part) = Some (Activation part)
 reading_in kind = None
@@ -90,19 +95,27 @@ opened_kind (Reads reading) = read_kind reading
 opened_kind Invokes = Some kinds.Action
 opened_kind act = None
 
--- whoever asks may read and write in the namespace of the path, or what is wanted is granted by a shared package
-abbrev pub grant_for : Tenants → List Row → Act → Parts → Result (Unit {0}) Reason
-grant_for t rs act p = unless (not (is_granted t (namespace_of p.route) || is_opened t.home rs p.route (opened_kind act))) not_granted
+-- the right that is wanted in the namespace of the path
+abbrev pub right_for : Act → Right
+right_for (Reads reading) = Read
+right_for Puts = Write
+right_for (Removes kind) = Write
+right_for Invokes = InvokeRight
+
+-- who asks has that right, or what is wanted is granted by a shared package; the list of namespaces is granted to each key
+abbrev pub grant_for : Holder → List Row → Act → Parts → Result (Unit {0}) Reason
+grant_for h rs (Reads Namespaces) p = Ok tt
+grant_for h rs act p = unless (not (may h (right_for act) (namespace_of p.route) || is_opened h.home rs p.route (opened_kind act))) not_granted
 
 -- query, names of the path and body
-abbrev pub call_for : Tenants → Parts → Result Call Reason
-call_for t p = or_call_reason (call_of t.home p)
+abbrev pub call_for : Holder → Parts → Result Call Reason
+call_for h p = or_call_reason (call_of h.home p)
 
 -- the call, where it is granted
-abbrev pub granted_call : Tenants → List Row → Act → Parts → Result Call Reason
-granted_call t rs act p = do
-  grant ← grant_for t rs act p
-  call_for t p
+abbrev pub granted_call : Holder → List Row → Act → Parts → Result Call Reason
+granted_call h rs act p = do
+  grant ← grant_for h rs act p
+  call_for h p
 
 -- the entity that is given
 abbrev pub draft_in : Call → Result Draft Reason
@@ -141,44 +154,45 @@ put_done S draft overwrite = do
   Ok (Changed (record { row = row; removes = false }) (shown_row (with_row row S.rows) row))
 
 -- what comes of an act that isn't a read, of what a request wants
-abbrev pub change_done : Sight → Act → Call → Result Done Reason
-change_done S (Reads reading) c = Err no_route
-change_done S Puts c = do
+abbrev pub change_done : Sight → Holder → Act → Call → Result Done Reason
+change_done S h (Reads reading) c = Err no_route
+change_done S h Puts c = do
   draft ← draft_in c
   put_done S draft c.overwrite
-change_done S (Removes kind) c = do
+change_done S h (Removes kind) c = do
   name ← name_in c
   free ← unless_refused (remove_refusal kind name S.rows)
   row ← row_for S kind name
   Ok (Changed (record { row = row; removes = true }) (shown_row S.rows row))
-change_done S Invokes c = do
+change_done S h Invokes c = do
   name ← name_in c
-  plan ← invocation_plan S S.tenants.subject (charged_namespace S.tenants name) c.blocking name c.params
+  plan ← invocation_plan S h.subject (charged_namespace h name) c.blocking name c.params
   Ok (Invoked plan (shows_of c.result_only))
 
 abbrev pub shown_done : Result V Reason → Result Done Reason
 shown_done (Ok value) = Ok (Shown value)
 shown_done (Err reason) = Err reason
 
-abbrev pub called_done : Sight → Act → Parts → Result Done Reason
-called_done S act p = do
-  call ← granted_call S.tenants S.rows act p
-  change_done S act call
+abbrev pub called_done : Sight → Holder → Act → Parts → Result Done Reason
+called_done S h act p = do
+  call ← granted_call h S.rows act p
+  change_done S h act call
 
 -- a read is answered of what whoever asks may see
-abbrev pub act_done : Sight → Act → Parts → Result Done Reason
-act_done S (Reads reading) p = shown_done (read_done (view_of S) reading p)
-act_done S Puts p = called_done S Puts p
-act_done S (Removes kind) p = called_done S (Removes kind) p
-act_done S Invokes p = called_done S Invokes p
+abbrev pub act_done : Sight → Holder → Act → Parts → Result Done Reason
+act_done S h (Reads reading) p = shown_done (read_done (view_of S h) reading p)
+act_done S h Puts p = called_done S h Puts p
+act_done S h (Removes kind) p = called_done S h (Removes kind) p
+act_done S h Invokes p = called_done S h Invokes p
 
--- what comes of a request, whose refusals stand in the order of their places: the route, the book, the grant, query and path
--- and body, and what is named
+-- what comes of a request, whose refusals stand in the order of their places: the route, the book, the key, the grant, query and
+-- path and body, and what is named
 abbrev pub request_done : Sight → Parts → Result Done Reason
 request_done S p = do
   act ← act_for p
   room ← room_for S p.size
-  act_done S act p
+  h ← asker S.tenants p.key
+  act_done S h act p
 
 -- ---- what is told
 
@@ -210,5 +224,5 @@ reply_in t = None
 
 -- a read that the book has room for is answered of what whoever asks may see
 abbrev pub IsOfView : Sight → Type 0
-IsOfView S = (reading : Reading) (p : Parts) → act_of p.route p.method ≡ Some (Reads reading) → is_full S.counted p.size ≡ false
-    → (ask_decision S.moment (request_done S p)).told ≡ at_once (read_answer (view_of S) reading p)
+IsOfView S = (h : Holder) (reading : Reading) (p : Parts) → act_of p.route p.method ≡ Some (Reads reading) → is_full S.counted p.size ≡ false → holder_of p.key S.tenants ≡ Some h
+    → (ask_decision S.moment (request_done S p)).told ≡ at_once (read_answer (view_of S h) reading p)

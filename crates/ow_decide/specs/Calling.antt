@@ -22,18 +22,23 @@ use Rattle.ow_http.specs.declared.reason.Reason.{Reason}
 use Rattle.ow_http.specs.declared.reason.Reason.TheVariants.{Fixed}
 use Rattle.ow_decide.specs.declared.events.Told.TheVariants as told
 use Rattle.ow_decide.specs.declared.replies.Called.TheVariants as called
-use Rattle.ow_decide.specs.declared.tenants.Tenants.{Tenants}
+use Rattle.ow_tenant.specs.Table.{Table}
+use Rattle.ow_tenant.specs.Rights.{has_right}
+use Rattle.ow_tenant.specs.Tenants.{number_of, rights_in}
+use Rattle.ow_tenant.specs.declared.entries.Holder.{Holder}
+use Rattle.ow_tenant.specs.declared.rights.Right.TheVariants.{Invoke}
 use Rattle.ow_decide.specs.declared.call_steps.Callee.{Callee}
-use Rattle.ow_decide.specs.Tenants.{is_granted, number_of}
+use Rattle.ow_decide.specs.Tenants.{office}
+use Rattle.ow_decide.specs.Steps.{or_else}
 use Rattle.ow_decide.specs.Reasons.{not_found, too_large}
-use Rattle.ow_decide.specs.Sight.{Sight, or_else, room_for, takes_calls}
+use Rattle.ow_decide.specs.Sight.{Sight, room_for, takes_calls, within_limits}
 use Rattle.ow_decide.specs.Decision.{Decision, adds, tells}
 
 -- ---- what is wanted, or why it isn't there
 
 -- which namespace is charged for an invocation: the caller's own where it has no right on that of the action
-abbrev pub charged_namespace : Tenants → FullName → List ℕ
-charged_namespace t name = if is_granted t name.namespace then name.namespace else t.home
+abbrev pub charged_namespace : Holder → FullName → List ℕ
+charged_namespace h name = if has_right Invoke (rights_in name.namespace h) then name.namespace else h.home
 
 -- the number of the namespace that is charged, and what is called, where both are there
 abbrev pub callee_of : Option ℕ → Option Effective → Option Callee
@@ -41,8 +46,8 @@ callee_of (Some n) (Some e) = Some (record { number = n; effective = e })
 callee_of number called = None
 
 -- what the name calls for one in a namespace, which has a number
-abbrev pub callee_in : Tenants → List Row → FullName → List ℕ → Option Callee
-callee_in t rs name namespace = callee_of (number_of t namespace) (effective (standing rs) name namespace)
+abbrev pub callee_in : Table → List Row → FullName → List ℕ → Option Callee
+callee_in t rs name namespace = callee_of (number_of namespace t) (effective (standing rs) name namespace)
 
 abbrev pub callee : Sight → FullName → List ℕ → Result Callee Reason
 callee S name namespace = or_else (callee_in S.tenants S.rows name namespace) not_found
@@ -91,6 +96,7 @@ plan_for subject until id namespace e params = record {
 abbrev pub merged_plan : Sight → List ℕ → List ℕ → Bool → Callee → Pairs → Result Plan Reason
 merged_plan S subject namespace blocking c merged = do
   taken ← takes_calls S
+  within ← within_limits S namespace
   Ok (plan_for subject (until_of S.moment blocking c.effective.action) (next_id S c.number) namespace c.effective merged)
 
 abbrev pub called_plan : Sight → List ℕ → List ℕ → Bool → Callee → Pairs → Result Plan Reason
@@ -99,7 +105,7 @@ called_plan S subject namespace blocking c given = do
   merged_plan S subject namespace blocking c merged
 
 -- what is to be accepted, whose refusals stand in the order of their places: what is called, the fixed parameters, the merged
--- parameters, and the drain
+-- parameters, the drain, and the limits
 abbrev pub invocation_plan : Sight → List ℕ → List ℕ → Bool → FullName → Pairs → Result Plan Reason
 invocation_plan S subject namespace blocking name given = do
   c ← callee S name namespace
@@ -109,7 +115,7 @@ invocation_plan S subject namespace blocking name given = do
 abbrev pub call_plan : Sight → FullName → Pairs → Result Plan Reason
 call_plan S name params = do
   room ← room_for S 0
-  invocation_plan S S.tenants.office name.namespace false name params
+  invocation_plan S office name.namespace false name params
 
 -- what is done at a call
 abbrev pub call_decision : Sight → Result Plan Reason → Decision

@@ -1,6 +1,7 @@
 pub mod Tenants
 pub mod Shown
 pub mod Sight
+pub mod Steps
 pub mod Reasons
 pub mod Ids
 pub mod View

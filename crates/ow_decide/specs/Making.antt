@@ -14,7 +14,9 @@ use Rattle.ow_decide.specs.declared.done.Served.TheVariants as served
 use Rattle.ow_decide.specs.declared.events.Told.{Told}
 use Rattle.ow_decide.specs.declared.step.Now.{Now}
 use Rattle.ow_decide.specs.declared.step.Step.{Step}
-use Rattle.ow_decide.specs.declared.tenants.Tenants.{Tenants}
+use Rattle.ow_tenant.specs.Table.{Table}
+use Rattle.ow_floor.specs.Trace.{Trace}
+use Rattle.ow_counts.specs.View.{AreUpTo, CountsView, StandsFor, notes_of}
 use Rattle.ow_decide.specs.declared.waits.Wait.{Wait}
 use Rattle.ow_decide.specs.declared.waits.Waits.TheVariants.{Keep}
 use Rattle.ow_decide.specs.Asking as asking
@@ -52,10 +54,16 @@ IsNextOf drawn (served.Accepts plan shows) = plan.id.count ≡ last_of drawn pla
 
 -- ---- a step: what is decided is done on the floor, and made ready beside it
 
+-- what is kept for the counts counts what happened, and nothing was accepted behind the moment
+pub record AreCounted (k : CountsView) (at : ℕ) (T : Trace) : Type 0 where
+  pub stands : StandsFor k (notes_of T)
+  pub up_to : AreUpTo at T
+
 -- what is seen is of these
-pub record IsSeen (S : Sight) (t : Tenants) (rs : List Row) (v : Shown) (now : Now) : Type 0 where
+pub record IsSeen (S : Sight) (t : Table) (rs : List Row) (k : CountsView) (v : Shown) (now : Now) : Type 0 where
   pub tenants : S.tenants ≡ t
   pub rows : S.rows ≡ rs
+  pub counts : AreCounted k now.at S.trace
   pub stands : Stands v S.trace
   pub counted : S.counted ≡ now.counted
   pub moment : S.moment ≡ now.at
@@ -75,9 +83,9 @@ pub record Carries (step : Step) (d : Decision) : Type 0 where
   pub waits : step.waits ≡ d.waits
 
 -- over a floor and rows: a step has what is decided of what is seen, and the floor has its items
-abbrev pub Makes : Tenants → List Row → Now → Shown → Shown → (Sight → Decision) → Step → Type 0
-Makes t rs now old new decided step = (S : Sight) → IsSeen S t rs old now → Carries step (decided S) × Stands new ((decided S).items ++ S.trace)
+abbrev pub Makes : Table → List Row → CountsView → Now → Shown → Shown → (Sight → Decision) → Step → Type 0
+Makes t rs k now old new decided step = (S : Sight) → IsSeen S t rs k old now → Carries step (decided S) × Stands new ((decided S).items ++ S.trace)
 
 -- over those who wait too
-abbrev pub MakesFor : List Wait → Tenants → List Row → Now → Shown → Shown → (Sight → Decision) → Step → Type 0
-MakesFor ws t rs now old new decided step = (S : Sight) → IsSeen S t rs old now → S.waits ≡ ws → Carries step (decided S) × Stands new ((decided S).items ++ S.trace)
+abbrev pub MakesFor : List Wait → Table → List Row → CountsView → Now → Shown → Shown → (Sight → Decision) → Step → Type 0
+MakesFor ws t rs k now old new decided step = (S : Sight) → IsSeen S t rs k old now → S.waits ≡ ws → Carries step (decided S) × Stands new ((decided S).items ++ S.trace)

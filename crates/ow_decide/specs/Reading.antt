@@ -1,6 +1,6 @@
 -- What reads are answered, of what whoever asks may see: the first refusal, in the order of their places from the grant on, or
 -- what is shown.
-use Rattle.std.specs.Prelude.{◌&&◌, ◌||◌, ℕ, List, [], Bool, false, find, not, is_some, if◌then◌else◌, option_and_then, option_map, Option, Some, None, Result, Ok, Err}
+use Rattle.std.specs.Prelude.{◌&&◌, ◌||◌, ℕ, List, [], Bool, false, find, map, not, is_some, if◌then◌else◌, option_and_then, option_map, Option, Some, None, Result, Ok, Err}
 use Rattle.std.specs.Result.{result_ok}
 use Rattle.ow_value.specs.Value.{V, list, items_of}
 use Rattle.ow_value.specs.Text.{compact}
@@ -32,11 +32,12 @@ use Rattle.ow_http.specs.declared.route.Part.TheVariants.{Whole, Response, Logs}
 use Rattle.ow_http.specs.declared.route.Route.{Route}
 use Rattle.ow_http.specs.declared.route.Route.TheVariants as route
 use Rattle.ow_decide.specs.declared.acts.Reading.{Reading}
-use Rattle.ow_decide.specs.declared.acts.Reading.TheVariants.{Rows, Row, Activations, Activation}
+use Rattle.ow_decide.specs.declared.acts.Reading.TheVariants.{Namespaces, Rows, Row, Activations, Activation}
 use Rattle.ow_decide.specs.Ids.{id_in}
 use Rattle.ow_decide.specs.Reasons.{no_route, not_found, not_granted}
 use Rattle.ow_decide.specs.Shown.{shown_row}
-use Rattle.ow_decide.specs.Sight.{or_else, unless}
+use Rattle.ow_tenant.specs.Tenants.{name_value}
+use Rattle.ow_decide.specs.Steps.{or_else, unless}
 use Rattle.ow_decide.specs.View.{View, may_read}
 
 -- ---- of every request
@@ -94,7 +95,9 @@ read_kind reading = None
 abbrev pub read_namespace : View → Parts → List ℕ
 read_namespace W p = home W.home (namespace_of p.route)
 
+-- the list of namespaces is granted to each key
 abbrev pub read_grant : View → Reading → Parts → Result (Unit {0}) Reason
+read_grant W Namespaces p = Ok tt
 read_grant W reading p = unless (not (may_read W.rights (read_namespace W p) || is_opened W.home W.rows p.route (read_kind reading))) not_granted
 
 -- query and names of the path
@@ -145,6 +148,7 @@ part_value Logs r = logs_value r
 -- ---- what is shown
 
 abbrev pub read_value : View → Reading → Parts → Call → Result V Reason
+read_value W Namespaces p c = Ok (list (items_of (map name_value W.rights)))
 read_value W (Rows kind) p c = Ok (list (items_of (listing kind (read_namespace W p) c.skip c.limit W.rows)))
 read_value W (Row kind) p c = do
   name ← name_in c

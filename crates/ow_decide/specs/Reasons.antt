@@ -3,6 +3,10 @@ use Rattle.std.specs.Prelude.{Bool, true, false}
 use Rattle.ow_entity.specs.declared.refusal.EntityRefusal.TheVariants.{TooLarge}
 use Rattle.ow_tables.specs.declared.refusal.TableRefusal.{TableRefusal}
 use Rattle.ow_tables.specs.declared.refusal.TableRefusal.TheVariants as tables
+use Rattle.ow_tenant.specs.declared.refusal.WindowRefusal.{WindowRefusal}
+use Rattle.ow_tenant.specs.declared.refusal.WindowRefusal.TheVariants as windows
+use Rattle.ow_counts.specs.declared.refusal.LimitRefusal.{LimitRefusal}
+use Rattle.ow_counts.specs.declared.refusal.LimitRefusal.TheVariants as limits
 use Rattle.ow_http.specs.declared.call_refusal.CallRefusal.TheVariants as calls
 use Rattle.ow_http.specs.declared.http_refusal.HttpRefusal.TheVariants as https
 use Rattle.ow_http.specs.declared.reason.Reason.{Reason}
@@ -20,6 +24,10 @@ not_found = Service services.NotFound
 -- the namespace isn't granted
 abbrev pub not_granted : Reason
 not_granted = Service services.NotGranted
+
+-- the table doesn't have the key
+abbrev pub unknown_key : Reason
+unknown_key = Service services.UnknownKey
 
 -- the floor drains
 abbrev pub draining : Reason
@@ -46,3 +54,14 @@ table_reason tables.Exists = Service services.Exists
 table_reason tables.NotEmpty = Service services.NotEmpty
 table_reason (tables.Entity e) = Call (calls.BadEntity e)
 table_reason tables.NoMemory = Call calls.NoMemory
+
+-- a limit of the namespace that is charged
+abbrev pub window_reason : WindowRefusal → Reason
+window_reason (windows.MinuteLimit count allowed) = Service (services.MinuteLimit count allowed)
+window_reason (windows.ConcurrentLimit count allowed) = Service (services.ConcurrentLimit count allowed)
+window_reason (windows.FireLimit count allowed) = Service (services.FireLimit count allowed)
+
+-- a limit that one more invocation would pass
+abbrev pub limit_reason : LimitRefusal → Reason
+limit_reason limits.OfficeBusy = Service services.OfficeBusy
+limit_reason (limits.OfNamespace refusal) = window_reason refusal

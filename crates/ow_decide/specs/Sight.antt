@@ -3,28 +3,22 @@ use Rattle.std.specs.Prelude.{◌+◌, ℕ, Bool, true, false, nat_lt, List, Opt
 use Rattle.ow_entity.specs.declared.rows.Row.{Row}
 use Rattle.ow_floor.specs.Trace.{Trace, is_draining}
 use Rattle.ow_http.specs.declared.reason.Reason.{Reason}
-use Rattle.ow_decide.specs.declared.tenants.Tenants.{Tenants}
+use Rattle.ow_tenant.specs.Table.{Table}
+use Rattle.ow_tenant.specs.Tenants.{limits_of}
+use Rattle.ow_counts.specs.Counts.{admitted}
+use Rattle.ow_counts.specs.declared.refusal.LimitRefusal.{LimitRefusal}
 use Rattle.ow_decide.specs.declared.waits.Wait.{Wait}
-use Rattle.ow_decide.specs.Reasons.{book_full, draining}
+use Rattle.ow_decide.specs.Reasons.{book_full, draining, limit_reason}
+use Rattle.ow_decide.specs.Steps.{unless}
 
 -- the office table, the rows, what happened on the floor, who waits for an end, how many bytes the book counts, and the moment
 pub record Sight : Type 0 where
-  pub tenants : Tenants
+  pub tenants : Table
   pub rows : List Row
   pub trace : Trace
   pub waits : List Wait
   pub counted : ℕ
   pub moment : ℕ
-
--- refused, where something holds
-abbrev pub unless : Bool → Reason → Result (Unit {0}) Reason
-unless true reason = Err reason
-unless false reason = Ok tt
-
--- what is wanted, or refused for want of it
-abbrev pub or_else : {X : Type 0} → Option X → Reason → Result X Reason
-or_else None reason = Err reason
-or_else (Some x) reason = Ok x
 
 -- a book that counts so many bytes has no room for an entry of so many beside its 64: it counts 1,073,741,824 at most
 unfoldable pub is_full : ℕ → ℕ → Bool
@@ -37,3 +31,11 @@ room_for S size = unless (is_full S.counted size) book_full
 -- the floor takes calls
 abbrev pub takes_calls : Sight → Result (Unit {0}) Reason
 takes_calls S = unless (is_draining S.trace) draining
+
+abbrev pub or_limit : Result (Unit {0}) LimitRefusal → Result (Unit {0}) Reason
+or_limit (Ok u) = Ok u
+or_limit (Err e) = Err (limit_reason e)
+
+-- the limits allow one more invocation that is charged to a namespace
+abbrev pub within_limits : Sight → List ℕ → Result (Unit {0}) Reason
+within_limits S namespace = or_limit (admitted S.trace namespace (limits_of namespace S.tenants) S.moment)

@@ -1,18 +1,23 @@
--- The office table: whose namespace whoever asks has, in whose name what is asked runs, in whose name the office itself calls,
--- which namespaces there are, how much memory all containers hold together at most, and which containers are wanted ahead.
-use Rattle.std.specs.Prelude.{◌||◌, ℕ, List, [], ◌∷◌, Bool, codes, Option, option_map}
-use Rattle.std.specs.List.{find}
-use Rattle.std.specs.Str.{bytes_eq}
-use Rattle.ow_decide.specs.declared.tenants.Tenants.{Tenants}
+-- Who asks, and what is granted to a key.
+use Rattle.std.specs.Prelude.{ℕ, List, Bool, codes, Option, Result}
+use Rattle.ow_names.specs.Path.{home}
+use Rattle.ow_http.specs.declared.reason.Reason.{Reason}
+use Rattle.ow_tenant.specs.Rights.{has_right}
+use Rattle.ow_tenant.specs.Table.{Table}
+use Rattle.ow_tenant.specs.Tenants.{holder_of, rights_in}
+use Rattle.ow_tenant.specs.declared.entries.Holder.{Holder}
+use Rattle.ow_tenant.specs.declared.rights.Right.{Right}
+use Rattle.ow_decide.specs.Reasons.{unknown_key}
+use Rattle.ow_decide.specs.Steps.{or_else}
 
--- the table of a service that is given none
-abbrev pub standard : Tenants
-standard = record { home = codes "guest"; subject = codes "anna"; office = codes "office"; namespaces = record { name = codes "whisk.system"; number = 0 } ∷ record { name = codes "guest"; number = 1 } ∷ []; pool = 2048; wants = [] }
+-- in whose name what the office itself calls is run
+abbrev pub office : List ℕ
+office = codes "office"
 
--- the number of a namespace, where it has one
-unfoldable pub number_of : Tenants → List ℕ → Option ℕ
-number_of t namespace = option_map (λ n. n.number) (find (λ n. bytes_eq n.name namespace) t.namespaces)
+-- who holds the key of a request
+abbrev pub asker : Table → Option (List ℕ) → Result Holder Reason
+asker t key = or_else (holder_of key t) unknown_key
 
--- whoever asks may read and write in the namespace of a path: its own, by its name or as `_`
-unfoldable pub is_granted : Tenants → List ℕ → Bool
-is_granted t namespace = bytes_eq namespace (codes "_") || bytes_eq namespace t.home
+-- the holder of a key has a right in a namespace, `_` being the key's own
+abbrev pub may : Holder → Right → List ℕ → Bool
+may h right namespace = has_right right (rights_in (home h.home namespace) h)

@@ -1,14 +1,17 @@
 // What a request is to do.
 ghost use Rattle.std.specs.Prelude.{◌≡◌, Some, None, if◌then◌else◌};
-ghost use Rattle.ow_decide.specs.Asking.{act_in, act_of, change_in, is_served, opened_kind, reading_in};
+ghost use Rattle.ow_decide.specs.Asking.{act_in, act_of, change_in, is_served, opened_kind, reading_in, right_for};
 ghost use Rattle.ow_decide.specs.Reading.{read_kind};
 
 use ow_entity::EntityKind;
 use ow_http::{CallKind, Part, Route, Verb};
+use ow_tenant::Right;
 
 /// What is read.
 #[derive(Clone, Copy, Debug, PartialEq, Eq)]
 pub(crate) enum Reading {
+    /// The list of the namespaces in which the key has a right.
+    Namespaces,
     /// The list of the rows of this kind.
     Rows(EntityKind),
     /// A row of this kind.
@@ -33,6 +36,17 @@ pub(crate) enum Act {
 }
 
 impl Act {
+    /// The right that is wanted in the namespace of the path.
+    pub(crate) fn right(self) -> Right
+        ensures { result ≡ right_for self }
+    {
+        match self {
+            Act::Reads(_) => Right::Read,
+            Act::Puts | Act::Removes(_) => Right::Write,
+            Act::Invokes => Right::Invoke,
+        }
+    }
+
     /// The kind of the entity that is shown alone or invoked: a shared package grants that.
     pub(crate) fn opened_kind(self) -> Option<EntityKind>
         ensures { result ≡ opened_kind self }
@@ -88,6 +102,7 @@ fn reading_in(kind: CallKind) -> Option<Reading>
     match kind {
         CallKind::ListEntities(kind) => served(kind, Reading::Rows(kind)),
         CallKind::GetEntity(kind) => served(kind, Reading::Row(kind)),
+        CallKind::ListNamespaces => Some(Reading::Namespaces),
         CallKind::ListActivations => Some(Reading::Activations),
         CallKind::GetActivation(part) => Some(Reading::Activation(part)),
         _ => None,

@@ -7,9 +7,11 @@ ghost use Rattle.ow_decide.specs.Asking as asking;
 ghost use Rattle.ow_decide.specs.Shown.{shown_row};
 ghost use Rattle.ow_decide.specs.Asking.{ask_decision, called_done, change_done, put_done, request_done};
 ghost use Rattle.ow_decide.specs.Sight.{Sight};
-ghost use Rattle.ow_decide.specs.Making.{HasPlace, IsNextOf, IsSeen, Makes, change_of, done_of, served_change, served_of};
+ghost use Rattle.ow_tenant.specs.declared.entries.Holder.{Holder};
+ghost use Rattle.ow_decide.specs.Making.{AreCounted, HasPlace, IsNextOf, IsSeen, Makes, change_of, done_of, served_change, served_of};
 
 use crate::acts::{Act, act_of};
+use crate::askers::asker;
 use crate::call_steps::{charged_namespace, invocation_plan};
 use crate::done::{Done, Served, accepted};
 use crate::grants::granted_call;
@@ -18,12 +20,13 @@ use crate::reasons::table_reason;
 use crate::room::room_for;
 use crate::shown::{shown_once_put, shown_row};
 use crate::step::{Now, Step};
-use crate::tenants::Tenants;
 use crate::waits::shows_of;
+use ow_counts::Counts;
 use ow_entity::{Draft, EntityKind};
 use ow_floor::Floor;
 use ow_http::{Call, HttpRefusal, Reason, Request};
 use ow_tables::{Ready, TableRefusal, Tables};
+use ow_tenant::{Holder, Tenants};
 use ow_value::NoMemory;
 use std::alloc::Global;
 
@@ -31,17 +34,18 @@ use std::alloc::Global;
 pub(crate) fn ask(
     alloc: Global,
     tenants: &Tenants,
+    counts: &Counts,
     floor: &mut Floor,
     tables: &mut Tables,
     now: Now,
     request: &Request,
 ) -> Result<Step, NoMemory>
-    ensures ok { IfOk result (Makes tenants.now tables.old.rows now floor.old.now floor.new.now (λ S. ask_decision S.moment (request_done S (parts_of request.now)))) }
+    ensures ok { IfOk result (Makes tenants.now tables.old.rows counts.now now floor.old.now floor.new.now (λ S. ask_decision S.moment (request_done S (parts_of request.now)))) }
     ensures before { floor.new.before ≡ floor.old.before }
     ensures rows { tables.new.rows ≡ tables.old.rows }
     ensures place { IfOk result (λ s. HasPlace s.change tables.new.room) }
 {
-    match request_served(alloc, tenants, floor, tables, now, request)? {
+    match request_served(alloc, tenants, counts, floor, tables, now, request)? {
         Served::Done(done) => done.step(alloc),
         Served::Accepts { plan, shows } => accepted(alloc, floor, now.at, plan, shows),
     }
@@ -51,12 +55,13 @@ pub(crate) fn ask(
 fn request_served(
     alloc: Global,
     tenants: &Tenants,
+    counts: &Counts,
     floor: &Floor,
     tables: &mut Tables,
     now: Now,
     request: &Request,
 ) -> Result<Served, NoMemory>
-    ensures done { IfOk result (λ d. (S : Sight) → IsSeen S tenants.now tables.old.rows floor.now.now now → served_of d ≡ request_done S (parts_of request.now)) }
+    ensures done { IfOk result (λ d. (S : Sight) → IsSeen S tenants.now tables.old.rows counts.now floor.now.now now → served_of d ≡ request_done S (parts_of request.now)) }
     ensures rows { tables.new.rows ≡ tables.old.rows }
     ensures place { IfOk result (λ d. HasPlace (served_change d) tables.new.room) }
     ensures next { IfOk result (IsNextOf floor.now.now.drawn) }
@@ -67,11 +72,17 @@ fn request_served(
     if let Err(reason) = room_for(now.counted, request.size) {
         return Ok(Served::Done(Done::Refused(reason)));
     }
+    let holder = match asker(tenants, &request.key) {
+        Ok(holder) => holder,
+        Err(reason) => return Ok(Served::Done(Done::Refused(reason))),
+    };
     match act {
         Act::Reads(reading) => Ok(Served::Done(read(
-            alloc, tenants, floor, tables, reading, request,
+            alloc, holder, floor, tables, reading, request,
         )?)),
-        act => called_served(alloc, tenants, floor, tables, now.at, act, request),
+        act => called_served(
+            alloc, tenants, holder, counts, floor, tables, now.at, act, request,
+        ),
     }
 }
 
@@ -79,20 +90,22 @@ fn request_served(
 fn called_served(
     alloc: Global,
     tenants: &Tenants,
+    holder: &Holder,
+    counts: &Counts,
     floor: &Floor,
     tables: &mut Tables,
     at: u64,
     act: Act,
     request: &Request,
 ) -> Result<Served, NoMemory>
-    ensures done { IfOk result (λ d. (S : Sight) → S.tenants ≡ tenants.now → S.rows ≡ tables.old.rows → Stands floor.now.now S.trace → S.moment ≡ at
-        → served_of d ≡ called_done S act (parts_of request.now)) }
+    ensures done { IfOk result (λ d. (S : Sight) → S.tenants ≡ tenants.now → S.rows ≡ tables.old.rows → Stands floor.now.now S.trace → S.moment ≡ at → AreCounted counts.now at S.trace
+        → served_of d ≡ called_done S holder.now act (parts_of request.now)) }
     ensures rows { tables.new.rows ≡ tables.old.rows }
     ensures place { IfOk result (λ d. HasPlace (served_change d) tables.new.room) }
     ensures next { IfOk result (IsNextOf floor.now.now.drawn) }
 {
-    match granted_call(alloc, tenants, tables, act, request)? {
-        Ok(call) => call_served(alloc, tenants, floor, tables, at, act, call),
+    match granted_call(alloc, holder, tables, act, request)? {
+        Ok(call) => { call_served(alloc, tenants, holder, counts, floor, tables, at, act, call) }
         Err(reason) => Ok(Served::Done(Done::Refused(reason))),
     }
 }
@@ -100,14 +113,16 @@ fn called_served(
 fn call_served(
     alloc: Global,
     tenants: &Tenants,
+    holder: &Holder,
+    counts: &Counts,
     floor: &Floor,
     tables: &mut Tables,
     at: u64,
     act: Act,
     call: Call,
 ) -> Result<Served, NoMemory>
-    ensures done { IfOk result (λ d. (S : Sight) → S.tenants ≡ tenants.now → S.rows ≡ tables.old.rows → Stands floor.now.now S.trace → S.moment ≡ at
-        → served_of d ≡ change_done S act call) }
+    ensures done { IfOk result (λ d. (S : Sight) → S.tenants ≡ tenants.now → S.rows ≡ tables.old.rows → Stands floor.now.now S.trace → S.moment ≡ at → AreCounted counts.now at S.trace
+        → served_of d ≡ change_done S holder.now act call) }
     ensures rows { tables.new.rows ≡ tables.old.rows }
     ensures place { IfOk result (λ d. HasPlace (served_change d) tables.new.room) }
     ensures next { IfOk result (IsNextOf floor.now.now.drawn) }
@@ -116,7 +131,7 @@ fn call_served(
         Act::Reads(_) => Ok(Served::Done(Done::Refused(Reason::Http(HttpRefusal::NoRoute)))),
         Act::Puts => Ok(Served::Done(put(alloc, tables, call)?)),
         Act::Removes(kind) => Ok(Served::Done(removed(alloc, tables, kind, &call)?)),
-        Act::Invokes => invoked(alloc, tenants, floor, tables, at, &call),
+        Act::Invokes => invoked(alloc, tenants, holder, counts, floor, tables, at, &call),
     }
 }
 
@@ -124,13 +139,15 @@ fn call_served(
 fn invoked(
     alloc: Global,
     tenants: &Tenants,
+    holder: &Holder,
+    counts: &Counts,
     floor: &Floor,
     tables: &Tables,
     at: u64,
     call: &Call,
 ) -> Result<Served, NoMemory>
-    ensures done { IfOk result (λ d. (S : Sight) → S.tenants ≡ tenants.now → S.rows ≡ tables.now.rows → Stands floor.now.now S.trace → S.moment ≡ at
-        → served_of d ≡ change_done S Act.Invokes call.now) }
+    ensures done { IfOk result (λ d. (S : Sight) → S.tenants ≡ tenants.now → S.rows ≡ tables.now.rows → Stands floor.now.now S.trace → S.moment ≡ at → AreCounted counts.now at S.trace
+        → served_of d ≡ change_done S holder.now Act.Invokes call.now) }
     ensures change { IfOk result (λ d. served_change d ≡ None) }
     ensures next { IfOk result (IsNextOf floor.now.now.drawn) }
 {
@@ -140,11 +157,12 @@ fn invoked(
     let plan = invocation_plan(
         alloc,
         tenants,
+        counts,
         floor,
         tables,
         at,
-        &tenants.subject,
-        charged_namespace(tenants, name),
+        &holder.subject,
+        charged_namespace(holder, name),
         call.blocking,
         name,
         &call.params,
@@ -159,7 +177,7 @@ fn invoked(
 }
 
 fn put(alloc: Global, tables: &mut Tables, call: Call) -> Result<Done, NoMemory>
-    ensures done { IfOk result (λ d. (S : Sight) → S.rows ≡ tables.old.rows → done_of d ≡ change_done S Act.Puts call) }
+    ensures done { IfOk result (λ d. (S : Sight) (h : Holder) → S.rows ≡ tables.old.rows → done_of d ≡ change_done S h Act.Puts call) }
     ensures rows { tables.new.rows ≡ tables.old.rows }
     ensures place { IfOk result (λ d. HasPlace (change_of d) tables.new.room) }
 {
@@ -225,7 +243,7 @@ fn removed(
     kind: EntityKind,
     call: &Call,
 ) -> Result<Done, NoMemory>
-    ensures done { IfOk result (λ d. (S : Sight) → S.rows ≡ tables.old.rows → done_of d ≡ change_done S (Act.Removes kind) call.now) }
+    ensures done { IfOk result (λ d. (S : Sight) (h : Holder) → S.rows ≡ tables.old.rows → done_of d ≡ change_done S h (Act.Removes kind) call.now) }
     ensures rows { tables.new.rows ≡ tables.old.rows }
     ensures place { IfOk result (λ d. HasPlace (change_of d) tables.new.room) }
 {

@@ -1,16 +1,18 @@
 // Invocations of actions: by requests, and the office's own.
 ghost use Rattle.std.specs.Prelude.{◌≡◌, ◌+◌, None, IfOk};
 ghost use Rattle.ow_floor.specs.View.{last_of};
-ghost use Rattle.ow_floor.specs.Laws.{Stands};
+ghost use Rattle.ow_floor.specs.Laws.{IsSound, Stands};
 ghost use Rattle.ow_decide.specs.Calling.{call_decision, call_plan, called_plan, callee_in, charged_namespace, fitting, given_over, invocation_plan, merged_plan, pairs_of, plan_for, until_of};
-ghost use Rattle.ow_decide.specs.Sight.{Sight};
-ghost use Rattle.ow_decide.specs.Making.{IsSeen, Makes};
+ghost use Rattle.ow_decide.specs.Sight.{Sight, within_limits};
+ghost use Rattle.ow_decide.specs.Making.{AreCounted, IsSeen, Makes};
 
+use crate::askers::office;
 use crate::events::Told;
+use crate::reasons::limit_reason;
 use crate::replies::Called;
 use crate::room::room_for;
 use crate::step::{Now, Step};
-use crate::tenants::Tenants;
+use ow_counts::Counts;
 use ow_entity::{Action, EntityRefusal};
 use ow_floor::{Floor, Plan};
 use ow_http::{CallRefusal, Reason, ServiceRefusal};
@@ -18,6 +20,7 @@ use ow_names::{EntityName, FullName};
 use ow_packages::{Effective, PackageRefusal, check_override, effective};
 use ow_records::Id;
 use ow_tables::Tables;
+use ow_tenant::{Holder, Right, Tenants};
 use ow_value::{MEGABYTE, NoMemory, Params, PlainData, Str, Val, merge, size};
 use std::alloc::Global;
 
@@ -35,17 +38,18 @@ pub(crate) struct Callee {
 pub(crate) fn call(
     alloc: Global,
     tenants: &Tenants,
+    counts: &Counts,
     floor: &mut Floor,
     tables: &Tables,
     now: Now,
     name: &FullName,
     params: &Params,
 ) -> Result<Step, NoMemory>
-    ensures ok { IfOk result (Makes tenants.now tables.now.rows now floor.old.now floor.new.now (λ S. call_decision S (call_plan S name.now params.now))) }
+    ensures ok { IfOk result (Makes tenants.now tables.now.rows counts.now now floor.old.now floor.new.now (λ S. call_decision S (call_plan S name.now params.now))) }
     ensures change { IfOk result (λ s. s.change ≡ None) }
     ensures before { floor.new.before ≡ floor.old.before }
 {
-    match call_plan(alloc, tenants, floor, tables, now, name, params)? {
+    match call_plan(alloc, tenants, counts, floor, tables, now, name, params)? {
         Ok(plan) => {
             let happened = floor.accept(alloc, now.at, plan)?;
             Ok(Step::telling(Told::Called(Called::Happened(happened))))
@@ -58,25 +62,28 @@ pub(crate) fn call(
 fn call_plan(
     alloc: Global,
     tenants: &Tenants,
+    counts: &Counts,
     floor: &Floor,
     tables: &Tables,
     now: Now,
     name: &FullName,
     params: &Params,
 ) -> Result<Result<Plan, Reason>, NoMemory>
-    ensures plan { IfOk result (λ p. (S : Sight) → IsSeen S tenants.now tables.now.rows floor.now.now now → p ≡ call_plan S name.now params.now) }
+    ensures plan { IfOk result (λ p. (S : Sight) → IsSeen S tenants.now tables.now.rows counts.now floor.now.now now → p ≡ call_plan S name.now params.now) }
     ensures next { IfOk result (λ p. IfOk p (λ plan. plan.id.count ≡ last_of floor.now.now.drawn plan.id.namespace + 1)) }
 {
     if let Err(reason) = room_for(now.counted, 0) {
         return Ok(Err(reason));
     }
+    let subject = office(alloc)?;
     invocation_plan(
         alloc,
         tenants,
+        counts,
         floor,
         tables,
         now.at,
-        &tenants.office,
+        &subject,
         &name.namespace,
         false,
         name,
@@ -88,6 +95,7 @@ fn call_plan(
 pub(crate) fn invocation_plan(
     alloc: Global,
     tenants: &Tenants,
+    counts: &Counts,
     floor: &Floor,
     tables: &Tables,
     at: u64,
@@ -97,13 +105,13 @@ pub(crate) fn invocation_plan(
     name: &FullName,
     params: &Params,
 ) -> Result<Result<Plan, Reason>, NoMemory>
-    ensures plan { IfOk result (λ p. (S : Sight) → S.tenants ≡ tenants.now → S.rows ≡ tables.now.rows → Stands floor.now.now S.trace → S.moment ≡ at
+    ensures plan { IfOk result (λ p. (S : Sight) → S.tenants ≡ tenants.now → S.rows ≡ tables.now.rows → Stands floor.now.now S.trace → S.moment ≡ at → AreCounted counts.now at S.trace
         → p ≡ invocation_plan S subject.now namespace.now blocking name.now params.now) }
     ensures next { IfOk result (λ p. IfOk p (λ plan. plan.id.count ≡ last_of floor.now.now.drawn plan.id.namespace + 1)) }
 {
     match callee_in(alloc, tenants, tables, name, namespace)? {
         Some(called) => called_plan(
-            alloc, floor, at, subject, namespace, blocking, called, params,
+            alloc, tenants, counts, floor, at, subject, namespace, blocking, called, params,
         ),
         None => Ok(Err(Reason::Service(ServiceRefusal::NotFound))),
     }
@@ -112,6 +120,8 @@ pub(crate) fn invocation_plan(
 // The same of what is called.
 fn called_plan(
     alloc: Global,
+    tenants: &Tenants,
+    counts: &Counts,
     floor: &Floor,
     at: u64,
     subject: &Str,
@@ -120,13 +130,14 @@ fn called_plan(
     called: Callee,
     params: &Params,
 ) -> Result<Result<Plan, Reason>, NoMemory>
-    ensures plan { IfOk result (λ p. (S : Sight) → Stands floor.now.now S.trace → S.moment ≡ at → p ≡ called_plan S subject.now namespace.now blocking called params.now) }
+    ensures plan { IfOk result (λ p. (S : Sight) → S.tenants ≡ tenants.now → Stands floor.now.now S.trace → S.moment ≡ at → AreCounted counts.now at S.trace → p ≡ called_plan S subject.now namespace.now blocking called params.now) }
     ensures next { IfOk result (λ p. IfOk p (λ plan. plan.id.count ≡ last_of floor.now.now.drawn plan.id.namespace + 1)) }
 {
     let Callee { number, effective } = called;
     match given_over(alloc, &effective, params) {
         Ok(Ok(merged)) => merged_plan(
-            alloc, floor, at, subject, namespace, blocking, number, effective, merged,
+            alloc, tenants, counts, floor, at, subject, namespace, blocking, number, effective,
+            merged,
         ),
         Ok(Err(reason)) => {
             drop(effective);
@@ -142,6 +153,8 @@ fn called_plan(
 // The same with merged parameters.
 fn merged_plan(
     alloc: Global,
+    tenants: &Tenants,
+    counts: &Counts,
     floor: &Floor,
     at: u64,
     subject: &Str,
@@ -151,11 +164,14 @@ fn merged_plan(
     effective: Effective,
     merged: Params,
 ) -> Result<Result<Plan, Reason>, NoMemory>
-    ensures plan { IfOk result (λ p. (S : Sight) → Stands floor.now.now S.trace → S.moment ≡ at → p ≡ merged_plan S subject.now namespace.now blocking (record { number = number; effective = effective }) merged) }
+    ensures plan { IfOk result (λ p. (S : Sight) → S.tenants ≡ tenants.now → Stands floor.now.now S.trace → S.moment ≡ at → AreCounted counts.now at S.trace → p ≡ merged_plan S subject.now namespace.now blocking (record { number = number; effective = effective }) merged) }
     ensures next { IfOk result (λ p. IfOk p (λ plan. plan.id.count ≡ last_of floor.now.now.drawn plan.id.namespace + 1)) }
 {
     if floor.is_draining() {
         return Ok(Err(Reason::Service(ServiceRefusal::Draining)));
+    }
+    if let Err(reason) = within_limits(tenants, counts, namespace, at) {
+        return Ok(Err(reason));
     }
     let until = until_of(at, blocking, effective.action.get())?;
     let Some(count) = floor.last(number).checked_add(1) else {
@@ -166,6 +182,21 @@ fn merged_plan(
         count,
     };
     Ok(Ok(plan_for(alloc, subject, until, id, namespace, effective, merged)?))
+}
+
+// Whether the limits allow one more invocation that is charged to the namespace.
+fn within_limits(
+    tenants: &Tenants,
+    counts: &Counts,
+    namespace: &EntityName,
+    at: u64,
+) -> Result<(), Reason>
+    ensures { (S : Sight) → S.tenants ≡ tenants.now → IsSound S.trace → S.moment ≡ at → AreCounted counts.now at S.trace → result ≡ within_limits S namespace.now }
+{
+    match counts.admit(namespace, &tenants.limits_of(namespace), at) {
+        Ok(()) => Ok(()),
+        Err(refusal) => Err(limit_reason(refusal)),
+    }
 }
 
 // Up to which moment a blocking invocation waits. A moment that would pass its type is answered as want of memory.
@@ -208,13 +239,13 @@ fn plan_for(
 }
 
 /// Which namespace is charged for an invocation: the caller's own where it has no right on that of the action.
-pub(crate) fn charged_namespace<'a>(tenants: &'a Tenants, name: &'a FullName) -> &'a EntityName
-    ensures { result.now ≡ charged_namespace tenants.now name.now }
+pub(crate) fn charged_namespace<'a>(holder: &'a Holder, name: &'a FullName) -> &'a EntityName
+    ensures { result.now ≡ charged_namespace holder.now name.now }
 {
-    if tenants.is_granted(name.namespace.as_str().as_bytes()) {
+    if holder.may(name.namespace.as_str().as_bytes(), Right::Invoke) {
         &name.namespace
     } else {
-        &tenants.home
+        &holder.home
     }
 }
 
@@ -228,7 +259,7 @@ fn callee_in(
 ) -> Result<Option<Callee>, NoMemory>
     ensures { IfOk result (λ c. c ≡ callee_in tenants.now tables.now.rows name.now namespace.now) }
 {
-    let Some(number) = tenants.number_of(namespace.as_str()) else {
+    let Some(number) = tenants.number_of(namespace) else {
         return Ok(None);
     };
     match effective(alloc, tables, name, namespace) {

@@ -1,7 +1,8 @@
 // What runners ask and tell, sweeps, and the drain.
 ghost use Rattle.std.specs.Prelude.{◌≡◌, None, List, false, IfOk};
 ghost use Rattle.ow_entity.specs.declared.rows.Row.{Row};
-ghost use Rattle.ow_decide.specs.declared.tenants.Tenants.{Tenants};
+ghost use Rattle.ow_tenant.specs.Table.{Table};
+ghost use Rattle.ow_counts.specs.View.{CountsView};
 ghost use Rattle.ow_decide.specs.Decisions.{decide, taken_told, wants_memory};
 ghost use Rattle.ow_decide.specs.Making.{Makes, telling};
 
@@ -14,7 +15,7 @@ use std::alloc::Global;
 
 /// Runs what has waited longest, if anything waits.
 pub(crate) fn next(alloc: Global, floor: &mut Floor, now: Now) -> Result<Step, NoMemory>
-    ensures ok { IfOk result (λ s. (t : Tenants) (rs : List Row) → Makes t rs now floor.old.now floor.new.now (λ S. decide S Event.Next) s) }
+    ensures ok { IfOk result (λ s. (t : Table) (rs : List Row) (k : CountsView) → Makes t rs k now floor.old.now floor.new.now (λ S. decide S Event.Next) s) }
     ensures change { IfOk result (λ s. s.change ≡ None) }
     ensures before { floor.new.before ≡ floor.old.before }
 {
@@ -30,7 +31,7 @@ pub(crate) fn answered(
     run: u64,
     reply: &RunReply,
 ) -> Result<Step, NoMemory>
-    ensures ok { IfOk result (λ s. (t : Tenants) (rs : List Row) → Makes t rs now floor.old.now floor.new.now (λ S. decide S (Event.Answered run reply.now)) s) }
+    ensures ok { IfOk result (λ s. (t : Table) (rs : List Row) (k : CountsView) → Makes t rs k now floor.old.now floor.new.now (λ S. decide S (Event.Answered run reply.now)) s) }
     ensures change { IfOk result (λ s. s.change ≡ None) }
     ensures before { floor.new.before ≡ floor.old.before }
 {
@@ -45,7 +46,7 @@ pub(crate) fn answered(
 
 /// Ends what late runs carry.
 pub(crate) fn sweep(alloc: Global, floor: &mut Floor, now: Now) -> Result<Step, NoMemory>
-    ensures ok { IfOk result (λ s. (t : Tenants) (rs : List Row) → Makes t rs now floor.old.now floor.new.now (λ S. decide S Event.Sweep) s) }
+    ensures ok { IfOk result (λ s. (t : Table) (rs : List Row) (k : CountsView) → Makes t rs k now floor.old.now floor.new.now (λ S. decide S Event.Sweep) s) }
     ensures change { IfOk result (λ s. s.change ≡ None) }
     ensures before { floor.new.before ≡ floor.old.before }
 {
@@ -57,7 +58,7 @@ pub(crate) fn sweep(alloc: Global, floor: &mut Floor, now: Now) -> Result<Step, 
 pub fn take(floor: &mut Floor, now: Now, event: &Event) -> Result<(), FloorRefusal>
     requires event { wants_memory event.now ≡ false }
     requires free { floor.old.before ≡ None }
-    ensures ok { (t : Tenants) (rs : List Row) → Makes t rs now floor.old.now floor.new.now (λ S. decide S event.now) (telling (taken_told result)) }
+    ensures ok { (t : Table) (rs : List Row) (k : CountsView) → Makes t rs k now floor.old.now floor.new.now (λ S. decide S event.now) (telling (taken_told result)) }
     ensures free { floor.new.before ≡ None }
 {
     match event {
@@ -80,7 +81,7 @@ pub fn taken_told(taken: Result<(), FloorRefusal>) -> Told
 
 /// From now on the floor drains.
 pub(crate) fn drain(floor: &mut Floor, now: Now) -> Step
-    ensures ok { (t : Tenants) (rs : List Row) → Makes t rs now floor.old.now floor.new.now (λ S. decide S Event.Drain) result }
+    ensures ok { (t : Table) (rs : List Row) (k : CountsView) → Makes t rs k now floor.old.now floor.new.now (λ S. decide S Event.Drain) result }
     ensures change { result.change ≡ None }
     ensures before { floor.new.before ≡ floor.old.before }
 {

@@ -6,53 +6,57 @@ ghost use Rattle.ow_names.specs.Path.{named_in};
 ghost use Rattle.ow_decide.specs.Asking.{grant_for, granted_call};
 ghost use Rattle.ow_decide.specs.Reading.{entity_package, is_opened, namespace_of, path_package};
 
-use crate::acts::Act;
-use crate::tenants::Tenants;
+use crate::acts::{Act, Reading};
+use crate::askers::may;
 use ow_entity::EntityKind;
 use ow_http::{Call, CallRefusal, Reason, Request, Route, ServiceRefusal, read_call};
 use ow_names::{EntityName, FullName, NameRefusal, named_in};
 use ow_packages::is_shared;
 use ow_tables::Tables;
+use ow_tenant::Holder;
 use ow_value::{Bytes, NoMemory};
 use std::alloc::Global;
 
 /// The call that a request makes, where whoever asks may make it.
 pub(crate) fn granted_call(
     alloc: Global,
-    tenants: &Tenants,
+    holder: &Holder,
     tables: &Tables,
     act: Act,
     request: &Request,
 ) -> Result<Result<Call, Reason>, NoMemory>
-    ensures { IfOk result (λ r. r ≡ granted_call tenants.now tables.now.rows act (parts_of request.now)) }
+    ensures { IfOk result (λ r. r ≡ granted_call holder.now tables.now.rows act (parts_of request.now)) }
 {
-    if let Err(reason) = grant_for(alloc, tenants, tables, act, request)? {
+    if let Err(reason) = grant_for(alloc, holder, tables, act, request)? {
         return Ok(Err(reason));
     }
-    match read_call(alloc, request, &tenants.home) {
+    match read_call(alloc, request, &holder.home) {
         Ok(call) => Ok(Ok(call)),
         Err(CallRefusal::NoMemory) => Err(NoMemory),
         Err(refusal) => Ok(Err(Reason::Call(refusal))),
     }
 }
 
-// That whoever asks may read and write in the namespace of the path, or that a shared package grants what is wanted.
+// That whoever asks has the right that is wanted in the namespace of the path, or that a shared package grants what is wanted.
 fn grant_for(
     alloc: Global,
-    tenants: &Tenants,
+    holder: &Holder,
     tables: &Tables,
     act: Act,
     request: &Request,
 ) -> Result<Result<(), Reason>, NoMemory>
-    ensures { IfOk result (λ r. r ≡ grant_for tenants.now tables.now.rows act (parts_of request.now)) }
+    ensures { IfOk result (λ r. r ≡ grant_for holder.now tables.now.rows act (parts_of request.now)) }
 {
-    if tenants.is_granted(namespace_of(&request.route)) {
+    if let Act::Reads(Reading::Namespaces) = act {
+        return Ok(Ok(()));
+    }
+    if may(holder, act.right(), namespace_of(&request.route)) {
         return Ok(Ok(()));
     }
     if is_opened(
         alloc,
         tables,
-        &tenants.home,
+        &holder.home,
         &request.route,
         act.opened_kind(),
     )? {
@@ -61,7 +65,8 @@ fn grant_for(
     Ok(Err(Reason::Service(ServiceRefusal::NotGranted)))
 }
 
-fn namespace_of(route: &Route) -> &[u8]
+/// The namespace of a path.
+pub(crate) fn namespace_of(route: &Route) -> &[u8]
     ensures { result.now ≡ namespace_of route.now }
 {
     match route {

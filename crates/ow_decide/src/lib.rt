@@ -3,6 +3,7 @@
 //! What is done at each event: by what is seen of the office table, the rows and the floor, and by what comes.
 mod acts;
 mod ask_steps;
+mod askers;
 mod call_steps;
 mod collect_steps;
 mod done;
@@ -17,7 +18,6 @@ mod replies;
 mod room;
 mod shown;
 mod step;
-mod tenants;
 mod waits;
 
 pub use events::{Event, Told};
@@ -27,5 +27,4 @@ pub use reasons::tells_full;
 pub use replies::{Called, HallCollected, Reply};
 pub use room::is_full;
 pub use step::{Now, Step, step_for};
-pub use tenants::{Namespace, Tenants};
 pub use waits::{Shows, Wait, Waits};

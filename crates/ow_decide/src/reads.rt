@@ -1,54 +1,59 @@
 // What reads show, of what whoever asks may see.
-ghost use Rattle.std.specs.Prelude.{◌≡◌, [], Some, None, Ok, if◌then◌else◌, filter, option_and_then, IfOk, OnOk, IfSome, option_copied};
+ghost use Rattle.std.specs.Prelude.{◌≡◌, [], Some, None, Ok, true, if◌then◌else◌, filter, option_and_then, IfOk, OnOk, IfSome, option_copied};
 ghost use Rattle.ow_value.specs.View.{view};
 ghost use Rattle.ow_entity.specs.Row.{name_of};
 ghost use Rattle.ow_floor.specs.Laws.{Stands};
 ghost use Rattle.ow_floor.specs.Trace.{Trace, records};
+ghost use Rattle.ow_http.specs.Parts.{Parts};
 ghost use Rattle.ow_http.specs.Request.{parts_of};
+ghost use Rattle.ow_http.specs.declared.call.Call.{Call};
+ghost use Rattle.ow_names.specs.Name.{first_fault};
+ghost use Rattle.ow_names.specs.Path.{home};
 ghost use Rattle.ow_records.specs.Records.{is_in};
 ghost use Rattle.ow_entity.specs.declared.kinds.EntityKind.TheVariants as kinds;
 ghost use Rattle.ow_packages.specs.Access.{lying_in, package_at, package_of, reached_package};
 ghost use Rattle.ow_tables.specs.Rows.{found, standing};
-ghost use Rattle.ow_decide.specs.Asking.{granted_call, shown_done};
-ghost use Rattle.ow_decide.specs.Reading.{action_behind, action_read, id_of, part_value, read_done, read_value, recorded, recorded_under, row_read};
+ghost use Rattle.ow_decide.specs.Asking.{act_of, granted_call, shown_done};
+ghost use Rattle.ow_decide.specs.Reading.{action_behind, action_read, id_of, namespace_of, part_value, read_done, read_value, recorded, recorded_under, row_read};
 ghost use Rattle.ow_decide.specs.Named.{AreNamed, IsNamed, action_bound, action_in, bound_name};
 ghost use Rattle.ow_decide.specs.Sight.{Sight};
 ghost use Rattle.ow_decide.specs.Making.{change_of, done_of};
-ghost use Rattle.ow_decide.specs.View.{is_visible_record, own_rights, view_of};
+ghost use Rattle.ow_decide.specs.View.{is_visible_record, may_read, view_of};
 
 use crate::acts::{Act, Reading};
 use crate::done::Done;
-use crate::grants::granted_call;
+use crate::grants::{granted_call, namespace_of};
 use crate::ids::id_in;
 use crate::shown::shown_row;
-use crate::tenants::Tenants;
 use ow_entity::{EntityKind, Lookup, Package, Row};
 use ow_floor::Floor;
 use ow_http::{Call, HttpRefusal, Part, Reason, Request, Route, ServiceRefusal};
-use ow_names::{EntityName, FullName};
+use ow_names::{EntityName, FullName, NameRefusal, read_name};
 use ow_packages::{package_of, reached_package};
 use ow_records::{Id, Record, write_logs, write_record, write_response};
 use ow_tables::Tables;
+use ow_tenant::Holder;
 use ow_value::{NoMemory, PlainData, Val};
 use std::alloc::Global;
 
 /// What a read shows, or its first refusal.
 pub(crate) fn read(
     alloc: Global,
-    tenants: &Tenants,
+    holder: &Holder,
     floor: &Floor,
     tables: &Tables,
     reading: Reading,
     request: &Request,
 ) -> Result<Done, NoMemory>
-    ensures done { IfOk result (λ d. (S : Sight) → S.tenants ≡ tenants.now → S.rows ≡ tables.now.rows → Stands floor.now.now S.trace
-        → done_of d ≡ shown_done (read_done (view_of S) reading (parts_of request.now))) }
+    requires { act_of request.now.route request.now.method ≡ Some (Act.Reads reading) }
+    ensures done { IfOk result (λ d. (S : Sight) → S.rows ≡ tables.now.rows → Stands floor.now.now S.trace
+        → done_of d ≡ shown_done (read_done (view_of S holder.now) reading (parts_of request.now))) }
     ensures change { IfOk result (λ d. change_of d ≡ None) }
 {
     tables.are_ordered();
-    let granted = granted_call(alloc, tenants, tables, Act::Reads(reading), request)?;
+    let granted = granted_call(alloc, holder, tables, Act::Reads(reading), request)?;
     match granted {
-        Ok(call) => shown(alloc, tenants, floor, tables, reading, request, &call),
+        Ok(call) => shown(alloc, holder, floor, tables, reading, request, &call),
         Err(reason) => Ok(Done::Refused(reason)),
     }
 }
@@ -56,54 +61,58 @@ pub(crate) fn read(
 // What a read shows that is granted.
 fn shown(
     alloc: Global,
-    tenants: &Tenants,
+    holder: &Holder,
     floor: &Floor,
     tables: &Tables,
     reading: Reading,
     request: &Request,
     call: &Call,
 ) -> Result<Done, NoMemory>
-    requires { granted_call tenants.now tables.now.rows (Act.Reads reading) (parts_of request.now) ≡ Ok call.now }
-    ensures done { IfOk result (λ d. (S : Sight) → S.tenants ≡ tenants.now → S.rows ≡ tables.now.rows → Stands floor.now.now S.trace
-        → done_of d ≡ shown_done (read_value (view_of S) reading (parts_of request.now) call.now)) }
+    requires act { act_of request.now.route request.now.method ≡ Some (Act.Reads reading) }
+    requires granted { granted_call holder.now tables.now.rows (Act.Reads reading) (parts_of request.now) ≡ Ok call.now }
+    ensures done { IfOk result (λ d. (S : Sight) → S.rows ≡ tables.now.rows → Stands floor.now.now S.trace
+        → done_of d ≡ shown_done (read_value (view_of S holder.now) reading (parts_of request.now) call.now)) }
     ensures change { IfOk result (λ d. change_of d ≡ None) }
 {
     match reading {
-        Reading::Rows(kind) => listed(alloc, tenants, tables, kind, request, call),
-        Reading::Row(kind) => row_shown(alloc, tenants, tables, kind, request, call),
-        Reading::Activations => records_listed(alloc, tenants, floor, request, call),
-        Reading::Activation(part) => record_shown(alloc, tenants, floor, part, request, call),
+        Reading::Namespaces => names_listed(alloc, holder),
+        Reading::Rows(kind) => listed(alloc, holder, tables, kind, request, call),
+        Reading::Row(kind) => row_shown(alloc, holder, tables, kind, request, call),
+        Reading::Activations => records_listed(alloc, holder, floor, request, call),
+        Reading::Activation(part) => record_shown(alloc, holder, floor, part, request, call),
     }
 }
 
 fn listed(
     alloc: Global,
-    tenants: &Tenants,
+    holder: &Holder,
     tables: &Tables,
     kind: EntityKind,
     request: &Request,
     call: &Call,
 ) -> Result<Done, NoMemory>
-    requires { granted_call tenants.now tables.now.rows (Act.Reads (Reading.Rows kind)) (parts_of request.now) ≡ Ok call.now }
-    ensures done { IfOk result (λ d. (S : Sight) → S.tenants ≡ tenants.now → S.rows ≡ tables.now.rows
-        → done_of d ≡ shown_done (read_value (view_of S) (Reading.Rows kind) (parts_of request.now) call.now)) }
+    requires act { act_of request.now.route request.now.method ≡ Some (Act.Reads (Reading.Rows kind)) }
+    requires granted { granted_call holder.now tables.now.rows (Act.Reads (Reading.Rows kind)) (parts_of request.now) ≡ Ok call.now }
+    ensures done { IfOk result (λ d. (S : Sight) → S.rows ≡ tables.now.rows
+        → done_of d ≡ shown_done (read_value (view_of S holder.now) (Reading.Rows kind) (parts_of request.now) call.now)) }
     ensures change { IfOk result (λ d. change_of d ≡ None) }
 {
-    let listed = tables.list(alloc, kind, &tenants.home, call.skip, call.limit)?;
+    let namespace = read_namespace(alloc, holder, request)?;
+    let listed = tables.list(alloc, kind, &namespace, call.skip, call.limit)?;
     Ok(Done::Shown(Val::List(listed)))
 }
 
 fn row_shown(
     alloc: Global,
-    tenants: &Tenants,
+    holder: &Holder,
     tables: &Tables,
     kind: EntityKind,
     request: &Request,
     call: &Call,
 ) -> Result<Done, NoMemory>
-    requires { granted_call tenants.now tables.now.rows (Act.Reads (Reading.Row kind)) (parts_of request.now) ≡ Ok call.now }
-    ensures done { IfOk result (λ d. (S : Sight) → S.tenants ≡ tenants.now → S.rows ≡ tables.now.rows
-        → done_of d ≡ shown_done (read_value (view_of S) (Reading.Row kind) (parts_of request.now) call.now)) }
+    requires { granted_call holder.now tables.now.rows (Act.Reads (Reading.Row kind)) (parts_of request.now) ≡ Ok call.now }
+    ensures done { IfOk result (λ d. (S : Sight) → S.rows ≡ tables.now.rows
+        → done_of d ≡ shown_done (read_value (view_of S holder.now) (Reading.Row kind) (parts_of request.now) call.now)) }
     ensures change { IfOk result (λ d. change_of d ≡ None) }
 {
     let Some(name) = &call.name else {
@@ -220,35 +229,38 @@ fn lying_in(alloc: Global, bundle: &FullName, name: &FullName) -> Result<FullNam
 
 fn records_listed(
     alloc: Global,
-    tenants: &Tenants,
+    holder: &Holder,
     floor: &Floor,
     request: &Request,
     call: &Call,
 ) -> Result<Done, NoMemory>
-    requires { granted_call tenants.now [] (Act.Reads Reading.Activations) (parts_of request.now) ≡ Ok call.now }
-    ensures done { IfOk result (λ d. (S : Sight) → S.tenants ≡ tenants.now → Stands floor.now.now S.trace
-        → done_of d ≡ shown_done (read_value (view_of S) Reading.Activations (parts_of request.now) call.now)) }
+    requires act { act_of request.now.route request.now.method ≡ Some (Act.Reads Reading.Activations) }
+    requires granted { granted_call holder.now [] (Act.Reads Reading.Activations) (parts_of request.now) ≡ Ok call.now }
+    ensures done { IfOk result (λ d. (S : Sight) → Stands floor.now.now S.trace
+        → done_of d ≡ shown_done (read_value (view_of S holder.now) Reading.Activations (parts_of request.now) call.now)) }
     ensures change { IfOk result (λ d. change_of d ≡ None) }
 {
     let records = floor.records();
-    let listed = records.list(alloc, &tenants.home, call.skip, call.limit)?;
+    let namespace = read_namespace(alloc, holder, request)?;
+    let listed = records.list(alloc, &namespace, call.skip, call.limit)?;
     Ok(Done::Shown(Val::List(listed)))
 }
 
 fn record_shown(
     alloc: Global,
-    tenants: &Tenants,
+    holder: &Holder,
     floor: &Floor,
     part: Part,
     request: &Request,
     call: &Call,
 ) -> Result<Done, NoMemory>
-    requires { granted_call tenants.now [] (Act.Reads (Reading.Activation part)) (parts_of request.now) ≡ Ok call.now }
-    ensures done { IfOk result (λ d. (S : Sight) → S.tenants ≡ tenants.now → Stands floor.now.now S.trace
-        → done_of d ≡ shown_done (read_value (view_of S) (Reading.Activation part) (parts_of request.now) call.now)) }
+    requires { granted_call holder.now [] (Act.Reads (Reading.Activation part)) (parts_of request.now) ≡ Ok call.now }
+    ensures done { IfOk result (λ d. (S : Sight) → Stands floor.now.now S.trace
+        → done_of d ≡ shown_done (read_value (view_of S holder.now) (Reading.Activation part) (parts_of request.now) call.now)) }
     ensures change { IfOk result (λ d. change_of d ≡ None) }
 {
-    match visible_record(tenants, floor, id_of(&request.route)) {
+    let namespace = namespace_read(holder, request);
+    match visible_record(holder, floor, namespace, id_of(&request.route)) {
         Some(record) => Ok(Done::Shown(part_value(alloc, part, record)?)),
         None => Ok(Done::Refused(Reason::Service(ServiceRefusal::NotFound))),
     }
@@ -274,33 +286,71 @@ fn part_value(alloc: Global, part: Part, ended: &Record) -> Result<Val, NoMemory
     }
 }
 
-// The record whose id the text is, where it is of the namespace of whoever asks.
-fn visible_record<'a>(tenants: &Tenants, floor: &'a Floor, text: &[u8]) -> Option<&'a Record>
+// The record whose id the text is, where it is of the namespace.
+fn visible_record<'a>(
+    holder: &Holder,
+    floor: &'a Floor,
+    namespace: &[u8],
+    text: &[u8],
+) -> Option<&'a Record>
+    requires { may_read holder.now.rights namespace.now ≡ true }
     ensures { (T : Trace) → Stands floor.now.now T
-        → option_copied result ≡ recorded tenants.now.home text.now (filter (is_visible_record (own_rights tenants.now.home)) (records T)) }
+        → option_copied result ≡ recorded namespace.now text.now (filter (is_visible_record holder.now.rights) (records T)) }
 {
     match id_in(text) {
-        Some(id) => record_of(tenants, floor, id),
+        Some(id) => record_of(holder, floor, namespace, id),
         None => None,
     }
 }
 
-fn record_of<'a>(tenants: &Tenants, floor: &'a Floor, id: Id) -> Option<&'a Record>
+fn record_of<'a>(holder: &Holder, floor: &'a Floor, namespace: &[u8], id: Id) -> Option<&'a Record>
+    requires { may_read holder.now.rights namespace.now ≡ true }
     ensures { (T : Trace) → Stands floor.now.now T
-        → option_copied result ≡ recorded_under tenants.now.home (Some id) (filter (is_visible_record (own_rights tenants.now.home)) (records T)) }
+        → option_copied result ≡ recorded_under namespace.now (Some id) (filter (is_visible_record holder.now.rights) (records T)) }
 {
     match floor.records().get(&id) {
-        Ok(ended) => own_record(tenants, ended),
+        Ok(ended) => record_in(namespace, ended),
         Err(_) => None,
     }
 }
 
-fn own_record<'a>(tenants: &Tenants, ended: &'a Record) -> Option<&'a Record>
-    ensures { option_copied result ≡ if is_in tenants.now.home ended.now then Some ended.now else None }
+fn record_in<'a>(namespace: &[u8], ended: &'a Record) -> Option<&'a Record>
+    ensures { option_copied result ≡ if is_in namespace.now ended.now then Some ended.now else None }
 {
-    if tenants.home.as_str().as_bytes() == ended.namespace.as_str().as_bytes() {
+    if namespace == ended.namespace.as_str().as_bytes() {
         Some(ended)
     } else {
         None
     }
+}
+
+// The namespace that is read, `_` being the key's own.
+fn namespace_read<'a>(holder: &'a Holder, request: &'a Request) -> &'a [u8]
+    ensures { result.now ≡ home holder.now.home (namespace_of request.now.route) }
+{
+    let namespace = namespace_of(&request.route);
+    if namespace == b"_".as_slice() {
+        return holder.home.as_str().as_bytes();
+    }
+    namespace
+}
+
+// The same as a name, where it is one.
+fn read_namespace(alloc: Global, holder: &Holder, request: &Request) -> Result<EntityName, NoMemory>
+    requires { first_fault (namespace_of request.now.route) ≡ None }
+    ensures { IfOk result (λ n. n ≡ home holder.now.home (namespace_of request.now.route)) }
+{
+    match read_name(alloc, namespace_read(holder, request)) {
+        Ok(name) => Ok(name),
+        Err(NameRefusal::NoMemory) => Err(NoMemory),
+        Err(_) => unreachable!(),
+    }
+}
+
+// The names of the namespaces in which the key has a right.
+fn names_listed(alloc: Global, holder: &Holder) -> Result<Done, NoMemory>
+    ensures done { IfOk result (λ d. (S : Sight) (p : Parts) (c : Call) → done_of d ≡ shown_done (read_value (view_of S holder.now) Reading.Namespaces p c)) }
+    ensures change { IfOk result (λ d. change_of d ≡ None) }
+{
+    Ok(Done::Shown(Val::List(holder.granted(alloc)?)))
 }

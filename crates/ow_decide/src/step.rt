@@ -8,10 +8,11 @@ use crate::call_steps::call;
 use crate::collect_steps::collect;
 use crate::events::{Event, Told};
 use crate::floor_steps::{answered, drain, next, sweep};
-use crate::tenants::Tenants;
 use crate::waits::{Wait, Waits};
+use ow_counts::Counts;
 use ow_floor::{Floor, Happened};
 use ow_tables::{Ready, Tables};
+use ow_tenant::Tenants;
 use ow_value::NoMemory;
 use std::alloc::Global;
 
@@ -47,6 +48,7 @@ impl Step {
 pub fn step_for(
     alloc: Global,
     tenants: &Tenants,
+    counts: &Counts,
     floor: &mut Floor,
     tables: &mut Tables,
     waits: &[Wait],
@@ -54,15 +56,17 @@ pub fn step_for(
     event: &Event,
 ) -> Result<Step, NoMemory>
     requires { wants_memory event.now ≡ true }
-    ensures ok { IfOk result (MakesFor waits.now tenants.now tables.old.rows now floor.old.now floor.new.now (λ S. decide S event.now)) }
+    ensures ok { IfOk result (MakesFor waits.now tenants.now tables.old.rows counts.now now floor.old.now floor.new.now (λ S. decide S event.now)) }
     ensures before { floor.new.before ≡ floor.old.before }
     ensures rows { tables.new.rows ≡ tables.old.rows }
     ensures place { IfOk result (λ s. HasPlace s.change tables.new.room) }
 {
     match event {
         Event::Opened(_) => Ok(Step::telling(Told::Opened(Happened::none()))),
-        Event::Asked(request) => ask(alloc, tenants, floor, tables, now, request.get()),
-        Event::Called { name, params } => call(alloc, tenants, floor, tables, now, name, params),
+        Event::Asked(request) => ask(alloc, tenants, counts, floor, tables, now, request.get()),
+        Event::Called { name, params } => {
+            call(alloc, tenants, counts, floor, tables, now, name, params)
+        }
         Event::Next => next(alloc, floor, now),
         Event::Answered { run, reply } => answered(alloc, floor, now, *run, reply),
         Event::Sweep => sweep(alloc, floor, now),

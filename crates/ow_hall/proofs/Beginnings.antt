@@ -4,18 +4,18 @@ use Rattle.ow_floor.specs.Trace.{Trace}
 use Rattle.ow_floor.specs.Laws.{IsSound}
 use Rattle.ow_floor.proofs.Coming.{calls_keep_sound}
 use Rattle.ow_floor.proofs.Soundness.{all_recorded, parted, runs_once}
-use Rattle.ow_decide.specs.declared.tenants.Tenants.{Tenants}
+use Rattle.ow_tenant.specs.Table.{Table}
 use Rattle.ow_hall.specs.History.{History, counted, seen, sight}
 use Rattle.ow_hall.specs.Beginnings.{IsKept, KeepsEach}
 use Rattle.ow_decide.proofs.SoundLaws.{decided_sound}
 
-pub seen_sound : (t : Tenants) (B : History) → IsSound (seen t B).trace
+pub seen_sound : (t : Table) (B : History) → IsSound (seen t B).trace
 seen_sound t [] = calls_keep_sound.start t.pool t.wants
 seen_sound t (e ∷ B) = decided_sound (sight t (seen t B) (counted B) e.at) e.event (seen_sound t B)
 
 kept : (T : Trace) → IsSound T → IsKept T
 kept T sound = record { parted = parted T sound; once = runs_once T sound; known = sound.known; drained = all_recorded T sound; within = sound.slotted.within }
 
-pub keeps_each : (t : Tenants) (B : History) → KeepsEach t B
+pub keeps_each : (t : Table) (B : History) → KeepsEach t B
 keeps_each t [] = kept (seen t []).trace (seen_sound t [])
 keeps_each t (e ∷ B) = (kept (seen t (e ∷ B)).trace (seen_sound t (e ∷ B)), keeps_each t B)

@@ -25,7 +25,7 @@ use Rattle.ow_hall.specs.declared.posting.Posting.TheVariants.{Booked, Quiet, De
 use Rattle.ow_decide.specs.declared.replies.Called.TheVariants as called
 use Rattle.ow_decide.specs.declared.step.Now.{Now}
 use Rattle.ow_decide.specs.declared.step.Step.{Step}
-use Rattle.ow_decide.specs.declared.tenants.Tenants.{Tenants}
+use Rattle.ow_tenant.specs.Table.{Table}
 use Rattle.ow_decide.specs.declared.waits.Waits.{Waits}
 use Rattle.ow_decide.specs.declared.waits.Waits.TheVariants.{Keep}
 use Rattle.ow_decide.specs.Sight.{Sight}
@@ -106,11 +106,11 @@ unbooked idle S events.Drain = tt
 pub not_before : (B : History) (at : ℕ) → last_moment B ≤ moment B at
 not_before B at = le-max_left _ _
 
-newest_small : (t : Tenants) (B : History) → AreAnswered t B → last_moment B ≤ greatest_moment
+newest_small : (t : Table) (B : History) → AreAnswered t B → last_moment B ≤ greatest_moment
 newest_small t [] answered = omega arith
 newest_small t (e ∷ B) answered = answered.3
 
-pub not_after : (t : Tenants) (B : History) (at : ℕ) → IsLegal t B → moment B at ≤ greatest_moment
+pub not_after : (t : Table) (B : History) (at : ℕ) → IsLegal t B → moment B at ≤ greatest_moment
 not_after t B at legal = max-le (newest_small t B legal.answered) (min-le_right at greatest_moment)
 
 -- ---- what is posted keeps the hall
@@ -142,7 +142,7 @@ later_free events.Sweep free = refl
 later_free (events.Collected id) free = refl
 later_free events.Drain free = refl
 
-left : (t : Tenants) (L : Ledger) (new : StateView) (at : ℕ) (event : Event) → IsAt new (after (decision t L.entries at event) (seen t L.entries))
+left : (t : Table) (L : Ledger) (new : StateView) (at : ℕ) (event : Event) → IsAt new (after (decision t L.entries at event) (seen t L.entries))
     → Leaves (decision t L.entries at event) → IsAt new (seen t L.entries)
 left t L new at event stands leaves =
     let s = seen t L.entries in
@@ -152,7 +152,7 @@ left t L new at event stands leaves =
       waits = subst (λ (w : Waits). new.waits ≡ waits_after w s.waits) leaves.2 stands.waits;
     }
 
-post_by : (p : Posting) (t : Tenants) (L : Ledger) (new : StateView) (at : ℕ) (event : Event) (told_is : Told) → posting L.entries told_is ≡ p → IsLegal t L.entries
+post_by : (p : Posting) (t : Table) (L : Ledger) (new : StateView) (at : ℕ) (event : Event) (told_is : Told) → posting L.entries told_is ≡ p → IsLegal t L.entries
     → last_moment L.entries ≤ at → at ≤ greatest_moment → is_opening event ≡ false → told_is ≡ answer t L.entries at event → new.floor.before ≡ None
     → IsAt new (after (decision t L.entries at event) (seen t L.entries)) → Unless p (Leaves (decision t L.entries at event))
     → Keeps new t (posted_as p (record { at = at; event = event; answer = told_is }) L)
@@ -166,7 +166,7 @@ post_by Denied t L new at event told_is booked legal late most later same free s
 post_by Unbooked t L new at event told_is booked legal late most later same free stands leaves = record { stands = left t L new at event stands leaves; legal = legal; free = free }
 
 -- what a step has that was done, and what the floor has then
-pub step_at : (t : Tenants) (B : History) (old : StateView) (mid : Shown) (now : Now) (event : Event) (step : Step) → IsAt old (seen t B) → now.counted ≡ counted B
+pub step_at : (t : Table) (B : History) (old : StateView) (mid : Shown) (now : Now) (event : Event) (step : Step) → IsAt old (seen t B) → now.counted ≡ counted B
     → Does old mid t now (λ S. decide S event) step
     → Carries step (decision t B now.at event) × Stands mid ((decision t B now.at event).items ++ (seen t B).trace)
 step_at t B old mid now event step stands count does =
@@ -174,7 +174,7 @@ step_at t B old mid now event step stands count does =
     (record { tenants = refl; rows = sym stands.rows; stands = stands.stands; counted = sym count; moment = refl }) (sym stands.waits)
 
 -- what a step has that was done, and how floor, rows and waits stand once its change is made
-pub done_at : (t : Tenants) (B : History) (old new : StateView) (mid : Shown) (now : Now) (event : Event) (step : Step) → IsAt old (seen t B) → now.counted ≡ counted B
+pub done_at : (t : Table) (B : History) (old new : StateView) (mid : Shown) (now : Now) (event : Event) (step : Step) → IsAt old (seen t B) → now.counted ≡ counted B
     → Does old mid t now (λ S. decide S event) step → new.floor.now ≡ mid → new.rows ≡ all_changed (changes_of step.change) old.rows → new.waits ≡ waits_after step.waits old.waits
     → Carries step (decision t B now.at event) × IsAt new (after (decision t B now.at event) (seen t B))
 done_at t B old new mid now event step stands count does floor rows waits =
@@ -189,7 +189,7 @@ done_at t B old new mid now event step stands count does floor rows waits =
     )
 
 -- an answer that is posted
-pub answers : (t : Tenants) (L : Ledger) (old new : StateView) (mid : Shown) (now : Now) (event : Event) (step : Step) → Keeps old t L → now.counted ≡ counted L.entries
+pub answers : (t : Table) (L : Ledger) (old new : StateView) (mid : Shown) (now : Now) (event : Event) (step : Step) → Keeps old t L → now.counted ≡ counted L.entries
     → last_moment L.entries ≤ now.at → now.at ≤ greatest_moment → is_opening event ≡ false → new.floor.before ≡ None
     → Does old mid t now (λ S. decide S event) step → new.floor.now ≡ mid → new.rows ≡ all_changed (changes_of step.change) old.rows → new.waits ≡ waits_after step.waits old.waits
     → (step.told ≡ answer t L.entries now.at event) × Keeps new t (posted L now.at event step.told)
@@ -210,7 +210,7 @@ takes t L old new now event taken at keeps count same free before does rest =
     answers t L old new new.floor.now now event (telling (taken_told taken)) keeps count late most (later_free event free) before does refl rest.0 rest.1
 
 -- what was taken back stands as before
-pub stays : (old new : StateView) (t : Tenants) (L : Ledger) → new.floor.now ≡ old.floor.now → new.floor.before ≡ None → new.rows ≡ old.rows → new.waits ≡ old.waits
+pub stays : (old new : StateView) (t : Table) (L : Ledger) → new.floor.now ≡ old.floor.now → new.floor.before ≡ None → new.rows ≡ old.rows → new.waits ≡ old.waits
     → Keeps old t L → Keeps new t L
 stays old new t L floor free rows waits keeps = record {
   stands = record { stands = rw floor keeps.stands.stands; rows = rows ∙ keeps.stands.rows; waits = waits ∙ keeps.stands.waits };
@@ -223,7 +223,7 @@ stays old new t L floor free rows waits keeps = record {
 pub small_at : (at : ℕ) → moment [] at ≤ greatest_moment
 small_at at = max-le (omega arith) (min-le_right at greatest_moment)
 
-pub opened_keeps : (t : Tenants) (w : StateView) (at : ℕ) → IsAt w (seen t []) → w.floor.before ≡ None → at ≤ greatest_moment
+pub opened_keeps : (t : Table) (w : StateView) (at : ℕ) → IsAt w (seen t []) → w.floor.before ≡ None → at ≤ greatest_moment
     → Keeps w t (posted no_entries at (events.Opened []) (told.Opened []))
 opened_keeps t w at stands free most = record {
   stands = stands;

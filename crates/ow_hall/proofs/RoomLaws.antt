@@ -21,7 +21,7 @@ use Rattle.ow_decide.specs.declared.events.Told.{Told}
 use Rattle.ow_decide.specs.declared.events.Told.TheVariants as told
 use Rattle.ow_hall.specs.declared.posting.Posting.{Posting}
 use Rattle.ow_hall.specs.declared.posting.Posting.TheVariants.{Booked, Quiet, Denied, Unbooked}
-use Rattle.ow_decide.specs.declared.tenants.Tenants.{Tenants}
+use Rattle.ow_tenant.specs.Table.{Table}
 use Rattle.ow_decide.specs.Decisions.{decide, taken_told, wants_memory}
 use Rattle.ow_decide.specs.Sight.{Sight}
 use Rattle.ow_hall.proofs.Beginnings.{seen_sound}
@@ -30,10 +30,10 @@ use Rattle.ow_hall.specs.History.{History, counted, decision, event_bytes, is_id
 use Rattle.ow_hall.specs.Ledger.{HasRoom, IsReady, Ledger, cost, no_entries, posted, posted_as}
 
 -- more room is room
-pub room_more : (t : Tenants) (L : Ledger) (old new : ℕ) → old ≤ new → HasRoom (seen t L.entries).trace L old → HasRoom (seen t L.entries).trace L new
+pub room_more : (t : Table) (L : Ledger) (old new : ℕ) → old ≤ new → HasRoom (seen t L.entries).trace L old → HasRoom (seen t L.entries).trace L new
 room_more t L old new more has = record { within = omega (arith, more, has.within); fits = has.fits }
 
-room_by : (p : Posting) (t : Tenants) (L : Ledger) (at before room left n bytes : ℕ) (event : Event) (told_is : Told)
+room_by : (p : Posting) (t : Table) (L : Ledger) (at before room left n bytes : ℕ) (event : Event) (told_is : Told)
     → HasRoom (seen t L.entries).trace L before → before ≤ room → room ≤ left + cost p
     → (p ≡ Booked → IsReady L.entries room n event told_is bytes) → n ≡ owed ((decision t L.entries at event).items ++ (seen t L.entries).trace)
     → HasRoom (seen t (posted_as p (record { at = at; event = event; answer = told_is }) L).entries).trace (posted_as p (record { at = at; event = event; answer = told_is }) L) left
@@ -45,7 +45,7 @@ room_by Denied t L at before room left n bytes event told_is has more used ready
 room_by Unbooked t L at before room left n bytes event told_is has more used ready same = record { within = omega (arith, has.within, more, used); fits = has.fits }
 
 -- what is owed behind an answer has room, where the room was taken for it
-pub room_left : (t : Tenants) (L : Ledger) (at before room left n bytes : ℕ) (event : Event) (told_is : Told)
+pub room_left : (t : Table) (L : Ledger) (at before room left n bytes : ℕ) (event : Event) (told_is : Told)
     → HasRoom (seen t L.entries).trace L before → before ≤ room → room ≤ left + cost (posting L.entries told_is)
     → (posting L.entries told_is ≡ Booked → IsReady L.entries room n event told_is bytes) → n ≡ owed ((decision t L.entries at event).items ++ (seen t L.entries).trace)
     → HasRoom (seen t (posted L at event told_is).entries).trace (posted L at event told_is) left
@@ -63,7 +63,7 @@ opened_owed : (pool : ℕ) (wants : List Prewarm) → owed (Opened pool wants �
 opened_owed pool wants = ap lives.owed (slots_opened pool wants) ∙ vacant_owed (slot_count pool)
 
 -- nothing is owed behind an opening
-pub opened_room : (t : Tenants) (at room : ℕ) → HasRoom (seen t (posted no_entries at (events.Opened []) (told.Opened [])).entries).trace (posted no_entries at (events.Opened []) (told.Opened [])) room
+pub opened_room : (t : Table) (at room : ℕ) → HasRoom (seen t (posted no_entries at (events.Opened []) (told.Opened [])).entries).trace (posted no_entries at (events.Opened []) (told.Opened [])) room
 opened_room t at room = let none = opened_owed t.pool t.wants in record { within = omega (arith, none); fits = omega (arith, none) }
 
 -- an entry that has room with others behind it has room
@@ -128,7 +128,7 @@ no_told_bytes (Ok done) = refl
 no_told_bytes (Err refusal) = refl
 
 -- it has room, with what is owed behind it
-pub taken_ready : (t : Tenants) (L : Ledger) (at room : ℕ) (event : Event) (taken : Result (Unit {0}) FloorRefusal) → HasRoom (seen t L.entries).trace L room
+pub taken_ready : (t : Table) (L : Ledger) (at room : ℕ) (event : Event) (taken : Result (Unit {0}) FloorRefusal) → HasRoom (seen t L.entries).trace L room
     → wants_memory event ≡ false → taken_told taken ≡ (decision t L.entries at event).told → posting L.entries (taken_told taken) ≡ Booked
     → IsReady L.entries room (owed ((decision t L.entries at event).items ++ (seen t L.entries).trace)) event (taken_told taken) 0
 taken_ready t L at room event taken has free same booked =

@@ -4,7 +4,9 @@ use Rattle.ow_slots.specs.Slots.{memory_held}
 use Rattle.ow_floor.specs.Trace.{Trace, pool_of, slots}
 use Rattle.ow_floor.specs.Laws.{EndedWereAccepted, IsParted, RunOnce}
 use Rattle.ow_floor.specs.Calls.{AllRecorded, drain_answer}
-use Rattle.ow_decide.specs.declared.tenants.Tenants.{Tenants}
+use Rattle.ow_tenant.specs.Table.{Table}
+use Rattle.ow_tenant.specs.Tenants.{limits_of}
+use Rattle.ow_counts.specs.Within.{AreWithin}
 use Rattle.ow_hall.specs.History.{History, seen}
 
 -- of what happened on the floor: each accepted activation is exactly one of waiting, running and recorded, once, and has one
@@ -18,6 +20,11 @@ pub record IsKept (T : Trace) : Type 0 where
   pub within : memory_held (slots T) ≤ pool_of T
 
 -- a book, and each of its beginnings
-abbrev pub KeepsEach : Tenants → History → Type 0
+abbrev pub KeepsEach : Table → History → Type 0
 KeepsEach t [] = IsKept (seen t []).trace
 KeepsEach t (e ∷ B) = IsKept (seen t (e ∷ B)).trace × KeepsEach t B
+
+-- by a book, and each of its beginnings, no acceptance passes the limits of its namespace
+abbrev pub KeepsLimits : Table → History → Type 0
+KeepsLimits t [] = AreWithin (λ namespace. limits_of namespace t) (seen t []).trace
+KeepsLimits t (e ∷ B) = AreWithin (λ namespace. limits_of namespace t) (seen t (e ∷ B)).trace × KeepsLimits t B

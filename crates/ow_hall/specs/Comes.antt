@@ -20,7 +20,7 @@ use Rattle.ow_decide.specs.declared.replies.Called.{Called}
 use Rattle.ow_decide.specs.declared.replies.HallCollected.{HallCollected}
 use Rattle.ow_decide.specs.declared.replies.Reply.{Reply}
 use Rattle.ow_decide.specs.declared.replies.Reply.TheVariants as replies
-use Rattle.ow_decide.specs.declared.tenants.Tenants.{Tenants}
+use Rattle.ow_tenant.specs.Table.{Table}
 use Rattle.ow_decide.specs.Asking.{reply_in}
 use Rattle.ow_decide.specs.Decision.{Decision}
 use Rattle.ow_decide.specs.Decisions.{taken_told}
@@ -29,7 +29,7 @@ use Rattle.ow_hall.specs.Ledger.{Ledger, faulted, posted}
 
 -- a hall: the office table, its ledger, and its store
 pub record HallView (P : Type 0) : Type 0 where
-  pub tenants : Tenants
+  pub tenants : Table
   pub ledger : Ledger
   pub store : P
 

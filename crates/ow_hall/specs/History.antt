@@ -18,7 +18,8 @@ use Rattle.ow_decide.specs.declared.replies.HallCollected.{HallCollected}
 use Rattle.ow_decide.specs.declared.replies.HallCollected.TheVariants as collected
 use Rattle.ow_decide.specs.declared.replies.Reply.{Reply}
 use Rattle.ow_decide.specs.declared.replies.Reply.TheVariants as replies
-use Rattle.ow_decide.specs.declared.tenants.Tenants.{Tenants}
+use Rattle.ow_tenant.specs.Table.{Table}
+use Rattle.ow_tenant.specs.Tenants.{pool_of}
 use Rattle.ow_decide.specs.declared.waits.Wait.{Wait}
 use Rattle.ow_decide.specs.declared.waits.Waits.{Waits}
 use Rattle.ow_decide.specs.declared.waits.Waits.TheVariants.{Keep, Add, Clear}
@@ -105,20 +106,20 @@ abbrev pub after : Decision → Seen → Seen
 after d s = record { rows = all_changed d.changes s.rows; trace = d.items ++ s.trace; waits = waits_after d.waits s.waits }
 
 -- with the office table, the counted bytes and the moment
-abbrev pub sight : Tenants → Seen → ℕ → ℕ → Sight
+abbrev pub sight : Table → Seen → ℕ → ℕ → Sight
 sight t s n at = record { tenants = t; rows = s.rows; trace = s.trace; waits = s.waits; counted = n; moment = at }
 
 -- behind these entries; before the first the built-in rows stand, and a floor with the table's pool and wants
-abbrev pub seen : Tenants → History → Seen
-seen t [] = record { rows = builtin; trace = Opened t.pool t.wants ∷ []; waits = [] }
+abbrev pub seen : Table → History → Seen
+seen t [] = record { rows = builtin; trace = Opened (pool_of t) t.wants ∷ []; waits = [] }
 seen t (e ∷ B) = after (decide (sight t (seen t B) (counted B) e.at) e.event) (seen t B)
 
 -- what is done at an event behind these entries
-abbrev pub decision : Tenants → History → ℕ → Event → Decision
+abbrev pub decision : Table → History → ℕ → Event → Decision
 decision t B at event = decide (sight t (seen t B) (counted B) at) event
 
 -- the one answer to an event
-abbrev pub answer : Tenants → History → ℕ → Event → Told
+abbrev pub answer : Table → History → ℕ → Event → Told
 answer t B at event = (decision t B at event).told
 
 -- ---- what is booked
@@ -135,7 +136,7 @@ posting B t = posting_by (is_idle B) t
 -- ---- legal books
 
 -- each answer is the answer of the entries before it, and is booked behind them; the moments don't fall and are at most the greatest
-abbrev pub AreAnswered : Tenants → History → Type 0
+abbrev pub AreAnswered : Table → History → Type 0
 AreAnswered t [] = Unit {0}
 AreAnswered t (e ∷ B) = (e.answer ≡ answer t B e.at e.event) × (posting B e.answer ≡ Booked) × (last_moment B ≤ e.at) × (e.at ≤ greatest_moment) × AreAnswered t B
 
@@ -159,6 +160,6 @@ is_opened [] = false
 is_opened (e ∷ B) = opens_here e.event B (is_opened B)
 
 -- each is answered so, and the service was opened first
-pub record IsLegal (t : Tenants) (B : History) : Type 0 where
+pub record IsLegal (t : Table) (B : History) : Type 0 where
   pub answered : AreAnswered t B
   pub opened : is_opened B ≡ true

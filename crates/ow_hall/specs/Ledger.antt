@@ -8,7 +8,7 @@ use Rattle.ow_decide.specs.declared.events.Event.TheVariants as events
 use Rattle.ow_decide.specs.declared.events.Told.{Told}
 use Rattle.ow_hall.specs.declared.posting.Posting.{Posting}
 use Rattle.ow_hall.specs.declared.posting.Posting.TheVariants.{Booked, Quiet, Denied, Unbooked}
-use Rattle.ow_decide.specs.declared.tenants.Tenants.{Tenants}
+use Rattle.ow_tenant.specs.Table.{Table}
 use Rattle.ow_hall.specs.History.{History, answer, counted, event_bytes, moment, posting, told_bytes}
 
 -- the entries, the newest first; how many calls met a fault of the store; how many calls of `next` and how many events of
@@ -44,7 +44,7 @@ abbrev pub posted : Ledger → ℕ → Event → Told → Ledger
 posted L at event t = posted_as (posting L.entries t) (record { at = at; event = event; answer = t }) L
 
 -- the ledger of a service that was just opened, over no kept rows
-abbrev pub opened : Tenants → ℕ → Ledger
+abbrev pub opened : Table → ℕ → Ledger
 opened t at = posted no_entries (moment [] at) (events.Opened []) (answer t [] (moment [] at) (events.Opened []))
 
 -- a call met a fault of the store

@@ -7,7 +7,7 @@ ghost use Rattle.ow_hall.specs.Comes.{Answers, Comes, HandsBack, Outcome, Replie
 ghost use Rattle.ow_hall.specs.History.{IsLegal, is_opening, posting};
 ghost use Rattle.ow_hall.specs.Ledger.{IsReady, opened};
 ghost use Rattle.ow_decide.specs.Decisions.{wants_memory};
-ghost use Rattle.ow_decide.specs.Tenants.{standard};
+ghost use Rattle.ow_pool.specs.Rules.{AreWantsSized};
 ghost use Rattle.ow_decide.specs.declared.events.Event.TheVariants as events;
 
 use crate::book::Book;
@@ -16,11 +16,12 @@ use crate::fronts::{
 };
 use crate::posting::Posting;
 use crate::state::HallState;
-use ow_decide::{Called, Event, HallCollected, Now, Reply, Step, Tenants, Told, taken_told};
+use ow_decide::{Called, Event, HallCollected, Now, Reply, Step, Told, taken_told};
 use ow_floor::{AnswerRefusal, Answered, Drain, FloorRefusal, Happened, Order, Swept};
 use ow_http::Request;
 use ow_names::FullName;
 use ow_records::Id;
+use ow_tenant::Tenants;
 use ow_traits::{Keeper, Rows, RunReply};
 use ow_value::{NoMemory, Params, PlainData, Shared};
 use std::alloc::Global;
@@ -61,12 +62,12 @@ struct Undone {
 
 impl<P: Keeper + Drop> Hall<P> {
     /// Opens the service over a store, of which nothing is asked yet.
-    pub fn start(alloc: Global, store: P, at: u64) -> Result<Hall<P>, NoMemory>
-        ensures tenants { IfOk result (λ h. h.tenants ≡ standard) }
-        ensures ledger { IfOk result (λ h. h.ledger ≡ opened standard at) }
+    pub fn start(alloc: Global, store: P, tenants: Tenants, at: u64) -> Result<Hall<P>, NoMemory>
+        requires { AreWantsSized tenants.wants }
+        ensures tenants { IfOk result (λ h. h.tenants ≡ tenants) }
+        ensures ledger { IfOk result (λ h. h.ledger ≡ opened tenants at) }
         ensures store { IfOk result (λ h. h.store ≡ store) }
     {
-        let tenants = Tenants::standard(alloc)?;
         let state = HallState::new(alloc, &tenants)?;
         let mut book = Book::new(alloc);
         let at = book.moment(at);

@@ -9,11 +9,13 @@ ghost use Rattle.ow_decide.specs.Decisions.{decide, taken_told, wants_memory};
 ghost use Rattle.ow_hall.specs.History.{all_changed, seen, waits_after};
 ghost use Rattle.ow_decide.specs.Making.{HasPlace, changes_of, telling};
 ghost use Rattle.ow_hall.specs.State.{Does, IsAt};
-ghost use Rattle.ow_decide.specs.declared.tenants.Tenants.{Tenants};
+ghost use Rattle.ow_tenant.specs.Table.{Table};
 
-use ow_decide::{Event, Now, Step, Tenants, Wait, Waits, step_for, take};
+use ow_counts::Counts;
+use ow_decide::{Event, Now, Step, Wait, Waits, step_for, take};
 use ow_floor::{Floor, FloorRefusal};
 use ow_tables::{Ready, Tables};
+use ow_tenant::Tenants;
 use ow_value::{NoMemory, PlainData};
 use std::alloc::Global;
 use std::marker::Model;
@@ -24,6 +26,7 @@ pub(crate) struct HallState {
     floor: Floor,
     tables: Tables,
     waits: Vec<Wait>,
+    counts: Counts,
 }
 
 impl Model for HallState {
@@ -42,6 +45,7 @@ impl Model for HallState {
       row_room = w.tables.room;
       waits = w.waits.items;
       wait_room = vec_capacity w.waits - vec_len w.waits;
+      counts = w.counts;
     } };
 }
 
@@ -52,13 +56,15 @@ impl HallState {
         ensures stands { IfOk result (λ w. IsAt w (seen tenants.now [])) }
         ensures free { IfOk result (λ w. w.floor.before ≡ None) }
     {
-        let wants = tenants.wants.copy(alloc)?;
-        let floor = Floor::new(alloc, tenants.pool, wants)?;
+        let wants = tenants.wants().copy(alloc)?;
+        let floor = Floor::new(alloc, tenants.pool(), wants)?;
+        let counts = Counts::new(alloc)?;
         let tables = Tables::new(alloc)?;
         Ok(HallState {
             floor,
             tables,
             waits: Vec::new(alloc),
+            counts,
         })
     }
 
@@ -73,7 +79,7 @@ impl HallState {
     pub(crate) fn take(&mut self, now: Now, event: &Event) -> Result<(), FloorRefusal>
         requires event { wants_memory event.now ≡ false }
         requires free { self.old.floor.before ≡ None }
-        ensures ok { (t : Tenants) → Does self.old self.new.floor.now t now (λ S. decide S event.now) (telling (taken_told result)) }
+        ensures ok { (t : Table) → Does self.old self.new.floor.now t now (λ S. decide S event.now) (telling (taken_told result)) }
         ensures free { self.new.floor.before ≡ None }
         ensures rest { (self.new.rows ≡ self.old.rows) × (self.new.waits ≡ self.old.waits) }
     {
@@ -172,6 +178,7 @@ impl HallState {
         step_for(
             alloc,
             tenants,
+            &self.counts,
             &mut self.floor,
             &mut self.tables,
             &self.waits,

@@ -5,8 +5,8 @@ use Rattle.ow_decide.proofs.Results.{if_ok_map}
 use Rattle.ow_decide.proofs.reads.read.Goals as goal
 
 pub returns-in-Ok-clause-done : goal.returns-in-Ok-clause-done
-returns-in-Ok-clause-done c = if_ok_map c.shown.result _ _ (λ d h S t r st.
-    h S t r st ∙ sym (read_so S c.args.reading (parts_of c.args.request.now) c.in-Ok.call (rw r c.are_ordered.ensures) (rw (t, r) (sym c.in_ok-granted.ensures ∙ c.in-Ok.is)))) c.shown.ensures.done
+returns-in-Ok-clause-done c = if_ok_map c.shown.result _ _ (λ d h S r st.
+    h S r st ∙ sym (read_so S c.args.holder.now c.args.reading (parts_of c.args.request.now) c.in-Ok.call (rw r c.are_ordered.ensures) (rw r (sym c.in_ok-granted.ensures ∙ c.in-Ok.is)))) c.shown.ensures.done
 
 pub returns-in-Err-clause-done : goal.returns-in-Err-clause-done
-returns-in-Err-clause-done c = λ S t r st. sym (read_refused S c.args.reading (parts_of c.args.request.now) c.in-Err.reason (rw r c.are_ordered.ensures) (rw (t, r) (sym c.in_ok-granted.ensures ∙ c.in-Err.is)))
+returns-in-Err-clause-done c = λ S r st. sym (read_refused S c.args.holder.now c.args.reading (parts_of c.args.request.now) c.in-Err.reason (rw r c.are_ordered.ensures) (rw r (sym c.in_ok-granted.ensures ∙ c.in-Err.is)))
