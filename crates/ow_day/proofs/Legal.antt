@@ -18,7 +18,7 @@ use Rattle.ow_hall.specs.declared.entry.Entry.{Entry}
 use Rattle.ow_decide.specs.declared.events.Told.TheVariants as told
 use Rattle.ow_decide.specs.declared.replies.HallCollected.TheVariants as collected
 use Rattle.ow_decide.specs.declared.replies.Called.TheVariants as called
-use Rattle.ow_decide.specs.declared.tenants.Tenants.{Tenants}
+use Rattle.ow_tenant.specs.Table.{Table}
 use Rattle.ow_invoker.specs.Turns.{Exchange}
 use Rattle.ow_day.specs.declared.call_words.CallWords.{CallWords}
 use Rattle.ow_day.specs.declared.call_words.CallWords.TheVariants as calls
@@ -33,7 +33,7 @@ use Rattle.ow_day.proofs.Turning.{NoneOpens, turn_opens}
 abbrev HasLegalBook : Machine → Type 0
 HasLegalBook M = IsLegal M.tenants M.ledger.entries
 
-newest_small : (t : Tenants) (B : History) → AreAnswered t B → last_moment B ≤ greatest_moment
+newest_small : (t : Table) (B : History) → AreAnswered t B → last_moment B ≤ greatest_moment
 newest_small t [] answered = omega arith
 newest_small t (e ∷ B) answered = answered.3
 
@@ -52,31 +52,31 @@ opens_so events.Drain B b later = refl
 
 -- ---- an answer that is posted behind a legal book
 
-record IsNext (t : Tenants) (B : History) (e : Entry) : Type 0 where
+record IsNext (t : Table) (B : History) (e : Entry) : Type 0 where
   is : e.answer ≡ answer t B e.at e.event
   late : last_moment B ≤ e.at
   most : e.at ≤ greatest_moment
   later : is_opening e.event ≡ false
   legal : IsLegal t B
 
-booked : (t : Tenants) (B : History) (e : Entry) → IsNext t B e → AreAnswered t (e ∷ B) → IsLegal t (e ∷ B)
+booked : (t : Table) (B : History) (e : Entry) → IsNext t B e → AreAnswered t (e ∷ B) → IsLegal t (e ∷ B)
 booked t B e n answered = record { answered = answered; opened = opens_so e.event B _ n.later ∙ n.legal.opened }
 
 abbrev entry : ℕ → Event → Told → Entry
 entry at event a = record { at = at; event = event; answer = a }
 
-abbrev GoesOn : Tenants → Ledger → ℕ → Event → Told → Type 0
+abbrev GoesOn : Table → Ledger → ℕ → Event → Told → Type 0
 GoesOn t L at event a = IsNext t L.entries (entry at event a) → IsLegal t (posted L at event a).entries
 
-idle_so : (t : Tenants) (L : Ledger) (at : ℕ) (event : Event) (idle : Idle) (b : Bool) → is_idle L.entries ≡ b → GoesOn t L at event (told.Next (orders.Nothing idle))
+idle_so : (t : Table) (L : Ledger) (at : ℕ) (event : Event) (idle : Idle) (b : Bool) → is_idle L.entries ≡ b → GoesOn t L at event (told.Next (orders.Nothing idle))
 idle_so t L at event idle true is n = rw is n.legal
 idle_so t L at event idle false is n = rw is (booked t L.entries (entry at event (told.Next (orders.Nothing idle))) n (n.is, rw is refl, n.late, n.most, n.legal.answered))
 
-refused_so : (t : Tenants) (L : Ledger) (at : ℕ) (event : Event) (reason : Reason) (b : Bool) → tells_full reason ≡ b → GoesOn t L at event (told.Called (called.Refused reason))
+refused_so : (t : Table) (L : Ledger) (at : ℕ) (event : Event) (reason : Reason) (b : Bool) → tells_full reason ≡ b → GoesOn t L at event (told.Called (called.Refused reason))
 refused_so t L at event reason true is n = rw is n.legal
 refused_so t L at event reason false is n = rw is (booked t L.entries (entry at event (told.Called (called.Refused reason))) n (n.is, rw is refl, n.late, n.most, n.legal.answered))
 
-posted_so : (t : Tenants) (L : Ledger) (at : ℕ) (event : Event) (a : Told) → GoesOn t L at event a
+posted_so : (t : Table) (L : Ledger) (at : ℕ) (event : Event) (a : Told) → GoesOn t L at event a
 posted_so t L at event (told.Opened happened) n = booked t L.entries _ n (n.is, refl, n.late, n.most, n.legal.answered)
 posted_so t L at event (told.Asked reply) n = booked t L.entries _ n (n.is, refl, n.late, n.most, n.legal.answered)
 posted_so t L at event (told.Full reply) n = n.legal
@@ -148,8 +148,8 @@ all_so : (M : Machine) (ss : List Statement) (lines : List ℕ) (N : Machine) �
 all_so M [] lines N (none, same) legal = rw same legal
 all_so M (s ∷ ss) lines N (done, K, later, does, is, rest) legal = all_so K ss later N rest (done_so M K s done does legal)
 
-begins_legal : HasLegalBook start
-begins_legal = record { answered = (refl, refl, omega arith, omega arith, tt); opened = refl }
+begins_legal : (t : Table) → HasLegalBook (start t)
+begins_legal t = record { answered = (refl, refl, omega arith, omega arith, tt); opened = refl }
 
-pub legal_books : (bytes : List ℕ) → HasLegalBooks bytes
-legal_books bytes = λ count lines N carried. all_so start (take count (day_of bytes).statements) lines N carried begins_legal
+pub legal_books : (t : Table) (bytes : List ℕ) → HasLegalBooks t bytes
+legal_books t bytes = λ count lines N carried. all_so (start t) (take count (day_of bytes).statements) lines N carried (begins_legal t)

@@ -5,6 +5,7 @@ use Rattle.std.proofs.lemmas.Bool.{false≢true}
 use Rattle.std.proofs.Math.Seq.{take-append-add, take-nil, take-append_seam, take-length}
 use Rattle.ow_traits.specs.Streams.{Takes, TakesFront}
 use Rattle.ow_traits.proofs.Taking.{Takes-none, Takes-then, TakesFront-then, took_nothing}
+use Rattle.ow_tenant.specs.Table.{Table}
 use Rattle.ow_day.specs.declared.run.Run.{Run}
 use Rattle.ow_day.specs.declared.session.Step.{Step}
 use Rattle.ow_day.specs.declared.session.Step.TheVariants as steps
@@ -26,8 +27,8 @@ use Rattle.ow_day.proofs.Days.{at_no_bytes, by_first, cut_nothing, extended, ext
 use Rattle.ow_day.proofs.Choices.{is_more, is_short}
 
 -- at the start nothing is read, carried out or written
-pub begins : {P : Type 0} (bytes : List ℕ) (left taken : Option (List ℕ)) (r : Run P) → left ≡ Some bytes → machine_of r.session ≡ start → r.input.pending ≡ [] → r.input.taken ≡ 0 → r.answers.items ≡ []
-    → r.number ≡ 1 → r.ended ≡ false → IsUnderWay bytes taken left taken r
+pub begins : {P : Type 0} {t : Table} (bytes : List ℕ) (left taken : Option (List ℕ)) (r : Run P) → left ≡ Some bytes → machine_of r.session ≡ start t → r.input.pending ≡ [] → r.input.taken ≡ 0 → r.answers.items ≡ []
+    → r.number ≡ 1 → r.ended ≡ false → IsUnderWay t bytes taken left taken r
 unfolding in_window window
 begins bytes left taken r told at pending read answers number unended = record {
   rest = bytes;
@@ -45,9 +46,9 @@ begins bytes left taken r told at pending read answers number unended = record {
 }
 
 -- the day ends here with this ending
-ends_so : {P : Type 0} (bytes : List ℕ) (before left taken : Option (List ℕ)) (r new : Run P) (u : IsUnderWay bytes before left taken r) (ending : DayEnd)
+ends_so : {P : Type 0} {t : Table} (bytes : List ℕ) (before left taken : Option (List ℕ)) (r new : Run P) (u : IsUnderWay t bytes before left taken r) (ending : DayEnd)
     → new.answers.items ≡ r.answers.items → machine_of new.session ≡ machine_of r.session
-    → day_from u.count (has_more bytes) r.number (r.input.pending ++ in_window r.input.taken u.rest) ≡ ended ending → IsAtEnd bytes before taken new ending
+    → day_from u.count (has_more bytes) r.number (r.input.pending ++ in_window r.input.taken u.rest) ≡ ended ending → IsAtEnd t bytes before taken new ending
 ends_so bytes before left taken r new u ending answers machine is =
     let e : day_of bytes ≡ with_statements u.done (ended ending) = u.whole ∙ ap (with_statements u.done) is in
     let all : (day_of bytes).statements ≡ u.done = ap (λ (d : Day). d.statements) e ∙ append-nil u.done in
@@ -75,14 +76,14 @@ unfolding has_more
 has_more-true bytes lt = is_more most_bytes (length bytes) lt
 
 -- where the end was read, all that was read has its place in the window
-at_end : {P : Type 0} (bytes : List ℕ) (before left taken : Option (List ℕ)) (r : Run P) (u : IsUnderWay bytes before left taken r) → r.input.taken ≤ most_bytes → r.ended ≡ true
+at_end : {P : Type 0} {t : Table} (bytes : List ℕ) (before left taken : Option (List ℕ)) (r : Run P) (u : IsUnderWay t bytes before left taken r) → r.input.taken ≤ most_bytes → r.ended ≡ true
     → (in_window r.input.taken u.rest ≡ []) × (has_more bytes ≡ false)
 at_end bytes before left taken r u most end =
     let none : u.rest ≡ [] = u.none end in
     (rw none (in_window-nil r.input.taken), has_more-false bytes (omega (arith, u.all, ap length none, most)))
 
 -- the day goes by the first statement of the bytes that wait
-first_at : {P : Type 0} (bytes : List ℕ) (before left taken : Option (List ℕ)) (r : Run P) (u : IsUnderWay bytes before left taken r) (b : Bool) → r.input.taken ≤ most_bytes → r.ended ≡ b
+first_at : {P : Type 0} {t : Table} (bytes : List ℕ) (before left taken : Option (List ℕ)) (r : Run P) (u : IsUnderWay t bytes before left taken r) (b : Bool) → r.input.taken ≤ most_bytes → r.ended ≡ b
     → (first_statement (not b) r.input.pending ≡ Cut → ⊥)
     → first_statement (has_more bytes) (r.input.pending ++ in_window r.input.taken u.rest) ≡ extended (in_window r.input.taken u.rest) (first_statement (not b) r.input.pending)
 first_at bytes before left taken r u false most is found = first_longer (has_more bytes) r.input.pending (in_window r.input.taken u.rest) found
@@ -90,7 +91,7 @@ first_at bytes before left taken r u true most is found =
     let e = at_end bytes before left taken r u most is in
     rw (e.0, e.1, append-nil r.input.pending) (sym (extended-nil (first_statement false r.input.pending)))
 
-goes_by : {P : Type 0} (bytes : List ℕ) (before left taken : Option (List ℕ)) (r : Run P) (u : IsUnderWay bytes before left taken r) (f : First) → r.input.taken ≤ most_bytes → 0 < length r.input.pending
+goes_by : {P : Type 0} {t : Table} (bytes : List ℕ) (before left taken : Option (List ℕ)) (r : Run P) (u : IsUnderWay t bytes before left taken r) (f : First) → r.input.taken ≤ most_bytes → 0 < length r.input.pending
     → f ≡ first_statement (not r.ended) r.input.pending → (f ≡ Cut → ⊥)
     → day_from u.count (has_more bytes) r.number (r.input.pending ++ in_window r.input.taken u.rest)
     ≡ day_step r.number (extended (in_window r.input.taken u.rest) f) (λ rest. day_from (u.count - 1) (has_more bytes) (r.number + 1) rest)
@@ -106,11 +107,11 @@ found_more : (bytes : List ℕ) (s : Statement) (rest : List ℕ) (b : Bool) →
 found_more bytes s rest b unended is = sym (rw unended at is)
 
 -- a statement is carried out
-pub statement_done : {P : Type 0} (bytes : List ℕ) (before left taken : Option (List ℕ)) (old new : Run P) (s : Statement) (used : ℕ) → old.input.taken ≤ most_bytes → 0 < length old.input.pending
+pub statement_done : {P : Type 0} {t : Table} (bytes : List ℕ) (before left taken : Option (List ℕ)) (old new : Run P) (s : Statement) (used : ℕ) → old.input.taken ≤ most_bytes → 0 < length old.input.pending
     → Found s (drop used old.input.pending) ≡ first_statement (not old.ended) old.input.pending → used ≤ length old.input.pending → 0 < used
     → (s ≡ End → ⊥) → Performs old.session new.session s old.answers.items new.answers.items
     → new.input.pending ≡ drop used old.input.pending → new.input.taken ≡ old.input.taken → new.number ≡ old.number + 1 → new.ended ≡ old.ended
-    → IsUnderWay bytes before left taken old → IsUnderWay bytes before left taken new
+    → IsUnderWay t bytes before left taken old → IsUnderWay t bytes before left taken new
 statement_done bytes before left taken old new s used most some is within moves not_end (done, does, lines) pending read number unended u =
     let later = in_window old.input.taken u.rest in
     let rest = drop used old.input.pending ++ later in
@@ -130,25 +131,25 @@ statement_done bytes before left taken old new s used most some is within moves 
       enough = rw (pending, read) (omega (arith, u.enough, length-append old.input.pending later, length-append (drop used old.input.pending) later, length-drop used old.input.pending));
       took = u.took;
       carried = rw (lines, ← append_assoc u.written old.answers.items (lines_of done))
-          (carried_more start (machine_of old.session) (machine_of new.session) u.done s done (u.written ++ old.answers.items) u.carried does);
+          (carried_more (start t) (machine_of old.session) (machine_of new.session) u.done s done (u.written ++ old.answers.items) u.carried does);
       whole = rw (pending, read, number) (u.whole ∙ ap (with_statements u.done) e ∙ with_both u.done (s ∷ []) (day_from (u.count - 1) (has_more bytes) (old.number + 1) rest));
     }
 
 -- what is no statement ends the day, and `end`
 pub wrong_ends : {P : Type 0} (old new : Run P) → old.input.taken ≤ most_bytes → 0 < length old.input.pending → Wrong ≡ first_statement (not old.ended) old.input.pending
     → new.answers.items ≡ old.answers.items → machine_of new.session ≡ machine_of old.session → new.number ≡ old.number → EndsSo old new (Bad new.number)
-wrong_ends old new most some is answers machine number = λ bytes before left taken u.
-    let P : ℕ → Type 0 = λ n. IsAtEnd bytes before taken new (Bad n) in
+wrong_ends old new most some is answers machine number = λ t bytes before left taken u.
+    let P : ℕ → Type 0 = λ n. IsAtEnd t bytes before taken new (Bad n) in
     subst P (sym number) (ends_so bytes before left taken old new u (Bad old.number) answers machine (goes_by bytes before left taken old u Wrong most some is (λ e. cc)))
 
 pub end_ends : {P : Type 0} (old new : Run P) (rest : List ℕ) → old.input.taken ≤ most_bytes → 0 < length old.input.pending → Found End rest ≡ first_statement (not old.ended) old.input.pending
     → new.answers.items ≡ old.answers.items → machine_of new.session ≡ machine_of old.session → EndsSo old new Finished
-end_ends old new rest most some is answers machine = λ bytes before left taken u.
+end_ends old new rest most some is answers machine = λ t bytes before left taken u.
     ends_so bytes before left taken old new u Finished answers machine (goes_by bytes before left taken old u (Found End rest) most some is (λ e. cc))
 
 -- nothing waits, and the end was read
 pub nothing_ends : {P : Type 0} (old : Run P) → old.input.taken ≤ most_bytes → length old.input.pending ≡ 0 → old.ended ≡ true → EndsSo old old Finished
-nothing_ends old most none end = λ bytes before left taken u.
+nothing_ends old most none end = λ t bytes before left taken u.
     let e = at_end bytes before left taken old u most end in
     let all : old.input.pending ++ in_window old.input.taken u.rest ≡ old.input.pending = rw e.0 (append-nil old.input.pending) in
     let enough : length old.input.pending < u.count = rw (← all) u.enough in
@@ -171,7 +172,7 @@ pub found_steps : {P : Type 0} (old new : Run P) (s : Statement) (used : ℕ) (s
     → (step ≡ steps.Done → (new.input.pending ≡ drop used old.input.pending) × (new.number ≡ old.number + 1)) → new.input.taken ≡ old.input.taken → new.ended ≡ old.ended → StepsOn old new step
 found_steps old new s used steps.Done bounded some is within moves (not_end, performs) goes read unended =
     let g = goes refl in
-    λ bytes before left taken u. statement_done bytes before left taken old new s used bounded.most some is within moves not_end performs g.0 read g.1 unended u
+    λ t bytes before left taken u. statement_done bytes before left taken old new s used bounded.most some is within moves not_end performs g.0 read g.1 unended u
 found_steps old new s used steps.End bounded some is within moves (end, lines, machine) goes read unended =
     end_ends old new (drop used old.input.pending) bounded.most some (rw end at is) lines machine
 found_steps old new s used steps.Bad bounded some is within moves never goes read unended = absurd never
@@ -193,8 +194,8 @@ front_is : (done later : List Statement) → take (length done) (done ++ later) 
 front_is done later = take-append_seam done later
 
 -- what is written so far is a front of the day's lines
-pub front_with : {P : Type 0} (bytes : List ℕ) (before left taken taken' : Option (List ℕ)) (old : Run P) → TakesFront taken taken' old.answers.items → IsUnderWay bytes before left taken old
-    → WroteFront before taken' (day_of bytes).statements
+pub front_with : {P : Type 0} {t : Table} (bytes : List ℕ) (before left taken taken' : Option (List ℕ)) (old : Run P) → TakesFront taken taken' old.answers.items → IsUnderWay t bytes before left taken old
+    → WroteFront t before taken' (day_of bytes).statements
 front_with bytes before left taken taken' old front u =
     let later = (day_from u.count (has_more bytes) old.number (old.input.pending ++ in_window old.input.taken u.rest)).statements in
     let e : take (length u.done) (day_of bytes).statements ≡ u.done = ap (λ (d : Day). take (length u.done) d.statements) u.whole ∙ front_is u.done later in
@@ -207,8 +208,8 @@ front_with bytes before left taken taken' old front u =
     }
 
 -- the answers are written
-pub written : {P : Type 0} (bytes : List ℕ) (before left taken taken' : Option (List ℕ)) (old new : Run P) → Takes taken taken' old.answers.items → new.answers.items ≡ [] → new.input ≡ old.input → new.session ≡ old.session
-    → new.number ≡ old.number → new.ended ≡ old.ended → IsUnderWay bytes before left taken old → IsUnderWay bytes before left taken' new
+pub written : {P : Type 0} {t : Table} (bytes : List ℕ) (before left taken taken' : Option (List ℕ)) (old new : Run P) → Takes taken taken' old.answers.items → new.answers.items ≡ [] → new.input ≡ old.input → new.session ≡ old.session
+    → new.number ≡ old.number → new.ended ≡ old.ended → IsUnderWay t bytes before left taken old → IsUnderWay t bytes before left taken' new
 written bytes before left taken taken' old new took none input session number unended u = record {
   rest = u.rest;
   done = u.done;
@@ -227,8 +228,8 @@ written bytes before left taken taken' old new took none input session number un
 -- a statement is carried out, and then the answers are written or not
 pub done_turns : {P : Type 0} (left taken taken' : Option (List ℕ)) (old mid new : Run P) (result : Option Status) → StepsOn old mid steps.Done → WritesOn taken taken' mid new result
     → Turns left left taken taken' old new result
-done_turns left taken taken' old mid new None steps writes = λ bytes before u. writes left bytes before (steps bytes before left taken u)
-done_turns left taken taken' old mid new (Some status) steps writes = λ bytes before u. writes left bytes before (steps bytes before left taken u)
+done_turns left taken taken' old mid new None steps writes = λ t bytes before u. writes left t bytes before (steps t bytes before left taken u)
+done_turns left taken taken' old mid new (Some status) steps writes = λ t bytes before u. writes left t bytes before (steps t bytes before left taken u)
 
 -- more bytes were read
 window_after : (most read n : ℕ) (piece rest : List ℕ) → length piece ≡ n → read + n ≤ most → take (most - read) (piece ++ rest) ≡ piece ++ take (most - (read + n)) rest
@@ -246,8 +247,8 @@ given_rest (Some bytes) left' piece rest told gives =
     let e : rest ≡ bytes = cc in
     (gives.0, gives.1, e ∙ gives.2)
 
-pub filled : {P : Type 0} (bytes : List ℕ) (before left left' taken : Option (List ℕ)) (old new : Run P) → Fills left left' old.input new.input (Ok More) → new.session ≡ old.session → new.answers.items ≡ old.answers.items
-    → new.number ≡ old.number → new.ended ≡ old.ended → old.ended ≡ false → first_statement true old.input.pending ≡ Cut → IsUnderWay bytes before left taken old → IsUnderWay bytes before left' taken new
+pub filled : {P : Type 0} {t : Table} (bytes : List ℕ) (before left left' taken : Option (List ℕ)) (old new : Run P) → Fills left left' old.input new.input (Ok More) → new.session ≡ old.session → new.answers.items ≡ old.answers.items
+    → new.number ≡ old.number → new.ended ≡ old.ended → old.ended ≡ false → first_statement true old.input.pending ≡ Cut → IsUnderWay t bytes before left taken old → IsUnderWay t bytes before left' taken new
 filled bytes before left left' taken old new (piece, some, short, pending, read, most, gives) session answers number same unended cut u =
     let g = given_rest left left' piece u.rest u.told gives in
     let le : old.input.taken + length piece ≤ most_bytes = omega arith in
@@ -274,8 +275,8 @@ nothing_left None rest told none = cc
 nothing_left (Some bytes) rest told none = let e : bytes ≡ rest = cc in sym e ∙ none
 
 -- the end was read, which changes nothing else
-pub end_read : {P : Type 0} (bytes : List ℕ) (before left left' taken : Option (List ℕ)) (old new : Run P) → left' ≡ left → IfSome left (λ b. b ≡ []) → old.ended ≡ false → new.ended ≡ true → new.input ≡ old.input → new.session ≡ old.session
-    → new.answers.items ≡ old.answers.items → new.number ≡ old.number → IsUnderWay bytes before left taken old → IsUnderWay bytes before left' taken new
+pub end_read : {P : Type 0} {t : Table} (bytes : List ℕ) (before left left' taken : Option (List ℕ)) (old new : Run P) → left' ≡ left → IfSome left (λ b. b ≡ []) → old.ended ≡ false → new.ended ≡ true → new.input ≡ old.input → new.session ≡ old.session
+    → new.answers.items ≡ old.answers.items → new.number ≡ old.number → IsUnderWay t bytes before left taken old → IsUnderWay t bytes before left' taken new
 end_read bytes before left left' taken old new same none unended end input session answers number u = record {
   rest = u.rest;
   done = u.done;
@@ -293,8 +294,8 @@ end_read bytes before left left' taken old new same none unended end input sessi
 
 -- ---- the status
 
-wrote : {P : Type 0} (bytes : List ℕ) (before taken taken' : Option (List ℕ)) (r : Run P) (ending : DayEnd) → Takes taken taken' r.answers.items → IsAtEnd bytes before taken r ending
-    → ((day_of bytes).ending ≡ ending) × Wrote before taken' (day_of bytes).statements
+wrote : {P : Type 0} {t : Table} (bytes : List ℕ) (before taken taken' : Option (List ℕ)) (r : Run P) (ending : DayEnd) → Takes taken taken' r.answers.items → IsAtEnd t bytes before taken r ending
+    → ((day_of bytes).ending ≡ ending) × Wrote t before taken' (day_of bytes).statements
 wrote bytes before taken taken' r ending took e = (
   e.ends,
   record {
@@ -305,8 +306,8 @@ wrote bytes before taken taken' r ending took e = (
   },
 )
 
-wrote_front : {P : Type 0} (bytes : List ℕ) (before taken taken' : Option (List ℕ)) (r : Run P) (ending : DayEnd) → TakesFront taken taken' r.answers.items → IsAtEnd bytes before taken r ending
-    → WroteFront before taken' (day_of bytes).statements
+wrote_front : {P : Type 0} {t : Table} (bytes : List ℕ) (before taken taken' : Option (List ℕ)) (r : Run P) (ending : DayEnd) → TakesFront taken taken' r.answers.items → IsAtEnd t bytes before taken r ending
+    → WroteFront t before taken' (day_of bytes).statements
 wrote_front bytes before taken taken' r ending front e = record {
   count = length (day_of bytes).statements;
   lines = e.written ++ r.answers.items;
@@ -315,50 +316,50 @@ wrote_front bytes before taken taken' r ending front e = record {
   took = TakesFront-then before taken taken' e.written r.answers.items e.took front;
 }
 
-tells_bad : {P : Type 0} (bytes : List ℕ) (before taken taken' : Option (List ℕ)) (r : Run P) (n : ℕ) (result : Status) → ClosesSo taken taken' r.answers.items (statuses.BadDay n) result → IsAtEnd bytes before taken r (Bad n)
-    → Tells before taken' result (day_of bytes)
+tells_bad : {P : Type 0} {t : Table} (bytes : List ℕ) (before taken taken' : Option (List ℕ)) (r : Run P) (n : ℕ) (result : Status) → ClosesSo taken taken' r.answers.items (statuses.BadDay n) result → IsAtEnd t bytes before taken r (Bad n)
+    → Tells t before taken' result (day_of bytes)
 tells_bad bytes before taken taken' r n result (inl (is, took)) e =
-    let P : Status → Type 0 = λ s. Tells before taken' s (day_of bytes) in
+    let P : Status → Type 0 = λ s. Tells t before taken' s (day_of bytes) in
     subst P (sym is) (wrote bytes before taken taken' r (Bad n) took e)
 tells_bad bytes before taken taken' r n result (inr (is, front)) e =
-    let P : Status → Type 0 = λ s. Tells before taken' s (day_of bytes) in
+    let P : Status → Type 0 = λ s. Tells t before taken' s (day_of bytes) in
     subst P (sym is) (wrote_front bytes before taken taken' r (Bad n) front e)
 
-tells_ok : {P : Type 0} (bytes : List ℕ) (before taken taken' : Option (List ℕ)) (r : Run P) (result : Status) → ClosesSo taken taken' r.answers.items statuses.Ok result → IsAtEnd bytes before taken r Finished
-    → Tells before taken' result (day_of bytes)
+tells_ok : {P : Type 0} {t : Table} (bytes : List ℕ) (before taken taken' : Option (List ℕ)) (r : Run P) (result : Status) → ClosesSo taken taken' r.answers.items statuses.Ok result → IsAtEnd t bytes before taken r Finished
+    → Tells t before taken' result (day_of bytes)
 tells_ok bytes before taken taken' r result (inl (is, took)) e =
-    let P : Status → Type 0 = λ s. Tells before taken' s (day_of bytes) in
+    let P : Status → Type 0 = λ s. Tells t before taken' s (day_of bytes) in
     subst P (sym is) (wrote bytes before taken taken' r Finished took e)
 tells_ok bytes before taken taken' r result (inr (is, front)) e =
-    let P : Status → Type 0 = λ s. Tells before taken' s (day_of bytes) in
+    let P : Status → Type 0 = λ s. Tells t before taken' s (day_of bytes) in
     subst P (sym is) (wrote_front bytes before taken taken' r Finished front e)
 
 -- the same where nothing more is written
-pub front_of : {P : Type 0} (bytes : List ℕ) (before left taken : Option (List ℕ)) (old : Run P) → IsUnderWay bytes before left taken old → WroteFront before taken (day_of bytes).statements
+pub front_of : {P : Type 0} {t : Table} (bytes : List ℕ) (before left taken : Option (List ℕ)) (old : Run P) → IsUnderWay t bytes before left taken old → WroteFront t before taken (day_of bytes).statements
 front_of bytes before left taken old u = front_with bytes before left taken taken old (took_nothing taken old.answers.items) u
 
-tells_none : {P : Type 0} (bytes : List ℕ) (before left taken taken' : Option (List ℕ)) (old : Run P) (result : Status) → (result ≡ statuses.NoMemory) × (taken' ≡ taken) → IsUnderWay bytes before left taken old
-    → Tells before taken' result (day_of bytes)
+tells_none : {P : Type 0} {t : Table} (bytes : List ℕ) (before left taken taken' : Option (List ℕ)) (old : Run P) (result : Status) → (result ≡ statuses.NoMemory) × (taken' ≡ taken) → IsUnderWay t bytes before left taken old
+    → Tells t before taken' result (day_of bytes)
 tells_none bytes before left taken taken' old result (is, same) u =
-    let P : Status → Type 0 = λ s. Tells before taken' s (day_of bytes) in
+    let P : Status → Type 0 = λ s. Tells t before taken' s (day_of bytes) in
     subst P (sym is) (rw same (front_of bytes before left taken old u))
 
 -- a step that ends the day
 pub step_tells : {P : Type 0} (old new : Run P) (left taken taken' : Option (List ℕ)) (step : Step) (result : Status) → (step ≡ steps.Done → ⊥) → (step ≡ steps.Cut → ⊥) → StepsOn old new step
-    → Closes taken taken' new step result → (bytes : List ℕ) (before : Option (List ℕ)) → IsUnderWay bytes before left taken old → Tells before taken' result (day_of bytes)
+    → Closes taken taken' new step result → (t : Table) (bytes : List ℕ) (before : Option (List ℕ)) → IsUnderWay t bytes before left taken old → Tells t before taken' result (day_of bytes)
 step_tells old new left taken taken' steps.Done result not_done not_cut on closes = absurd (not_done refl)
 step_tells old new left taken taken' steps.Cut result not_done not_cut on closes = absurd (not_cut refl)
-step_tells old new left taken taken' steps.End result not_done not_cut on closes = λ bytes before u. tells_ok bytes before taken taken' new result closes (on bytes before left taken u)
-step_tells old new left taken taken' steps.Bad result not_done not_cut on closes = λ bytes before u. tells_bad bytes before taken taken' new new.number result closes (on bytes before left taken u)
-step_tells old new left taken taken' steps.NoMemory result not_done not_cut on closes = λ bytes before u. tells_none bytes before left taken taken' old result closes u
+step_tells old new left taken taken' steps.End result not_done not_cut on closes = λ t bytes before u. tells_ok bytes before taken taken' new result closes (on t bytes before left taken u)
+step_tells old new left taken taken' steps.Bad result not_done not_cut on closes = λ t bytes before u. tells_bad bytes before taken taken' new new.number result closes (on t bytes before left taken u)
+step_tells old new left taken taken' steps.NoMemory result not_done not_cut on closes = λ t bytes before u. tells_none bytes before left taken taken' old result closes u
 
 some_left : (left : Option (List ℕ)) (rest : List ℕ) → left ≡ Some rest → IfSome left (λ bytes. 0 < length bytes) → 0 < length rest
 some_left None rest told some = cc
 some_left (Some bytes) rest told some = let e : bytes ≡ rest = cc in rw (← e) some
 
 -- where more bytes follow than a day may have
-pub past_tells : {P : Type 0} (bytes : List ℕ) (before left taken : Option (List ℕ)) (r : Run P) → first_statement true r.input.pending ≡ Cut → r.ended ≡ false → r.answers.items ≡ [] → r.input.taken ≡ most_bytes
-    → IfSome left (λ b. 0 < length b) → IsUnderWay bytes before left taken r → Tells before taken statuses.DayTooLong (day_of bytes)
+pub past_tells : {P : Type 0} {t : Table} (bytes : List ℕ) (before left taken : Option (List ℕ)) (r : Run P) → first_statement true r.input.pending ≡ Cut → r.ended ≡ false → r.answers.items ≡ [] → r.input.taken ≡ most_bytes
+    → IfSome left (λ b. 0 < length b) → IsUnderWay t bytes before left taken r → Tells t before taken statuses.DayTooLong (day_of bytes)
 past_tells bytes before left taken r cut unended answers most some u =
     let more : has_more bytes ≡ true = has_more-true bytes (omega (arith, u.all, most, some_left left u.rest u.told some)) in
     let seen : r.input.pending ++ in_window r.input.taken u.rest ≡ r.input.pending = rw (in_window-most r.input.taken u.rest most) (append-nil r.input.pending) in
@@ -382,7 +383,10 @@ OnlyFaults o = IfSome o (λ status. status ≡ statuses.WriteFault)
 
 pub of_day : (o : Option Status) → OnlyFaults o → IfSome o IsOfDay
 of_day None fault = tt
-of_day (Some status) fault = λ e. let never : statuses.WriteFault ≡ statuses.BadWords = sym fault ∙ e in cc
+of_day (Some status) fault = (
+  λ e. let never : statuses.WriteFault ≡ statuses.BadWords = sym fault ∙ e in cc,
+  λ row e. let never : statuses.WriteFault ≡ statuses.BadTable row = sym fault ∙ e in cc,
+)
 
 pub unread : (o : Option Status) → OnlyFaults o → o ≡ Some statuses.ReadFault → ⊥
 unread None fault e = cc
@@ -407,5 +411,5 @@ begins_bounded r pending read number = record {
 }
 
 -- nothing is written before the day is begun
-pub unbegun : (before : Option (List ℕ)) (statements : List Statement) → WroteFront before before statements
-unbegun before statements = record { count = 0; lines = []; machine = start; carried = (refl, refl); took = took_nothing before [] }
+pub unbegun : {t : Table} (before : Option (List ℕ)) (statements : List Statement) → WroteFront t before before statements
+unbegun before statements = record { count = 0; lines = []; machine = start _; carried = (refl, refl); took = took_nothing before [] }

@@ -10,13 +10,12 @@ use Rattle.ow_hall.specs.Comes.{Answers, Comes, HallView}
 use Rattle.ow_hall.specs.History.{counted}
 use Rattle.ow_hall.specs.Ledger.{Ledger, opened}
 use Rattle.ow_decide.specs.Sight.{is_full}
-use Rattle.ow_decide.specs.Tenants.{standard}
 use Rattle.ow_decide.specs.declared.events.Event.{Event}
 use Rattle.ow_decide.specs.declared.events.Event.TheVariants as events
 use Rattle.ow_decide.specs.declared.events.Told.{Told}
 use Rattle.ow_decide.specs.declared.events.Told.TheVariants as told
 use Rattle.ow_decide.specs.declared.replies.Reply.TheVariants as replies
-use Rattle.ow_decide.specs.declared.tenants.Tenants.{Tenants}
+use Rattle.ow_tenant.specs.Table.{Table}
 use Rattle.ow_invoker.specs.Plain.{PlainGives}
 use Rattle.ow_invoker.specs.Turns.{Exchange, IsTurn, steps_in}
 use Rattle.ow_invoker.specs.declared.plain_runner.PlainContainer.{PlainContainer}
@@ -33,14 +32,14 @@ use Rattle.ow_day.specs.Texts.{lines_of}
 
 -- the office table, the book so far, the moment that the day gave last, and the containers that lie between turns
 pub record Machine : Type 0 where
-  pub tenants : Tenants
+  pub tenants : Table
   pub ledger : Ledger
   pub given : ℕ
   pub shelf : List (Laid PlainContainer)
 
--- the service was just opened, at moment 0
-abbrev pub start : Machine
-start = record { tenants = standard; ledger = opened standard 0; given = 0; shelf = [] }
+-- the service was just opened over an office table, at moment 0
+abbrev pub start : Table → Machine
+start t = record { tenants = t; ledger = opened t 0; given = 0; shelf = [] }
 
 -- ---- what the hall meets
 

@@ -1,5 +1,6 @@
 -- How much of a day is read: no more than its statements need, and the rest of one piece.
-use Rattle.std.specs.Prelude.{◌≡◌, ◌≤◌, ◌+◌, ◌++◌, true, ℕ, List, Option, Some, length}
+use Rattle.std.specs.Prelude.{◌≡◌, ◌≤◌, ◌+◌, ◌++◌, true, ℕ, List, Option, Some, IfOk, IfSome, length}
+use Rattle.ow_tenant.specs.Table.{Table, table_of}
 use Rattle.ow_day.specs.Limits.{most_bytes, most_piece}
 use Rattle.ow_day.specs.Day.{Day, TooLong, day_from}
 use Rattle.ow_day.specs.Office.{Wrote}
@@ -26,10 +27,14 @@ abbrev pub LeavesRest : List ℕ → Option (List ℕ) → Type 0
 LeavesRest bytes left = (rest : List ℕ) × (left ≡ Some rest) × IsLeft bytes rest
 
 -- all that was read of the bytes of a day is answered: the lines of each statement that stands whole in it were written
-pub record IsAnswered (bytes : List ℕ) (left old new : Option (List ℕ)) : Type 0 where
+pub record IsAnswered (t : Table) (bytes : List ℕ) (left old new : Option (List ℕ)) : Type 0 where
   pub read : List ℕ
   pub rest : List ℕ
   pub whole : bytes ≡ read ++ rest
   pub leaves : left ≡ Some rest
   pub unfinished : IsUnfinished read
-  pub wrote : Wrote old new (day_so_far read).statements
+  pub wrote : Wrote t old new (day_so_far read).statements
+
+-- the same over an office table of these rows that has no bad one, where both tell their bytes
+abbrev pub AnswersTable : Option (List ℕ) → Option (List ℕ) → Option (List ℕ) → Option (List ℕ) → Option (List ℕ) → Type 0
+AnswersTable rows day left old new = IfSome rows (λ text. IfOk (table_of text) (λ t. IfSome day (λ bytes. IsAnswered t bytes left old new)))

@@ -1,6 +1,7 @@
 -- A day that is under way: what was read of it, carried out and written, for private clauses.
 use Rattle.std.specs.Prelude.{◌≡◌, ◌≢◌, ◌<◌, ◌≤◌, ◌+◌, ◌-◌, ◌*◌, ◌++◌, ◌⊎◌, ℕ, true, false, List, [], Option, Some, None, length, take, if◌then◌else◌}
 use Rattle.ow_traits.specs.Streams.{Takes, TakesFront}
+use Rattle.ow_tenant.specs.Table.{Table}
 use Rattle.ow_day.specs.declared.status.Status.{Status}
 use Rattle.ow_day.specs.declared.status.Status.TheVariants as statuses
 use Rattle.ow_day.specs.declared.session.Step.{Step}
@@ -34,7 +35,7 @@ pub record HasRead {P : Type 0} (bytes rest : List ℕ) (done : List Statement) 
   pub goes_on : r.ended ≡ false → GoesOn (front ++ last) done r.number r.input.pending
 
 -- some statements are done, and their lines written or ready: the rest of the day gives the rest of the statements
-pub record IsUnderWay {P : Type 0} (bytes : List ℕ) (before left taken : Option (List ℕ)) (r : Run P) : Type 0 where
+pub record IsUnderWay {P : Type 0} (t : Table) (bytes : List ℕ) (before left taken : Option (List ℕ)) (r : Run P) : Type 0 where
   pub rest : List ℕ
   pub done : List Statement
   pub count : ℕ
@@ -45,22 +46,22 @@ pub record IsUnderWay {P : Type 0} (bytes : List ℕ) (before left taken : Optio
   pub none : r.ended ≡ true → rest ≡ []
   pub enough : length (r.input.pending ++ in_window r.input.taken rest) < count
   pub took : Takes before taken written
-  pub carried : CarriesOut start done (written ++ r.answers.items) (machine_of r.session)
+  pub carried : CarriesOut (start t) done (written ++ r.answers.items) (machine_of r.session)
   pub whole : day_of bytes ≡ with_statements done (day_from count (has_more bytes) r.number (r.input.pending ++ in_window r.input.taken rest))
 
 -- the day ends here: what was written and what is ready are its lines
-pub record IsAtEnd {P : Type 0} (bytes : List ℕ) (before taken : Option (List ℕ)) (r : Run P) (ending : DayEnd) : Type 0 where
+pub record IsAtEnd {P : Type 0} (t : Table) (bytes : List ℕ) (before taken : Option (List ℕ)) (r : Run P) (ending : DayEnd) : Type 0 where
   pub written : List ℕ
   pub took : Takes before taken written
-  pub carried : CarriesOut start (day_of bytes).statements (written ++ r.answers.items) (machine_of r.session)
+  pub carried : CarriesOut (start t) (day_of bytes).statements (written ++ r.answers.items) (machine_of r.session)
   pub ends : (day_of bytes).ending ≡ ending
 
 abbrev pub EndsSo : {P : Type 0} → Run P → Run P → DayEnd → Type 0
-EndsSo old new ending = (bytes : List ℕ) (before left taken : Option (List ℕ)) → IsUnderWay bytes before left taken old → IsAtEnd bytes before taken new ending
+EndsSo old new ending = (t : Table) (bytes : List ℕ) (before left taken : Option (List ℕ)) → IsUnderWay t bytes before left taken old → IsAtEnd t bytes before taken new ending
 
 -- the first statement was carried out or ends the day, or waits for more bytes
 abbrev pub StepsOn : {P : Type 0} → Run P → Run P → Step → Type 0
-StepsOn old new steps.Done = (bytes : List ℕ) (before left taken : Option (List ℕ)) → IsUnderWay bytes before left taken old → IsUnderWay bytes before left taken new
+StepsOn old new steps.Done = (t : Table) (bytes : List ℕ) (before left taken : Option (List ℕ)) → IsUnderWay t bytes before left taken old → IsUnderWay t bytes before left taken new
 StepsOn old new steps.End = EndsSo old new Finished
 StepsOn old new steps.Bad = EndsSo old new (Bad new.number)
 StepsOn old new steps.Cut = (new ≡ old) × (old.ended ≡ false) × (first_statement true old.input.pending ≡ Cut)
@@ -78,15 +79,15 @@ Closes old new r step result = (result ≡ statuses.NoMemory) × (new ≡ old)
 
 -- the day ended with this status: what was written for it, what is left of it, and that all that was read is answered where
 -- it could not be read on
-pub record HasEnded (bytes : List ℕ) (before left taken : Option (List ℕ)) (status : Status) : Type 0 where
-  pub tells : Tells before taken status (day_of bytes)
+pub record HasEnded (t : Table) (bytes : List ℕ) (before left taken : Option (List ℕ)) (status : Status) : Type 0 where
+  pub tells : Tells t before taken status (day_of bytes)
   pub leaves : LeavesRest bytes left
-  pub answered : status ≡ statuses.ReadFault → IsAnswered bytes left before taken
+  pub answered : status ≡ statuses.ReadFault → IsAnswered t bytes left before taken
 
 -- one turn: the day goes on, or ends with this status
 abbrev pub Turns : {P : Type 0} → Option (List ℕ) → Option (List ℕ) → Option (List ℕ) → Option (List ℕ) → Run P → Run P → Option Status → Type 0
-Turns left left' taken taken' old new None = (bytes : List ℕ) (before : Option (List ℕ)) → IsUnderWay bytes before left taken old → IsUnderWay bytes before left' taken' new
-Turns left left' taken taken' old new (Some status) = (bytes : List ℕ) (before : Option (List ℕ)) → IsUnderWay bytes before left taken old → HasEnded bytes before left' taken' status
+Turns left left' taken taken' old new None = (t : Table) (bytes : List ℕ) (before : Option (List ℕ)) → IsUnderWay t bytes before left taken old → IsUnderWay t bytes before left' taken' new
+Turns left left' taken taken' old new (Some status) = (t : Table) (bytes : List ℕ) (before : Option (List ℕ)) → IsUnderWay t bytes before left taken old → HasEnded t bytes before left' taken' status
 
 -- a turn that reads nothing
 abbrev pub WritesOn : {P : Type 0} → Option (List ℕ) → Option (List ℕ) → Run P → Run P → Option Status → Type 0
@@ -103,4 +104,4 @@ work r = 2 * (most_bytes - r.input.taken) + (if r.ended then 0 else 1) + length 
 
 -- a status that a day can end with
 abbrev pub IsOfDay : Status → Type 0
-IsOfDay status = status ≢ statuses.BadWords
+IsOfDay status = (status ≢ statuses.BadWords) × ((row : ℕ) → status ≢ statuses.BadTable row)

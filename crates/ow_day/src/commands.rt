@@ -1,23 +1,26 @@
 // The top call: what the words of the command line ask for, over what lies outside.
-ghost use Rattle.std.specs.Prelude.{◌≡◌, ◌↔◌, ℕ, List, Some, None, IfSome, map, string_bytes};
+ghost use Rattle.std.specs.Prelude.{◌≡◌, ◌≢◌, ◌↔◌, ◌⊎◌, ℕ, List, Some, None, Err, IfSome, map, string_bytes};
 ghost use Rattle.ow_traits.specs.Streams.{Rose, Takes, TakesFront};
-ghost use Rattle.ow_day.specs.Words.{command_of};
-ghost use Rattle.ow_day.specs.Status.{err_text};
-ghost use Rattle.ow_decide.specs.declared.tenants.Tenants.{Tenants};
+ghost use Rattle.ow_tenant.specs.Reading.{Tells};
+ghost use Rattle.ow_tenant.specs.Table.{Table, table_of as table_of_text};
 ghost use Rattle.ow_hall.specs.Beginnings.{KeepsEach};
 ghost use Rattle.ow_hall.specs.History.{History, IsLegal};
-ghost use Rattle.ow_day.specs.Office.{HasLegalBooks, TellsCommand, TellsText};
-ghost use Rattle.ow_day.specs.Reads.{IsAnswered, LeavesRest};
+ghost use Rattle.ow_day.specs.Words.{command_of, table_of};
+ghost use Rattle.ow_day.specs.Status.{err_text};
+ghost use Rattle.ow_day.specs.Office.{HasLegalBooks, TellsCommand, TellsTable, TellsText, rows_named, unread};
+ghost use Rattle.ow_day.specs.Reads.{AnswersTable, LeavesRest};
 
 use crate::run::run_day;
 use crate::status::{Status, report};
-use crate::words::{Command, HELP, VERSION, command_of};
-use ow_traits::{Keeper, Sink, Source, write_all};
+use crate::words::{Command, HELP, VERSION, command_of, table_of};
+use ow_tenant::{TenantRefusal, Tenants};
+use ow_traits::{Keeper, MemorySource, Sink, Source, write_all};
 use std::alloc::Global;
 
-/// Does what the words say: for `day`, opens the service over the store, carries out the statements of the day as they come,
-/// and writes each answer before it asks for more of the day, or as soon as a megabyte is ready. The words are looked at first.
-/// The store is handed back as it was, unless memory was wanted to open the service; neither it nor the table is looked at yet.
+/// Does what the words say: for `day`, reads the office table that they name, opens the service over it and the store, carries
+/// out the statements of the day as they come, and writes each answer before it asks for more of the day, or as soon as a megabyte
+/// is ready. The words are looked at first, then the table: where they name none it has no rows, and `table` isn't touched. The
+/// store is handed back as it was, unless memory was wanted to open the service; it isn't looked at yet.
 pub fn office<T: Source, S: Source, O: Sink, E: Sink, P: Keeper + Drop>(
     alloc: Global,
     words: &[String],
@@ -28,13 +31,13 @@ pub fn office<T: Source, S: Source, O: Sink, E: Sink, P: Keeper + Drop>(
     store: P,
 ) -> (Status, Option<P>)
     // What was written, by the status.
-    ensures told { TellsCommand HELP.now VERSION.now (command_of (map string_bytes words.now)) (S.left day.old) (O.taken out.old) (O.taken out.new) result.0 }
+    ensures told { TellsCommand HELP.now VERSION.now (command_of (map string_bytes words.now)) (rows_named (table_of (map string_bytes words.now)) (T.left table.old)) (S.left day.old) (O.taken out.old) (O.taken out.new) result.0 }
     ensures reads { IfSome (S.left day.old) (λ bytes. LeavesRest bytes (S.left day.new)) }
-    ensures answered { result.0 ≡ Status.ReadFault → IfSome (S.left day.old) (λ bytes. IsAnswered bytes (S.left day.new) (O.taken out.old) (O.taken out.new)) }
+    ensures answered { result.0 ≡ Status.ReadFault → AnswersTable (rows_named (table_of (map string_bytes words.now)) (T.left table.old)) (S.left day.old) (S.left day.new) (O.taken out.old) (O.taken out.new) }
 
     // Each activation, by every legal book and each of its beginnings; and the books of days are legal.
-    ensures kept { (t : Tenants) (B : History) → IsLegal t B → KeepsEach t B }
-    ensures legal { (bytes : List ℕ) → HasLegalBooks bytes }
+    ensures kept { (t : Table) (B : History) → IsLegal t B → KeepsEach t B }
+    ensures legal { (t : Table) (bytes : List ℕ) → HasLegalBooks t bytes }
 
     // What was written of the end.
     ensures quiet { result.0 ≡ Status.Ok → err.new ≡ err.old }
@@ -43,53 +46,116 @@ pub fn office<T: Source, S: Source, O: Sink, E: Sink, P: Keeper + Drop>(
 
     // When the other statuses come.
     ensures words { (result.0 ≡ Status.BadWords) ↔ (command_of (map string_bytes words.now) ≡ None) }
-    ensures read { result.0 ≡ Status.ReadFault → Rose (S.faults day.old) (S.faults day.new) }
+    ensures read { result.0 ≡ Status.ReadFault → Rose (S.faults day.old) (S.faults day.new) ⊎ Rose (T.faults table.old) (T.faults table.new) }
     ensures write { result.0 ≡ Status.WriteFault → Rose (O.faults out.old) (O.faults out.new) }
 
     // What comes back.
     ensures store { IfSome result.1 (λ back. back ≡ store) }
     ensures lost { result.1 ≡ None → result.0 ≡ Status.NoMemory }
     ensures unbegun { result.1 ≡ None → (day.new ≡ day.old) × (out.new ≡ out.old) }
+    ensures bad_table { (row : ℕ) → result.0 ≡ Status.BadTable row → (day.new ≡ day.old) × (out.new ≡ out.old) }
     ensures untouched { (command_of (map string_bytes words.now) ≡ Some Command.Day → ⊥) → result.1 ≡ Some store }
     ensures idle { (command_of (map string_bytes words.now) ≡ Some Command.Day → ⊥) → day.new ≡ day.old }
     ensures silent { command_of (map string_bytes words.now) ≡ None → out.new ≡ out.old }
-    ensures table { table.new ≡ table.old }
+    ensures unnamed { table_of (map string_bytes words.now) ≡ None → table.new ≡ table.old }
 {
-    let (status, store) = perform(alloc, words, store, day, out);
+    let (status, store) = perform(alloc, words, table, store, day, out);
     let _ = report(status, err);
     (status, store)
 }
 
 // Does what the words say, but for the line on standard error.
 #[tactic(auto, using(crate::proofs::SoFar::leaves_unread))]
-fn perform<S: Source, O: Sink, P: Keeper + Drop>(
+fn perform<T: Source, S: Source, O: Sink, P: Keeper + Drop>(
     alloc: Global,
     words: &[String],
+    table: &mut T,
     store: P,
     day: &mut S,
     out: &mut O,
 ) -> (Status, Option<P>)
-    ensures told { TellsCommand HELP.now VERSION.now (command_of (map string_bytes words.now)) (S.left day.old) (O.taken out.old) (O.taken out.new) result.0 }
+    ensures told { TellsCommand HELP.now VERSION.now (command_of (map string_bytes words.now)) (rows_named (table_of (map string_bytes words.now)) (T.left table.old)) (S.left day.old) (O.taken out.old) (O.taken out.new) result.0 }
     ensures reads { IfSome (S.left day.old) (λ bytes. LeavesRest bytes (S.left day.new)) }
-    ensures answered { result.0 ≡ Status.ReadFault → IfSome (S.left day.old) (λ bytes. IsAnswered bytes (S.left day.new) (O.taken out.old) (O.taken out.new)) }
+    ensures answered { result.0 ≡ Status.ReadFault → AnswersTable (rows_named (table_of (map string_bytes words.now)) (T.left table.old)) (S.left day.old) (S.left day.new) (O.taken out.old) (O.taken out.new) }
     ensures words { (result.0 ≡ Status.BadWords) ↔ (command_of (map string_bytes words.now) ≡ None) }
-    ensures read { result.0 ≡ Status.ReadFault → Rose (S.faults day.old) (S.faults day.new) }
+    ensures read { result.0 ≡ Status.ReadFault → Rose (S.faults day.old) (S.faults day.new) ⊎ Rose (T.faults table.old) (T.faults table.new) }
     ensures write { result.0 ≡ Status.WriteFault → Rose (O.faults out.old) (O.faults out.new) }
     ensures store { IfSome result.1 (λ back. back ≡ store) }
     ensures lost { result.1 ≡ None → result.0 ≡ Status.NoMemory }
     ensures unbegun { result.1 ≡ None → (day.new ≡ day.old) × (out.new ≡ out.old) }
+    ensures bad_table { (row : ℕ) → result.0 ≡ Status.BadTable row → (day.new ≡ day.old) × (out.new ≡ out.old) }
     ensures untouched { (command_of (map string_bytes words.now) ≡ Some Command.Day → ⊥) → result.1 ≡ Some store }
     ensures idle { (command_of (map string_bytes words.now) ≡ Some Command.Day → ⊥) → day.new ≡ day.old }
     ensures silent { command_of (map string_bytes words.now) ≡ None → out.new ≡ out.old }
+    ensures unnamed { table_of (map string_bytes words.now) ≡ None → table.new ≡ table.old }
 {
     match command_of(words) {
-        Some(Command::Day) => run_day(alloc, store, day, out),
+        Some(Command::Day) => day_over(alloc, words, table, store, day, out),
         Some(Command::Help) => (write_text(out, HELP), Some(store)),
         Some(Command::Version) => (write_text(out, VERSION), Some(store)),
         None => (Status::BadWords, Some(store)),
     }
 }
 
+// Reads the office table that the words name, and carries out the day over it.
+fn day_over<T: Source, S: Source, O: Sink, P: Keeper + Drop>(
+    alloc: Global,
+    words: &[String],
+    table: &mut T,
+    store: P,
+    day: &mut S,
+    out: &mut O,
+) -> (Status, Option<P>)
+    ensures told { TellsTable (rows_named (table_of (map string_bytes words.now)) (T.left table.old)) (S.left day.old) (O.taken out.old) (O.taken out.new) result.0 }
+    ensures reads { IfSome (S.left day.old) (λ bytes. LeavesRest bytes (S.left day.new)) }
+    ensures answered { result.0 ≡ Status.ReadFault → AnswersTable (rows_named (table_of (map string_bytes words.now)) (T.left table.old)) (S.left day.old) (S.left day.new) (O.taken out.old) (O.taken out.new) }
+    ensures own { result.0 ≢ Status.BadWords }
+    ensures read { result.0 ≡ Status.ReadFault → Rose (S.faults day.old) (S.faults day.new) ⊎ Rose (T.faults table.old) (T.faults table.new) }
+    ensures write { result.0 ≡ Status.WriteFault → Rose (O.faults out.old) (O.faults out.new) }
+    ensures store { IfSome result.1 (λ back. back ≡ store) }
+    ensures lost { result.1 ≡ None → result.0 ≡ Status.NoMemory }
+    ensures unbegun { result.1 ≡ None → (day.new ≡ day.old) × (out.new ≡ out.old) }
+    ensures bad_table { (row : ℕ) → result.0 ≡ Status.BadTable row → (day.new ≡ day.old) × (out.new ≡ out.old) }
+    ensures unnamed { table_of (map string_bytes words.now) ≡ None → table.new ≡ table.old }
+{
+    match tenants(alloc, words, table) {
+        Ok(tenants) => run_day(alloc, tenants, store, day, out),
+        Err(refusal) => (unread(refusal), Some(store)),
+    }
+}
+
+// The office table that the words name. Where they name none it has no rows.
+fn tenants<T: Source>(
+    alloc: Global,
+    words: &[String],
+    table: &mut T,
+) -> Result<Tenants, TenantRefusal>
+    ensures told { IfSome (rows_named (table_of (map string_bytes words.now)) (T.left table.old)) (λ text. Tells (table_of_text text) result) }
+    ensures cause { result ≡ Err TenantRefusal.ReadFault → Rose (T.faults table.old) (T.faults table.new) }
+    ensures unnamed { table_of (map string_bytes words.now) ≡ None → table.new ≡ table.old }
+{
+    if table_of(words).is_some() {
+        return Tenants::read(alloc, table);
+    }
+    let mut none = MemorySource::new(Vec::new(alloc), Vec::new(alloc));
+    match Tenants::read(alloc, &mut none) {
+        Ok(tenants) => Ok(tenants),
+        Err(_) => Err(TenantRefusal::NoMemory),
+    }
+}
+
+// How the office ends where its table isn't read.
+fn unread(refusal: TenantRefusal) -> Status
+    ensures { result ≡ unread refusal }
+{
+    match refusal {
+        TenantRefusal::BadRow { row } => Status::BadTable { row },
+        TenantRefusal::ReadFault => Status::ReadFault,
+        TenantRefusal::NoMemory | TenantRefusal::UnknownKey | TenantRefusal::NotGranted => {
+            Status::NoMemory
+        }
+    }
+}
 fn write_text<O: Sink>(out: &mut O, text: &[u8]) -> Status
     ensures told { TellsText (O.taken out.old) (O.taken out.new) result text.now }
     ensures write { result ≡ Status.WriteFault → Rose (O.faults out.old) (O.faults out.new) }

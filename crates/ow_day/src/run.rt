@@ -12,6 +12,7 @@ use crate::first::{First, first_statement};
 use crate::input::{FillError, Filled, Input};
 use crate::session::{Session, Step};
 use crate::status::Status;
+use ow_tenant::Tenants;
 use ow_traits::{Failed, Keeper, Sink, Source, write_all};
 use std::alloc::Global;
 
@@ -196,17 +197,18 @@ impl<P: Keeper + Drop> Run<P> {
     }
 }
 
-/// Carries out the statements of a day as they come, and writes their answers. The store is lost where memory is wanted
-/// before the first of them.
+/// Carries out the statements of a day over an office table, as they come, and writes their answers. The store is lost where
+/// memory is wanted before the first of them.
 pub fn run_day<S: Source, O: Sink, P: Keeper + Drop>(
     alloc: Global,
+    tenants: Tenants,
     store: P,
     day: &mut S,
     out: &mut O,
 ) -> (Status, Option<P>)
-    ensures told { IfSome (S.left day.old) (λ bytes. Tells (O.taken out.old) (O.taken out.new) result.0 (day_of bytes)) }
+    ensures told { IfSome (S.left day.old) (λ bytes. Tells tenants (O.taken out.old) (O.taken out.new) result.0 (day_of bytes)) }
     ensures reads { IfSome (S.left day.old) (λ bytes. LeavesRest bytes (S.left day.new)) }
-    ensures answered { result.0 ≡ Status.ReadFault → IfSome (S.left day.old) (λ bytes. IsAnswered bytes (S.left day.new) (O.taken out.old) (O.taken out.new)) }
+    ensures answered { result.0 ≡ Status.ReadFault → IfSome (S.left day.old) (λ bytes. IsAnswered tenants bytes (S.left day.new) (O.taken out.old) (O.taken out.new)) }
     ensures own { IsOfDay result.0 }
     ensures read { result.0 ≡ Status.ReadFault → Rose (S.faults day.old) (S.faults day.new) }
     ensures write { result.0 ≡ Status.WriteFault → Rose (O.faults out.old) (O.faults out.new) }
@@ -215,9 +217,10 @@ pub fn run_day<S: Source, O: Sink, P: Keeper + Drop>(
     ensures unbegun { result.1 ≡ None → (day.new ≡ day.old) × (out.new ≡ out.old) }
 {
     let Ok(input) = Input::new(alloc) else {
+        drop(tenants);
         return (Status::NoMemory, Some(store));
     };
-    let Ok(session) = Session::new(alloc, store) else {
+    let Ok(session) = Session::new(alloc, tenants, store) else {
         return (Status::NoMemory, None);
     };
     let mut run = Run::new(alloc, session, input);

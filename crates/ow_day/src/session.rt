@@ -20,6 +20,7 @@ use ow_http::{HttpRefusal, Reason, Request, Routes, refusal};
 use ow_invoker::{PlainContainer, PlainRunner, Shelf, day_turn};
 use ow_names::FullName;
 use ow_records::Id;
+use ow_tenant::Tenants;
 use ow_traits::{Keeper, RunReply};
 use ow_value::{Lines, NoMemory, Params, Scratch, Str};
 use std::alloc::Global;
@@ -55,13 +56,13 @@ pub enum Step {
 }
 
 impl<P: Keeper + Drop> Session<P> {
-    /// A service that was just opened, at moment 0. Without memory the store is lost.
-    pub fn new(alloc: Global, store: P) -> Result<Self, NoMemory>
-        ensures machine { IfOk result (λ s. machine_of s ≡ start) }
+    /// A service that was just opened over an office table, at moment 0. Without memory the store is lost.
+    pub fn new(alloc: Global, tenants: Tenants, store: P) -> Result<Self, NoMemory>
+        ensures machine { IfOk result (λ s. machine_of s ≡ start tenants) }
         ensures store { IfOk result (λ s. s.hall.store ≡ store) }
     {
         Ok(Session {
-            hall: Hall::start(alloc, store, 0)?,
+            hall: Hall::start(alloc, store, tenants, 0)?,
             given: 0,
             scratch: Scratch::new(alloc),
             routes: Routes::new(alloc)?,

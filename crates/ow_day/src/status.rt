@@ -1,5 +1,6 @@
 // How the office ends, and what it says of that.
-ghost use Rattle.std.specs.Prelude.{◌≡◌, ◌++◌, OnOk, OnErr};
+ghost use Rattle.std.specs.Prelude.{◌≡◌, ◌++◌, OnOk, OnErr, codes};
+ghost use Rattle.std.specs.Fmt.{decimal};
 ghost use Rattle.ow_traits.specs.Streams.{HasCause, Takes, TakesFront};
 ghost use Rattle.ow_day.specs.Status.{err_text, status_number};
 
@@ -15,10 +16,12 @@ pub enum Status {
     BadDay { statement: u64 },
     /// The words of the command line aren't in the command set.
     BadWords,
-    /// The day could not be read on.
+    /// The office table or the day could not be read on.
     ReadFault,
     /// An answer could not be written.
     WriteFault,
+    /// The row of this number of the office table breaks a rule. They are counted from 1; it is 0 where the table is too long.
+    BadTable { row: u64 },
     /// There is no memory.
     NoMemory,
     /// The day has more bytes than are allowed.
@@ -36,6 +39,7 @@ impl Status {
             Status::BadWords => 2,
             Status::ReadFault => 3,
             Status::WriteFault => 4,
+            Status::BadTable { row: _ } => 6,
             Status::NoMemory => 7,
             Status::DayTooLong => 8,
         }
@@ -52,7 +56,8 @@ pub fn report<E: Sink>(status: Status, err: &mut E) -> Result<(), Failed>
 {
     match status {
         Status::Ok => Ok(()),
-        Status::BadDay { statement } => report_place(statement, err),
+        Status::BadDay { statement } => report_place(err, b"bad day at ", statement),
+        Status::BadTable { row } => report_place(err, b"bad table at ", row),
         Status::BadWords => write_all(err, b"bad words\n"),
         Status::ReadFault => write_all(err, b"read fault\n"),
         Status::WriteFault => write_all(err, b"write fault\n"),
@@ -61,14 +66,15 @@ pub fn report<E: Sink>(status: Status, err: &mut E) -> Result<(), Failed>
     }
 }
 
-fn report_place<E: Sink>(statement: u64, err: &mut E) -> Result<(), Failed>
-    ensures ok { OnOk result (Takes (E.taken err.old) (E.taken err.new) (err_text (Status.BadDay statement))) }
-    ensures err { OnErr result (TakesFront (E.taken err.old) (E.taken err.new) (err_text (Status.BadDay statement))) }
+// Writes words and a number, and a newline behind them.
+fn report_place<E: Sink>(err: &mut E, words: &[u8], place: u64) -> Result<(), Failed>
+    ensures ok { OnOk result (Takes (E.taken err.old) (E.taken err.new) (words.now ++ (decimal place ++ codes "\n"))) }
+    ensures err { OnErr result (TakesFront (E.taken err.old) (E.taken err.new) (words.now ++ (decimal place ++ codes "\n"))) }
     ensures cause { HasCause (E.faults err.old) (E.faults err.new) result }
 {
     let mut digits = Buffer::new();
-    let number = digits.format(statement).as_bytes();
-    write_pieces(err, b"bad day at ", number, b"\n")
+    let number = digits.format(place).as_bytes();
+    write_pieces(err, words, number, b"\n")
 }
 
 // Writes the three pieces, one behind the other.

@@ -1,6 +1,7 @@
 // The command line.
-ghost use Rattle.std.specs.Prelude.{◌≡◌, map, string_bytes};
-ghost use Rattle.ow_day.specs.Words.{command_named, command_of};
+ghost use Rattle.std.specs.Prelude.{◌≡◌, [], ◌∷◌, Some, None, if◌then◌else◌, is_some, map, string_bytes};
+ghost use Rattle.std.specs.Option.{option_map};
+ghost use Rattle.ow_day.specs.Words.{command_named, command_of, joined_value, table_of, value_of};
 
 /// What the words ask for.
 #[derive(Clone, Copy, Debug, PartialEq, Eq)]
@@ -17,6 +18,8 @@ pub enum Command {
 pub const HELP: &[u8] = b"ow_whisk: a function service after Apache OpenWhisk
 
 usage: ow_whisk day < FILE     carries out the statements of a day, and writes each answer
+       ow_whisk day --table TABLE < FILE
+                               does so over the office table in that file
        ow_whisk --help         writes this text
        ow_whisk --version      writes the version
 
@@ -89,9 +92,10 @@ exit status, and its line on standard error:
   0  none            all was carried out
   1  bad day at N    what stands at the Nth place is no statement; an ask and its bytes are one,
                      as are a logged and its lines
-  2  bad words       the command line is none of the three above
-  3  read fault      the day could not be read on
+  2  bad words       the command line is none of those above
+  3  read fault      the office table or the day could not be read on
   4  write fault     an answer could not be written
+  6  bad table at N  row N of the office table breaks a rule; 0: it has more than 4194304 bytes
   7  no memory       memory was wanted
   8  day too long    it has more than 1073741824 bytes
 ";
@@ -104,8 +108,20 @@ pub fn command_of(words: &[String]) -> Option<Command>
     ensures { result ≡ command_of (map string_bytes words.now) }
 {
     match words {
+        [] => None,
         [word] => command_named(word.as_str()),
-        _ => None,
+        _ => day_with_table(words),
+    }
+}
+
+// A day, where the words ask for one with a table.
+fn day_with_table(words: &[String]) -> Option<Command>
+    ensures { result ≡ (if is_some (table_of (map string_bytes words.now)) then Some Command.Day else None) }
+{
+    if table_of(words).is_some() {
+        Some(Command::Day)
+    } else {
+        None
     }
 }
 
@@ -117,5 +133,60 @@ fn command_named(word: &str) -> Option<Command>
         "--help" => Some(Command::Help),
         "--version" => Some(Command::Version),
         _ => None,
+    }
+}
+
+/// The name of the file with the office table, where the words ask for a day with one: `day --table FILE`, or
+/// `day --table=FILE`.
+pub fn table_of(words: &[String]) -> Option<&[u8]>
+    ensures { option_map (λ name. name.now) result ≡ table_of (map string_bytes words.now) }
+{
+    match words {
+        [day, option] => table_joined(day.as_bytes(), option.as_bytes()),
+        [day, option, value] => table_apart(day.as_bytes(), option.as_bytes(), value.as_bytes()),
+        _ => None,
+    }
+}
+
+fn table_joined<'a>(day: &[u8], option: &'a [u8]) -> Option<&'a [u8]>
+    ensures { option_map (λ name. name.now) result ≡ table_of (day.now ∷ option.now ∷ []) }
+{
+    if day == b"day".as_slice() {
+        joined_value(option)
+    } else {
+        None
+    }
+}
+
+fn table_apart<'a>(day: &[u8], option: &[u8], value: &'a [u8]) -> Option<&'a [u8]>
+    ensures { option_map (λ name. name.now) result ≡ table_of (day.now ∷ option.now ∷ value.now ∷ []) }
+{
+    if day != b"day".as_slice() {
+        return None;
+    }
+    if option == b"--table".as_slice() {
+        value_of(value)
+    } else {
+        None
+    }
+}
+
+// The value behind `--table=`, in one word.
+#[tactic(auto, unfolding(crate::specs::Words::joined_value))]
+fn joined_value(word: &[u8]) -> Option<&[u8]>
+    ensures { option_map (λ value. value.now) result ≡ joined_value word.now }
+{
+    let value = word.strip_prefix(b"--table=".as_slice())?;
+    value_of(value)
+}
+
+// The value of an option: it isn't empty, and begins with no `-`.
+fn value_of(value: &[u8]) -> Option<&[u8]>
+    ensures { option_map (λ value. value.now) result ≡ value_of value.now }
+{
+    match value {
+        [] => None,
+        [b'-', ..] => None,
+        _ => Some(value),
     }
 }

@@ -15,8 +15,9 @@ ghost use Rattle.std.specs.Prelude.{◌≡◌};
 ghost use Rattle.std.specs.Process.{exit_status};
 ghost use Rattle.ow_day.specs.Status.{status_number};
 
-use ow_day::{Status, office, report};
-use ow_traits::{MemoryKeeper, ReaderSource, WriterSink};
+use ow_day::{Status, office, report, table_of};
+use ow_traits::{MemoryKeeper, MemorySource, ReaderSource, Source, WriterSink};
+use std::fs::File;
 use std::process::ExitCode;
 use std::{env, io};
 
@@ -42,23 +43,45 @@ fn code_of(status: Status) -> ExitCode
     ExitCode::from(status.number())
 }
 
-// Opens what lies outside, and ends with the number of the office's status.
-fn main(rt: HostRuntime) -> ExitCode {
+// Does what the words say, over the standard streams and the source of a table.
+fn run<T: Source + Drop>(rt: &HostRuntime, words: &[String], mut table: T) -> Status {
+    let alloc = rt.alloc();
+    let mut day = ReaderSource::new(rt.stdin());
+    let mut out = WriterSink::new(rt.stdout());
     let mut err = WriterSink::new(rt.stderr());
+    let store = MemoryKeeper::new(alloc);
+    let (status, _store) = office(
+        alloc, words, &mut table, &mut day, &mut out, &mut err, store,
+    );
+    status
+}
+
+// The same over the table in the file of this name. Where it can't be opened, the first read of it fails.
+fn run_over(rt: &HostRuntime, words: &[String], name: &[u8]) -> Status {
+    let file = match std::str::from_utf8(name) {
+        Ok(name) => File::open(rt, name),
+        Err(_) => Err(io::ErrorKind::InvalidInput.into()),
+    };
+    match file {
+        Ok(file) => run(rt, words, ReaderSource::new(file)),
+        Err(_) => match vec![in rt.alloc(); 0] {
+            Ok(failing) => run(rt, words, MemorySource::new(Vec::new(rt.alloc()), failing)),
+            Err(_) => Status::NoMemory,
+        },
+    }
+}
+
+// Opens what the words name, and ends with the number of the office's status.
+fn main(rt: HostRuntime) -> ExitCode {
     let words = match words_of(&rt) {
         Ok(words) => words,
         Err(status) => {
-            let _ = report(status, &mut err);
+            let _ = report(status, &mut WriterSink::new(rt.stderr()));
             return code_of(status);
         }
     };
-    let alloc = rt.alloc();
-    let mut table = ReaderSource::new(io::empty());
-    let mut day = ReaderSource::new(rt.stdin());
-    let mut out = WriterSink::new(rt.stdout());
-    let store = MemoryKeeper::new(alloc);
-    let (status, _store) = office(
-        alloc, &words, &mut table, &mut day, &mut out, &mut err, store,
-    );
-    code_of(status)
+    match table_of(&words) {
+        Some(name) => code_of(run_over(&rt, &words, name)),
+        None => code_of(run(&rt, &words, ReaderSource::new(io::empty()))),
+    }
 }

@@ -16,7 +16,7 @@ pub returns-in_default-new-clause-reads : goal.returns-in_default-new-clause-rea
 returns-in_default-new-clause-reads g c = if_some _ _ (λ bytes told. leaves_all bytes _ told)
 
 pub returns-in-Some-clause-reads : goal.returns-in-Some-clause-reads
-returns-in-Some-clause-reads g c = if_some _ _ (λ bytes told. (c.in-Some.ensures.told bytes _ (c.turns.invariant.under_way bytes told)).leaves)
+returns-in-Some-clause-reads g c = if_some _ _ (λ bytes told. (c.in-Some.ensures.told _ bytes _ (c.turns.invariant.under_way bytes told)).leaves)
 
 pub turns-init : goal.turns-init
 turns-init g c =
@@ -24,7 +24,7 @@ turns-init g c =
     let input : run.input ≡ record { pending = []; taken = 0 } = c.new-run.ensures.input ∙ c.in-Ok.ensures.value in
     let pending = ap (λ (i : InputView). i.pending) input in
     let taken = ap (λ (i : InputView). i.taken) input in
-    let machine : machine_of run.session ≡ start = rw c.new-run.ensures.session c.in-Ok-new.ensures.machine in
+    let machine : machine_of run.session ≡ start c.args.tenants = rw c.new-run.ensures.session c.in-Ok-new.ensures.machine in
     record {
       under_way = λ bytes told. begins bytes _ _ run told machine pending taken c.new-run.ensures.answers c.new-run.ensures.number c.new-run.ensures.ended;
       bounded = begins_bounded run pending taken c.new-run.ensures.number;

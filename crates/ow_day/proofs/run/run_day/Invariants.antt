@@ -4,7 +4,7 @@ use Rattle.ow_day.proofs.run.run_day.Given as goal
 
 abbrev pub invariant-turns : goal.invariant-turns
 invariant-turns g l = record {
-  under_way : (bytes : List ℕ) → g.S.Source.left l.fn.day ≡ Some bytes → IsUnderWay bytes (g.O.Sink.taken l.fn.out) (g.S.Source.left l.day) (g.O.Sink.taken l.out) l.run;
+  under_way : (bytes : List ℕ) → g.S.Source.left l.fn.day ≡ Some bytes → IsUnderWay l.fn.tenants bytes (g.O.Sink.taken l.fn.out) (g.S.Source.left l.day) (g.O.Sink.taken l.out) l.run;
   bounded : IsBounded l.run;
   store : l.run.session.hall.store ≡ l.fn.store;
   day_later : g.S.Source.faults l.fn.day ≤ g.S.Source.faults l.day;

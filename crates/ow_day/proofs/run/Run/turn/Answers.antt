@@ -19,8 +19,8 @@ returns-in-Done g c = record {
 
 pub returns-in_default : goal.returns-in_default
 returns-in_default g c = record {
-  told = λ bytes before u. ends_with bytes before _ _ _ c.args.self.now c.close.result c.requires.most c.close.ensures.read u
-      (step_tells c.args.self.now c.step.new.self _ _ _ c.step.result c.close.result c.in_default.not-Done c.in_default.not-Cut c.step.ensures.steps c.close.ensures.told bytes before u);
+  told = λ t bytes before u. ends_with bytes before _ _ _ c.args.self.now c.close.result c.requires.most c.close.ensures.read u
+      (step_tells c.args.self.now c.step.new.self _ _ _ c.step.result c.close.result c.in_default.not-Done c.in_default.not-Cut c.step.ensures.steps c.close.ensures.told t bytes before u);
   bounded = tt;
   falls = tt;
   ready = tt;
