@@ -10,6 +10,7 @@ pub mod Named
 pub mod Calling
 pub mod Waiting
 pub mod Decision
+pub mod Noted
 pub mod Asking
 pub mod Decisions
 pub mod Making

@@ -22,6 +22,7 @@ use Rattle.ow_decide.specs.declared.waits.Waits.TheVariants.{Keep}
 use Rattle.ow_decide.specs.Asking as asking
 use Rattle.ow_decide.specs.Sight.{Sight}
 use Rattle.ow_decide.specs.Decision.{Decision}
+use Rattle.ow_decide.specs.Noted.{invoked_in}
 
 -- ---- what comes of a request, of the code
 
@@ -70,7 +71,7 @@ pub record IsSeen (S : Sight) (t : Table) (rs : List Row) (k : CountsView) (v : 
 
 -- something is told, and nothing else is made ready
 abbrev pub telling : Told → Step
-telling t = record { told = t; change = None; waits = Keep }
+telling t = record { told = t; change = None; waits = Keep; invoked = None }
 
 abbrev pub changes_of : Option Change → List Change
 changes_of None = []
@@ -81,6 +82,7 @@ pub record Carries (step : Step) (d : Decision) : Type 0 where
   pub told : step.told ≡ d.told
   pub changes : changes_of step.change ≡ d.changes
   pub waits : step.waits ≡ d.waits
+  pub invoked : step.invoked ≡ invoked_in d.items
 
 -- over a floor and rows: a step has what is decided of what is seen, and the floor has its items
 abbrev pub Makes : Table → List Row → CountsView → Now → Shown → Shown → (Sight → Decision) → Step → Type 0

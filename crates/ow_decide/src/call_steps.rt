@@ -1,17 +1,20 @@
 // Invocations of actions: by requests, and the office's own.
-ghost use Rattle.std.specs.Prelude.{◌≡◌, ◌+◌, None, IfOk};
+ghost use Rattle.std.specs.Prelude.{◌≡◌, ◌+◌, None, Ok, IfOk, OnOk};
 ghost use Rattle.ow_floor.specs.View.{last_of};
-ghost use Rattle.ow_floor.specs.Laws.{IsSound, Stands};
+ghost use Rattle.ow_floor.specs.Calls.{accept_items};
+ghost use Rattle.ow_floor.specs.Laws.{Grows, IsSound, Stands};
 ghost use Rattle.ow_decide.specs.Calling.{call_decision, call_plan, called_plan, callee_in, charged_namespace, fitting, given_over, invocation_plan, merged_plan, pairs_of, plan_for, until_of};
 ghost use Rattle.ow_decide.specs.Sight.{Sight, within_limits};
-ghost use Rattle.ow_decide.specs.Making.{AreCounted, IsSeen, Makes};
+ghost use Rattle.ow_decide.specs.Making.{AreCounted, Carries, IsSeen, Makes};
 
 use crate::askers::office;
+use crate::done::charged;
 use crate::events::Told;
 use crate::reasons::limit_reason;
 use crate::replies::Called;
 use crate::room::room_for;
 use crate::step::{Now, Step};
+use crate::waits::Waits;
 use ow_counts::Counts;
 use ow_entity::{Action, EntityRefusal};
 use ow_floor::{Floor, Plan};
@@ -50,12 +53,33 @@ pub(crate) fn call(
     ensures before { floor.new.before ≡ floor.old.before }
 {
     match call_plan(alloc, tenants, counts, floor, tables, now, name, params)? {
-        Ok(plan) => {
-            let happened = floor.accept(alloc, now.at, plan)?;
-            Ok(Step::telling(Told::Called(Called::Happened(happened))))
-        }
+        Ok(plan) => called(alloc, floor, now.at, plan),
         Err(reason) => Ok(Step::telling(Told::Called(Called::Refused(reason)))),
     }
+}
+
+// What is told of a call, whose activation is accepted.
+fn called(alloc: Global, floor: &mut Floor, at: u64, plan: Plan) -> Result<Step, NoMemory>
+    requires next { plan.id.count ≡ last_of floor.old.now.drawn plan.id.namespace + 1 }
+    ensures ok { IfOk result (λ s. (S : Sight) → S.moment ≡ at → Carries s (call_decision S (Ok plan))) }
+    ensures change { IfOk result (λ s. s.change ≡ None) }
+    ensures grows { OnOk result (Grows floor.old.now floor.new.now (λ T. accept_items at plan)) }
+    ensures before { floor.new.before ≡ floor.old.before }
+{
+    let Ok(invoked) = charged(alloc, &plan) else {
+        drop(plan);
+        return Err(NoMemory);
+    };
+    let Ok(happened) = floor.accept(alloc, at, plan) else {
+        drop(invoked);
+        return Err(NoMemory);
+    };
+    Ok(Step {
+        told: Told::Called(Called::Happened(happened)),
+        change: None,
+        waits: Waits::Keep,
+        invoked,
+    })
 }
 
 // What is to be accepted by a call of the office, or why not. Nothing is done yet.

@@ -7,6 +7,7 @@ ghost use Rattle.ow_floor.specs.View.{last_of};
 ghost use Rattle.ow_decide.specs.Asking.{Invoked, ask_decision, refusal_told};
 ghost use Rattle.ow_decide.specs.Reading.{good};
 ghost use Rattle.ow_decide.specs.Making.{Carries, change_of, done_of};
+ghost use Rattle.ow_decide.specs.Noted.{invoked_in};
 
 use crate::events::Told;
 use crate::reasons::tells_full;
@@ -15,8 +16,9 @@ use crate::step::Step;
 use crate::waits::{Shows, Waits, invoked_reply, waits_of};
 use ow_floor::{Floor, Plan};
 use ow_http::{Answer, Reason, refusal};
+use ow_names::EntityName;
 use ow_tables::Ready;
-use ow_value::{Bytes, NoMemory, Pairs, Val, write_val};
+use ow_value::{Bytes, NoMemory, Pairs, PlainData, Val, write_val};
 use std::alloc::Global;
 
 /// What comes of a request.
@@ -53,6 +55,7 @@ impl Done {
             told,
             change: self.change(),
             waits: Waits::Keep,
+            invoked: None,
         })
     }
 
@@ -95,16 +98,31 @@ pub(crate) fn accepted(
         drop(plan);
         return Err(NoMemory);
     };
+    let Ok(invoked) = charged(alloc, &plan) else {
+        drop((plan, reply));
+        return Err(NoMemory);
+    };
     let waits = waits_of(plan.id, shows, plan.until);
     if floor.accept(alloc, at, plan).is_err() {
-        drop(reply);
+        drop((reply, invoked));
         return Err(NoMemory);
     }
     Ok(Step {
         told: Told::Asked(reply),
         change: None,
         waits,
+        invoked,
     })
+}
+
+/// The namespace that is charged for what is to be accepted, where no other activation caused it.
+pub(crate) fn charged(alloc: Global, plan: &Plan) -> Result<Option<EntityName>, NoMemory>
+    ensures { IfOk result (λ n. (at : ℕ) → n ≡ invoked_in (accept_items at plan.now)) }
+{
+    if plan.cause.is_some() {
+        return Ok(None);
+    }
+    Ok(Some(plan.namespace.copy(alloc)?))
 }
 
 fn good(alloc: Global, value: &Val) -> Result<Answer, NoMemory>

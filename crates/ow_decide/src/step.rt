@@ -11,17 +11,20 @@ use crate::floor_steps::{answered, drain, next, sweep};
 use crate::waits::{Wait, Waits};
 use ow_counts::Counts;
 use ow_floor::{Floor, Happened};
+use ow_names::EntityName;
 use ow_tables::{Ready, Tables};
 use ow_tenant::Tenants;
 use ow_value::NoMemory;
 use std::alloc::Global;
 
-/// What was done: what is told, the change of the rows that was made ready, and what becomes of those who wait.
+/// What was done: what is told, the change of the rows that was made ready, what becomes of those who wait, and which namespace is
+/// charged for what was accepted, where no other activation caused it.
 #[derive(Drop)]
 pub struct Step {
     pub told: Told,
     pub change: Option<Ready>,
     pub waits: Waits,
+    pub invoked: Option<EntityName>,
 }
 
 /// How many bytes the book counts, and the moment in milliseconds.
@@ -40,6 +43,7 @@ impl Step {
             told,
             change: None,
             waits: Waits::Keep,
+            invoked: None,
         }
     }
 }
