@@ -16,7 +16,7 @@ use Rattle.ow_floor.specs.declared.activations.Open.{Open}
 use Rattle.ow_floor.specs.declared.activations.Plan.{Plan}
 use Rattle.ow_floor.specs.declared.runs.Run.{Run}
 use Rattle.ow_floor.specs.View.{Shown as FloorShown, is_of, waits}
-use Rattle.ow_floor.specs.Trace.{Accepted, Begun, Drained, Gone, Item, Lost, Swept, Trace, live, shown}
+use Rattle.ow_floor.specs.Trace.{Accepted, Begun, Drained, Gone, Item, Lost, Trace, live, shown}
 use Rattle.ow_floor.specs.Growth.{grown}
 use Rattle.ow_floor.specs.Calls.{accept_items, answered_items, begins, busy_run, end_items, goes, is_late, items_if, late_items, late_of, loses, next_items, order_items, overrun_items, place_on, reply_items, swept_items}
 use Rattle.ow_tables.specs.Refusal.{remove_refusal}

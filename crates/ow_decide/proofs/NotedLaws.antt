@@ -7,13 +7,12 @@ use Rattle.std.proofs.lemmas.List.{append-nil}
 use Rattle.std.proofs.lemmas.Slice.Eq.{bytes_eq-Decides}
 use Rattle.ow_records.specs.declared.activations.Activation.{Activation}
 use Rattle.ow_records.specs.declared.record.Record.{Record}
-use Rattle.ow_floor.specs.declared.activations.Plan.{Plan}
 use Rattle.ow_floor.specs.Trace.{Accepted, Begun, Ended, Gone, Item, Lost, Trace, accepted, accepted_after, record_of, records, records_after}
-use Rattle.ow_floor.specs.Calls.{accept_items, activation_of, begins, goes, items_if, loses}
+use Rattle.ow_floor.specs.Calls.{activation_of, begins, goes, items_if, loses}
 use Rattle.ow_floor.specs.Laws.{IsSound}
 use Rattle.ow_tenant.specs.Notes.{Note, Notes, ended, invoked, is_ended, is_invoked}
 use Rattle.ow_tenant.specs.Queue.{with_one}
-use Rattle.ow_counts.specs.View.{AreUpTo, MayEnd, is_end, is_invocation, noted_after, noted_if, notes_of}
+use Rattle.ow_counts.specs.View.{AreUpTo, is_end, is_invocation, noted_after, noted_if, notes_of}
 use Rattle.ow_counts.proofs.Counting.{count-cons}
 use Rattle.ow_counts.proofs.Noting.{all_ended_were_invoked, ended_were_invoked}
 use Rattle.ow_decide.specs.declared.events.Event.{Event}
@@ -21,7 +20,7 @@ use Rattle.ow_decide.specs.declared.events.Event.TheVariants as events
 use Rattle.ow_decide.specs.Sight.{Sight}
 use Rattle.ow_decide.specs.Noted.{MayAllEnd, invoked_by, invoked_in, noted_end, noted_ends, noted_invoked}
 use Rattle.ow_decide.specs.Decisions.{decide, wants_memory}
-use Rattle.ow_decide.proofs.AcceptLaws.{AcceptNothing, IsAdmitted, by_decision, is_acceptance}
+use Rattle.ow_decide.proofs.AcceptLaws.{AcceptNothing, by_decision, is_acceptance}
 use Rattle.ow_decide.proofs.SoundLaws.{decided_sound}
 
 -- ---- records

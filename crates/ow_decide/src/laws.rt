@@ -1,5 +1,5 @@
 // What is true of what is decided. The functions do nothing: their contracts are the laws.
-ghost use Rattle.std.specs.Prelude.{◌≡◌, ◌++◌, List, ℕ, false};
+ghost use Rattle.std.specs.Prelude.{◌≡◌, ◌++◌, false};
 ghost use Rattle.ow_floor.specs.Laws.{IsSound};
 ghost use Rattle.ow_floor.specs.Trace.{Trace, records};
 ghost use Rattle.ow_tenant.specs.Tenants.{limits_of};
