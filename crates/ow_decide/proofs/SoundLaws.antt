@@ -27,11 +27,11 @@ use Rattle.ow_decide.specs.Asking.{Done, Shown, Changed, Invoked, act_done, act_
 use Rattle.ow_decide.specs.Decisions.{decide}
 
 -- of what isn't refused the rest is asked
-then_ok : {X Y : Type 0} (N : Y → Type 0) (r : Result X Reason) (f : X → Result Y Reason) → ((x : X) → IfOk (f x) N) → IfOk (r >>= f) N
+pub then_ok : {X Y : Type 0} (N : Y → Type 0) (r : Result X Reason) (f : X → Result Y Reason) → ((x : X) → IfOk (f x) N) → IfOk (r >>= f) N
 then_ok N (Ok x) f keeps = keeps x
 then_ok N (Err reason) f keeps = tt
 
-then_from : {X Y : Type 0} (M : X → Type 0) (N : Y → Type 0) (r : Result X Reason) (f : X → Result Y Reason) → IfOk r M → ((x : X) → M x → IfOk (f x) N) → IfOk (r >>= f) N
+pub then_from : {X Y : Type 0} (M : X → Type 0) (N : Y → Type 0) (r : Result X Reason) (f : X → Result Y Reason) → IfOk r M → ((x : X) → M x → IfOk (f x) N) → IfOk (r >>= f) N
 then_from M N (Ok x) f made keeps = keeps x made
 then_from M N (Err reason) f made keeps = tt
 
