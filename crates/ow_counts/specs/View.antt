@@ -3,11 +3,9 @@ use Rattle.std.specs.Prelude.{◌≡◌, ◌+◌, ◌^◌, ◌≤◌, ◌<◌, �
 use Rattle.std.specs.List.{AllByRecursion}
 use Rattle.ow_floor.specs.Trace.{Item, Trace, Accepted, Ended, accepted}
 use Rattle.ow_tenant.specs.ByText.{ByText}
-use Rattle.ow_tenant.specs.Notes.{Note, Notes, invoked, ended, is_ended, is_invoked, latest}
+use Rattle.ow_tenant.specs.Notes.{Note, Notes, invoked, ended, is_ended, is_invoked}
 use Rattle.ow_tenant.specs.Windows.{HasRoomIn, StandsAs}
 use Rattle.ow_tenant.specs.declared.window.Window.{Window}
-use Rattle.ow_counts.specs.declared.noted.Noted.{Noted}
-use Rattle.ow_counts.specs.declared.noted.Noted.TheVariants as code
 
 -- ---- what is noted of what happened
 
@@ -24,16 +22,6 @@ noted_after item notes = notes
 abbrev pub notes_of : Trace → Notes
 notes_of [] = []
 notes_of (item ∷ T) = noted_after item (notes_of T)
-
--- a note of the code
-abbrev pub note_of : Noted → Note
-note_of (code.Invoked namespace at) = invoked namespace at
-note_of (code.Ended namespace) = ended namespace
-
--- notes of the code, of which the first is made first, in front of these
-abbrev pub all_noted : List Noted → Notes → Notes
-all_noted [] notes = notes
-all_noted (n ∷ ns) notes = all_noted ns (note_of n ∷ notes)
 
 -- ---- counts of all namespaces
 
@@ -62,25 +50,10 @@ pub record HasRoomFor (namespace : List ℕ) (count : ℕ) (v : CountsView) : Ty
   pub window : HasRoomIn namespace count 0 v.windows
   pub counter : v.busy + count < 2 ^ 64
 
--- there is room for a note
-abbrev pub HasPlaceFor : Noted → CountsView → Type 0
-HasPlaceFor (code.Invoked namespace at) v = HasRoomFor namespace 1 v
-HasPlaceFor (code.Ended namespace) v = Unit {0}
-
 -- an invocation of the namespace has not ended, and so one of all has not
 pub record MayEnd (namespace : List ℕ) (notes : Notes) : Type 0 where
   pub here : count_by (is_ended namespace) notes < count_by (is_invoked namespace) notes
   pub everywhere : count_by is_end notes < count_by is_invocation notes
-
--- a note may come behind these: it is of no earlier moment, or ends what has not ended
-abbrev pub MayCome : Noted → Notes → Type 0
-MayCome (code.Invoked namespace at) notes = latest notes ≤ at
-MayCome (code.Ended namespace) notes = MayEnd namespace notes
-
--- each may come behind those before it
-abbrev pub MayAllCome : List Noted → Notes → Type 0
-MayAllCome [] notes = Unit {0}
-MayAllCome (n ∷ ns) notes = MayCome n notes × MayAllCome ns (note_of n ∷ notes)
 
 -- no activation was accepted behind this moment
 abbrev pub AreUpTo : ℕ → Trace → Type 0

@@ -5,9 +5,8 @@ ghost use Rattle.ow_floor.specs.Laws.{IsSound};
 ghost use Rattle.ow_tenant.specs.Notes.{Notes, ended, invoked, is_ended, is_invoked, latest};
 ghost use Rattle.ow_tenant.specs.Windows.{StandsAs};
 ghost use Rattle.ow_counts.specs.Counts.{admitted};
-ghost use Rattle.ow_counts.specs.View.{AreUpTo, HasPlaceFor, HasRoomFor, MayCome, MayEnd, StandsFor, note_of, notes_of};
+ghost use Rattle.ow_counts.specs.View.{AreUpTo, HasRoomFor, MayEnd, StandsFor, notes_of};
 
-use crate::noted::Noted;
 use crate::refusal::LimitRefusal;
 use ow_names::EntityName;
 use ow_tenant::{NamespaceLimits, Windows};
@@ -69,17 +68,6 @@ impl Counts {
             return Err(NoMemory);
         }
         self.windows.reserve(alloc, namespace)
-    }
-
-    /// Counts one more note. It takes no memory.
-    pub fn note(&mut self, noted: &Noted)
-        requires { HasPlaceFor noted.now self.old }
-        ensures { (notes : Notes) → MayCome noted.now notes → StandsFor self.old notes → StandsFor self.new (note_of noted.now ∷ notes) }
-    {
-        match noted {
-            Noted::Invoked { namespace, at } => self.invoked(namespace, *at),
-            Noted::Ended { namespace } => self.ended(namespace),
-        }
     }
 
     /// An invocation that is charged to the namespace was accepted at the moment, which is none before the latest. It takes no

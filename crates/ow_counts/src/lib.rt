@@ -3,10 +3,8 @@
 //! What counts against the limits: how many invocations were accepted in the last minute, and how many have not ended.
 mod counts;
 mod laws;
-mod noted;
 mod refusal;
 
 pub use counts::Counts;
 pub use laws::{notes_count_what_happened, what_is_admitted_had_room};
-pub use noted::Noted;
 pub use refusal::LimitRefusal;
