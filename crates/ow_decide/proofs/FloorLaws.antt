@@ -4,7 +4,7 @@ use Rattle.ow_traits.specs.declared.replies.RunReply.{RunReply}
 use Rattle.ow_entity.specs.declared.rows.Row.{Row}
 use Rattle.ow_pool.specs.declared.answers.Place.{Place}
 use Rattle.ow_pool.specs.declared.answers.Place.TheVariants as places
-use Rattle.ow_floor.specs.Calls.{answered_items, begun_items, begins, busy_run, gone_items, goes, items_if, lost_items, loses, next_items, order_items, place_on, reply_items}
+use Rattle.ow_floor.specs.Calls.{answered_items, begun_items, begins, busy_run, gone_items, goes, items_if, lost_items, loses, next_items, next_order, order_items, place_on, reply_items}
 use Rattle.ow_floor.specs.View.{Shown}
 use Rattle.ow_floor.specs.Trace as trace
 use Rattle.ow_floor.specs.Trace.{Trace, shown}
@@ -12,6 +12,7 @@ use Rattle.ow_floor.specs.Laws.{Grows, Stands}
 use Rattle.ow_floor.specs.declared.activations.Open.{Open}
 use Rattle.ow_floor.specs.declared.answers.FloorRefusal.{FloorRefusal}
 use Rattle.ow_floor.specs.declared.answers.Happening.{Happening}
+use Rattle.ow_floor.specs.declared.answers.Order.{Order}
 use Rattle.ow_floor.specs.declared.answers.Swept.{Swept}
 use Rattle.ow_floor.specs.declared.runs.Run.{Run}
 use Rattle.ow_tenant.specs.Table.{Table}
@@ -21,6 +22,7 @@ use Rattle.ow_decide.specs.Decisions.{taken_told}
 use Rattle.ow_decide.specs.Making.{Carries, IsSeen, telling}
 use Rattle.ow_decide.specs.Noted.{invoked_in}
 use Rattle.ow_decide.specs.Sight.{Sight}
+use Rattle.ow_decide.specs.declared.events.Told.TheVariants as told
 use Rattle.ow_decide.specs.declared.step.Now.{Now}
 
 -- ---- nobody is charged for what runners tell and ask
@@ -69,9 +71,18 @@ gone_quiet at slot generation T = gone_if (goes slot generation T) slot generati
 pub taken_makes : (t : Table) (rs : List Row) (k : CountsView) (old new : Shown) (now : Now) (answer : Trace → Result (Unit {0}) FloorRefusal) (items : ℕ → Trace → Trace) (taken : Result (Unit {0}) FloorRefusal)
     → ((at : ℕ) (T : Trace) → invoked_in (items at T) ≡ None) → ((T : Trace) → Stands old T → taken ≡ answer T) → Grows old new (items now.at) → (S : Sight) → IsSeen S t rs k old now
     → Carries (telling (taken_told taken)) (adds (taken_told (answer S.trace)) (items S.moment S.trace)) × Stands new (items S.moment S.trace ++ S.trace)
-taken_makes t rs k old new now answer items taken quiet told grows S seen = (
-  record { told = ap taken_told (told S.trace seen.stands); changes = refl; waits = refl; invoked = sym (quiet S.moment S.trace) },
+taken_makes t rs k old new now answer items taken quiet is grows S seen = (
+  record { told = ap taken_told (is S.trace seen.stands); changes = refl; waits = refl; invoked = sym (quiet S.moment S.trace) },
   subst (λ (at : ℕ). Stands new (items at S.trace ++ S.trace)) (sym seen.moment) (grows S.trace seen.stands),
+)
+
+-- what is to be run next is told, and ordered
+pub next_makes : (t : Table) (rs : List Row) (k : CountsView) (old new : Shown) (now : Now) (order : Order)
+    → ((T : Trace) → Stands old T → order ≡ next_order T) → Grows old new (λ T. next_items now.at T) → (S : Sight) → IsSeen S t rs k old now
+    → Carries (telling (told.Next order)) (adds (told.Next (next_order S.trace)) (next_items S.moment S.trace)) × Stands new (next_items S.moment S.trace ++ S.trace)
+next_makes t rs k old new now order is grows S seen = (
+  record { told = ap told.Next (is S.trace seen.stands); changes = refl; waits = refl; invoked = sym (next_quiet S.moment S.trace) },
+  subst (λ (at : ℕ). Stands new (next_items at S.trace ++ S.trace)) (sym seen.moment) (grows S.trace seen.stands),
 )
 
 -- a sweep by its two parts

@@ -1,4 +1,4 @@
-use Rattle.std.proofs.Common.{◌∙◌, ℕ, List, ap}
+use Rattle.std.proofs.Common.{◌∙◌, ℕ, List, [], ap}
 use Rattle.ow_floor.specs.View.{Shown}
 use Rattle.ow_http.specs.Request.{parts_of}
 use Rattle.ow_records.specs.Records.{listing}
