@@ -26,7 +26,7 @@ note-requires g c =
     c.self.invariant.0.stands.stands done.1 in
     record {
       room = subst (λ (v : CountsView). HasRoomOf c.in-Ok.step.invoked v) (sym (c.apply.ensures.counts ∙ c.settle-2.ensures.counts)) c.in-Ok.ensures.counter;
-      ends = rw (floor, c.ended.ensures) fewer;
+      ends = rw (floor, c.ended-before.ensures) fewer;
     }
 
 pub post-requires : goal.post-requires
@@ -61,7 +61,7 @@ invariant_of-self-2 g c =
     let floor = ap (λ (f : FloorView). f.now) c.note.ensures.floor ∙ made in
     let rows = c.note.ensures.rest.0 ∙ (c.apply.ensures.rows ∙ ap (all_changed (changes_of step.change)) (c.settle-2.ensures.rest.0 ∙ c.in-Ok.ensures.rest.0)) in
     let waits = c.note.ensures.rest.1 ∙ (c.apply.ensures.waits ∙ ap (waits_after step.waits) (c.settle-2.ensures.rest.1 ∙ c.in-Ok.ensures.rest.1)) in
-    let counts = noted t L old mid put c.note.new.self now event step c.ended.result c.self.invariant.0 late c.ended.ensures done c.in-Ok.ensures.counts made
+    let counts = noted t L old mid put c.note.new.self now event step c.ended-before.result c.self.invariant.0 late c.ended-before.ensures done c.in-Ok.ensures.counts made
     (c.apply.ensures.counts ∙ c.settle-2.ensures.counts) c.note.ensures.counts in
     let both = answers t L old c.note.new.self mid.floor.now at event step c.self.invariant.0 late most c.requires.later free done floor rows waits counts in
     let post = c.post.ensures.ledger ∙ (ap (λ (l : Ledger). posted l at event c.in-Ok-prepare.copied) c.in-Ok-prepare.ensures.ledger
