@@ -1,6 +1,5 @@
-use Rattle.std.proofs.Common.{◌∙◌, ◌++◌, ◌≡◌, ◌≤◌, Option, List, ℕ, length, refl, sym, ap, subst, arith}
+use Rattle.std.proofs.Common.{◌∙◌, ◌++◌, ◌≤◌, refl, sym, ap, subst}
 use Rattle.ow_counts.specs.View.{CountsView}
-use Rattle.ow_floor.specs.Laws.{Stands}
 use Rattle.ow_floor.specs.Owed.{owed}
 use Rattle.ow_floor.specs.View.{FloorView}
 use Rattle.ow_decide.specs.declared.step.Now.{Now}
@@ -13,8 +12,8 @@ use Rattle.ow_hall.proofs.NoteLaws.{fewer_before}
 use Rattle.ow_hall.proofs.RoomLaws.{ready_for, room_left, used_for}
 use Rattle.ow_hall.proofs.hall.Hall.perform.Goals as goal
 
-pub note-requires : goal.note-requires
-note-requires g c =
+pub note-requires-clause-ends : goal.note-requires-clause-ends
+note-requires-clause-ends g c =
     let t = c.self.inside.tenants in
     let L = c.self.inside.book.ledger in
     let now : Now = record { counted = c.counted.result; at = c.moment.result } in
@@ -24,10 +23,11 @@ note-requires g c =
     let floor = ap (λ (f : FloorView). f.now) c.apply.ensures.floor ∙ c.settle-2.ensures.kept refl in
     let fewer = fewer_before (decision t L.entries now.at c.args.event).items (seen t L.entries).trace c.self.inside.state.floor.now c.attempt.new.self.floor.now
     c.self.invariant.0.stands.stands done.1 in
-    record {
-      room = subst (λ (v : CountsView). HasRoomOf c.in-Ok.step.invoked v) (sym (c.apply.ensures.counts ∙ c.settle-2.ensures.counts)) c.in-Ok.ensures.counter;
-      ends = rw (floor, c.ended-before.ensures) fewer;
-    }
+    rw (floor, c.ended-before.ensures) fewer
+
+pub note-requires-clause-room : goal.note-requires-clause-room
+note-requires-clause-room g c =
+    subst (λ (v : CountsView). HasRoomOf c.in-Ok.step.invoked v) (sym (c.apply.ensures.counts ∙ c.settle-2.ensures.counts)) c.in-Ok.ensures.counter
 
 pub post-requires : goal.post-requires
 post-requires g c =
