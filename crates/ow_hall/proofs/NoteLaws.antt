@@ -1,5 +1,5 @@
 -- What is noted for the limits counts what happened.
-use Rattle.std.proofs.Common.{◌≡◌, ◌∙◌, ◌+◌, ◌≤◌, ◌++◌, ℕ, false, List, [], ◌∷◌, Option, length, drop, refl, sym, ap, subst, arith}
+use Rattle.std.proofs.Common.{◌≡◌, ◌∙◌, ◌+◌, ◌<◌, ◌≤◌, ◌++◌, ℕ, suc, false, List, [], ◌∷◌, Option, length, drop, get_or, sym, ap, subst, add-one, drop-cons, arith}
 use Rattle.std.specs.List.{AllByRecursion}
 use Rattle.std.proofs.Math.Seq.{drop-append_seam}
 use Rattle.std.proofs.lemmas.List.{length-append}
@@ -14,12 +14,12 @@ use Rattle.ow_counts.specs.View.{AreUpTo, CountsView, StandsFor, notes_of}
 use Rattle.ow_counts.proofs.Noting.{latest_noted}
 use Rattle.ow_decide.specs.Decisions.{decide, wants_memory}
 use Rattle.ow_decide.specs.Making.{AreCounted}
-use Rattle.ow_decide.specs.Noted.{invoked_in}
+use Rattle.ow_decide.specs.Noted.{MayAllEnd, invoked_in, noted_end, noted_ends}
 use Rattle.ow_decide.specs.Sight.{Sight}
 use Rattle.ow_decide.specs.declared.events.Event.{Event}
 use Rattle.ow_decide.proofs.NotedLaws.{decided_may_end, decided_noted, decided_up_to, quiet_noted, records_more}
 use Rattle.ow_hall.specs.History.{AreAnswered, History, counted, last_moment, seen, sight}
-use Rattle.ow_hall.specs.State.{IsAt, Notes, StateView}
+use Rattle.ow_hall.specs.State.{IsAt, Notes, NotesEnds, StateView}
 
 -- ---- moments
 
@@ -61,6 +61,28 @@ ended_behind : (items T : Trace) (old new : Shown) → Stands old T → Stands n
 ended_behind items T old new was is =
     ap (λ (v : Shown). drop (length v.ended) new.ended) was.is
     ∙ (ap (λ (rs : List Record). drop (length (records T)) rs) (ended_more items T new is) ∙ drop-append_seam (records T) (records items))
+
+-- ---- one end after another
+
+-- the counts stand for notes behind which the rest of the ends is noted
+abbrev pub NotesFrom : List Record → List Record → CountsView → CountsView → Type 0
+NotesFrom rest ends old new = (ns : notes.Notes) → MayAllEnd ends ns → StandsFor old ns
+    → (mid : notes.Notes) × (StandsFor new mid × MayAllEnd rest mid × (noted_ends rest mid ≡ noted_ends ends ns))
+
+end_noted : (rest ends : List Record) (end : Record) (old new newer : CountsView) → NotesFrom (end ∷ rest) ends old new → NotesEnds (end ∷ []) new newer
+    → NotesFrom rest ends old newer
+end_noted rest ends end old new newer so_far noted ns may stands =
+    let h = so_far ns may stands in (noted_end end h.0, (noted h.0 (h.1.1.0, tt) h.1.0, h.1.1.1, h.1.2))
+
+behind_next : (ends : List Record) (i : ℕ) (end : Record) → i < length ends → end ≡ get_or ends i end → drop i ends ≡ end ∷ drop (i + 1) ends
+behind_next ends i end h is =
+    drop-cons ends i end h ∙ (ap (λ (e : Record). e ∷ drop (suc i) ends) (sym is) ∙ ap (λ (n : ℕ). end ∷ drop n ends) (sym (add-one i)))
+
+-- the next of the ends is noted
+pub next_noted : (ends : List Record) (i : ℕ) (end : Record) (old new newer : CountsView) → i < length ends → end ≡ get_or ends i end
+    → NotesFrom (drop i ends) ends old new → NotesEnds (end ∷ []) new newer → NotesFrom (drop (i + 1) ends) ends old newer
+next_noted ends i end old new newer h is so_far noted =
+    end_noted (drop (i + 1) ends) ends end old new newer (subst (λ (rest : List Record). NotesFrom rest ends old new) (behind_next ends i end h is) so_far) noted
 
 -- ---- notes
 
