@@ -7,22 +7,13 @@ import sys
 import tempfile
 import time
 
-from day import peak
+from day import ask, peak, write_table
 
 ROUNDS = 3
 PUTS = 10_000
 GETS = 100_000
 CALLS = 1_000
 CODE_BYTES = 900_000
-
-
-def ask(method, path, body=b""):
-    """The statement of a request."""
-    head = [f"{method} /api/v1/namespaces/_/actions/{path} HTTP/1.1", "Host: localhost"]
-    if body:
-        head += ["Content-Type: application/json", f"Content-Length: {len(body)}"]
-    data = "\r\n".join([*head, "", ""]).encode() + body
-    return b"ask %d\n%s\n" % (len(data), data)
 
 
 def action(code_bytes):
@@ -32,7 +23,7 @@ def action(code_bytes):
     return json.dumps({"exec": {"kind": "plain:1", "code": code}}, separators=(",", ":")).encode()
 
 
-def seconds(program, statements):
+def seconds(command, statements):
     """The least wall time of a day, with the start of the process."""
     times = []
     for _ in range(ROUNDS):
@@ -40,38 +31,44 @@ def seconds(program, statements):
             day.writelines(statements)
             day.seek(0)
             start = time.perf_counter()
-            status = subprocess.call([program, "day"], stdin=day, stdout=subprocess.DEVNULL)
+            status = subprocess.call(command, stdin=day, stdout=subprocess.DEVNULL)
             times.append(time.perf_counter() - start)
         if status != 0:
             sys.exit(f"the program ended with {status}")
     return min(times)
 
 
-def show(program, what, before, statements):
+def show(command, what, before, statements):
     """The microseconds of each statement behind those before."""
-    spent = seconds(program, before + statements) - seconds(program, before)
+    spent = seconds(command, before + statements) - seconds(command, before)
     print(f"{what:44} {spent / len(statements) * 1e6:6.1f} microseconds each")
 
 
 def main():
-    program = sys.argv[1]
+    with tempfile.NamedTemporaryFile() as table:
+        write_table(table.name)
+        measure([sys.argv[1], "day", "--table", table.name])
+
+
+def measure(command):
+    """Prints what each kind of request takes."""
     names = [f"a{k:06}" for k in range(PUTS)]
     small = action(200)
     puts = [ask("PUT", name, small) for name in names]
     mixed = puts[:]
     random.Random(1).shuffle(mixed)
-    show(program, f"put, {PUTS} names in rising order", [], puts)
-    show(program, f"put, {PUTS} names in falling order", [], puts[::-1])
-    show(program, f"put, {PUTS} names in mixed order", [], mixed)
-    show(program, "put in the place of what stands", puts[:100], [ask("PUT", "a000007?overwrite=true", small)] * PUTS)
-    show(program, "get, of 100 actions", puts[:100], [ask("GET", names[k % 100]) for k in range(GETS)])
-    show(program, f"get, of {PUTS} actions", puts, [ask("GET", names[k * 7 % PUTS]) for k in range(GETS)])
+    show(command, f"put, {PUTS} names in rising order", [], puts)
+    show(command, f"put, {PUTS} names in falling order", [], puts[::-1])
+    show(command, f"put, {PUTS} names in mixed order", [], mixed)
+    show(command, "put in the place of what stands", puts[:100], [ask("PUT", "a000007?overwrite=true", small)] * PUTS)
+    show(command, "get, of 100 actions", puts[:100], [ask("GET", names[k % 100]) for k in range(GETS)])
+    show(command, f"get, of {PUTS} actions", puts, [ask("GET", names[k * 7 % PUTS]) for k in range(GETS)])
     with tempfile.NamedTemporaryFile() as day:
         day.write(ask("PUT", "large", action(CODE_BYTES)))
         for k in range(1, CALLS + 1):
             day.write(b'call /guest/large {"a":%d}\nnext\nanswer %d {"a":%d}\n' % (k, k, k))
         day.flush()
-        memory = peak([program, "day"], day.name)
+        memory = peak(command, day.name)
         print(f"an action of {CODE_BYTES} bytes, called {CALLS} times: peak memory {memory / 1e6:.1f} MB")
 
 

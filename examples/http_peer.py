@@ -14,12 +14,18 @@ import subprocess
 import sys
 import threading
 
-PROGRAM = os.path.join(os.path.dirname(__file__), "..", "crates", "ow_whisk", "out", "ow_whisk")
+HERE = os.path.dirname(os.path.abspath(__file__))
+PROGRAM = os.path.join(HERE, "..", "crates", "ow_whisk", "out", "ow_whisk")
+TABLE = os.path.join(HERE, "office.csv")
 if not os.access(PROGRAM, os.X_OK):
     sys.exit("build the program first: (cd crates/ow_whisk && rt run -- day < ../../examples/first.day)")
 BODY = '{"exec":{"kind":"plain:1","code":"{\\"cases\\":[]}"},"annotations":[{"key":"note","value":"ü"}]}'
 PATH = "/api/v1/namespaces"
 PUT = ["-X", "PUT", "-d", BODY]
+KEY = ["-H", "X-Whisk-Key: k1"]
+OTHER_KEY = ["-H", "X-Whisk-Key: k2"]
+NO_KEY = ["-H", "X-Whisk-Key:"]
+UNKNOWN_KEY = {"code": 23, "error": "The key is unknown."}
 NOT_FOUND = {"code": 14, "error": "The resource does not exist."}
 EXISTS = {"code": 17, "error": "The resource exists."}
 NOT_GRANTED = {"code": 24, "error": "The namespace is not granted."}
@@ -29,9 +35,12 @@ BAD_METHOD = {"code": 37, "error": "The method is not allowed."}
 TOO_LARGE = {"code": 38, "error": "The body has too many bytes."}
 BAD_LIMIT = {"code": 39, "error": "The query value limit is wrong."}
 
-# What curl is told to send, beside the URL; the URL's path; the status and the phrase; the members that the body
-# must have, or the names in a list. The requests stand in the order in which the service gets them.
+# What curl is told to send, beside the URL and the key of anna; the URL's path; the status and the phrase; the members that the body
+# must have, or what stands in a list: texts, or the names of rows. The requests stand in the order in which the service gets them.
 CASES = [
+    ([], PATH, 200, "OK", ["guest", "shop"]),
+    (OTHER_KEY, PATH, 200, "OK", ["shop"]),
+    (NO_KEY, PATH, 401, "Unauthorized", UNKNOWN_KEY),
     (PUT, PATH + "/_/actions/hello", 200, "OK", {"name": "hello", "namespace": "guest", "version": "0.0.1"}),
     (PUT, PATH + "/_/actions/hello", 409, "Conflict", EXISTS),
     (PUT, PATH + "/guest/actions/h%65llo?a=%41+b&overwrite=%74rue&overwrite=x", 200, "OK",
@@ -113,7 +122,7 @@ def check_body(body, wanted, what):
         return
     value = json.loads(body)
     if isinstance(wanted, list):
-        expect([row["name"] for row in value], wanted, what)
+        expect([row if isinstance(row, str) else row["name"] for row in value], wanted, what)
     elif "code" in wanted:
         expect(value, wanted, what)
     else:
@@ -126,8 +135,9 @@ def check_curl(listener, day, words, path, status, phrase, wanted):
     server.start()
     url = f"http://127.0.0.1:{listener.getsockname()[1]}{path}"
     head_only = "-I" in words
+    key = [] if words in (OTHER_KEY, NO_KEY) else KEY
     done = subprocess.run(
-        ["curl", "-sS", "--path-as-is", *words, "-w", "\n%{http_code}", *(["-o", "/dev/null"] if head_only else []), url],
+        ["curl", "-sS", "--path-as-is", *key, *words, "-w", "\n%{http_code}", *(["-o", "/dev/null"] if head_only else []), url],
         input=b"x" * 4194305, stdout=subprocess.PIPE, check=True, timeout=20)
     server.join()
     what = f"{words} {path}"
@@ -142,7 +152,7 @@ def check_curl(listener, day, words, path, status, phrase, wanted):
 
 def main():
     with socket.create_server(("127.0.0.1", 0)) as listener, subprocess.Popen(
-        [PROGRAM, "day"], stdin=subprocess.PIPE, stdout=subprocess.PIPE
+        [PROGRAM, "day", "--table", TABLE], stdin=subprocess.PIPE, stdout=subprocess.PIPE
     ) as day:
         listener.settimeout(20)
         for case in CASES:

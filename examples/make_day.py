@@ -1,8 +1,9 @@
-"""Writes a day of examples/: requests and calls, as a new user sends them.
+"""Writes a day of examples/: requests and calls, as a new user sends them, over the office table examples/office.csv.
 
     python3 examples/make_day.py > examples/actions.day
     python3 examples/make_day.py blocking > examples/blocking.day
     python3 examples/make_day.py packages > examples/packages.day
+    python3 examples/make_day.py rights > examples/rights.day
 
 Each request is counted in bytes, with its head's lines ended by CR LF. Standard library only.
 """
@@ -13,9 +14,16 @@ import sys
 HOST = ["Host: localhost:3233", "User-Agent: curl/8.5.0", "Accept: */*"]
 
 
-def request(method, path, body=None, of="actions", at="_"):
-    """The bytes of a request, with the headers that curl sends."""
-    head = [f"{method} /api/v1/namespaces/{at}/{of}{path} HTTP/1.1", *HOST]
+# The keys of anna, who has the namespace guest, and of bert, who has shop.
+ANNA = "k1"
+BERT = "k2"
+
+
+def request(method, path, body, key):
+    """The bytes of a request, with the headers that curl sends, and with a key, unless that is None."""
+    head = [f"{method} /api/v1/namespaces{path} HTTP/1.1", *HOST]
+    if key is not None:
+        head.append(f"X-Whisk-Key: {key}")
     data = b""
     if body is not None:
         data = json.dumps(body, separators=(",", ":")).encode()
@@ -23,10 +31,14 @@ def request(method, path, body=None, of="actions", at="_"):
     return "\r\n".join([*head, "", ""]).encode() + data
 
 
-def ask(method, path, body=None, of="actions", at="_"):
-    """The statement that asks by a request: its length, a newline, its bytes and a newline."""
-    data = request(method, path, body, of, at)
+def statement(data):
+    """The statement that asks by these bytes: their number, a newline, the bytes and a newline."""
     return b"ask %d\n%s\n" % (len(data), data)
+
+
+def ask(method, path, body=None, of="actions", at="_", key=ANNA):
+    """The statement that asks by a request for something of a namespace."""
+    return statement(request(method, f"/{at}/{of}{path}", body, key))
 
 
 def say(line):
@@ -125,7 +137,34 @@ PACKAGES = [
     say("end"),
 ]
 
-DAYS = {"actions": ACTIONS, "blocking": BLOCKING, "packages": PACKAGES}
+# Which namespaces a key is told, what it may not do there, and two limits of the namespace shop, which takes three invocations in
+# a minute and two at once: they count what is charged to it, whoever asked.
+PRICE = "/price"
+RIGHTS = [
+    statement(request("GET", "", None, ANNA)),
+    statement(request("GET", "", None, None)),
+    ask("PUT", PRICE, every(), key=BERT),
+    ask("GET", "", at="shop"),
+    ask("PUT", PRICE + "?overwrite=true", every(), at="shop"),
+    ask("GET", "", at="guest", key=BERT),
+    ask("GET", "", at="nowhere", key=BERT),
+    ask("POST", PRICE, {"n": 1}, at="shop"),
+    ask("POST", PRICE, {"n": 2}, key=BERT),
+    ask("POST", PRICE, {"n": 3}, at="shop"),
+    say("turn"),
+    ask("POST", PRICE, {"n": 3}, at="shop"),
+    say("turn"),
+    say("turn"),
+    ask("POST", PRICE, {"n": 4}, at="shop"),
+    say("at 60000"),
+    ask("POST", PRICE, {"n": 4}, at="shop"),
+    say("turn"),
+    ask("GET", "", of="activations", at="shop"),
+    say("drain"),
+    say("end"),
+]
+
+DAYS = {"actions": ACTIONS, "blocking": BLOCKING, "packages": PACKAGES, "rights": RIGHTS}
 
 if __name__ == "__main__":
     name = sys.argv[1] if len(sys.argv) > 1 else "actions"
