@@ -241,7 +241,7 @@ impl<P: Keeper + Drop> Hall<P> {
             counted: self.book.counted(),
             at: self.book.moment(at),
         };
-        let ended = self.state.ended();
+        let before = self.state.ended();
         let Ok(step) = self.state.attempt(alloc, &self.tenants, now, &event) else {
             return Err(Undone { event });
         };
@@ -259,7 +259,7 @@ impl<P: Keeper + Drop> Hall<P> {
             invoked,
         } = step;
         self.state.apply(change, waits);
-        self.state.note(invoked, now.at, ended);
+        self.state.note(invoked, now.at, before);
         self.book.post(now.at, event, copied, bytes);
         Ok(told)
     }

@@ -1,6 +1,5 @@
-use Rattle.std.proofs.Common.{◌∙◌, ◌++◌, ◌≡◌, ◌≤◌, Option, List, ℕ, length, refl, sym, ap, subst, arith}
+use Rattle.std.proofs.Common.{◌∙◌, ◌++◌, ◌≤◌, refl, sym, ap, subst}
 use Rattle.ow_counts.specs.View.{CountsView}
-use Rattle.ow_floor.specs.Laws.{Stands}
 use Rattle.ow_floor.specs.Owed.{owed}
 use Rattle.ow_floor.specs.View.{FloorView}
 use Rattle.ow_decide.specs.declared.step.Now.{Now}
@@ -13,8 +12,8 @@ use Rattle.ow_hall.proofs.NoteLaws.{fewer_before}
 use Rattle.ow_hall.proofs.RoomLaws.{ready_for, room_left, used_for}
 use Rattle.ow_hall.proofs.hall.Hall.perform.Goals as goal
 
-pub note-requires : goal.note-requires
-note-requires g c =
+pub note-requires-clause-ends : goal.note-requires-clause-ends
+note-requires-clause-ends g c =
     let t = c.self.inside.tenants in
     let L = c.self.inside.book.ledger in
     let now : Now = record { counted = c.counted.result; at = c.moment.result } in
@@ -24,10 +23,11 @@ note-requires g c =
     let floor = ap (λ (f : FloorView). f.now) c.apply.ensures.floor ∙ c.settle-2.ensures.kept refl in
     let fewer = fewer_before (decision t L.entries now.at c.args.event).items (seen t L.entries).trace c.self.inside.state.floor.now c.attempt.new.self.floor.now
     c.self.invariant.0.stands.stands done.1 in
-    record {
-      room = subst (λ (v : CountsView). HasRoomOf c.in-Ok.step.invoked v) (sym (c.apply.ensures.counts ∙ c.settle-2.ensures.counts)) c.in-Ok.ensures.counter;
-      ends = rw (floor, c.ended.ensures) fewer;
-    }
+    rw (floor, c.ended-before.ensures) fewer
+
+pub note-requires-clause-room : goal.note-requires-clause-room
+note-requires-clause-room g c =
+    subst (λ (v : CountsView). HasRoomOf c.in-Ok.step.invoked v) (sym (c.apply.ensures.counts ∙ c.settle-2.ensures.counts)) c.in-Ok.ensures.counter
 
 pub post-requires : goal.post-requires
 post-requires g c =
@@ -61,7 +61,7 @@ invariant_of-self-2 g c =
     let floor = ap (λ (f : FloorView). f.now) c.note.ensures.floor ∙ made in
     let rows = c.note.ensures.rest.0 ∙ (c.apply.ensures.rows ∙ ap (all_changed (changes_of step.change)) (c.settle-2.ensures.rest.0 ∙ c.in-Ok.ensures.rest.0)) in
     let waits = c.note.ensures.rest.1 ∙ (c.apply.ensures.waits ∙ ap (waits_after step.waits) (c.settle-2.ensures.rest.1 ∙ c.in-Ok.ensures.rest.1)) in
-    let counts = noted t L old mid put c.note.new.self now event step c.ended.result c.self.invariant.0 late c.ended.ensures done c.in-Ok.ensures.counts made
+    let counts = noted t L old mid put c.note.new.self now event step c.ended-before.result c.self.invariant.0 late c.ended-before.ensures done c.in-Ok.ensures.counts made
     (c.apply.ensures.counts ∙ c.settle-2.ensures.counts) c.note.ensures.counts in
     let both = answers t L old c.note.new.self mid.floor.now at event step c.self.invariant.0 late most c.requires.later free done floor rows waits counts in
     let post = c.post.ensures.ledger ∙ (ap (λ (l : Ledger). posted l at event c.in-Ok-prepare.copied) c.in-Ok-prepare.ensures.ledger
