@@ -6,6 +6,10 @@ mod of_floor;
 #[cfg(test)]
 mod of_hall;
 #[cfg(test)]
+mod of_keys;
+#[cfg(test)]
+mod of_limits;
+#[cfg(test)]
 mod of_packages;
 #[cfg(test)]
 mod of_runners;

@@ -4,12 +4,16 @@ use ow_floor::{Drain, Order};
 use ow_hall::{Book, Entries, Entry, Hall};
 use ow_http::{Answer, Read, Request, read_request, write_reply};
 use ow_names::{EntityName, FullName, read_name, resolve};
-use ow_traits::{MemoryKeeper, RunReply};
+use ow_tenant::Tenants;
+use ow_traits::{MemoryKeeper, MemorySource, RunReply};
 use ow_value::{Lines, Params, Str};
 use std::alloc::Global;
 use std::test::Fail;
 
 pub(crate) type Office = Hall<MemoryKeeper>;
+
+// One namespace, and one key in it.
+const TABLE: &str = "namespace,1,guest,,,\nkey,k1,anna,guest,,\n";
 
 // The body of a put, and what is shown of the action in its first and second versions.
 const HELLO: &str =
@@ -50,7 +54,7 @@ POST /api/v1/namespaces/_/actions/hello||503 Service Unavailable|{"code":33,"err
 GET /api/v1/namespaces/_/actions/hello||503 Service Unavailable|{"code":33,"error":"The book is full."}
 "#;
 
-const GET: &str = "GET /api/v1/namespaces/_/actions/hello HTTP/1.1\r\n\r\n";
+const GET: &str = "GET /api/v1/namespaces/_/actions/hello HTTP/1.1\r\nX-Whisk-Key: k1\r\n\r\n";
 
 // A text of the table: one of those by its name, or itself.
 pub(crate) fn text_of(word: &str) -> &str {
@@ -68,7 +72,14 @@ pub(crate) fn text_of(word: &str) -> &str {
 }
 
 pub(crate) fn office(alloc: Global) -> Result<Office, Fail> {
-    Ok(Hall::start(alloc, MemoryKeeper::new(alloc), 0)?)
+    office_of(alloc, TABLE)
+}
+
+// An office over the table of these rows.
+pub(crate) fn office_of(alloc: Global, rows: &str) -> Result<Office, Fail> {
+    let mut source = MemorySource::new(rows.as_bytes().to_vec(alloc)?, Vec::new(alloc));
+    let tenants = Tenants::read(alloc, &mut source)?;
+    Ok(Hall::start(alloc, MemoryKeeper::new(alloc), tenants, 0)?)
 }
 
 // Whether an equal list is made of them.
@@ -89,7 +100,7 @@ fn reply_to(alloc: Global, hall: &mut Office, request: &Request) -> Result<Vec<u
     }
 }
 
-fn asked(alloc: Global, hall: &mut Office, request: &str) -> Result<Vec<u8>, Fail> {
+pub(crate) fn asked(alloc: Global, hall: &mut Office, request: &str) -> Result<Vec<u8>, Fail> {
     let read = read_request(alloc, request.as_bytes())?;
     reply_to(alloc, hall, &read.request)
 }
@@ -114,12 +125,25 @@ fn is_answered(
     shows(alloc, reply.as_slice(), status, body)
 }
 
-// A request as curl sends it.
+// A request as curl sends it, with the one key.
 pub(crate) fn request_of(alloc: Global, head: &str, body: &str) -> Result<String, Fail> {
+    request_by(alloc, "k1", head, body)
+}
+
+// A request with this key; `-` stands for none.
+pub(crate) fn request_by(alloc: Global, key: &str, head: &str, body: &str) -> Result<String, Fail> {
+    let by = key_line(alloc, key)?;
     let length = body.len();
     Ok(format!(in alloc;
-        "{head} HTTP/1.1\r\nHost: localhost\r\nUser-Agent: curl/8.5.0\r\nAccept: */*\r\nX-Whisk-Key: k1\r\nContent-Type: application/json\r\nContent-Length: {length}\r\n\r\n{body}"
+        "{head} HTTP/1.1\r\nHost: localhost\r\nUser-Agent: curl/8.5.0\r\nAccept: */*\r\n{by}Content-Type: application/json\r\nContent-Length: {length}\r\n\r\n{body}"
     )?)
+}
+
+fn key_line(alloc: Global, key: &str) -> Result<String, Fail> {
+    if key == "-" {
+        return Ok(String::new(alloc));
+    }
+    Ok(format!(in alloc; "X-Whisk-Key: {key}\r\n")?)
 }
 
 // Whether a row of the table is answered so.
@@ -207,14 +231,14 @@ fn the_book_is_full_at_its_number(rt: HostRuntime) -> Result<(), Fail> {
     Ok(())
 }
 
-fn echo(alloc: Global, guest: &EntityName) -> Result<FullName, Fail> {
-    Ok(resolve(alloc, "/whisk.system/utils/echo", guest)?)
+fn name_in(alloc: Global, path: &str, guest: &EntityName) -> Result<FullName, Fail> {
+    Ok(resolve(alloc, path, guest)?)
 }
 
 // The full name of the action that is called.
-fn called_name(alloc: Global) -> Result<FullName, Fail> {
+fn called_name(alloc: Global, path: &str) -> Result<FullName, Fail> {
     let guest = read_name(alloc, b"guest")?;
-    echo(alloc, &guest)
+    name_in(alloc, path, &guest)
 }
 
 // The number of the refusal of a call, or 0.
@@ -226,7 +250,17 @@ fn refused(alloc: Global, hall: &mut Office, at: u64, name: &FullName) -> Result
 }
 
 pub(crate) fn called(alloc: Global, hall: &mut Office, at: u64) -> Result<u32, Fail> {
-    let name = called_name(alloc)?;
+    called_at(alloc, hall, at, "/whisk.system/utils/echo")
+}
+
+// The number of the refusal of a call of the action at this path, or 0.
+pub(crate) fn called_at(
+    alloc: Global,
+    hall: &mut Office,
+    at: u64,
+    path: &str,
+) -> Result<u32, Fail> {
+    let name = called_name(alloc, path)?;
     refused(alloc, hall, at, &name)
 }
 

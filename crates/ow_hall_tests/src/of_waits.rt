@@ -1,5 +1,5 @@
 // Invocations, those who wait for their ends, and what is read of them.
-use crate::of_hall::{Office, office, request_of, shows, text_of, written};
+use crate::of_hall::{Office, called_at, office, request_by, shows, text_of, written};
 use ow_decide::{HallCollected, Reply};
 use ow_floor::Order;
 use ow_http::{Answer, Request, read_request};
@@ -9,8 +9,8 @@ use ow_value::{Lines, Str, decimal_of};
 use std::alloc::Global;
 use std::test::Fail;
 
-// The moment; a call of the hall; its body or the text of the runner; and what is answered: a status, and the body shown. A
-// blocking request is answered with the moment up to which it waits.
+// The moment, and whose key a request has where it isn't k1; a call of the hall; its body or the text of the runner; and what is
+// answered: a status, and the body shown. A blocking request is answered with the moment up to which it waits.
 const ROWS: &str = r#"0|PUT /api/v1/namespaces/_/actions/hello|HELLO|200 OK|
 0|PUT /api/v1/namespaces/_/actions/quick|{"exec":{"kind":"plain:1","code":"{\"cases\":[]}"},"limits":{"timeout":100},"parameters":[{"key":"a","value":1}]}|200 OK|
 0|POST /api/v1/namespaces/_/actions/hello?blocking=true&result=true||waiting|60000
@@ -55,6 +55,7 @@ const ROWS: &str = r#"0|PUT /api/v1/namespaces/_/actions/hello|HELLO|200 OK|
 #[derive(Clone, Copy)]
 struct Row<'a> {
     at: u64,
+    key: &'a str,
     call: &'a str,
     body: &'a str,
     status: &'a str,
@@ -63,18 +64,25 @@ struct Row<'a> {
 
 fn row_of(row: &str) -> Option<Row<'_>> {
     let mut parts = row.split('|');
-    let at = decimal_of(parts.next()?.as_bytes())?;
+    let (at, key) = moment_of(parts.next()?)?;
     let call = parts.next()?;
     let body = parts.next()?;
     let status = parts.next()?;
     let shown = parts.next()?;
     Some(Row {
         at,
+        key,
         call,
         body,
         status,
         shown,
     })
+}
+
+// The moment, and the key behind it.
+fn moment_of(part: &str) -> Option<(u64, &str)> {
+    let (at, key) = part.split_once(' ').unwrap_or((part, "k1"));
+    Some((decimal_of(at.as_bytes())?, key))
 }
 
 // An activation of the namespace of whoever asks.
@@ -113,7 +121,7 @@ fn is_replied(
 }
 
 fn is_asked(alloc: Global, hall: &mut Office, row: &Row) -> Result<bool, Fail> {
-    let text = request_of(alloc, row.call, text_of(row.body))?;
+    let text = request_by(alloc, row.key, row.call, text_of(row.body))?;
     let read = read_request(alloc, text.as_bytes())?;
     is_replied(alloc, hall, row, &read.request)
 }
@@ -124,6 +132,12 @@ fn is_collected(alloc: Global, hall: &mut Office, row: &Row, count: u64) -> Resu
         HallCollected::NotYet => Ok(row.status == "not yet"),
         HallCollected::Unknown => Ok(row.status == "unknown"),
     }
+}
+
+// Whether the office's own call is accepted, or refused with the number that is shown.
+fn is_called(alloc: Global, hall: &mut Office, row: &Row, path: &str) -> Result<bool, Fail> {
+    let refusal = called_at(alloc, hall, row.at, path)?;
+    Ok(u64::from(refusal) == number_of(row.shown))
 }
 
 fn is_ordered(alloc: Global, hall: &mut Office, row: &Row) -> Result<bool, Fail> {
@@ -155,24 +169,35 @@ fn is_drained(alloc: Global, hall: &mut Office, row: &Row) -> Result<bool, Fail>
     Ok(true)
 }
 
+// Whether a sweep finds as many late runs as are shown.
+fn is_swept(alloc: Global, hall: &mut Office, row: &Row) -> Result<bool, Fail> {
+    let swept = hall.sweep(alloc, row.at)?;
+    Ok(swept.late == number_of(row.shown))
+}
+
 // Whether a row is answered so.
 fn holds(alloc: Global, hall: &mut Office, row: &Row) -> Result<bool, Fail> {
     match row.call.split_once(' ') {
         Some(("collect", count)) => is_collected(alloc, hall, row, number_of(count)),
         Some(("answer", run)) => is_ended(alloc, hall, row, number_of(run)),
+        Some(("call", path)) => is_called(alloc, hall, row, path),
         Some(_) => is_asked(alloc, hall, row),
-        None => {
-            if row.call == "next" {
-                is_ordered(alloc, hall, row)
-            } else {
-                is_drained(alloc, hall, row)
-            }
-        }
+        None => is_done(alloc, hall, row),
     }
 }
 
-fn all_hold(alloc: Global, hall: &mut Office) -> Result<bool, Fail> {
-    for line in ROWS.lines() {
+// Whether a call of one word is answered so.
+fn is_done(alloc: Global, hall: &mut Office, row: &Row) -> Result<bool, Fail> {
+    match row.call {
+        "next" => is_ordered(alloc, hall, row),
+        "sweep" => is_swept(alloc, hall, row),
+        _ => is_drained(alloc, hall, row),
+    }
+}
+
+// Whether each row of a table is answered so.
+pub(crate) fn rows_hold(alloc: Global, hall: &mut Office, rows: &str) -> Result<bool, Fail> {
+    for line in rows.lines() {
         let Some(row) = row_of(line) else {
             return Ok(false);
         };
@@ -189,7 +214,7 @@ fn blocking_requests_are_answered_once_their_activations_have_ended(
 ) -> Result<(), Fail> {
     let alloc = rt.alloc();
     let mut hall = office(alloc)?;
-    let hold = all_hold(alloc, &mut hall);
+    let hold = rows_hold(alloc, &mut hall, ROWS);
     drop(hall);
     assert!(rt; hold?);
     Ok(())

@@ -5,13 +5,16 @@ use ow_http::read_request;
 use ow_invoker::{PlainRunner, Shelf, TurnStep, Turned, day_turn};
 use ow_names::{FullName, read_name, resolve};
 use ow_slots::Start;
-use ow_traits::{MemoryKeeper, RunReply, Runner, ScriptRunner};
+use ow_tenant::Tenants;
+use ow_traits::{MemoryKeeper, MemorySource, RunReply, Runner, ScriptRunner};
 use ow_value::{Items, Lines, Params, Str};
 use std::alloc::Global;
 use std::fmt::Debug;
 use std::test::Fail;
 
 type Office = Hall<MemoryKeeper>;
+
+const TABLE: &str = "namespace,1,guest,,,\nkey,k1,anna,guest,,\n";
 
 // A run finds the container of the one before.
 const WARM: &str = "call /whisk.system/utils/echo
@@ -88,7 +91,12 @@ fn boxed<T: Drop, E: Debug + Drop>(alloc: Global, made: Result<T, E>) -> Result<
 }
 
 fn office(alloc: Global) -> Result<Box<Office>, Fail> {
-    boxed(alloc, Hall::start(alloc, MemoryKeeper::new(alloc), 0))
+    let mut source = MemorySource::new(TABLE.as_bytes().to_vec(alloc)?, Vec::new(alloc));
+    let tenants = Tenants::read(alloc, &mut source)?;
+    boxed(
+        alloc,
+        Hall::start(alloc, MemoryKeeper::new(alloc), tenants, 0),
+    )
 }
 
 fn name_of(alloc: Global, path: &str) -> Result<Box<FullName>, Fail> {
