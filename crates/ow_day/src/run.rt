@@ -206,6 +206,7 @@ pub fn run_day<S: Source, O: Sink, P: Keeper + Drop>(
     day: &mut S,
     out: &mut O,
 ) -> (Status, Option<P>)
+    requires { AreWantsSized tenants.wants }
     ensures told { IfSome (S.left day.old) (λ bytes. Tells tenants (O.taken out.old) (O.taken out.new) result.0 (day_of bytes)) }
     ensures reads { IfSome (S.left day.old) (λ bytes. LeavesRest bytes (S.left day.new)) }
     ensures answered { result.0 ≡ Status.ReadFault → IfSome (S.left day.old) (λ bytes. IsAnswered tenants bytes (S.left day.new) (O.taken out.old) (O.taken out.new)) }

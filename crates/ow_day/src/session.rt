@@ -58,6 +58,7 @@ pub enum Step {
 impl<P: Keeper + Drop> Session<P> {
     /// A service that was just opened over an office table, at moment 0. Without memory the store is lost.
     pub fn new(alloc: Global, tenants: Tenants, store: P) -> Result<Self, NoMemory>
+        requires { AreWantsSized tenants.wants }
         ensures machine { IfOk result (λ s. machine_of s ≡ start tenants) }
         ensures store { IfOk result (λ s. s.hall.store ≡ store) }
     {
