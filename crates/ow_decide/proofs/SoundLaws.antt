@@ -16,7 +16,9 @@ use Rattle.ow_decide.specs.declared.acts.Act.{Act}
 use Rattle.ow_decide.specs.declared.acts.Act.TheVariants.{Reads, Puts, Removes, Invokes}
 use Rattle.ow_decide.specs.declared.events.Event.{Event}
 use Rattle.ow_decide.specs.declared.events.Event.TheVariants as events
-use Rattle.ow_decide.specs.Sight.{Sight, room_for, takes_calls}
+use Rattle.ow_tenant.specs.declared.entries.Holder.{Holder}
+use Rattle.ow_decide.specs.Sight.{Sight, room_for, takes_calls, within_limits}
+use Rattle.ow_decide.specs.Tenants.{asker, office}
 use Rattle.ow_decide.specs.View.{view_of}
 use Rattle.ow_decide.specs.Reading.{name_in, read_done}
 use Rattle.ow_decide.specs.Calling.{call_decision, call_plan, callee, charged_namespace, given_over, invocation_plan}
@@ -25,11 +27,11 @@ use Rattle.ow_decide.specs.Asking.{Done, Shown, Changed, Invoked, act_done, act_
 use Rattle.ow_decide.specs.Decisions.{decide}
 
 -- of what isn't refused the rest is asked
-then_ok : {X Y : Type 0} (N : Y → Type 0) (r : Result X Reason) (f : X → Result Y Reason) → ((x : X) → IfOk (f x) N) → IfOk (r >>= f) N
+pub then_ok : {X Y : Type 0} (N : Y → Type 0) (r : Result X Reason) (f : X → Result Y Reason) → ((x : X) → IfOk (f x) N) → IfOk (r >>= f) N
 then_ok N (Ok x) f keeps = keeps x
 then_ok N (Err reason) f keeps = tt
 
-then_from : {X Y : Type 0} (M : X → Type 0) (N : Y → Type 0) (r : Result X Reason) (f : X → Result Y Reason) → IfOk r M → ((x : X) → M x → IfOk (f x) N) → IfOk (r >>= f) N
+pub then_from : {X Y : Type 0} (M : X → Type 0) (N : Y → Type 0) (r : Result X Reason) (f : X → Result Y Reason) → IfOk r M → ((x : X) → M x → IfOk (f x) N) → IfOk (r >>= f) N
 then_from M N (Ok x) f made keeps = keeps x made
 then_from M N (Err reason) f made keeps = tt
 
@@ -39,10 +41,11 @@ IsNextIn T plan = IsNext plan.id T
 
 planned_next : (S : Sight) (subject namespace : List ℕ) (blocking : Bool) (name : FullName) (params : Pairs) → IfOk (invocation_plan S subject namespace blocking name params) (IsNextIn S.trace)
 planned_next S subject namespace blocking name params =
-    then_ok (IsNextIn S.trace) (callee S name namespace) _ (λ c. then_ok (IsNextIn S.trace) (given_over c.effective params) _ (λ merged. then_ok (IsNextIn S.trace) (takes_calls S) _ (λ taken. refl)))
+    then_ok (IsNextIn S.trace) (callee S name namespace) _ (λ c. then_ok (IsNextIn S.trace) (given_over c.effective params) _ (λ merged.
+    then_ok (IsNextIn S.trace) (takes_calls S) _ (λ taken. then_ok (IsNextIn S.trace) (within_limits S namespace) _ (λ within. refl))))
 
 called_next : (S : Sight) (name : FullName) (params : Pairs) → IfOk (call_plan S name params) (IsNextIn S.trace)
-called_next S name params = then_ok (IsNextIn S.trace) (room_for S 0) _ (λ room. planned_next S S.tenants.office name.namespace false name params)
+called_next S name params = then_ok (IsNextIn S.trace) (room_for S 0) _ (λ room. planned_next S office name.namespace false name params)
 
 called_sound : (S : Sight) (p : Result Plan Reason) → IfOk p (IsNextIn S.trace) → IsSound S.trace → IsSound ((call_decision S p).items ++ S.trace)
 called_sound S (Ok plan) next sound = calls_keep_sound.accept S.moment plan S.trace next sound
@@ -56,22 +59,24 @@ shown_next : (T : Trace) (r : Result V Reason) → IfOk (shown_done r) (IsNextDo
 shown_next T (Ok value) = tt
 shown_next T (Err reason) = tt
 
-change_next : (S : Sight) (act : Act) (c : Call) → IfOk (change_done S act c) (IsNextDone S.trace)
-change_next S (Reads reading) c = tt
-change_next S Puts c = then_ok (IsNextDone S.trace) (draft_in c) _ (λ draft. then_ok (IsNextDone S.trace) (row_of S draft c.overwrite) _ (λ row. tt))
-change_next S (Removes kind) c = then_ok (IsNextDone S.trace) (name_in c) _ (λ name.
+change_next : (S : Sight) (h : Holder) (act : Act) (c : Call) → IfOk (change_done S h act c) (IsNextDone S.trace)
+change_next S h (Reads reading) c = tt
+change_next S h Puts c = then_ok (IsNextDone S.trace) (draft_in c) _ (λ draft. then_ok (IsNextDone S.trace) (row_of S draft c.overwrite) _ (λ row. tt))
+change_next S h (Removes kind) c = then_ok (IsNextDone S.trace) (name_in c) _ (λ name.
     then_ok (IsNextDone S.trace) (unless_refused (remove_refusal kind name S.rows)) _ (λ free. then_ok (IsNextDone S.trace) (row_for S kind name) _ (λ row. tt)))
-change_next S Invokes c = then_ok (IsNextDone S.trace) (name_in c) _ (λ name.
-    then_from (IsNextIn S.trace) (IsNextDone S.trace) (invocation_plan S S.tenants.subject (charged_namespace S.tenants name) c.blocking name c.params) _ (planned_next S S.tenants.subject (charged_namespace S.tenants name) c.blocking name c.params) (λ plan next. next))
+change_next S h Invokes c = then_ok (IsNextDone S.trace) (name_in c) _ (λ name.
+    then_from (IsNextIn S.trace) (IsNextDone S.trace) (invocation_plan S h.subject (charged_namespace h name) c.blocking name c.params) _
+    (planned_next S h.subject (charged_namespace h name) c.blocking name c.params) (λ plan next. next))
 
-act_next : (S : Sight) (act : Act) (p : Parts) → IfOk (act_done S act p) (IsNextDone S.trace)
-act_next S (Reads reading) p = shown_next S.trace (read_done (view_of S) reading p)
-act_next S Puts p = then_ok (IsNextDone S.trace) (granted_call S.tenants S.rows Puts p) _ (change_next S Puts)
-act_next S (Removes kind) p = then_ok (IsNextDone S.trace) (granted_call S.tenants S.rows (Removes kind) p) _ (change_next S (Removes kind))
-act_next S Invokes p = then_ok (IsNextDone S.trace) (granted_call S.tenants S.rows Invokes p) _ (change_next S Invokes)
+act_next : (S : Sight) (h : Holder) (act : Act) (p : Parts) → IfOk (act_done S h act p) (IsNextDone S.trace)
+act_next S h (Reads reading) p = shown_next S.trace (read_done (view_of S h) reading p)
+act_next S h Puts p = then_ok (IsNextDone S.trace) (granted_call h S.rows Puts p) _ (change_next S h Puts)
+act_next S h (Removes kind) p = then_ok (IsNextDone S.trace) (granted_call h S.rows (Removes kind) p) _ (change_next S h (Removes kind))
+act_next S h Invokes p = then_ok (IsNextDone S.trace) (granted_call h S.rows Invokes p) _ (change_next S h Invokes)
 
 asked_next : (S : Sight) (p : Parts) → IfOk (request_done S p) (IsNextDone S.trace)
-asked_next S p = then_ok (IsNextDone S.trace) (act_for p) _ (λ act. then_ok (IsNextDone S.trace) (room_for S p.size) _ (λ room. act_next S act p))
+asked_next S p = then_ok (IsNextDone S.trace) (act_for p) _ (λ act. then_ok (IsNextDone S.trace) (room_for S p.size) _ (λ room.
+    then_ok (IsNextDone S.trace) (asker S.tenants p.key) _ (λ h. act_next S h act p)))
 
 asked_sound : (S : Sight) (d : Result Done Reason) → IfOk d (IsNextDone S.trace) → IsSound S.trace → IsSound ((ask_decision S.moment d).items ++ S.trace)
 asked_sound S (Ok (Shown value)) next sound = sound
