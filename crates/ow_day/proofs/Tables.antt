@@ -1,5 +1,5 @@
 -- The office table that a day is carried out over, and what is told where it isn't read.
-use Rattle.std.proofs.Common.{◌≡◌, arith, ap, ℕ, Bool, true, false, List, [], Option, Some, None, IfSome, IfOk, is_some, Result, Ok, Err, refl}
+use Rattle.std.proofs.Common.{◌≡◌, ◌≢◌, arith, ap, ℕ, Bool, true, false, List, [], Option, Some, None, IfSome, IfOk, is_some, Result, Ok, Err, refl}
 use Rattle.ow_traits.proofs.Taking.{Takes-none}
 use Rattle.ow_tenant.specs.Reading.{Tells as TellsRows, TellsTable as ReadsTable}
 use Rattle.ow_tenant.specs.Table.{Table, no_rows, table_of}
@@ -10,7 +10,7 @@ use Rattle.ow_day.specs.declared.status.Status.TheVariants as statuses
 use Rattle.ow_day.specs.Day.{Day, day_of}
 use Rattle.ow_day.specs.Statement.{Statement}
 use Rattle.ow_day.specs.Machine.{CarriesOut, start}
-use Rattle.ow_day.specs.Office.{Tells, TellsDay, TellsTable, rows_named, unread}
+use Rattle.ow_day.specs.Office.{Tells, TellsDay, TellsTable, WroteFront, rows_named, unread}
 use Rattle.ow_day.specs.Reads.{AnswersTable, IsAnswered, day_so_far}
 use Rattle.ow_day.proofs.Days.{at_no_bytes}
 use Rattle.ow_day.proofs.Runs.{unbegun}
@@ -46,13 +46,14 @@ unnamed (Some name) left t none is = cc
 
 -- ---- a day over it
 
-over_so : (text : List ℕ) (left old new : Option (List ℕ)) (status : Status) (t : Table) → table_of text ≡ Ok t → IfSome left (λ bytes. Tells t old new status (day_of bytes))
-    → IfSome left (λ bytes. TellsDay (table_of text) old new status (day_of bytes))
-over_so text left old new status t is told = rw is told
+over_so : (text : List ℕ) (left old new : Option (List ℕ)) (status : Status) (t : Table) → table_of text ≡ Ok t → ((row : ℕ) → status ≢ statuses.BadTable row)
+    → IfSome left (λ bytes. Tells t old new status (day_of bytes)) → TellsDay (table_of text) left old new status
+over_so text left old new status t is good told = rw is (good, told)
 
-pub over : (rows left old new : Option (List ℕ)) (status : Status) (t : Table) → IsToldBy rows (Ok t) → IfSome left (λ bytes. Tells t old new status (day_of bytes)) → TellsTable rows left old new status
-over None left old new status t is told = tt
-over (Some text) left old new status t is told = over_so text left old new status t is told
+pub over : (rows left old new : Option (List ℕ)) (status : Status) (t : Table) → IsToldBy rows (Ok t) → ((row : ℕ) → status ≢ statuses.BadTable row)
+    → IfSome left (λ bytes. Tells t old new status (day_of bytes)) → TellsTable rows left old new status
+over None left old new status t is good told = tt
+over (Some text) left old new status t is good told = over_so text left old new status t is good told
 
 answered_so : (text : List ℕ) (day left old new : Option (List ℕ)) (t : Table) → table_of text ≡ Ok t → IfSome day (λ bytes. IsAnswered t bytes left old new)
     → IfOk (table_of text) (λ u. IfSome day (λ bytes. IsAnswered u bytes left old new))
@@ -65,15 +66,18 @@ over_answered (Some text) day left old new t is answered = answered_so text day 
 -- ---- a table that isn't read
 
 -- nothing was written
-unread_day : (want : Result Table ℕ) (left taken : Option (List ℕ)) (refusal : TenantRefusal) → TellsRows want (Err refusal) → IfSome left (λ bytes. TellsDay want taken taken (unread refusal) (day_of bytes))
-unread_day want None taken refusal told = tt
-unread_day want (Some bytes) taken (refusals.BadRow row) told = rw told (refl, refl)
-unread_day (Ok t) (Some bytes) taken refusals.ReadFault told = unbegun taken _
-unread_day (Err row) (Some bytes) taken refusals.ReadFault told = refl
-unread_day (Ok t) (Some bytes) taken refusals.NoMemory told = unbegun taken _
-unread_day (Err row) (Some bytes) taken refusals.NoMemory told = refl
-unread_day want (Some bytes) taken refusals.UnknownKey told = absurd told
-unread_day want (Some bytes) taken refusals.NotGranted told = absurd told
+over_nothing : (t : Table) (left taken : Option (List ℕ)) → IfSome left (λ bytes. WroteFront t taken taken (day_of bytes).statements)
+over_nothing t None taken = tt
+over_nothing t (Some bytes) taken = unbegun taken _
+
+unread_day : (want : Result Table ℕ) (left taken : Option (List ℕ)) (refusal : TenantRefusal) → TellsRows want (Err refusal) → TellsDay want left taken taken (unread refusal)
+unread_day want left taken (refusals.BadRow row) told = rw told (refl, refl)
+unread_day (Ok t) left taken refusals.ReadFault told = ((λ row is. cc), over_nothing t left taken)
+unread_day (Err row) left taken refusals.ReadFault told = refl
+unread_day (Ok t) left taken refusals.NoMemory told = ((λ row is. cc), over_nothing t left taken)
+unread_day (Err row) left taken refusals.NoMemory told = refl
+unread_day want left taken refusals.UnknownKey told = absurd told
+unread_day want left taken refusals.NotGranted told = absurd told
 
 pub unread_tells : (rows left taken : Option (List ℕ)) (refusal : TenantRefusal) → IsToldBy rows (Err refusal) → TellsTable rows left taken taken (unread refusal)
 unread_tells None left taken refusal told = tt
@@ -104,3 +108,26 @@ day_answered (Ok t) (Some bytes) taken = answered_nothing t bytes taken
 pub unread_answers : (rows day taken : Option (List ℕ)) → AnswersTable rows day day taken taken
 unread_answers None day taken = tt
 unread_answers (Some text) day taken = day_answered (table_of text) day taken
+
+-- ---- its status
+
+pub unread_words : (refusal : TenantRefusal) → unread refusal ≢ statuses.BadWords
+unread_words (refusals.BadRow row) is = cc
+unread_words refusals.ReadFault is = cc
+unread_words refusals.NoMemory is = cc
+unread_words refusals.UnknownKey is = cc
+unread_words refusals.NotGranted is = cc
+
+pub unread_writes : (refusal : TenantRefusal) → unread refusal ≢ statuses.WriteFault
+unread_writes (refusals.BadRow row) is = cc
+unread_writes refusals.ReadFault is = cc
+unread_writes refusals.NoMemory is = cc
+unread_writes refusals.UnknownKey is = cc
+unread_writes refusals.NotGranted is = cc
+
+pub unread_fault : (refusal : TenantRefusal) → unread refusal ≡ statuses.ReadFault → refusal ≡ refusals.ReadFault
+unread_fault (refusals.BadRow row) is = cc
+unread_fault refusals.ReadFault is = refl
+unread_fault refusals.NoMemory is = cc
+unread_fault refusals.UnknownKey is = cc
+unread_fault refusals.NotGranted is = cc

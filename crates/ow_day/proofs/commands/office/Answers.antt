@@ -6,7 +6,7 @@ pub returns-clause-kept : goal.returns-clause-kept
 returns-clause-kept g c = λ t B legal. keeps_each t B
 
 pub returns-clause-limits : goal.returns-clause-limits
-returns-clause-limits g c = keeps_limits
+returns-clause-limits g c = λ t B legal. keeps_limits t B
 
 pub returns-clause-legal : goal.returns-clause-legal
 returns-clause-legal g c = legal_books
