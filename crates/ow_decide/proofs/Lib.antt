@@ -1,6 +1,9 @@
 pub mod AskLaws
 pub mod Results
 pub mod SoundLaws
+pub mod AcceptLaws
+pub mod NotedLaws
+pub mod LimitLaws
 mod Filters
 mod SeenLaws
 mod BehindLaws

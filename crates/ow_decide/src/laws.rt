@@ -1,8 +1,13 @@
 // What is true of what is decided. The functions do nothing: their contracts are the laws.
-ghost use Rattle.std.specs.Prelude.{◌++◌};
+ghost use Rattle.std.specs.Prelude.{◌≡◌, ◌++◌, false};
 ghost use Rattle.ow_floor.specs.Laws.{IsSound};
+ghost use Rattle.ow_floor.specs.Trace.{Trace, records};
+ghost use Rattle.ow_tenant.specs.Tenants.{limits_of};
+ghost use Rattle.ow_counts.specs.View.{AreUpTo, notes_of};
+ghost use Rattle.ow_counts.specs.Within.{AreWithin};
 ghost use Rattle.ow_decide.specs.Asking.{IsOfView};
-ghost use Rattle.ow_decide.specs.Decisions.{decide};
+ghost use Rattle.ow_decide.specs.Decisions.{decide, wants_memory};
+ghost use Rattle.ow_decide.specs.Noted.{MayAllEnd, invoked_in, noted_ends, noted_invoked};
 ghost use Rattle.ow_decide.specs.Sight.{Sight};
 ghost use Rattle.ow_decide.specs.declared.events.Event.{Event};
 
@@ -14,4 +19,19 @@ pub fn reads_are_answered_of_the_view()
 /// Behind what is decided at an event a sound trace is sound.
 pub fn decisions_keep_traces_sound()
     ensures { (S : Sight) (event : Event) → IsSound S.trace → IsSound ((decide S event).items ++ S.trace) }
+{}
+
+/// What a decision adds to the notes for the limits: the invocation, at the moment, and then the ends, by their records. Each
+/// end is of an invocation that has not ended, and nothing is accepted behind the moment.
+pub fn notes_follow_decisions()
+    ensures noted { (S : Sight) (event : Event) → notes_of ((decide S event).items ++ S.trace) ≡ noted_ends (records (decide S event).items) (noted_invoked (invoked_in (decide S event).items) S.moment (notes_of S.trace)) }
+    ensures quiet { (S : Sight) (event : Event) → wants_memory event ≡ false → notes_of ((decide S event).items ++ S.trace) ≡ notes_of S.trace }
+    ensures records { (items T : Trace) → records (items ++ T) ≡ records T ++ records items }
+    ensures may_end { (S : Sight) (event : Event) → IsSound S.trace → MayAllEnd (records (decide S event).items) (noted_invoked (invoked_in (decide S event).items) S.moment (notes_of S.trace)) }
+    ensures up_to { (S : Sight) (event : Event) → AreUpTo S.moment S.trace → AreUpTo S.moment ((decide S event).items ++ S.trace) }
+{}
+
+/// What is decided at an event keeps the limits of the office table: what is accepted had room.
+pub fn decisions_keep_limits()
+    ensures { (S : Sight) (event : Event) → AreWithin (λ n. limits_of n S.tenants) S.trace → AreWithin (λ n. limits_of n S.tenants) ((decide S event).items ++ S.trace) }
 {}

@@ -22,7 +22,10 @@ mod waits;
 
 pub use events::{Event, Told};
 pub use floor_steps::{take, taken_told};
-pub use laws::{decisions_keep_traces_sound, reads_are_answered_of_the_view};
+pub use laws::{
+    decisions_keep_limits, decisions_keep_traces_sound, notes_follow_decisions,
+    reads_are_answered_of_the_view,
+};
 pub use reasons::tells_full;
 pub use replies::{Called, HallCollected, Reply};
 pub use room::is_full;

@@ -1,5 +1,5 @@
 -- What is posted keeps the hall, and what isn't booked changes nothing.
-use Rattle.std.proofs.Common.{◌≡◌, ◌∙◌, ◌+◌, ◌≤◌, ◌++◌, ℕ, Bool, true, false, List, [], ◌∷◌, Option, Some, None, Result, Ok, Err, refl, sym, ap, subst, arith}
+use Rattle.std.proofs.Common.{◌≡◌, ◌∙◌, ◌+◌, ◌≤◌, ◌++◌, ℕ, Bool, true, false, List, [], ◌∷◌, Option, Some, None, Result, Ok, Err, length, drop, refl, sym, ap, subst, arith}
 use Rattle.std.proofs.Math.Nat.{le-max_left, max-le, min-le_right}
 use Rattle.ow_traits.specs.declared.replies.RunReply.{RunReply}
 use Rattle.ow_pool.specs.declared.answers.Place.{Place}
@@ -26,6 +26,7 @@ use Rattle.ow_decide.specs.declared.replies.Called.TheVariants as called
 use Rattle.ow_decide.specs.declared.step.Now.{Now}
 use Rattle.ow_decide.specs.declared.step.Step.{Step}
 use Rattle.ow_tenant.specs.Table.{Table}
+use Rattle.ow_counts.specs.View.{CountsView, StandsFor, notes_of}
 use Rattle.ow_decide.specs.declared.waits.Waits.{Waits}
 use Rattle.ow_decide.specs.declared.waits.Waits.TheVariants.{Keep}
 use Rattle.ow_decide.specs.Sight.{Sight}
@@ -39,7 +40,8 @@ use Rattle.ow_hall.specs.Posting.{posting_by}
 use Rattle.ow_hall.specs.History.{AreAnswered, History, IsLegal, after, all_changed, answer, counted, decision, greatest_moment, is_idle, is_opening, last_moment, moment, opens_here, posting, seen, sight, waits_after}
 use Rattle.ow_hall.specs.Ledger.{Ledger, no_entries, posted, posted_as}
 use Rattle.ow_decide.specs.Making.{Carries, changes_of, telling}
-use Rattle.ow_hall.specs.State.{Does, IsAt, Keeps, StateView}
+use Rattle.ow_hall.specs.State.{Does, IsAt, Keeps, KeepsNotes, Notes, StateView}
+use Rattle.ow_hall.proofs.NoteLaws.{counted_at, noted_at, quiet_at, seen_up_to}
 
 -- ---- what isn't booked changes nothing
 
@@ -147,6 +149,7 @@ left : (t : Table) (L : Ledger) (new : StateView) (at : ℕ) (event : Event) →
 left t L new at event stands leaves =
     let s = seen t L.entries in
     record {
+      counts = subst (λ (T : Trace). StandsFor new.counts (notes_of (T ++ s.trace))) leaves.0 stands.counts;
       stands = subst (λ (T : Trace). Stands new.floor.now (T ++ s.trace)) leaves.0 stands.stands;
       rows = subst (λ (cs : List Change). new.rows ≡ all_changed cs s.rows) leaves.1 stands.rows;
       waits = subst (λ (w : Waits). new.waits ≡ waits_after w s.waits) leaves.2 stands.waits;
@@ -166,54 +169,79 @@ post_by Denied t L new at event told_is booked legal late most later same free s
 post_by Unbooked t L new at event told_is booked legal late most later same free stands leaves = record { stands = left t L new at event stands leaves; legal = legal; free = free }
 
 -- what a step has that was done, and what the floor has then
-pub step_at : (t : Table) (B : History) (old : StateView) (mid : Shown) (now : Now) (event : Event) (step : Step) → IsAt old (seen t B) → now.counted ≡ counted B
-    → Does old mid t now (λ S. decide S event) step
+pub step_at : (t : Table) (B : History) (old : StateView) (mid : Shown) (now : Now) (event : Event) (step : Step) → AreAnswered t B → last_moment B ≤ now.at → IsAt old (seen t B)
+    → now.counted ≡ counted B → Does old mid t now (λ S. decide S event) step
     → Carries step (decision t B now.at event) × Stands mid ((decision t B now.at event).items ++ (seen t B).trace)
-step_at t B old mid now event step stands count does =
+step_at t B old mid now event step answered late stands count does =
     does (sight t (seen t B) (counted B) now.at)
-    (record { tenants = refl; rows = sym stands.rows; stands = stands.stands; counted = sym count; moment = refl }) (sym stands.waits)
+    (record { tenants = refl; rows = sym stands.rows; counts = counted_at t B now.at old answered late stands; stands = stands.stands; counted = sym count; moment = refl }) (sym stands.waits)
 
--- what a step has that was done, and how floor, rows and waits stand once its change is made
-pub done_at : (t : Table) (B : History) (old new : StateView) (mid : Shown) (now : Now) (event : Event) (step : Step) → IsAt old (seen t B) → now.counted ≡ counted B
-    → Does old mid t now (λ S. decide S event) step → new.floor.now ≡ mid → new.rows ≡ all_changed (changes_of step.change) old.rows → new.waits ≡ waits_after step.waits old.waits
-    → Carries step (decision t B now.at event) × IsAt new (after (decision t B now.at event) (seen t B))
-done_at t B old new mid now event step stands count does floor rows waits =
+-- the counts stand as what happened then, where it is noted
+abbrev pub CountsAfter : Table → History → ℕ → Event → StateView → Type 0
+CountsAfter t B at event new = StandsFor new.counts (notes_of ((decision t B at event).items ++ (seen t B).trace))
+
+-- how floor, rows, waits and counts stand once its change is made
+at_after : (t : Table) (B : History) (old new : StateView) (mid : Shown) (at : ℕ) (event : Event) (step : Step) → IsAt old (seen t B)
+    → Carries step (decision t B at event) × Stands mid ((decision t B at event).items ++ (seen t B).trace)
+    → new.floor.now ≡ mid → new.rows ≡ all_changed (changes_of step.change) old.rows → new.waits ≡ waits_after step.waits old.waits → CountsAfter t B at event new
+    → IsAt new (after (decision t B at event) (seen t B))
+at_after t B old new mid at event step stands done floor rows waits counts =
     let s = seen t B in
-    let h = step_at t B old mid now event step stands count does in (
-      h.0,
-      record {
-        stands = rw floor h.1;
-        rows = rows ∙ (ap (λ (rs : _). all_changed (changes_of step.change) rs) stands.rows ∙ ap (λ (cs : List Change). all_changed cs s.rows) h.0.changes);
-        waits = waits ∙ (ap (waits_after step.waits) stands.waits ∙ ap (λ (w : Waits). waits_after w s.waits) h.0.waits);
-      },
-    )
+    record {
+      stands = rw floor done.1;
+      rows = rows ∙ (ap (λ (rs : _). all_changed (changes_of step.change) rs) stands.rows ∙ ap (λ (cs : List Change). all_changed cs s.rows) done.0.changes);
+      waits = waits ∙ (ap (waits_after step.waits) stands.waits ∙ ap (λ (w : Waits). waits_after w s.waits) done.0.waits);
+      counts = counts;
+    }
 
 -- an answer that is posted
-pub answers : (t : Table) (L : Ledger) (old new : StateView) (mid : Shown) (now : Now) (event : Event) (step : Step) → Keeps old t L → now.counted ≡ counted L.entries
-    → last_moment L.entries ≤ now.at → now.at ≤ greatest_moment → is_opening event ≡ false → new.floor.before ≡ None
-    → Does old mid t now (λ S. decide S event) step → new.floor.now ≡ mid → new.rows ≡ all_changed (changes_of step.change) old.rows → new.waits ≡ waits_after step.waits old.waits
-    → (step.told ≡ answer t L.entries now.at event) × Keeps new t (posted L now.at event step.told)
-answers t L old new mid now event step keeps count late most later free does floor rows waits =
-    let h = done_at t L.entries old new mid now event step keeps.stands count does floor rows waits in
-    let un = unbooked (is_idle L.entries) (sight t (seen t L.entries) (counted L.entries) now.at) event in
-    let un' = subst (λ (x : Told). Unless (posting_by (is_idle L.entries) x) (Leaves (decision t L.entries now.at event))) (sym h.0.told) un in
-    (h.0.told, post_by (posting L.entries step.told) t L new now.at event step.told refl keeps.legal late most later h.0.told free h.1 un')
+pub answers : (t : Table) (L : Ledger) (old new : StateView) (mid : Shown) (at : ℕ) (event : Event) (step : Step) → Keeps old t L
+    → last_moment L.entries ≤ at → at ≤ greatest_moment → is_opening event ≡ false → new.floor.before ≡ None
+    → Carries step (decision t L.entries at event) × Stands mid ((decision t L.entries at event).items ++ (seen t L.entries).trace)
+    → new.floor.now ≡ mid → new.rows ≡ all_changed (changes_of step.change) old.rows → new.waits ≡ waits_after step.waits old.waits → CountsAfter t L.entries at event new
+    → (step.told ≡ answer t L.entries at event) × Keeps new t (posted L at event step.told)
+answers t L old new mid at event step keeps late most later free done floor rows waits counts =
+    let stands = at_after t L.entries old new mid at event step keeps.stands done floor rows waits counts in
+    let un = unbooked (is_idle L.entries) (sight t (seen t L.entries) (counted L.entries) at) event in
+    let un' = subst (λ (x : Told). Unless (posting_by (is_idle L.entries) x) (Leaves (decision t L.entries at event))) (sym done.0.told) un in
+    (done.0.told, post_by (posting L.entries step.told) t L new at event step.told refl keeps.legal late most later done.0.told free stands un')
+
+-- a step that was done, settled and made, and is noted then: `mid` is the state behind the step, `put` behind the changes
+pub noted : (t : Table) (L : Ledger) (old mid put new : StateView) (now : Now) (event : Event) (step : Step) (before : ℕ) → Keeps old t L
+    → last_moment L.entries ≤ now.at → before ≡ length old.floor.now.ended
+    → Carries step (decision t L.entries now.at event) × Stands mid.floor.now ((decision t L.entries now.at event).items ++ (seen t L.entries).trace)
+    → KeepsNotes old.counts mid.counts → put.floor.now ≡ mid.floor.now → put.counts ≡ mid.counts
+    → Notes step.invoked now.at (drop before put.floor.now.ended) put.counts new.counts → CountsAfter t L.entries now.at event new
+noted t L old mid put new now event step before keeps late count done kept floor counts notes =
+    let S = sight t (seen t L.entries) (counted L.entries) now.at in
+    let T = (seen t L.entries).trace in
+    let there : StandsFor put.counts (notes_of T) = subst (λ (v : CountsView). StandsFor v (notes_of T)) (sym counts) (kept (notes_of T) keeps.stands.counts) in
+    let grown : Stands put.floor.now ((decision t L.entries now.at event).items ++ T) = rw floor done.1 in
+    noted_at S event old.floor.now put.floor.now before step.invoked put.counts new.counts keeps.stands.stands grown count done.0.invoked
+    (seen_up_to t L.entries now.at keeps.legal.answered late) there notes
 
 -- a beginning, a loss or a going that is posted
-pub takes : (t : Tenants) (L : Ledger) (old new : StateView) (now : Now) (event : Event) (taken : Result (Unit {0}) FloorRefusal) (at : ℕ) → Keeps old t L → now.counted ≡ counted L.entries
+pub takes : (t : Table) (L : Ledger) (old new : StateView) (now : Now) (event : Event) (taken : Result (Unit {0}) FloorRefusal) (at : ℕ) → Keeps old t L → now.counted ≡ counted L.entries
     → now.at ≡ moment L.entries at → wants_memory event ≡ false → new.floor.before ≡ None → Does old new.floor.now t now (λ S. decide S event) (telling (taken_told taken))
-    → (new.rows ≡ old.rows) × (new.waits ≡ old.waits)
+    → (new.rows ≡ old.rows) × (new.waits ≡ old.waits) → new.counts ≡ old.counts
     → (taken_told taken ≡ answer t L.entries now.at event) × Keeps new t (posted L now.at event (taken_told taken))
-takes t L old new now event taken at keeps count same free before does rest =
+takes t L old new now event taken at keeps count same free before does rest counts =
     let late = subst (λ (m : ℕ). last_moment L.entries ≤ m) (sym same) (not_before L.entries at) in
     let most = subst (λ (m : ℕ). m ≤ greatest_moment) (sym same) (not_after t L.entries at keeps.legal) in
-    answers t L old new new.floor.now now event (telling (taken_told taken)) keeps count late most (later_free event free) before does refl rest.0 rest.1
+    let done = step_at t L.entries old new.floor.now now event (telling (taken_told taken)) keeps.legal.answered late keeps.stands count does in
+    let quiet = quiet_at (sight t (seen t L.entries) (counted L.entries) now.at) event old.counts new.counts free counts keeps.stands.counts in
+    answers t L old new new.floor.now now.at event (telling (taken_told taken)) keeps late most (later_free event free) before done refl rest.0 rest.1 quiet
 
 -- what was taken back stands as before
 pub stays : (old new : StateView) (t : Table) (L : Ledger) → new.floor.now ≡ old.floor.now → new.floor.before ≡ None → new.rows ≡ old.rows → new.waits ≡ old.waits
-    → Keeps old t L → Keeps new t L
-stays old new t L floor free rows waits keeps = record {
-  stands = record { stands = rw floor keeps.stands.stands; rows = rows ∙ keeps.stands.rows; waits = waits ∙ keeps.stands.waits };
+    → KeepsNotes old.counts new.counts → Keeps old t L → Keeps new t L
+stays old new t L floor free rows waits counts keeps = record {
+  stands = record {
+    stands = rw floor keeps.stands.stands;
+    rows = rows ∙ keeps.stands.rows;
+    waits = waits ∙ keeps.stands.waits;
+    counts = counts (notes_of (seen t L.entries).trace) keeps.stands.counts;
+  };
   legal = keeps.legal;
   free = free;
 }

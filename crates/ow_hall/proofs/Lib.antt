@@ -1,3 +1,4 @@
 pub mod Beginnings
 mod HallLaws
+mod NoteLaws
 mod RoomLaws

@@ -22,6 +22,7 @@ use Rattle.ow_decide.specs.declared.events.Told.TheVariants as told
 use Rattle.ow_hall.specs.declared.posting.Posting.{Posting}
 use Rattle.ow_hall.specs.declared.posting.Posting.TheVariants.{Booked, Quiet, Denied, Unbooked}
 use Rattle.ow_tenant.specs.Table.{Table}
+use Rattle.ow_tenant.specs.Tenants.{pool_of}
 use Rattle.ow_decide.specs.Decisions.{decide, taken_told, wants_memory}
 use Rattle.ow_decide.specs.Sight.{Sight}
 use Rattle.ow_hall.proofs.Beginnings.{seen_sound}
@@ -64,7 +65,7 @@ opened_owed pool wants = ap lives.owed (slots_opened pool wants) ∙ vacant_owed
 
 -- nothing is owed behind an opening
 pub opened_room : (t : Table) (at room : ℕ) → HasRoom (seen t (posted no_entries at (events.Opened []) (told.Opened [])).entries).trace (posted no_entries at (events.Opened []) (told.Opened [])) room
-opened_room t at room = let none = opened_owed t.pool t.wants in record { within = omega (arith, none); fits = omega (arith, none) }
+opened_room t at room = let none = opened_owed (pool_of t) t.wants in record { within = omega (arith, none); fits = omega (arith, none) }
 
 -- an entry that has room with others behind it has room
 pub ready_alone : (B : History) (room n bytes : ℕ) (event : Event) (t : Told) → IsReady B room n event t bytes → IsReady B room 0 event t bytes

@@ -241,6 +241,7 @@ impl<P: Keeper + Drop> Hall<P> {
             counted: self.book.counted(),
             at: self.book.moment(at),
         };
+        let before = self.state.ended();
         let Ok(step) = self.state.attempt(alloc, &self.tenants, now, &event) else {
             return Err(Undone { event });
         };
@@ -255,8 +256,10 @@ impl<P: Keeper + Drop> Hall<P> {
             told,
             change,
             waits,
+            invoked,
         } = step;
         self.state.apply(change, waits);
+        self.state.note(invoked, now.at, before);
         self.book.post(now.at, event, copied, bytes);
         Ok(told)
     }

@@ -15,4 +15,4 @@ pub use book::{Book, GREATEST_MOMENT};
 pub use entries::Entries;
 pub use entry::Entry;
 pub use hall::Hall;
-pub use laws::legal_books_keep_activations;
+pub use laws::{legal_books_keep_activations, legal_books_keep_limits};

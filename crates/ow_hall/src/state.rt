@@ -1,6 +1,6 @@
-// What stands behind the book: the floor, the rows, and who waits. What is done at an event is held on the floor, and made ready
-// beside it, until it is settled.
-ghost use Rattle.std.specs.Prelude.{◌≡◌, ◌≤◌, [], true, false, Some, None, IfOk, IfSome, OnOk, OnErr};
+// What stands behind the book: the floor, the rows, who waits, and what counts against the limits. What is done at an event is held
+// on the floor, and made ready beside it, until it is settled.
+ghost use Rattle.std.specs.Prelude.{◌≡◌, ◌≤◌, [], ◌∷◌, true, false, Some, None, length, drop, IfOk, IfSome, OnOk, OnErr};
 ghost use Rattle.ow_floor.specs.Laws.{Stands};
 ghost use Rattle.ow_floor.specs.Owed.{owed};
 ghost use Rattle.ow_floor.specs.Trace.{Trace};
@@ -8,19 +8,21 @@ ghost use Rattle.ow_pool.specs.Rules.{AreWantsSized};
 ghost use Rattle.ow_decide.specs.Decisions.{decide, taken_told, wants_memory};
 ghost use Rattle.ow_hall.specs.History.{all_changed, seen, waits_after};
 ghost use Rattle.ow_decide.specs.Making.{HasPlace, changes_of, telling};
-ghost use Rattle.ow_hall.specs.State.{Does, IsAt};
+ghost use Rattle.ow_hall.specs.State.{Does, HasRoomOf, IsAt, KeepsNotes, Notes, NotesEnds, NotesInvoked};
 ghost use Rattle.ow_tenant.specs.Table.{Table};
 
 use ow_counts::Counts;
 use ow_decide::{Event, Now, Step, Wait, Waits, step_for, take};
 use ow_floor::{Floor, FloorRefusal};
+use ow_names::EntityName;
+use ow_records::Record;
 use ow_tables::{Ready, Tables};
 use ow_tenant::Tenants;
-use ow_value::{NoMemory, PlainData};
+use ow_value::{NoMemory, PlainData, Shared};
 use std::alloc::Global;
 use std::marker::Model;
 
-/// What waits, runs and has ended, the entities, and who waits for an end.
+/// What waits, runs and has ended, the entities, who waits for an end, and what counts against the limits.
 #[derive(Drop)]
 pub(crate) struct HallState {
     floor: Floor,
@@ -75,6 +77,13 @@ impl HallState {
         self.floor.owed()
     }
 
+    /// How many activations have ended.
+    pub(crate) fn ended(&self) -> usize
+        ensures { result ≡ length self.now.floor.now.ended }
+    {
+        self.floor.records().len()
+    }
+
     /// Takes a beginning, a loss or a going. This takes no memory.
     pub(crate) fn take(&mut self, now: Now, event: &Event) -> Result<(), FloorRefusal>
         requires event { wants_memory event.now ≡ false }
@@ -82,11 +91,13 @@ impl HallState {
         ensures ok { (t : Table) → Does self.old self.new.floor.now t now (λ S. decide S event.now) (telling (taken_told result)) }
         ensures free { self.new.floor.before ≡ None }
         ensures rest { (self.new.rows ≡ self.old.rows) × (self.new.waits ≡ self.old.waits) }
+        ensures counts { self.new.counts ≡ self.old.counts }
     {
         take(&mut self.floor, now, event)
     }
 
-    /// Does what is decided at an event, and holds it. Without memory all is as before.
+    /// Does what is decided at an event, and holds it. There is room then for the note of an invocation. Without memory all is as
+    /// before.
     pub(crate) fn attempt(
         &mut self,
         alloc: Global,
@@ -99,13 +110,15 @@ impl HallState {
         ensures held { OnOk result (self.new.floor.before ≡ Some self.old.floor.now) }
         ensures place { IfOk result (λ s. HasPlace s.change self.new.row_room) }
         ensures room { OnOk result (1 ≤ self.new.wait_room) }
+        ensures counter { IfOk result (λ s. HasRoomOf s.invoked self.new.counts) }
         ensures rest { (self.new.rows ≡ self.old.rows) × (self.new.waits ≡ self.old.waits) }
+        ensures counts { KeepsNotes self.old.counts self.new.counts }
         ensures err { OnErr result (self.new.floor.now ≡ self.old.floor.now) }
         ensures free { OnErr result (self.old.floor.before ≡ None → self.new.floor.before ≡ None) }
     {
         self.reserve()?;
         self.hold();
-        match self.step(alloc, tenants, now, event) {
+        match self.counted_step(alloc, tenants, now, event) {
             Ok(step) => Ok(step),
             Err(e) => {
                 self.settle(false);
@@ -120,6 +133,7 @@ impl HallState {
         ensures back { keep ≡ false → IfSome self.old.floor.before (λ v. self.new.floor.now ≡ v) }
         ensures free { self.new.floor.before ≡ None }
         ensures rest { (self.new.rows ≡ self.old.rows) × (self.new.waits ≡ self.old.waits) }
+        ensures counts { self.new.counts ≡ self.old.counts }
         ensures room { (self.new.row_room ≡ self.old.row_room) × (self.new.wait_room ≡ self.old.wait_room) }
     {
         self.floor.settle(keep);
@@ -132,6 +146,7 @@ impl HallState {
         ensures floor { self.new.floor ≡ self.old.floor }
         ensures rows { self.new.rows ≡ all_changed (changes_of change) self.old.rows }
         ensures waits { self.new.waits ≡ waits_after waits self.old.waits }
+        ensures counts { self.new.counts ≡ self.old.counts }
     {
         if let Some(ready) = change {
             self.tables.apply(ready);
@@ -142,12 +157,26 @@ impl HallState {
             Waits::Clear => self.waits.clear(),
         }
     }
+
+    /// Notes for the limits that an activation was accepted, which is charged to a namespace, where no other caused it, and which have
+    /// ended behind the first so many. This takes no memory.
+    pub(crate) fn note(&mut self, invoked: Option<EntityName>, at: u64, before: usize)
+        requires room { HasRoomOf invoked self.old.counts }
+        requires ends { before ≤ length self.old.floor.now.ended }
+        ensures counts { Notes invoked at (drop before self.old.floor.now.ended) self.old.counts self.new.counts }
+        ensures floor { self.new.floor ≡ self.old.floor }
+        ensures rest { (self.new.rows ≡ self.old.rows) × (self.new.waits ≡ self.old.waits) }
+    {
+        note_invoked(&mut self.counts, invoked, at);
+        note_ends(&mut self.counts, &self.floor.records().items()[before..]);
+    }
 }
 
 impl HallState {
     // Makes room for one who waits.
     fn reserve(&mut self) -> Result<(), NoMemory>
         ensures same { (self.new.floor ≡ self.old.floor) × (self.new.rows ≡ self.old.rows) × (self.new.waits ≡ self.old.waits) }
+        ensures counts { self.new.counts ≡ self.old.counts }
         ensures room { OnOk result (1 ≤ self.new.wait_room) }
     {
         self.waits.reserve(1)?;
@@ -158,8 +187,33 @@ impl HallState {
         ensures now { self.new.floor.now ≡ self.old.floor.now }
         ensures held { self.new.floor.before ≡ Some self.old.floor.now }
         ensures rest { (self.new.rows ≡ self.old.rows) × (self.new.waits ≡ self.old.waits) × (self.new.wait_room ≡ self.old.wait_room) }
+        ensures counts { self.new.counts ≡ self.old.counts }
     {
         self.floor.hold();
+    }
+
+    // A step, with room for the note of an invocation.
+    fn counted_step(
+        &mut self,
+        alloc: Global,
+        tenants: &Tenants,
+        now: Now,
+        event: &Event,
+    ) -> Result<Step, NoMemory>
+        requires { wants_memory event.now ≡ true }
+        ensures ok { IfOk result (Does self.old self.new.floor.now tenants.now now (λ S. decide S event.now)) }
+        ensures place { IfOk result (λ s. HasPlace s.change self.new.row_room) }
+        ensures before { self.new.floor.before ≡ self.old.floor.before }
+        ensures rest { (self.new.rows ≡ self.old.rows) × (self.new.waits ≡ self.old.waits) × (self.new.wait_room ≡ self.old.wait_room) }
+        ensures counter { IfOk result (λ s. HasRoomOf s.invoked self.new.counts) }
+        ensures counts { KeepsNotes self.old.counts self.new.counts }
+    {
+        let step = self.step(alloc, tenants, now, event)?;
+        let Ok(()) = reserve_for(&mut self.counts, alloc, &step.invoked) else {
+            drop(step);
+            return Err(NoMemory);
+        };
+        Ok(step)
     }
 
     fn step(
@@ -174,6 +228,7 @@ impl HallState {
         ensures place { IfOk result (λ s. HasPlace s.change self.new.row_room) }
         ensures before { self.new.floor.before ≡ self.old.floor.before }
         ensures rest { (self.new.rows ≡ self.old.rows) × (self.new.waits ≡ self.old.waits) × (self.new.wait_room ≡ self.old.wait_room) }
+        ensures counts { self.new.counts ≡ self.old.counts }
     {
         step_for(
             alloc,
@@ -185,5 +240,47 @@ impl HallState {
             now,
             event,
         )
+    }
+}
+
+// Makes room for the note of an invocation that is charged to a namespace, if any.
+fn reserve_for(
+    counts: &mut Counts,
+    alloc: Global,
+    invoked: &Option<EntityName>,
+) -> Result<(), NoMemory>
+    ensures keeps { KeepsNotes counts.old counts.new }
+    ensures room { OnOk result (HasRoomOf invoked.now counts.new) }
+{
+    match invoked {
+        Some(namespace) => counts.reserve(alloc, namespace),
+        None => Ok(()),
+    }
+}
+
+// Notes an invocation that is charged to a namespace, if any.
+fn note_invoked(counts: &mut Counts, invoked: Option<EntityName>, at: u64)
+    requires { HasRoomOf invoked counts.old }
+    ensures { NotesInvoked invoked at counts.old counts.new }
+{
+    if let Some(namespace) = invoked {
+        counts.invoked(&namespace, at);
+    }
+}
+
+// Notes each end of an activation that no other caused.
+fn note_ends(counts: &mut Counts, ends: &[Shared<Record>])
+    ensures { NotesEnds ends.now counts.old counts.new }
+{
+    for end in ends {
+        note_end(counts, end.get());
+    }
+}
+
+fn note_end(counts: &mut Counts, end: &Record)
+    ensures { NotesEnds (end.now ∷ []) counts.old counts.new }
+{
+    if end.cause.is_none() {
+        counts.ended(&end.namespace);
     }
 }
