@@ -14,7 +14,7 @@ use crate::run::run_day;
 use crate::status::{Status, report};
 use crate::words::{Command, HELP, VERSION, command_of, table_of};
 use ow_tenant::{TenantRefusal, Tenants};
-use ow_traits::{Keeper, Sink, Source, write_all};
+use ow_traits::{Keeper, MemorySource, Sink, Source, write_all};
 use std::alloc::Global;
 
 /// Does what the words say: for `day`, reads the office table that they name, opens the service over it and the store, carries
@@ -140,7 +140,11 @@ fn tenants<T: Source>(
     if table_of(words).is_some() {
         return Tenants::read(alloc, table);
     }
-    Ok(Tenants::none(alloc)?)
+    let mut none = MemorySource::new(Vec::new(alloc), Vec::new(alloc));
+    match Tenants::read(alloc, &mut none) {
+        Ok(tenants) => Ok(tenants),
+        Err(_) => Err(TenantRefusal::NoMemory),
+    }
 }
 
 // How the office ends where its table isn't read.

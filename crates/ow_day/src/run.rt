@@ -2,6 +2,7 @@
 // more of the day is asked for, and as soon as a megabyte of them is ready.
 ghost use Rattle.std.specs.Prelude.{◌≡◌, ◌≢◌, ◌<◌, ◌≤◌, if◌then◌else◌, length, false, true, [], Some, None, OnOk, OnErr, IfSome, IfNone};
 ghost use Rattle.ow_traits.specs.Streams.{HasCause, Rose, Takes, TakesFront};
+ghost use Rattle.ow_tenant.specs.Table.{AreWantsSized};
 ghost use Rattle.ow_day.specs.Day.{Cut as CutFirst, day_of, first_statement};
 ghost use Rattle.ow_day.specs.Limits.{most_ready};
 ghost use Rattle.ow_day.specs.Office.{Tells};

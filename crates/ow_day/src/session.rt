@@ -2,6 +2,7 @@
 ghost use Rattle.std.specs.Prelude.{◌≡◌, pos, [], IfOk};
 ghost use Rattle.ow_decide.specs.declared.events.Event.TheVariants as events;
 ghost use Rattle.ow_http.specs.Read.{IsRead};
+ghost use Rattle.ow_tenant.specs.Table.{AreWantsSized};
 ghost use Rattle.ow_traits.specs.declared.replies.RunReply.TheVariants as replies;
 ghost use Rattle.ow_day.specs.Line.{lines_of, statement};
 ghost use Rattle.ow_day.specs.Machine.{Calls, Does, Meets, start, unread};

@@ -185,8 +185,14 @@ fn other_words_are_bad(rt: HostRuntime) -> Result<(), Fail> {
             failing_writes: &[],
         };
         let told = office_over(rt.alloc(), given)?;
-        assert!(rt; told.status == Status::BadWords && told.left == 5, "words {number}");
-        assert!(rt; told.err.bytes() == b"bad words\n".as_slice(), "words {number}");
+        assert!(rt;
+            told.status == Status::BadWords && told.left == 5,
+            "words {number}"
+        );
+        assert!(rt;
+            told.err.bytes() == b"bad words\n".as_slice(),
+            "words {number}"
+        );
     }
     Ok(())
 }

@@ -190,12 +190,7 @@ nothing no room
 ];
 
 // Whether all of a day is answered by this text over a table.
-fn is_answered_over(
-    alloc: Global,
-    table: &[u8],
-    day: &[u8],
-    text: &[u8],
-) -> Result<bool, Fail> {
+fn is_answered_over(alloc: Global, table: &[u8], day: &[u8], text: &[u8]) -> Result<bool, Fail> {
     let given = Given {
         words: OVER_TABLE,
         table,
