@@ -12,4 +12,5 @@ mod RecordLaws
 mod ViewLaws
 mod WaitLaws
 mod FloorLaws
+mod CallLaws
 pub mod NamedLaws

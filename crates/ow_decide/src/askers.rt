@@ -1,5 +1,6 @@
 // Who asks, and what is granted to the holder of a key.
 ghost use Rattle.std.specs.Prelude.{◌≡◌, MatchResult, Ok, Err, IfOk};
+ghost use Rattle.ow_names.specs.Path.{home};
 ghost use Rattle.ow_decide.specs.Tenants.{asker, may, office};
 
 use ow_http::{Reason, ServiceRefusal};
@@ -27,10 +28,17 @@ pub(crate) fn asker<'a>(tenants: &'a Tenants, key: &Option<Str>) -> Result<&'a H
 pub(crate) fn may(holder: &Holder, right: Right, namespace: &[u8]) -> bool
     ensures { result ≡ may holder.now right namespace.now }
 {
+    holder.may(home_of(holder, namespace), right)
+}
+
+/// A namespace of a path, `_` being the key's own.
+pub(crate) fn home_of<'a>(holder: &'a Holder, namespace: &'a [u8]) -> &'a [u8]
+    ensures { result.now ≡ home holder.now.home namespace.now }
+{
     if namespace == b"_".as_slice() {
-        return holder.may(holder.home.as_str().as_bytes(), right);
+        return holder.home.as_str().as_bytes();
     }
-    holder.may(namespace, right)
+    namespace
 }
 
 /// In whose name what the office itself calls is run.

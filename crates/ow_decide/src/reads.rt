@@ -21,6 +21,7 @@ ghost use Rattle.ow_decide.specs.Making.{change_of, done_of};
 ghost use Rattle.ow_decide.specs.View.{is_visible_record, may_read, view_of};
 
 use crate::acts::{Act, Reading};
+use crate::askers::home_of;
 use crate::done::Done;
 use crate::grants::{granted_call, namespace_of};
 use crate::ids::id_in;
@@ -328,11 +329,7 @@ fn record_in<'a>(namespace: &[u8], ended: &'a Record) -> Option<&'a Record>
 fn namespace_read<'a>(holder: &'a Holder, request: &'a Request) -> &'a [u8]
     ensures { result.now ≡ home holder.now.home (namespace_of request.now.route) }
 {
-    let namespace = namespace_of(&request.route);
-    if namespace == b"_".as_slice() {
-        return holder.home.as_str().as_bytes();
-    }
-    namespace
+    home_of(holder, namespace_of(&request.route))
 }
 
 // The same as a name, where it is one.
@@ -340,7 +337,11 @@ fn read_namespace(alloc: Global, holder: &Holder, request: &Request) -> Result<E
     requires { first_fault (namespace_of request.now.route) ≡ None }
     ensures { IfOk result (λ n. n ≡ home holder.now.home (namespace_of request.now.route)) }
 {
-    match read_name(alloc, namespace_read(holder, request)) {
+    let namespace = namespace_of(&request.route);
+    if namespace == b"_".as_slice() {
+        return holder.home.copy(alloc);
+    }
+    match read_name(alloc, namespace) {
         Ok(name) => Ok(name),
         Err(NameRefusal::NoMemory) => Err(NoMemory),
         Err(_) => unreachable!(),
