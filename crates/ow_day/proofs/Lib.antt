@@ -22,5 +22,6 @@ pub mod Pushing
 pub mod SoFar
 pub mod Runs
 pub mod Ended
+pub mod Tables
 pub mod Turning
 pub mod Legal

@@ -1,5 +1,5 @@
 -- What the office answers and writes.
-use Rattle.std.specs.Prelude.{◌≡◌, ℕ, List, [], Option, Some, None, Result, Ok, Err, IfSome, take}
+use Rattle.std.specs.Prelude.{◌≡◌, ◌≢◌, ℕ, List, [], Option, Some, None, Result, Ok, Err, IfSome, take}
 use Rattle.ow_traits.specs.Streams.{Takes, TakesFront}
 use Rattle.ow_hall.specs.History.{IsLegal}
 use Rattle.ow_tenant.specs.Table.{Table, table_of}
@@ -43,17 +43,17 @@ abbrev pub rows_named : Option (List ℕ) → Option (List ℕ) → Option (List
 rows_named None left = Some []
 rows_named (Some name) left = left
 
--- a table with a bad row ends it, unless it could not be read; else the day is carried out over the table
-abbrev pub TellsDay : Result Table ℕ → Option (List ℕ) → Option (List ℕ) → Status → Day → Type 0
-TellsDay (Ok t) old new status day = Tells t old new status day
-TellsDay (Err row) old new (statuses.BadTable n) day = (n ≡ row) × (new ≡ old)
-TellsDay (Err row) old new statuses.ReadFault day = new ≡ old
-TellsDay (Err row) old new statuses.NoMemory day = new ≡ old
-TellsDay (Err row) old new status day = ⊥
+-- a table with a bad row ends it, and no other does, unless the table could not be read; else the day is carried out over it
+abbrev pub TellsDay : Result Table ℕ → Option (List ℕ) → Option (List ℕ) → Option (List ℕ) → Status → Type 0
+TellsDay (Ok t) left old new status = ((row : ℕ) → status ≢ statuses.BadTable row) × IfSome left (λ bytes. Tells t old new status (day_of bytes))
+TellsDay (Err row) left old new (statuses.BadTable n) = (n ≡ row) × (new ≡ old)
+TellsDay (Err row) left old new statuses.ReadFault = new ≡ old
+TellsDay (Err row) left old new statuses.NoMemory = new ≡ old
+TellsDay (Err row) left old new status = ⊥
 
--- what was written for the day, by the table and the status, where both tell their bytes
+-- what was written, by the table and the status, where the table tells its bytes
 abbrev pub TellsTable : Option (List ℕ) → Option (List ℕ) → Option (List ℕ) → Option (List ℕ) → Status → Type 0
-TellsTable rows left old new status = IfSome rows (λ text. IfSome left (λ bytes. TellsDay (table_of text) old new status (day_of bytes)))
+TellsTable rows left old new status = IfSome rows (λ text. TellsDay (table_of text) left old new status)
 
 -- how it ends where the table isn't read
 abbrev pub unread : TenantRefusal → Status

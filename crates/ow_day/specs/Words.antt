@@ -1,5 +1,5 @@
 -- The command set.
-use Rattle.std.specs.Prelude.{◌==◌, ◌&&◌, ℕ, Bool, List, [], ◌∷◌, Option, Some, None, if◌then◌else◌, codes, drop, is_some, take}
+use Rattle.std.specs.Prelude.{◌==◌, ℕ, Bool, List, [], ◌∷◌, Option, Some, None, if◌then◌else◌, codes, drop, is_some, take}
 use Rattle.std.specs.Str.{bytes_eq}
 use Rattle.ow_day.specs.declared.words.Command.{Command}
 use Rattle.ow_day.specs.declared.words.Command.TheVariants.{Day, Help, Version}

@@ -1,9 +1,9 @@
 // The top call: what the words of the command line ask for, over what lies outside.
-ghost use Rattle.std.specs.Prelude.{◌≡◌, ◌≢◌, ◌↔◌, ◌⊎◌, ℕ, List, Some, None, Err, IfSome, map, string_bytes};
+ghost use Rattle.std.specs.Prelude.{◌≡◌, ◌≢◌, ◌↔◌, ◌⊎◌, ℕ, List, Some, None, Err, IfOk, IfSome, map, string_bytes};
 ghost use Rattle.ow_traits.specs.Streams.{Rose, Takes, TakesFront};
 ghost use Rattle.ow_tenant.specs.Reading.{Tells};
-ghost use Rattle.ow_tenant.specs.Table.{Table, table_of as table_of_text};
-ghost use Rattle.ow_hall.specs.Beginnings.{KeepsEach};
+ghost use Rattle.ow_tenant.specs.Table.{AreWantsSized, Table, table_of as table_of_text};
+ghost use Rattle.ow_hall.specs.Beginnings.{KeepsEach, KeepsLimits};
 ghost use Rattle.ow_hall.specs.History.{History, IsLegal};
 ghost use Rattle.ow_day.specs.Words.{command_of, table_of};
 ghost use Rattle.ow_day.specs.Status.{err_text};
@@ -35,8 +35,10 @@ pub fn office<T: Source, S: Source, O: Sink, E: Sink, P: Keeper + Drop>(
     ensures reads { IfSome (S.left day.old) (λ bytes. LeavesRest bytes (S.left day.new)) }
     ensures answered { result.0 ≡ Status.ReadFault → AnswersTable (rows_named (table_of (map string_bytes words.now)) (T.left table.old)) (S.left day.old) (S.left day.new) (O.taken out.old) (O.taken out.new) }
 
-    // Each activation, by every legal book and each of its beginnings; and the books of days are legal.
+    // Each activation, and that no acceptance passes the limits of its namespace, by every legal book and each of its beginnings;
+    // and the books of days are legal.
     ensures kept { (t : Table) (B : History) → IsLegal t B → KeepsEach t B }
+    ensures limits { (t : Table) (B : History) → IsLegal t B → KeepsLimits t B }
     ensures legal { (t : Table) (bytes : List ℕ) → HasLegalBooks t bytes }
 
     // What was written of the end.
@@ -46,7 +48,7 @@ pub fn office<T: Source, S: Source, O: Sink, E: Sink, P: Keeper + Drop>(
 
     // When the other statuses come.
     ensures words { (result.0 ≡ Status.BadWords) ↔ (command_of (map string_bytes words.now) ≡ None) }
-    ensures read { result.0 ≡ Status.ReadFault → Rose (S.faults day.old) (S.faults day.new) ⊎ Rose (T.faults table.old) (T.faults table.new) }
+    ensures read { result.0 ≡ Status.ReadFault → Rose (S.faults day.old) (S.faults day.new) ⊎ (Rose (T.faults table.old) (T.faults table.new) × (day.new ≡ day.old) × (out.new ≡ out.old)) }
     ensures write { result.0 ≡ Status.WriteFault → Rose (O.faults out.old) (O.faults out.new) }
 
     // What comes back.
@@ -78,7 +80,7 @@ fn perform<T: Source, S: Source, O: Sink, P: Keeper + Drop>(
     ensures reads { IfSome (S.left day.old) (λ bytes. LeavesRest bytes (S.left day.new)) }
     ensures answered { result.0 ≡ Status.ReadFault → AnswersTable (rows_named (table_of (map string_bytes words.now)) (T.left table.old)) (S.left day.old) (S.left day.new) (O.taken out.old) (O.taken out.new) }
     ensures words { (result.0 ≡ Status.BadWords) ↔ (command_of (map string_bytes words.now) ≡ None) }
-    ensures read { result.0 ≡ Status.ReadFault → Rose (S.faults day.old) (S.faults day.new) ⊎ Rose (T.faults table.old) (T.faults table.new) }
+    ensures read { result.0 ≡ Status.ReadFault → Rose (S.faults day.old) (S.faults day.new) ⊎ (Rose (T.faults table.old) (T.faults table.new) × (day.new ≡ day.old) × (out.new ≡ out.old)) }
     ensures write { result.0 ≡ Status.WriteFault → Rose (O.faults out.old) (O.faults out.new) }
     ensures store { IfSome result.1 (λ back. back ≡ store) }
     ensures lost { result.1 ≡ None → result.0 ≡ Status.NoMemory }
@@ -110,7 +112,7 @@ fn day_over<T: Source, S: Source, O: Sink, P: Keeper + Drop>(
     ensures reads { IfSome (S.left day.old) (λ bytes. LeavesRest bytes (S.left day.new)) }
     ensures answered { result.0 ≡ Status.ReadFault → AnswersTable (rows_named (table_of (map string_bytes words.now)) (T.left table.old)) (S.left day.old) (S.left day.new) (O.taken out.old) (O.taken out.new) }
     ensures own { result.0 ≢ Status.BadWords }
-    ensures read { result.0 ≡ Status.ReadFault → Rose (S.faults day.old) (S.faults day.new) ⊎ Rose (T.faults table.old) (T.faults table.new) }
+    ensures read { result.0 ≡ Status.ReadFault → Rose (S.faults day.old) (S.faults day.new) ⊎ (Rose (T.faults table.old) (T.faults table.new) × (day.new ≡ day.old) × (out.new ≡ out.old)) }
     ensures write { result.0 ≡ Status.WriteFault → Rose (O.faults out.old) (O.faults out.new) }
     ensures store { IfSome result.1 (λ back. back ≡ store) }
     ensures lost { result.1 ≡ None → result.0 ≡ Status.NoMemory }
@@ -131,6 +133,7 @@ fn tenants<T: Source>(
     table: &mut T,
 ) -> Result<Tenants, TenantRefusal>
     ensures told { IfSome (rows_named (table_of (map string_bytes words.now)) (T.left table.old)) (λ text. Tells (table_of_text text) result) }
+    ensures sized { IfOk result (λ t. AreWantsSized t.wants) }
     ensures cause { result ≡ Err TenantRefusal.ReadFault → Rose (T.faults table.old) (T.faults table.new) }
     ensures unnamed { table_of (map string_bytes words.now) ≡ None → table.new ≡ table.old }
 {
@@ -156,6 +159,7 @@ fn unread(refusal: TenantRefusal) -> Status
         }
     }
 }
+
 fn write_text<O: Sink>(out: &mut O, text: &[u8]) -> Status
     ensures told { TellsText (O.taken out.old) (O.taken out.new) result text.now }
     ensures write { result ≡ Status.WriteFault → Rose (O.faults out.old) (O.faults out.new) }

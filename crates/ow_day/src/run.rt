@@ -2,6 +2,7 @@
 // more of the day is asked for, and as soon as a megabyte of them is ready.
 ghost use Rattle.std.specs.Prelude.{◌≡◌, ◌≢◌, ◌<◌, ◌≤◌, if◌then◌else◌, length, false, true, [], Some, None, OnOk, OnErr, IfSome, IfNone};
 ghost use Rattle.ow_traits.specs.Streams.{HasCause, Rose, Takes, TakesFront};
+ghost use Rattle.ow_tenant.specs.Table.{AreWantsSized};
 ghost use Rattle.ow_day.specs.Day.{Cut as CutFirst, day_of, first_statement};
 ghost use Rattle.ow_day.specs.Limits.{most_ready};
 ghost use Rattle.ow_day.specs.Office.{Tells};
@@ -206,6 +207,7 @@ pub fn run_day<S: Source, O: Sink, P: Keeper + Drop>(
     day: &mut S,
     out: &mut O,
 ) -> (Status, Option<P>)
+    requires { AreWantsSized tenants.wants }
     ensures told { IfSome (S.left day.old) (λ bytes. Tells tenants (O.taken out.old) (O.taken out.new) result.0 (day_of bytes)) }
     ensures reads { IfSome (S.left day.old) (λ bytes. LeavesRest bytes (S.left day.new)) }
     ensures answered { result.0 ≡ Status.ReadFault → IfSome (S.left day.old) (λ bytes. IsAnswered tenants bytes (S.left day.new) (O.taken out.old) (O.taken out.new)) }

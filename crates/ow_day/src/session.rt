@@ -2,6 +2,7 @@
 ghost use Rattle.std.specs.Prelude.{◌≡◌, pos, [], IfOk};
 ghost use Rattle.ow_decide.specs.declared.events.Event.TheVariants as events;
 ghost use Rattle.ow_http.specs.Read.{IsRead};
+ghost use Rattle.ow_tenant.specs.Table.{AreWantsSized};
 ghost use Rattle.ow_traits.specs.declared.replies.RunReply.TheVariants as replies;
 ghost use Rattle.ow_day.specs.Line.{lines_of, statement};
 ghost use Rattle.ow_day.specs.Machine.{Calls, Does, Meets, start, unread};
@@ -58,6 +59,7 @@ pub enum Step {
 impl<P: Keeper + Drop> Session<P> {
     /// A service that was just opened over an office table, at moment 0. Without memory the store is lost.
     pub fn new(alloc: Global, tenants: Tenants, store: P) -> Result<Self, NoMemory>
+        requires { AreWantsSized tenants.wants }
         ensures machine { IfOk result (λ s. machine_of s ≡ start tenants) }
         ensures store { IfOk result (λ s. s.hall.store ≡ store) }
     {

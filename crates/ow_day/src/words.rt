@@ -19,9 +19,28 @@ pub const HELP: &[u8] = b"ow_whisk: a function service after Apache OpenWhisk
 
 usage: ow_whisk day < FILE     carries out the statements of a day, and writes each answer
        ow_whisk day --table TABLE < FILE
-                               does so over the office table in that file
+                               does so over the office table in the file TABLE; or --table=TABLE
        ow_whisk --help         writes this text
        ow_whisk --version      writes the version
+
+The office table is CSV without a header: the namespaces with their limits, the keys of requests, and
+what each may do. Each row has six fields; those that have no name here are empty. Without a table no
+request has a known key, and only actions of whisk.system can be called.
+
+  namespace,NUMBER,NAME,PERMINUTE,CONCURRENT,FIRES
+                     a namespace, its number from 1, how many activations it may start in a minute,
+                     and how many may be under way at once: 120 and 100 where these are empty. FIRES
+                     is a number for triggers, which are not there yet, or empty
+  key,KEY,SUBJECT,NAMESPACE,,
+                     requests whose header X-Whisk-Key has KEY are that subject's, and may do all in
+                     the namespace
+  grant,KEY,NAMESPACE,RIGHT,,
+                     they may also read, write or invoke in this one
+  pool,MB,,,,        the memory of all containers, 512 to 65536 MB, and 2048 where no row tells it
+  prewarm,KIND,MB,COUNT,,
+                     so many containers of the kind plain:1 or program:1 are started ahead
+  program,NAME,PATH,,,
+                     a program, which is not run yet
 
 A day has one statement a line, of at most 8388608 bytes. Its words are parted by one space, its
 numbers are decimal without leading zeros. NAME is an action's full name, percent-encoded, as
@@ -32,7 +51,8 @@ Below each statement stand the forms of its answer.
 
   at MOMENT          sets the moment, in milliseconds, at most 253402300799999; it is 0 at first
                        no answer
-  ask N              is an HTTP request: N bytes, at most 8388608, follow the line, and a newline
+  ask N              is an HTTP request: N bytes, at most 8388608, follow the line, and a newline.
+                     Its key stands in the header X-Whisk-Key
                        reply M               on the lines behind it its M bytes, and a newline
                        waiting ID            the request waits for this activation: see collect
   call NAME TEXT     calls an action with this object

@@ -180,15 +180,17 @@ recorded 00000000000000000000000000000002 0
     ),
     // Another version starts anew.
     (
-        b"ask 156
+        b"ask 173
 PUT /api/v1/namespaces/_/actions/a HTTP/1.1\r
+X-Whisk-Key: k1\r
 Content-Length: 89\r
 \r
 {\"exec\":{\"kind\":\"plain:1\",\"code\":\"{\\\"cases\\\":[{\\\"when\\\":{},\\\"give\\\":{\\\"$all\\\":true}}]}\"}}
 call /guest/a {}
 turn
-ask 171
+ask 188
 PUT /api/v1/namespaces/_/actions/a?overwrite=true HTTP/1.1\r
+X-Whisk-Key: k1\r
 Content-Length: 89\r
 \r
 {\"exec\":{\"kind\":\"plain:1\",\"code\":\"{\\\"cases\\\":[{\\\"when\\\":{},\\\"give\\\":{\\\"$all\\\":true}}]}\"}}
@@ -217,13 +219,15 @@ recorded 00000000000000010000000000000002 0
     ),
     // A container makes room by going.
     (
-        b"ask 181
+        b"ask 198
 PUT /api/v1/namespaces/_/actions/a HTTP/1.1\r
+X-Whisk-Key: k1\r
 Content-Length: 113\r
 \r
 {\"exec\":{\"kind\":\"plain:1\",\"code\":\"{\\\"cases\\\":[{\\\"when\\\":{},\\\"give\\\":{\\\"$all\\\":true}}]}\"},\"limits\":{\"memory\":512}}
-ask 181
+ask 198
 PUT /api/v1/namespaces/_/actions/b HTTP/1.1\r
+X-Whisk-Key: k1\r
 Content-Length: 113\r
 \r
 {\"exec\":{\"kind\":\"plain:1\",\"code\":\"{\\\"cases\\\":[{\\\"when\\\":{},\\\"give\\\":{\\\"$all\\\":true}}]}\"},\"limits\":{\"memory\":512}}
@@ -278,13 +282,15 @@ recorded 00000000000000010000000000000006 0
     ),
     // A turn removes containers.
     (
-        b"ask 181
+        b"ask 198
 PUT /api/v1/namespaces/_/actions/a HTTP/1.1\r
+X-Whisk-Key: k1\r
 Content-Length: 113\r
 \r
 {\"exec\":{\"kind\":\"plain:1\",\"code\":\"{\\\"cases\\\":[{\\\"when\\\":{},\\\"give\\\":{\\\"$all\\\":true}}]}\"},\"limits\":{\"memory\":512}}
-ask 181
+ask 198
 PUT /api/v1/namespaces/_/actions/b HTTP/1.1\r
+X-Whisk-Key: k1\r
 Content-Length: 113\r
 \r
 {\"exec\":{\"kind\":\"plain:1\",\"code\":\"{\\\"cases\\\":[{\\\"when\\\":{},\\\"give\\\":{\\\"$all\\\":true}}]}\"},\"limits\":{\"memory\":512}}

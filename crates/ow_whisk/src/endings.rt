@@ -1,176 +1,198 @@
-// How the office ends for words, days and faults.
-use crate::tests::office_over;
-use ow_day::Status;
+// How the office ends for words, tables, days and faults.
+use crate::tests::{Given, OVER_TABLE, TABLE, office_over};
+use ow_day::{HELP, Status};
 use std::alloc::Global;
 use std::test::Fail;
 
-const HELP: &[u8] = b"ow_whisk: a function service after Apache OpenWhisk
-
-usage: ow_whisk day < FILE     carries out the statements of a day, and writes each answer
-       ow_whisk --help         writes this text
-       ow_whisk --version      writes the version
-
-A day has one statement a line, of at most 8388608 bytes. Its words are parted by one space, its
-numbers are decimal without leading zeros. NAME is an action's full name, percent-encoded, as
-/guest/hello, or /whisk.system/utils/echo, which is built in. TEXT is the rest of the line: a JSON
-object with whole numbers of 64 bits, nested at most 100 deep. An ID has 32 hexadecimal digits. A
-container stands in a SLOT, and GEN is its generation there, from 1: both are numbers of 32 bits.
-Below each statement stand the forms of its answer.
-
-  at MOMENT          sets the moment, in milliseconds, at most 253402300799999; it is 0 at first
-                       no answer
-  ask N              is an HTTP request: N bytes, at most 8388608, follow the line, and a newline
-                       reply M               on the lines behind it its M bytes, and a newline
-                       waiting ID            the request waits for this activation: see collect
-  call NAME TEXT     calls an action with this object
-                       accepted ID           it waits
-                       refused NUMBER WHY    it was not accepted
-  next               asks what is to be done
-                       run RUN ID slot SLOT gen GEN START
-                                             RUN is its number, from 1. START is warm where its
-                                             container ran the action before, prewarmed where it
-                                             was started ahead, and cold where it is to be started
-                       prewarm RUN slot SLOT gen GEN KIND MEMORY
-                                             a container is to be started ahead
-                       remove SLOT:GEN ..    these containers, one to four, are to go
-                       nothing empty         nothing waits
-                       nothing no room       what waits needs memory that is held
-  turn               asks what is to be done, and does it: a run is replied to, and its container
-                     is kept for later turns
-                       as below next, and behind it
-                       recorded ID CODE      as below answer
-                       lost RUN              as if that were told: its container isn't there
-                       gone SLOT GEN         as if that were told
-  begun RUN          tells that the container of that run is up, and initialised
-                       ok                    it was awaited
-                       refused 29 WHY        no such run awaits it
-  answer RUN TEXT    is a runner's answer to that run, of at most 1048576 bytes
-                       recorded ID CODE      0 success, 1 it has the name error, 2 no such object
-                       late RUN MOMENT       a sweep ended what it carries, at that moment
-                       refused 29 WHY        no such run is under way
-  logged RUN K TEXT  is such an answer with logs: K lines follow, of at most 8388608 bytes each
-                       recorded, refused     as below answer
-  exit RUN CODE      tells that the run's program ended with this status, up to 255, and no answer
-                       recorded ID 2         or refused, as below answer
-  nostart RUN TEXT   tells why what was to run did not start
-                       recorded ID 3         or refused, as below answer
-  fault RUN          tells that the run's runner failed
-                       recorded ID 3         or refused, as below answer
-  lost RUN           tells that no reply to that run will come; what it carries waits again
-                       ok                    a slot had it
-                       refused 29 WHY        none has such a run
-  gone SLOT GEN      tells that this container is gone
-                       ok                    its slot is free, once its run is replied to or lost
-                       refused 28 WHY        the slot has no container of that generation to go
-  sweep              ends what has run longer than its time limit
-                       recorded ID 2         for each
-                       swept N               behind these: there were N
-  collect ID         is how a request that waits for this activation is answered by now
-                       reply M               as below ask
-                       not yet               it has not ended, and its request still waits
-                       refused 14 WHY        no request waits for it
-  drain              takes no more calls from now on
-                       drained N             all N that were accepted have ended
-                       open N                N have not ended
-  end                ends the day; what follows is not acted on
-                       no answer
-
-exit status, and its line on standard error:
-  0  none            all was carried out
-  1  bad day at N    what stands at the Nth place is no statement; an ask and its bytes are one,
-                     as are a logged and its lines
-  2  bad words       the command line is none of the three above
-  3  read fault      the day could not be read on
-  4  write fault     an answer could not be written
-  7  no memory       memory was wanted
-  8  day too long    it has more than 1073741824 bytes
-";
-
-// One call of the office for a word, and what is to come of it.
+// What one call of the office is given, and what is to come of it.
 struct Ending {
-    word: &'static str,
-    day: &'static [u8],
-    failing_reads: &'static [u64],
-    failing_writes: &'static [u64],
+    given: Given<'static>,
     status: Status,
+    // How many bytes of the day are left.
+    left: usize,
     out: &'static [u8],
     err: &'static [u8],
 }
 
-const ENDINGS: [Ending; 6] = [
+const ENDINGS: [Ending; 9] = [
     Ending {
-        word: "day",
-        day: b"next\nnext",
-        failing_reads: &[1],
-        failing_writes: &[],
+        given: Given {
+            words: OVER_TABLE,
+            table: TABLE,
+            failing_table: &[],
+            day: b"next\nnext",
+            failing_reads: &[1],
+            failing_writes: &[],
+        },
         status: Status::ReadFault,
+        left: 0,
         out: b"nothing empty\n",
         err: b"read fault\n",
     },
     Ending {
-        word: "day",
-        day: b"next\nnext\nend\n",
-        failing_reads: &[],
-        failing_writes: &[0],
+        given: Given {
+            words: OVER_TABLE,
+            table: TABLE,
+            failing_table: &[],
+            day: b"next\nnext\nend\n",
+            failing_reads: &[],
+            failing_writes: &[0],
+        },
         status: Status::WriteFault,
+        left: 0,
         out: b"",
         err: b"write fault\n",
     },
     Ending {
-        word: "day",
-        day: b"next\nnex\n",
-        failing_reads: &[],
-        failing_writes: &[],
+        given: Given {
+            words: OVER_TABLE,
+            table: TABLE,
+            failing_table: &[],
+            day: b"next\nnex\n",
+            failing_reads: &[],
+            failing_writes: &[],
+        },
         status: Status::BadDay { statement: 2 },
+        left: 0,
         out: b"nothing empty\n",
         err: b"bad day at 2\n",
     },
+    // A key of no namespace, and two namespaces of one number.
     Ending {
-        word: "days",
-        day: b"next\n",
-        failing_reads: &[],
-        failing_writes: &[],
-        status: Status::BadWords,
+        given: Given {
+            words: OVER_TABLE,
+            table: b"key,k1,anna,guest,,\n",
+            failing_table: &[],
+            day: b"next\n",
+            failing_reads: &[],
+            failing_writes: &[],
+        },
+        status: Status::BadTable { row: 1 },
+        left: 5,
         out: b"",
-        err: b"bad words\n",
+        err: b"bad table at 1\n",
     },
     Ending {
-        word: "--help",
-        day: b"",
-        failing_reads: &[],
-        failing_writes: &[],
+        given: Given {
+            words: &["day", "--table=office.csv"],
+            table: b"namespace,1,guest,,,\nnamespace,1,shop,,,\n",
+            failing_table: &[],
+            day: b"next\n",
+            failing_reads: &[],
+            failing_writes: &[],
+        },
+        status: Status::BadTable { row: 2 },
+        left: 5,
+        out: b"",
+        err: b"bad table at 2\n",
+    },
+    // The table can't be read.
+    Ending {
+        given: Given {
+            words: OVER_TABLE,
+            table: TABLE,
+            failing_table: &[0],
+            day: b"next\n",
+            failing_reads: &[],
+            failing_writes: &[],
+        },
+        status: Status::ReadFault,
+        left: 5,
+        out: b"",
+        err: b"read fault\n",
+    },
+    // None is named, and none is read.
+    Ending {
+        given: Given {
+            words: &["day"],
+            table: TABLE,
+            failing_table: &[0],
+            day: b"next\n",
+            failing_reads: &[],
+            failing_writes: &[],
+        },
         status: Status::Ok,
+        left: 0,
+        out: b"nothing empty\n",
+        err: b"",
+    },
+    Ending {
+        given: Given {
+            words: &["--help"],
+            table: b"",
+            failing_table: &[],
+            day: b"",
+            failing_reads: &[],
+            failing_writes: &[],
+        },
+        status: Status::Ok,
+        left: 0,
         out: HELP,
         err: b"",
     },
     Ending {
-        word: "--version",
-        day: b"",
-        failing_reads: &[],
-        failing_writes: &[],
+        given: Given {
+            words: &["--version"],
+            table: b"",
+            failing_table: &[],
+            day: b"",
+            failing_reads: &[],
+            failing_writes: &[],
+        },
         status: Status::Ok,
+        left: 0,
         out: b"ow_whisk 0.1.0\n",
         err: b"",
     },
 ];
 
+// Words that are in no command.
+const BAD_WORDS: [&[&str]; 8] = [
+    &[],
+    &["days"],
+    &["day", "--table"],
+    &["day", "--table="],
+    &["day", "--table", "-a"],
+    &["day", "office.csv"],
+    &["day", "--table", "a", "--table=b"],
+    &["--table=a", "day"],
+];
+
 // Whether the office ends so.
 fn has_ending(alloc: Global, case: &Ending) -> Result<bool, Fail> {
-    let told = office_over(
-        alloc,
-        case.word,
-        case.day,
-        case.failing_reads,
-        case.failing_writes,
-    )?;
+    let told = office_over(alloc, case.given)?;
     let is_written = told.out.bytes() == case.out && told.err.bytes() == case.err;
-    Ok(told.status == case.status && is_written)
+    Ok(told.status == case.status && told.left == case.left && is_written)
 }
 
 #[test]
-fn faults_and_words_have_their_status(rt: HostRuntime) -> Result<(), Fail> {
+fn faults_and_bad_tables_have_their_status(rt: HostRuntime) -> Result<(), Fail> {
     for (number, case) in ENDINGS.iter().enumerate() {
         assert!(rt; has_ending(rt.alloc(), case)?, "ending {number}");
+    }
+    Ok(())
+}
+
+#[test]
+fn other_words_are_bad(rt: HostRuntime) -> Result<(), Fail> {
+    for (number, words) in BAD_WORDS.iter().enumerate() {
+        let given = Given {
+            words,
+            table: TABLE,
+            failing_table: &[],
+            day: b"next\n",
+            failing_reads: &[],
+            failing_writes: &[],
+        };
+        let told = office_over(rt.alloc(), given)?;
+        assert!(rt;
+            told.status == Status::BadWords && told.left == 5,
+            "words {number}"
+        );
+        assert!(rt;
+            told.err.bytes() == b"bad words\n".as_slice(),
+            "words {number}"
+        );
     }
     Ok(())
 }

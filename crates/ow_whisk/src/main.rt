@@ -7,6 +7,8 @@ mod containers;
 #[cfg(test)]
 mod endings;
 #[cfg(test)]
+mod tables;
+#[cfg(test)]
 mod tests;
 #[cfg(test)]
 mod waits;
@@ -66,19 +68,24 @@ fn run_over(rt: &HostRuntime, words: &[String], name: &[u8]) -> Status {
         Ok(file) => run(rt, words, ReaderSource::new(file)),
         Err(_) => match vec![in rt.alloc(); 0] {
             Ok(failing) => run(rt, words, MemorySource::new(Vec::new(rt.alloc()), failing)),
-            Err(_) => Status::NoMemory,
+            Err(_) => told(rt, Status::NoMemory),
         },
     }
+}
+
+// A status that is told before the office is called.
+fn told(rt: &HostRuntime, status: Status) -> Status
+    ensures { result ≡ status }
+{
+    let _ = report(status, &mut WriterSink::new(rt.stderr()));
+    status
 }
 
 // Opens what the words name, and ends with the number of the office's status.
 fn main(rt: HostRuntime) -> ExitCode {
     let words = match words_of(&rt) {
         Ok(words) => words,
-        Err(status) => {
-            let _ = report(status, &mut WriterSink::new(rt.stderr()));
-            return code_of(status);
-        }
+        Err(status) => return code_of(told(&rt, status)),
     };
     match table_of(&words) {
         Some(name) => code_of(run_over(&rt, &words, name)),

@@ -4,76 +4,104 @@ use ow_traits::{MemoryKeeper, MemorySink, MemorySource};
 use std::alloc::Global;
 use std::test::Fail;
 
+// The office table of the days: one namespace, and a key of its own.
+pub const TABLE: &[u8] = b"namespace,1,guest,,,\nkey,k1,anna,guest,,\n";
+
+// The words for a day over it.
+pub const OVER_TABLE: &[&str] = &["day", "--table", "office.csv"];
+
+// What one call of the office is given: its words, the bytes of the table and of the day, and the numbers of the reads
+// of these and of the writes that fail.
+#[derive(Clone, Copy)]
+pub struct Given<'a> {
+    pub words: &'a [&'a str],
+    pub table: &'a [u8],
+    pub failing_table: &'a [u64],
+    pub day: &'a [u8],
+    pub failing_reads: &'a [u64],
+    pub failing_writes: &'a [u64],
+}
+
+// A day over the table, of which no call fails.
+fn over_table(day: &[u8]) -> Given<'_> {
+    Given {
+        words: OVER_TABLE,
+        table: TABLE,
+        failing_table: &[],
+        day,
+        failing_reads: &[],
+        failing_writes: &[],
+    }
+}
+
 // What came of one call of the office.
 #[derive(Drop)]
 pub struct Told {
     pub status: Status,
     // How many bytes of the day are left.
-    left: usize,
+    pub left: usize,
     pub out: MemorySink,
     pub err: MemorySink,
 }
 
-// The office over a source of these bytes, of which the calls of these numbers fail, as those of its sink do.
+// The office over sources and sinks in memory.
 fn told_over(
     alloc: Global,
     words: &[String],
-    day: Vec<u8>,
-    failing_reads: Vec<u64>,
-    failing_writes: Vec<u64>,
+    mut table: MemorySource,
+    mut day: MemorySource,
+    mut out: MemorySink,
 ) -> Told {
-    let mut table = MemorySource::new(Vec::new(alloc), Vec::new(alloc));
-    let mut source = MemorySource::new(day, failing_reads);
-    let mut out = MemorySink::new(alloc, failing_writes);
     let mut err = MemorySink::new(alloc, Vec::new(alloc));
     let store = MemoryKeeper::new(alloc);
     let (status, _) = office(
-        alloc,
-        words,
-        &mut table,
-        &mut source,
-        &mut out,
-        &mut err,
-        store,
+        alloc, words, &mut table, &mut day, &mut out, &mut err, store,
     );
     Told {
         status,
-        left: source.bytes().len(),
+        left: day.bytes().len(),
         out,
         err,
     }
 }
 
-// The office for one word.
-pub fn office_over(
-    alloc: Global,
-    word: &str,
-    day: &[u8],
-    failing_reads: &[u64],
-    failing_writes: &[u64],
-) -> Result<Told, Fail> {
-    let words = vec![in alloc; String::from_str(alloc, word)?]?;
-    let day = day.to_vec(alloc)?;
-    let failing_reads = failing_reads.to_vec(alloc)?;
-    let failing_writes = failing_writes.to_vec(alloc)?;
-    Ok(told_over(alloc, &words, day, failing_reads, failing_writes))
+fn words_of(alloc: Global, given: &[&str]) -> Result<Vec<String>, Fail> {
+    let mut words = Vec::new(alloc);
+    for word in given {
+        words.push(String::from_str(alloc, word)?)?;
+    }
+    Ok(words)
+}
+
+fn source_of(alloc: Global, bytes: &[u8], failing: &[u64]) -> Result<MemorySource, Fail> {
+    let bytes = bytes.to_vec(alloc)?;
+    Ok(MemorySource::new(bytes, failing.to_vec(alloc)?))
+}
+
+// What comes of a call that is given this.
+pub fn office_over(alloc: Global, given: Given<'_>) -> Result<Told, Fail> {
+    let words = words_of(alloc, given.words)?;
+    let table = source_of(alloc, given.table, given.failing_table)?;
+    let day = source_of(alloc, given.day, given.failing_reads)?;
+    let out = MemorySink::new(alloc, given.failing_writes.to_vec(alloc)?);
+    Ok(told_over(alloc, &words, table, day, out))
 }
 
 // Whether the day is answered by this text, and ends so.
 pub fn is_answered(alloc: Global, day: &[u8], text: &[u8], status: Status) -> Result<bool, Fail> {
-    let told = office_over(alloc, "day", day, &[], &[])?;
+    let told = office_over(alloc, over_table(day))?;
     Ok(told.status == status && told.out.bytes() == text)
 }
 
 // Whether all of the day is carried out, and its answers end in this text.
 fn ends_in(alloc: Global, day: &[u8], text: &[u8]) -> Result<bool, Fail> {
-    let told = office_over(alloc, "day", day, &[], &[])?;
+    let told = office_over(alloc, over_table(day))?;
     Ok(told.status == Status::Ok && told.out.bytes().ends_with(text))
 }
 
 // Whether so many bytes are left of a day that ends so.
 fn leaves(alloc: Global, day: &[u8], status: Status, left: usize) -> Result<bool, Fail> {
-    let told = office_over(alloc, "day", day, &[], &[])?;
+    let told = office_over(alloc, over_table(day))?;
     Ok(told.status == status && told.left == left)
 }
 
@@ -198,12 +226,14 @@ refused 32 The office is draining.
         Status::Ok,
     ),
     (
-        b"ask 51
+        b"ask 68
 GET /api/v1/namespaces/_/actions/hello HTTP/1.1\r
+X-Whisk-Key: k1\r
 \r
 
-ask 55
+ask 72
 GET /api/v1/namespaces/_/actions?limit=201 HTTP/1.1\r
+X-Whisk-Key: k1\r
 \r
 
 ",
@@ -267,12 +297,14 @@ Content-Length: 100\r
 \r
 {\"exec\":{\"kind\":\"nodejs:20\",\"code\":\"{\\\"cases\\\":[{\\\"when\\\":{},\
 \\\"give\\\":{\\\"greeting\\\":\\\"Hello\\\"}}]}\"}}
-ask 58
+ask 75
 DELETE /api/v1/namespaces/guest/actions/hello HTTP/1.1\r
+X-Whisk-Key: k1\r
 \r
 
-ask 58
+ask 75
 DELETE /api/v1/namespaces/guest/actions/hello HTTP/1.1\r
+X-Whisk-Key: k1\r
 \r
 
 ",
@@ -339,14 +371,16 @@ Content-Length: 98\r
 at 5
 call /guest/hello {\"a\":1}
 next
-ask 55
+ask 72
 GET /api/v1/namespaces/_/actions/hello HTTP/1.1\r
+X-Whisk-Key: k1\r
 \r
 more
 answer 1 {}
 drain
-ask 45
+ask 62
 GET /api/v1/namespaces/_/actions HTTP/1.1\r
+X-Whisk-Key: k1\r
 \r
 
 ",
@@ -623,7 +657,9 @@ fn a_megabyte_of_answers_is_written_before_the_piece_ends(rt: HostRuntime) -> Re
     for _ in 0..8_000 {
         day.extend_from_slice(b"ask 0\n\n")?;
     }
-    let told = office_over(rt.alloc(), "day", &day, &[], &[1])?;
+    let mut given = over_table(&day);
+    given.failing_writes = &[1];
+    let told = office_over(rt.alloc(), given)?;
     assert!(rt; told.status == Status::WriteFault);
     assert!(rt; told.out.bytes().len() == 7_599 * 138);
     Ok(())

@@ -6,19 +6,22 @@ use std::test::Fail;
 const WAITS: [(&[u8], &[u8], Status); 5] = [
     // The result of an action that a turn runs, and the list of what was recorded.
     (
-        b"ask 169
+        b"ask 186
 PUT /api/v1/namespaces/_/actions/hello HTTP/1.1\r
+X-Whisk-Key: k1\r
 Content-Length: 98\r
 \r
 {\"exec\":{\"kind\":\"plain:1\",\"code\":\"{\\\"cases\\\":[{\\\"when\\\":{},\\\"give\\\":{\\\"greeting\\\":\\\"Hello\\\"}}]}\"}}
-ask 78
+ask 95
 POST /api/v1/namespaces/_/actions/hello?blocking=true&result=true HTTP/1.1\r
+X-Whisk-Key: k1\r
 \r
 
 turn
 collect 00000000000000010000000000000001
-ask 49
+ask 66
 GET /api/v1/namespaces/_/activations HTTP/1.1\r
+X-Whisk-Key: k1\r
 \r
 
 ",
@@ -48,13 +51,15 @@ Content-Length: 152\r
     ),
     // A request that waits at most 100 milliseconds.
     (
-        b"ask 182
+        b"ask 199
 PUT /api/v1/namespaces/_/actions/a HTTP/1.1\r
+X-Whisk-Key: k1\r
 Content-Length: 114\r
 \r
 {\"exec\":{\"kind\":\"plain:1\",\"code\":\"{\\\"cases\\\":[{\\\"when\\\":{},\\\"give\\\":{\\\"$all\\\":true}}]}\"},\"limits\":{\"timeout\":100}}
-ask 62
+ask 79
 POST /api/v1/namespaces/_/actions/a?blocking=true HTTP/1.1\r
+X-Whisk-Key: k1\r
 \r
 
 at 99
@@ -91,8 +96,9 @@ Content-Length: 442\r
     ),
     // An action whose logs may have no byte.
     (
-        b"ask 177
+        b"ask 194
 PUT /api/v1/namespaces/_/actions/a HTTP/1.1\r
+X-Whisk-Key: k1\r
 Content-Length: 109\r
 \r
 {\"exec\":{\"kind\":\"plain:1\",\"code\":\"{\\\"cases\\\":[{\\\"when\\\":{},\\\"give\\\":{\\\"$all\\\":true}}]}\"},\"limits\":{\"logs\":0}}
@@ -100,8 +106,9 @@ call /guest/a {}
 next
 logged 1 1 {}
 x
-ask 87
+ask 104
 GET /api/v1/namespaces/_/activations/00000000000000010000000000000001/logs HTTP/1.1\r
+X-Whisk-Key: k1\r
 \r
 
 ",
@@ -125,16 +132,18 @@ Content-Length: 33\r
     ),
     // A program that ended without an answer.
     (
-        b"ask 156
+        b"ask 173
 PUT /api/v1/namespaces/_/actions/a HTTP/1.1\r
+X-Whisk-Key: k1\r
 Content-Length: 89\r
 \r
 {\"exec\":{\"kind\":\"plain:1\",\"code\":\"{\\\"cases\\\":[{\\\"when\\\":{},\\\"give\\\":{\\\"$all\\\":true}}]}\"}}
 call /guest/a {}
 next
 exit 1 3
-ask 89
+ask 106
 GET /api/v1/namespaces/_/activations/00000000000000010000000000000001/result HTTP/1.1\r
+X-Whisk-Key: k1\r
 \r
 
 ",

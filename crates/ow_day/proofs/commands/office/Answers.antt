@@ -1,9 +1,12 @@
-use Rattle.ow_hall.proofs.Beginnings.{keeps_each}
+use Rattle.ow_hall.proofs.Beginnings.{keeps_each, keeps_limits}
 use Rattle.ow_day.proofs.Legal.{legal_books}
 use Rattle.ow_day.proofs.commands.office.Goals as goal
 
 pub returns-clause-kept : goal.returns-clause-kept
 returns-clause-kept g c = λ t B legal. keeps_each t B
+
+pub returns-clause-limits : goal.returns-clause-limits
+returns-clause-limits g c = λ t B legal. keeps_limits t B
 
 pub returns-clause-legal : goal.returns-clause-legal
 returns-clause-legal g c = legal_books
