@@ -25,3 +25,7 @@ returns-in-Activation-clause-done c = subst (λ (r : Reading). IfOk c.record_sho
 pub returns-in-Activations-clause-done : goal.returns-in-Activations-clause-done
 returns-in-Activations-clause-done c = subst (λ (r : Reading). IfOk c.records_listed.result (λ d. (S : Sight) → S.rows ≡ c.args.tables.now.rows → Stands c.args.floor.now.now S.trace
     → done_of d ≡ shown_done (read_value (view_of S c.args.holder.now) r (parts_of c.args.request.now) c.args.call.now))) (sym c.in-Activations.is) (if_ok_map c.records_listed.result _ _ (λ d h S r st. h S st) c.records_listed.ensures.done)
+
+pub returns-in-Namespaces-clause-done : goal.returns-in-Namespaces-clause-done
+returns-in-Namespaces-clause-done c = subst (λ (r : Reading). IfOk c.names_listed.result (λ d. (S : Sight) → S.rows ≡ c.args.tables.now.rows → Stands c.args.floor.now.now S.trace
+    → done_of d ≡ shown_done (read_value (view_of S c.args.holder.now) r (parts_of c.args.request.now) c.args.call.now))) (sym c.in-Namespaces.is) (if_ok_map c.names_listed.result _ _ (λ d h S r st. h S (parts_of c.args.request.now) c.args.call.now) c.names_listed.ensures.done)
