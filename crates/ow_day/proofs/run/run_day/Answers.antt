@@ -6,6 +6,9 @@ use Rattle.ow_day.proofs.Runs.{begins, begins_bounded, if_some, unbegun}
 use Rattle.ow_day.proofs.SoFar.{leaves_all}
 use Rattle.ow_day.proofs.run.run_day.Goals as goal
 
+pub returns-in_default-clause-told : goal.returns-in_default-clause-told
+returns-in_default-clause-told g c = if_some _ _ (λ bytes told. unbegun _ _)
+
 pub returns-in_default-new-clause-told : goal.returns-in_default-new-clause-told
 returns-in_default-new-clause-told g c = if_some _ _ (λ bytes told. unbegun _ _)
 
