@@ -1,9 +1,10 @@
-use Rattle.std.proofs.Common.{◌∙◌, ◌++◌, ◌≤◌, refl, sym, ap, subst}
+use Rattle.std.proofs.Common.{◌≡◌, ◌∙◌, ◌++◌, ◌≤◌, ℕ, refl, sym, ap, subst}
 use Rattle.ow_counts.specs.View.{CountsView}
 use Rattle.ow_floor.specs.Owed.{owed}
 use Rattle.ow_floor.specs.View.{FloorView}
 use Rattle.ow_decide.specs.declared.step.Now.{Now}
-use Rattle.ow_hall.specs.History.{all_changed, decision, greatest_moment, last_moment, seen, waits_after}
+use Rattle.ow_hall.specs.Comes.{HallView, at_hall}
+use Rattle.ow_hall.specs.History.{all_changed, answer, decision, greatest_moment, last_moment, seen, waits_after}
 use Rattle.ow_hall.specs.Ledger.{HasRoom, Ledger, posted}
 use Rattle.ow_decide.specs.Making.{changes_of}
 use Rattle.ow_hall.specs.State.{HasRoomOf, Keeps}
@@ -72,4 +73,25 @@ invariant_of-self-2 g c =
     c.self.invariant.1 c.in-Ok-prepare.ensures.keeps used (c.in-Ok-prepare.ensures.ready T done.1) refl in (
       subst (λ (l : Ledger). Keeps c.note.new.self t l) (sym post) both.1,
       subst (λ (l : Ledger). HasRoom (seen t l.entries).trace l c.post.new.self.room) (sym post) room,
+    )
+
+pub returns-clause-comes : goal.returns-clause-comes
+returns-clause-comes g c =
+    let t = c.self.inside.tenants in
+    let L = c.self.inside.book.ledger in
+    let told = c.in-Ok.step.told in
+    let event = c.args.event in
+    let at = c.moment.result in
+    let now : Now = record { counted = c.counted.result; at = c.moment.result } in
+    let late : last_moment L.entries ≤ at = rw c.moment.ensures (not_before L.entries c.args.at) in
+    let done = step_at t L.entries c.self.inside.state c.attempt.new.self.floor.now now event c.in-Ok.step c.self.invariant.0.legal.answered late
+    c.self.invariant.0.stands c.counted.ensures c.in-Ok.ensures.ok in
+    let post = c.post.ensures.ledger ∙ (ap (λ (l : Ledger). posted l at event c.in-Ok-prepare.copied) c.in-Ok-prepare.ensures.ledger
+    ∙ ap (posted L at event) c.in-Ok-prepare.ensures.told) in
+    subst (λ (h : HallView _). (told ≡ answer h.tenants h.ledger.entries (at_hall h c.args.at) event) × (c.post.new.self.ledger ≡ posted h.ledger (at_hall h c.args.at) event told) × (t ≡ h.tenants) × (c.self.inside.store ≡ h.store))
+    c.self.view_is (
+      subst (λ (m : ℕ). told ≡ answer t L.entries m event) c.moment.ensures done.0.told,
+      post ∙ ap (λ (m : ℕ). posted L m event told) c.moment.ensures,
+      refl,
+      refl,
     )

@@ -11,7 +11,7 @@ use Rattle.ow_hall.proofs.hall.Hall.start.Goals as goal
 
 pub invariant_of-result : goal.invariant_of-result
 invariant_of-result g c =
-    let t = c.in_ok-tenants.tenants in
+    let t = c.args.tenants in
     let w = c.in_ok-state.state in
     let at = c.moment-at.result in
     let same : at ≡ moment [] c.args.at = c.moment-at.ensures ∙ ap (λ (l : Ledger). moment l.entries c.args.at) c.new-book.ensures in
