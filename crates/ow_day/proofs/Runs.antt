@@ -112,7 +112,7 @@ pub statement_done : {P : Type 0} {t : Table} (bytes : List ℕ) (before left ta
     → (s ≡ End → ⊥) → Performs old.session new.session s old.answers.items new.answers.items
     → new.input.pending ≡ drop used old.input.pending → new.input.taken ≡ old.input.taken → new.number ≡ old.number + 1 → new.ended ≡ old.ended
     → IsUnderWay t bytes before left taken old → IsUnderWay t bytes before left taken new
-statement_done bytes before left taken old new s used most some is within moves not_end (done, does, lines) pending read number unended u =
+statement_done {t = t} bytes before left taken old new s used most some is within moves not_end (done, does, lines) pending read number unended u =
     let later = in_window old.input.taken u.rest in
     let rest = drop used old.input.pending ++ later in
     let found : Found s (drop used old.input.pending) ≡ Cut → ⊥ = λ e. cc in
@@ -318,19 +318,19 @@ wrote_front bytes before taken taken' r ending front e = record {
 
 tells_bad : {P : Type 0} {t : Table} (bytes : List ℕ) (before taken taken' : Option (List ℕ)) (r : Run P) (n : ℕ) (result : Status) → ClosesSo taken taken' r.answers.items (statuses.BadDay n) result → IsAtEnd t bytes before taken r (Bad n)
     → Tells t before taken' result (day_of bytes)
-tells_bad bytes before taken taken' r n result (inl (is, took)) e =
+tells_bad {t = t} bytes before taken taken' r n result (inl (is, took)) e =
     let P : Status → Type 0 = λ s. Tells t before taken' s (day_of bytes) in
     subst P (sym is) (wrote bytes before taken taken' r (Bad n) took e)
-tells_bad bytes before taken taken' r n result (inr (is, front)) e =
+tells_bad {t = t} bytes before taken taken' r n result (inr (is, front)) e =
     let P : Status → Type 0 = λ s. Tells t before taken' s (day_of bytes) in
     subst P (sym is) (wrote_front bytes before taken taken' r (Bad n) front e)
 
 tells_ok : {P : Type 0} {t : Table} (bytes : List ℕ) (before taken taken' : Option (List ℕ)) (r : Run P) (result : Status) → ClosesSo taken taken' r.answers.items statuses.Ok result → IsAtEnd t bytes before taken r Finished
     → Tells t before taken' result (day_of bytes)
-tells_ok bytes before taken taken' r result (inl (is, took)) e =
+tells_ok {t = t} bytes before taken taken' r result (inl (is, took)) e =
     let P : Status → Type 0 = λ s. Tells t before taken' s (day_of bytes) in
     subst P (sym is) (wrote bytes before taken taken' r Finished took e)
-tells_ok bytes before taken taken' r result (inr (is, front)) e =
+tells_ok {t = t} bytes before taken taken' r result (inr (is, front)) e =
     let P : Status → Type 0 = λ s. Tells t before taken' s (day_of bytes) in
     subst P (sym is) (wrote_front bytes before taken taken' r Finished front e)
 
@@ -340,7 +340,7 @@ front_of bytes before left taken old u = front_with bytes before left taken take
 
 tells_none : {P : Type 0} {t : Table} (bytes : List ℕ) (before left taken taken' : Option (List ℕ)) (old : Run P) (result : Status) → (result ≡ statuses.NoMemory) × (taken' ≡ taken) → IsUnderWay t bytes before left taken old
     → Tells t before taken' result (day_of bytes)
-tells_none bytes before left taken taken' old result (is, same) u =
+tells_none {t = t} bytes before left taken taken' old result (is, same) u =
     let P : Status → Type 0 = λ s. Tells t before taken' s (day_of bytes) in
     subst P (sym is) (rw same (front_of bytes before left taken old u))
 
