@@ -61,7 +61,8 @@ struct Undone {
 }
 
 impl<P: Keeper + Drop> Hall<P> {
-    /// Opens the service over a store, of which nothing is asked yet.
+    /// Opens the service over a store, of which nothing is asked yet, and an office table, as `Tenants::read` gives one: its pool and
+    /// limits stay as they are. Without memory both are lost.
     pub fn start(alloc: Global, store: P, tenants: Tenants, at: u64) -> Result<Hall<P>, NoMemory>
         requires { AreWantsSized tenants.wants }
         ensures tenants { IfOk result (λ h. h.tenants ≡ tenants) }
