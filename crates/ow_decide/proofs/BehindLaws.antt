@@ -1,12 +1,11 @@
 -- The action that stands behind a name in a binding, as it is read step by step, and how a package is shown with its actions.
-use Rattle.std.proofs.Common.{◌≡◌, ◌∙◌, ◌||◌, ℕ, Bool, true, false, if◌then◌else◌, List, [], ◌∷◌, Option, Some, None, is_some, option_map, option_and_then, refl, sym, ap}
+use Rattle.std.proofs.Common.{◌≡◌, ◌∙◌, ◌||◌, ℕ, Bool, true, if◌then◌else◌, List, [], ◌∷◌, Option, Some, None, is_some, option_map, option_and_then, refl, sym, ap}
 use Rattle.std.specs.Str.{bytes_eq}
 use Rattle.ow_value.specs.Value.{V, Pairs, object, members_of}
 use Rattle.ow_value.specs.Field.{pairs_in-members_of}
 use Rattle.ow_value.specs.Find.{merge, with_pair}
 use Rattle.ow_value.specs.View.{view}
 use Rattle.ow_value.specs.declared.val.Val.{Val}
-use Rattle.ow_value.specs.declared.val.Val.TheVariants.{Object}
 use Rattle.ow_names.specs.declared.full.FullName.{FullName}
 use Rattle.ow_entity.specs.declared.actions.Action.{Action}
 use Rattle.ow_entity.specs.declared.kinds.EntityKind.TheVariants as kinds

@@ -1,5 +1,5 @@
 -- The namespace of a path that is listed is a name.
-use Rattle.std.proofs.Common.{◌≡◌, ◌||◌, ℕ, Bool, true, false, not, List, Option, Some, None, Result, Ok, Err, refl}
+use Rattle.std.proofs.Common.{◌≡◌, ◌||◌, ℕ, Bool, true, false, List, Option, Some, None, Ok, refl}
 use Rattle.ow_entity.specs.declared.kinds.EntityKind.{EntityKind}
 use Rattle.ow_entity.specs.declared.kinds.EntityKind.TheVariants as kinds
 use Rattle.ow_entity.specs.declared.rows.Row.{Row}
@@ -11,7 +11,6 @@ use Rattle.ow_http.specs.CallOf.{call_of, checked, checked_query, name_of as nam
 use Rattle.ow_http.specs.Parts.{Parts}
 use Rattle.ow_http.specs.Steps.{◌>>=◌}
 use Rattle.ow_http.specs.declared.call.Call.{Call}
-use Rattle.ow_http.specs.declared.call_refusal.CallRefusal.{CallRefusal}
 use Rattle.ow_http.specs.declared.call_refusal.CallRefusal.TheVariants.{BadName}
 use Rattle.ow_http.specs.declared.route.Route.{Route}
 use Rattle.ow_http.specs.declared.route.Route.TheVariants as route

@@ -1,6 +1,5 @@
 -- What is seen by whoever asks, where what is asked is granted.
-use Rattle.std.proofs.Common.{◌≡◌, ◌∙◌, ◌&&◌, ◌||◌, ◌==◌, ◌⊎◌, ℕ, Bool, true, false, not, List, [], Option, Some, None, option_map, Result, Ok, Err, codes, map, take, drop, refl, sym, ap, subst, inl, inr}
-use Rattle.std.specs.List.{filter}
+use Rattle.std.proofs.Common.{◌≡◌, ◌∙◌, ◌&&◌, ◌||◌, ◌==◌, ◌⊎◌, ℕ, Bool, true, false, not, List, Option, Some, None, Result, Ok, Err, map, take, drop, refl, sym, ap, subst, inl, inr}
 use Rattle.std.specs.Result.{result_ok}
 use Rattle.std.specs.Str.{bytes_eq}
 use Rattle.std.proofs.lemmas.Slice.Eq.{bytes_eq-Decides}
@@ -28,12 +27,11 @@ use Rattle.ow_http.specs.declared.call_refusal.CallRefusal.TheVariants.{BadName}
 use Rattle.ow_http.specs.declared.reason.Reason.{Reason}
 use Rattle.ow_http.specs.declared.route.Route.{Route}
 use Rattle.ow_http.specs.declared.route.Route.TheVariants as route
-use Rattle.ow_decide.specs.Asking.{Done, Shown, call_for, granted_call, opened_kind, shown_done}
+use Rattle.ow_decide.specs.Asking.{Done, Shown, call_for, granted_call, shown_done}
 use Rattle.ow_decide.specs.Named.{AreNamed}
 use Rattle.ow_decide.specs.Reading.{is_opened, is_shared_at, namespace_of, or_call_reason, path_package, read_call, read_done, read_kind, read_value, row_read}
 use Rattle.ow_decide.specs.Shown.{shown_row}
 use Rattle.ow_decide.specs.declared.acts.Reading.{Reading}
-use Rattle.ow_decide.specs.declared.acts.Act.{Act}
 use Rattle.ow_decide.specs.declared.acts.Act.TheVariants.{Reads}
 use Rattle.ow_decide.specs.declared.acts.Reading.TheVariants.{Namespaces, Rows, Row as OneRow, Activations, Activation}
 use Rattle.ow_value.specs.Value.{V, list, items_of}
@@ -47,7 +45,7 @@ use Rattle.ow_decide.specs.Steps.{or_else, unless}
 use Rattle.ow_decide.specs.Tenants.{may}
 use Rattle.ow_decide.specs.View.{is_visible, may_read, view_of, visible_rows}
 use Rattle.ow_decide.proofs.Filters.{filter_filter}
-use Rattle.ow_decide.proofs.SeenLaws.{IsOpenTo, granting, only_left, option_shown, same_bytes, shared_at_seen, value_seen, visible_own}
+use Rattle.ow_decide.proofs.SeenLaws.{IsOpenTo, granting, only_left, option_shown, shared_at_seen, value_seen, visible_own}
 
 -- ---- the grant
 

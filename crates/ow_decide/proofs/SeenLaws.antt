@@ -22,7 +22,7 @@ use Rattle.ow_tables.specs.Inside.{actions_behind, actions_if, actions_in, is_ca
 use Rattle.ow_tables.specs.Rows.{AreRows, found, is_row, key, key_of, kind_place, standing, stands_in}
 use Rattle.ow_floor.proofs.Firsts.{find_passes}
 use Rattle.ow_decide.specs.Named.{AreNamed, IsNamed, IsPackageNamed, bound_name}
-use Rattle.ow_decide.specs.Reading.{action_behind, action_read, is_shared_at, row_read, target_of}
+use Rattle.ow_decide.specs.Reading.{action_behind, is_shared_at, row_read, target_of}
 use Rattle.ow_decide.specs.Shown.{shown_row, shown_with}
 use Rattle.ow_tenant.specs.ByText.{ByText}
 use Rattle.ow_tenant.specs.declared.rights.Rights.{Rights}

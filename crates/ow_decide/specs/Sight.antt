@@ -1,5 +1,5 @@
 -- What is seen when an event comes, and the tests that events of several kinds share. Each test takes what is seen.
-use Rattle.std.specs.Prelude.{◌+◌, ℕ, Bool, true, false, nat_lt, List, Option, Some, None, Result, Ok, Err}
+use Rattle.std.specs.Prelude.{◌+◌, ℕ, Bool, nat_lt, List, Result, Ok, Err}
 use Rattle.ow_entity.specs.declared.rows.Row.{Row}
 use Rattle.ow_floor.specs.Trace.{Trace, is_draining}
 use Rattle.ow_http.specs.declared.reason.Reason.{Reason}

@@ -1,7 +1,6 @@
 -- What whoever asks may see: every read is answered of this, and of the request.
-use Rattle.std.specs.Prelude.{◌&&◌, ◌||◌, ℕ, List, [], ◌∷◌, Bool, true, false, filter, is_some, Option, Some, None}
+use Rattle.std.specs.Prelude.{◌&&◌, ◌||◌, ℕ, List, Bool, false, filter, is_some, Option, Some, None}
 use Rattle.std.specs.List.{list_any}
-use Rattle.std.specs.Str.{bytes_eq}
 use Rattle.ow_names.specs.declared.full.FullName.{FullName}
 use Rattle.ow_entity.specs.Row.{name_of}
 use Rattle.ow_entity.specs.declared.kinds.EntityKind.TheVariants as kinds

@@ -1,4 +1,4 @@
-use Rattle.std.proofs.Common.{ℕ, List, sym, subst}
+use Rattle.std.proofs.Common.{List, sym, subst}
 use Rattle.ow_entity.specs.declared.rows.Row.{Row}
 use Rattle.ow_floor.specs.Calls.{begun_answer, begun_items, gone_answer, gone_items, lost_answer, lost_items}
 use Rattle.ow_decide.specs.Decisions.{decide, taken_told}
