@@ -4,6 +4,8 @@
     python3 examples/make_day.py blocking > examples/blocking.day
     python3 examples/make_day.py packages > examples/packages.day
     python3 examples/make_day.py rights > examples/rights.day
+    python3 examples/make_day.py monday > examples/monday.day
+    python3 examples/make_day.py tuesday > examples/tuesday.day
 
 Each request is counted in bytes, with its head's lines ended by CR LF. Standard library only.
 """
@@ -164,7 +166,31 @@ RIGHTS = [
     say("end"),
 ]
 
-DAYS = {"actions": ACTIONS, "blocking": BLOCKING, "packages": PACKAGES, "rights": RIGHTS}
+# Two days over one store: what the first leaves, one call of which has not ended, the second finds.
+MONDAY = [
+    ask("PUT", "/hello", hello()),
+    say('call /guest/hello {"name":"Anna"}'),
+    say("turn"),
+    say("at 1000"),
+    say('call /guest/hello {"name":"Bert"}'),
+    say("end"),
+]
+
+TUESDAY = [
+    ask("GET", ""),
+    ask("GET", "", of="activations"),
+    say("call /guest/hello {}"),
+    say("end"),
+]
+
+DAYS = {
+    "actions": ACTIONS,
+    "blocking": BLOCKING,
+    "packages": PACKAGES,
+    "rights": RIGHTS,
+    "monday": MONDAY,
+    "tuesday": TUESDAY,
+}
 
 if __name__ == "__main__":
     name = sys.argv[1] if len(sys.argv) > 1 else "actions"

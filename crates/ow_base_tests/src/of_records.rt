@@ -164,7 +164,10 @@ fn what_endings_without_a_reply_come_to(rt: HostRuntime) -> Result<(), Fail> {
 }
 
 // What tests hold lies in boxes, since each way out of a function lets go of what it holds.
-fn boxed<T: Drop, E: Debug + Drop>(alloc: Global, made: Result<T, E>) -> Result<Box<T>, Fail> {
+pub(crate) fn boxed<T: Drop, E: Debug + Drop>(
+    alloc: Global,
+    made: Result<T, E>,
+) -> Result<Box<T>, Fail> {
     match Box::new(alloc, made?) {
         Ok(held) => Ok(held),
         Err(_) => Err("no memory")?,
@@ -192,7 +195,7 @@ fn made(alloc: Global, name: &FullName, body: &Val) -> Result<Row, EntityRefusal
 }
 
 // The activation of the action, which was accepted at 5 with this id.
-fn task(
+pub(crate) fn task(
     alloc: Global,
     path: &str,
     logs: u8,
@@ -247,7 +250,7 @@ fn record(
     )
 }
 
-fn text_of(alloc: Global, shown: Result<Val, NoMemory>) -> Result<String, Fail> {
+pub(crate) fn text_of(alloc: Global, shown: Result<Val, NoMemory>) -> Result<String, Fail> {
     let shown = boxed(alloc, shown)?;
     let text = write_val(alloc, &shown)?;
     Ok(String::from_utf8(text).map_err(|_| "no text")?)

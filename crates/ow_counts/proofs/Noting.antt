@@ -7,7 +7,7 @@ use Rattle.ow_records.specs.declared.record.Record.{Record}
 use Rattle.ow_records.specs.declared.activations.Activation.{Activation}
 use Rattle.ow_floor.specs.declared.runs.Run.{Run}
 use Rattle.ow_floor.specs.View.{is_end_of}
-use Rattle.ow_floor.specs.Trace.{Trace, Item, End, Opened, Accepted, Ordered, Prewarming, Removed, Begun, Answered, Lost, Gone, Ended, Swept, Drained, Reopened, accepted, accepted_after, carrier, end_of, ends, ends_after, record_of, recorded, records, records_after, standing_by}
+use Rattle.ow_floor.specs.Trace.{Trace, Item, End, Opened, Resumed, Accepted, Ordered, Prewarming, Removed, Begun, Answered, Lost, Gone, Ended, Swept, Drained, Reopened, accepted, accepted_after, carrier, end_of, ends, ends_after, record_of, recorded, records, records_after, standing_by}
 use Rattle.ow_floor.specs.Laws.{IsSound, times}
 use Rattle.ow_floor.proofs.Tallies.{times_once}
 use Rattle.ow_tenant.specs.Queue.{with_one}
@@ -41,6 +41,7 @@ by_items P start accepts ends_one other (Lost run at ∷ T) = other (Lost run at
 by_items P start accepts ends_one other (Gone slot generation at ∷ T) = other (Gone slot generation at) T (record { accepted = λ xs. refl; ends = λ es. refl; records = λ rs. refl; notes = λ ns. refl }) (by_items P start accepts ends_one other T)
 by_items P start accepts ends_one other (Swept at ∷ T) = other (Swept at) T (record { accepted = λ xs. refl; ends = λ es. refl; records = λ rs. refl; notes = λ ns. refl }) (by_items P start accepts ends_one other T)
 by_items P start accepts ends_one other (Drained at ∷ T) = other (Drained at) T (record { accepted = λ xs. refl; ends = λ es. refl; records = λ rs. refl; notes = λ ns. refl }) (by_items P start accepts ends_one other T)
+by_items P start accepts ends_one other (Resumed counts rs ∷ T) = other (Resumed counts rs) T (record { accepted = λ xs. refl; ends = λ es. refl; records = λ xs. refl; notes = λ ns. refl }) (by_items P start accepts ends_one other T)
 by_items P start accepts ends_one other (Reopened at ∷ T) = other (Reopened at) T (record { accepted = λ xs. refl; ends = λ es. refl; records = λ rs. refl; notes = λ ns. refl }) (by_items P start accepts ends_one other T)
 
 -- ---- what is noted

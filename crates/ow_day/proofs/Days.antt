@@ -5,7 +5,7 @@ use Rattle.std.proofs.lemmas.Bool.Decides.{nat_tests}
 use Rattle.std.proofs.lemmas.List.{take-append-le, drop-append-le}
 use Rattle.std.proofs.lemmas.List.Quantifiers.{position-Some}
 use Rattle.ow_day.specs.Limits.{most_line}
-use Rattle.ow_day.specs.Statement.{Statement, At, Call, Ask, Next, Begun, Answer, Logged, Exit, NoStart, Fault, Lost, Gone, Sweep, Turn, Collect, Drain, End, Reading, Whole, Asks, Logs, is_newline, line_of}
+use Rattle.ow_day.specs.Statement.{Statement, At, Call, Ask, Next, Begun, Answer, Logged, Exit, NoStart, Fault, Lost, Gone, Sweep, Turn, Collect, Drain, Reopen, End, Reading, Whole, Asks, Logs, is_newline, line_of}
 use Rattle.ow_day.specs.Day.{Day, Finished, TooLong, ended, with_statements, First, Found, Wrong, Cut, Lines, LinesAre, NoLines, CutLines, line_at, lines_in, logged, asked, behind_line, first_in, first_statement, going_on, day_step, day_from}
 use Rattle.ow_day.proofs.Choices.{is_apart, is_more, is_short, more_by}
 use Rattle.ow_day.proofs.Logging.{lines_extended, lines_last, lines_longer}
@@ -46,6 +46,7 @@ statement_goes_on Sweep day not_end = refl
 statement_goes_on (Collect id) day not_end = refl
 statement_goes_on Turn day not_end = refl
 statement_goes_on Drain day not_end = refl
+statement_goes_on Reopen day not_end = refl
 statement_goes_on End day not_end = absurd (not_end refl)
 
 pub with_both : (a b : List Statement) (day : Day) → with_statements a (with_statements b day) ≡ with_statements (a ++ b) day

@@ -16,12 +16,16 @@ pub mod PrintedDays
 pub mod Lines
 pub mod Statements
 pub mod Carrying
+pub mod Rising
 pub mod Meeting
 pub mod Objects
 pub mod Pushing
 pub mod SoFar
+pub mod Sessions
 pub mod Runs
 pub mod Ended
 pub mod Tables
+pub mod Opened
+pub mod Asking
 pub mod Turning
 pub mod Legal

@@ -11,7 +11,7 @@ use Rattle.ow_hall.specs.History.{greatest_moment}
 use Rattle.ow_records.specs.declared.ids.Id.{Id}
 use Rattle.ow_day.specs.Ids.{id_of}
 use Rattle.ow_day.specs.Limits.{most_line}
-use Rattle.ow_day.specs.Statement.{Statement, At, Call, Next, Begun, Answer, Exit, NoStart, Fault, Lost, Gone, Sweep, Turn, Collect, Drain, End, Reading, Whole, Asks, Logs, answer_in, answer_of, answered, ask_of, asks_for, at_moment, at_of, begun, begun_of, call_in, call_of, called, collect_of, collected, container_of, exit_in, exit_of, exited, failed, fault_of, gone, gone_in, gone_of, line_of, logged, logged_in, logged_of, logs_in, lost, lost_of, no_start_in, no_start_of, numbered, numbered_in, parted, reply_of, unstarted, with_number, worded, worded_in}
+use Rattle.ow_day.specs.Statement.{Statement, At, Call, Next, Begun, Answer, Exit, NoStart, Fault, Lost, Gone, Sweep, Turn, Collect, Drain, Reopen, End, Reading, Whole, Asks, Logs, answer_in, answer_of, answered, ask_of, asks_for, at_moment, at_of, begun, begun_of, call_in, call_of, called, collect_of, collected, container_of, exit_in, exit_of, exited, failed, fault_of, gone, gone_in, gone_of, line_of, logged, logged_in, logged_of, logs_in, lost, lost_of, no_start_in, no_start_of, numbered, numbered_in, parted, reply_of, unstarted, with_number, worded, worded_in}
 use Rattle.ow_day.specs.Printed.{HasNo, IsLineText, IsPrintable, IsWord, logs_head, printed}
 use Rattle.ow_day.proofs.Choices.{either, fits_by, if_later, some_by}
 use Rattle.ow_day.proofs.Identifying.{id_known}
@@ -317,5 +317,6 @@ line_written line r none e =
     either (bytes_eq line (codes "turn")) _ _ _ e (λ is e. only_word line Turn r is e tt) (λ _ e.
     either (bytes_eq line (codes "sweep")) _ _ _ e (λ is e. only_word line Sweep r is e tt) (λ _ e.
     either (bytes_eq line (codes "drain")) _ _ _ e (λ is e. only_word line Drain r is e tt) (λ _ e.
+    either (bytes_eq line (codes "reopen")) _ _ _ e (λ is e. only_word line Reopen r is e tt) (λ _ e.
     either (bytes_eq line (codes "end")) _ _ _ e (λ is e. only_word line End r is e tt) (λ _ e.
-    words_by line (parted line) r refl none (fits_by most_line (length line) short) e))))))
+    words_by line (parted line) r refl none (fits_by most_line (length line) short) e)))))))

@@ -1,119 +1,243 @@
 -- What comes of a statement where the hall meets an event.
-use Rattle.std.proofs.Common.{◌≡◌, ℕ, List, [], ◌∷◌, Some, Result, Ok, Err, IfOk, refl, sym, ap, ◌∙◌}
+use Rattle.std.proofs.Common.{◌≡◌, ◌≤◌, ℕ, List, [], ◌∷◌, Some, None, Result, Ok, Err, IfOk, IsErr, inl, inr, refl, sym, ap, subst, arith}
+use Rattle.std.proofs.lemmas.Bool.{false≢true}
+use Rattle.ow_value.specs.Value.{Pairs}
 use Rattle.ow_value.specs.declared.memory.NoMemory.{NoMemory as Want}
+use Rattle.ow_names.specs.declared.full.FullName.{FullName}
+use Rattle.ow_traits.specs.declared.change_list.Change.{Change}
+use Rattle.ow_traits.specs.declared.replies.RunReply.{RunReply}
 use Rattle.ow_floor.specs.declared.answers.AnswerRefusal.{AnswerRefusal}
-use Rattle.ow_floor.specs.declared.answers.AnswerRefusal.TheVariants.{NoRun, NoMemory}
-use Rattle.ow_decide.specs.Asking.{reply_in}
+use Rattle.ow_floor.specs.declared.answers.AnswerRefusal.TheVariants.{NoRun, NoMemory, StoreFault}
 use Rattle.ow_floor.specs.declared.answers.FloorRefusal.{FloorRefusal}
-use Rattle.ow_hall.specs.Comes.{Answers, Comes, Fails, HallView, KeptRows, Outcome, Replies, Wants, done_outcome, reply_outcome}
+use Rattle.ow_http.specs.Read.{IsRead}
+use Rattle.ow_http.specs.declared.http_refusal.HttpRefusal.{HttpRefusal}
+use Rattle.ow_http.specs.declared.request.Request.{Request as HttpRequest}
+use Rattle.ow_decide.specs.Asking.{reply_in}
+use Rattle.ow_decide.specs.Decision.{commits}
 use Rattle.ow_decide.specs.declared.events.Event.{Event}
+use Rattle.ow_decide.specs.declared.events.Event.TheVariants as events
 use Rattle.ow_decide.specs.declared.events.Told.{Told}
 use Rattle.ow_decide.specs.declared.events.Told.TheVariants as tells
+use Rattle.ow_decide.specs.declared.replies.Called.{Called}
 use Rattle.ow_decide.specs.declared.replies.Reply.{Reply}
+use Rattle.ow_hall.specs.Comes.{Answers, Comes, Fails, HallView, Holds, IsCalled, KeptRows, Outcome, Replies, Wants, decided, done_outcome, reply_outcome}
+use Rattle.ow_invoker.specs.Plain.{PlainGives}
+use Rattle.ow_invoker.specs.Turns.{Chain, Exchange, Turns as TurnsTo}
+use Rattle.ow_invoker.specs.declared.plain_runner.PlainContainer.{PlainContainer}
+use Rattle.ow_invoker.specs.declared.plain_runner.PlainRunner.{PlainRunner}
+use Rattle.ow_invoker.specs.declared.shelf.Laid.{Laid}
+use Rattle.ow_invoker.specs.declared.turn.Turned.{Turned}
+use Rattle.ow_invoker.proofs.Faults.{chain_later, chain_to_later, comes_later, undone_later}
 use Rattle.ow_day.specs.declared.done.Done.{Done}
+use Rattle.ow_day.specs.declared.done.Done.TheVariants as dones
 use Rattle.ow_day.specs.declared.done.Done.TheVariants.{Asked}
 use Rattle.ow_day.specs.declared.session.Session.{Session}
-use Rattle.ow_invoker.specs.Turns.{Chain, Exchange}
-use Rattle.ow_invoker.specs.declared.plain_runner.PlainContainer.{PlainContainer}
-use Rattle.ow_invoker.specs.declared.shelf.Laid.{Laid}
-use Rattle.ow_day.specs.Machine.{ExchangesAll, Machine, Meets, done_of}
-use Rattle.ow_day.specs.Session.{Denies, machine_of, told_of}
+use Rattle.ow_day.specs.Machine.{Asks, Does, ExchangesAll, Machine, Meets, done_of, fault_of, hall_of, unread}
+use Rattle.ow_day.specs.Session.{ComesTo, Denies, GoesTo, machine_of, told_of}
+use Rattle.ow_day.specs.Statement.{Ask, Turn}
+use Rattle.ow_day.proofs.Rising.{rose_none, rose_once, rose_then}
 
 -- the session over a hall
 abbrev over : {P : Type 0} → Session P → HallView P → Session P
 over s hall = record { hall = hall; given = s.given; scratch = s.scratch; routes = s.routes; runner = s.runner; shelf = s.shelf }
 
--- the hall tells something
-pub met : {P : Type 0} (rows : P → KeptRows) (faults : P → ℕ) (old : Session P) (hall : HallView P) (event : Event) (t : Told) → Comes rows faults old.hall hall old.given event (Answers t)
-    → Meets (machine_of old) event (done_of t) (machine_of (over old hall))
-met rows faults old hall event t (told, ledger, tenants, holds) =
-    (t, faults old.hall.store, faults hall.store, refl, refl, refl, (told, ledger, tenants, ap faults holds))
-
--- ---- requests
-
-reply_done : (t : Told) (reply : Reply) → reply_in t ≡ Some reply → done_of t ≡ Asked reply
-reply_done (tells.Opened happened) reply is = cc
-reply_done (tells.Asked r) reply is = let e : r ≡ reply = cc in ap Asked e
-reply_done (tells.Full answer) reply is = cc
-reply_done (tells.Called called) reply is = cc
-reply_done (tells.Next order) reply is = cc
-reply_done (tells.Answered answered) reply is = cc
-reply_done (tells.NoRun run back) reply is = cc
-reply_done tells.Done reply is = cc
-reply_done (tells.Refused refusal) reply is = cc
-reply_done (tells.Swept swept) reply is = cc
-reply_done (tells.Collected collected) reply is = cc
-reply_done (tells.Drain drain) reply is = cc
-
-asked_by : {P : Type 0} (rows : P → KeptRows) (faults : P → ℕ) (old : Session P) (hall : HallView P) (event : Event) (reply : Reply) (o : Outcome) → Replies (Ok reply) o
-    → Comes rows faults old.hall hall old.given event o → Meets (machine_of old) event (Asked reply) (machine_of (over old hall))
-asked_by rows faults old hall event reply (Answers t) replies comes =
-    let m = met rows faults old hall event t comes in
-    (m.0, m.1, m.2, sym (reply_done t reply replies) ∙ m.3, m.4, m.5, m.6)
-asked_by rows faults old hall event reply Wants never comes = absurd never
-asked_by rows faults old hall event reply Fails never comes = absurd never
-
--- a request is answered
-pub asked : {P : Type 0} (rows : P → KeptRows) (faults : P → ℕ) (old : Session P) (hall : HallView P) (event : Event) (reply : Reply)
-    → (o : Outcome) × Replies (Ok reply) o × Comes rows faults old.hall hall old.given event o → Meets (machine_of old) event (Asked reply) (machine_of (over old hall))
-asked rows faults old hall event reply (o, replies, comes) = asked_by rows faults old hall event reply o replies comes
-
-asked_same : {P : Type 0} (rows : P → KeptRows) (faults : P → ℕ) (old hall : HallView P) (at : ℕ) (event : Event) (r : Result Reply Want) (o : Outcome) → Replies r o
-    → Comes rows faults old hall at event o → hall.store ≡ old.store
-asked_same rows faults old hall at event (Ok reply) (Answers t) replies comes = comes.3
-asked_same rows faults old hall at event (Ok reply) Wants never comes = absurd never
-asked_same rows faults old hall at event (Ok reply) Fails never comes = absurd never
-asked_same rows faults old hall at event (Err e) (Answers t) is comes = cc
-asked_same rows faults old hall at event (Err e) Wants is comes = comes.2
-asked_same rows faults old hall at event (Err e) Fails is comes = cc
-
--- the store is as it was
-pub asked_stays : {P : Type 0} (rows : P → KeptRows) (faults : P → ℕ) (old hall : HallView P) (at : ℕ) (event : Event) (r : Result Reply Want)
-    → (o : Outcome) × Replies r o × Comes rows faults old hall at event o → hall.store ≡ old.store
-asked_stays rows faults old hall at event r (o, replies, comes) = asked_same rows faults old hall at event r o replies comes
-
--- ---- replies that aren't taken
-
-pub denied : {P : Type 0} (rows : P → KeptRows) (faults : P → ℕ) (old : Session P) (hall : HallView P) (event : Event) (refused : AnswerRefusal) (r : Result Done Want)
-    → Comes rows faults old.hall hall old.given event (reply_outcome (Err refused)) → Denies refused r → IfOk r (λ done. Meets (machine_of old) event done (machine_of (over old hall)))
-denied rows faults old hall event (NoRun run reply) (Ok done) comes is = rw is (met rows faults old hall event (tells.NoRun run reply) comes)
-denied rows faults old hall event (NoMemory reply) (Ok done) comes never = absurd never
-denied rows faults old hall event refused (Err e) comes is = tt
-
-pub denied_stays : {P : Type 0} (rows : P → KeptRows) (faults : P → ℕ) (old hall : HallView P) (at : ℕ) (event : Event) (refused : AnswerRefusal)
-    → Comes rows faults old hall at event (reply_outcome (Err refused)) → hall.store ≡ old.store
-denied_stays rows faults old hall at event (NoRun run reply) comes = comes.3
-denied_stays rows faults old hall at event (NoMemory reply) comes = comes.2
-
--- ---- what is told of containers
-
-pub taken : {P : Type 0} (rows : P → KeptRows) (faults : P → ℕ) (old : Session P) (hall : HallView P) (event : Event) (r : Result (Unit {0}) FloorRefusal)
-    → Comes rows faults old.hall hall old.given event (done_outcome r) → Meets (machine_of old) event (told_of r) (machine_of (over old hall))
-taken rows faults old hall event (Ok tt) comes = met rows faults old hall event tells.Done comes
-taken rows faults old hall event (Err refusal) comes = met rows faults old hall event (tells.Refused refusal) comes
-
-pub taken_stays : {P : Type 0} (rows : P → KeptRows) (faults : P → ℕ) (old hall : HallView P) (at : ℕ) (event : Event) (r : Result (Unit {0}) FloorRefusal)
-    → Comes rows faults old hall at event (done_outcome r) → hall.store ≡ old.store
-taken_stays rows faults old hall at event (Ok tt) comes = comes.3
-taken_stays rows faults old hall at event (Err refusal) comes = comes.3
-
--- ---- turns
+-- and behind a turn
+abbrev pub behind_turn : {P : Type 0} → Session P → HallView P → PlainRunner → List (Laid PlainContainer) → Session P
+behind_turn s hall runner left = record { hall = hall; given = s.given; scratch = s.scratch; routes = s.routes; runner = runner; shelf = left }
 
 -- the machine of the session over a hall, with these containers
 abbrev with_shelf : {P : Type 0} → Session P → HallView P → List (Laid PlainContainer) → Machine
 with_shelf s hall left = record { tenants = hall.tenants; ledger = hall.ledger; given = s.given; shelf = left }
 
--- events that the hall met one after the other
-pub chained : {P : Type 0} (rows : P → KeptRows) (faults : P → ℕ) (old : Session P) (hall : HallView P) (left : List (Laid PlainContainer)) (xs : List Exchange) → Chain rows faults old.hall hall old.given xs
-    → ExchangesAll (machine_of old) xs (with_shelf old hall left)
-chained rows faults old hall left [] same = ap (λ h. with_shelf old h left) same
-chained rows faults old hall left (x ∷ xs) (middle, (comes, rest)) = (
-  machine_of (over old middle),
-  (faults old.hall.store, faults middle.store, refl, (comes.0, comes.1, comes.2, ap faults comes.3)),
-  chained rows faults (over old middle) hall left xs rest,
-)
+-- whatever comes of a statement, the store's count of faults doesn't fall
+pub comes_to_later : {P : Type 0} (faults : P → ℕ) (old new : Session P) (Is : ℕ → Done → Machine → Type 0) (r : Result Done Want) → ComesTo faults old new Is r → faults old.hall.store ≤ faults new.hall.store
+comes_to_later faults old new Is (Ok done) (n, (is, rose)) = rose.0
+comes_to_later faults old new Is (Err e) later = later
 
--- the store is as it was
-pub chain_stays : {P : Type 0} (rows : P → KeptRows) (faults : P → ℕ) (old hall : HallView P) (at : ℕ) (xs : List Exchange) → Chain rows faults old hall at xs → hall.store ≡ old.store
-chain_stays rows faults old hall at [] same = ap (λ h. h.store) same
-chain_stays rows faults old hall at (x ∷ xs) (middle, (comes, rest)) = chain_stays rows faults middle hall at xs rest ∙ comes.3
+-- memory was wanted
+pub wants_so : {P : Type 0} (faults : P → ℕ) (old new : Session P) (Is : ℕ → Done → Machine → Type 0) (r : Result Done Want) → IsErr r → faults old.hall.store ≤ faults new.hall.store → ComesTo faults old new Is r
+wants_so faults old new Is (Ok done) never later = absurd (false≢true never)
+wants_so faults old new Is (Err e) is later = later
+
+-- ---- bytes of requests
+
+pub asking : {P : Type 0} (faults : P → ℕ) (old new : Session P) (bytes : List ℕ) (read : Result HttpRequest HttpRefusal) (r : Result Done Want) → IsRead bytes read → ComesTo faults old new (Asks (machine_of old) read) r
+    → ComesTo faults old new (Does (machine_of old) (Ask bytes)) r
+asking faults old new bytes read (Ok done) is (n, (asks, rose)) = (n, ((read, is, asks), rose))
+asking faults old new bytes read (Err e) is later = later
+
+-- they are no request
+pub unread_bytes : {P : Type 0} (faults : P → ℕ) (old : Session P) (bytes : List ℕ) (e : HttpRefusal) (r : Result Done Want) → IsRead bytes (Err e) → IfOk r (λ done. done ≡ unread e)
+    → ComesTo faults old old (Does (machine_of old) (Ask bytes)) r
+unread_bytes faults old bytes e (Ok done) is same = (0, ((Err e, is, (refl, same, refl)), rose_none (faults old.hall.store) (faults old.hall.store) (omega arith)))
+unread_bytes faults old bytes e (Err none) is same = omega arith
+
+module _ {P : Type 0} (rows : P → KeptRows) (faults : P → ℕ) where
+  -- over a store that tells no rows
+  bare_holds : (changes : List Change) (old new : P) → Holds rows faults changes old new → Holds {P = ℕ} (λ n. None) (λ n. n) changes (faults old) (faults new)
+  bare_holds [] old new same = ap faults same
+  bare_holds (c ∷ cs) old new (kept, later) = (refl, later)
+
+  bare : (old : Session P) (hall : HallView P) (event : Event) (o : Outcome) → (o ≡ Wants → ⊥) → Comes rows faults old.hall hall old.given event o
+      → Comes {P = ℕ} (λ n. None) (λ n. n) (hall_of (machine_of old) (faults old.hall.store)) (hall_of (machine_of (over old hall)) (faults hall.store)) old.given event o
+  bare old hall event (Answers t) some (told, ledger, tenants, holds) = (told, ledger, tenants, bare_holds (commits (decided old.hall old.given event)) old.hall.store hall.store holds)
+  bare old hall event Wants some comes = absurd (some refl)
+  bare old hall event Fails some (changes, ledger, tenants, stay, later, rose) = (changes, ledger, tenants, refl, later, rose)
+
+  -- ---- one event
+
+  -- the hall tells something
+  pub met : (old : Session P) (hall : HallView P) (event : Event) (t : Told) → Comes rows faults old.hall hall old.given event (Answers t)
+      → GoesTo faults old (over old hall) (Meets (machine_of old) event) (done_of t)
+  met old hall event t comes = (
+    0,
+    (
+      (Answers t, faults old.hall.store, faults hall.store, (refl, refl), refl, refl, bare old hall event (Answers t) (λ e. cc) comes),
+      rose_none (faults old.hall.store) (faults hall.store) (comes_later rows faults old.hall hall old.given event (Answers t) comes),
+    ),
+  )
+
+  -- or the store fails
+  pub failed : (old : Session P) (hall : HallView P) (event : Event) → Comes rows faults old.hall hall old.given event Fails
+      → GoesTo faults old (over old hall) (Meets (machine_of old) event) (fault_of event)
+  failed old hall event comes = (
+    1,
+    (
+      (Fails, faults old.hall.store, faults hall.store, (refl, refl), refl, refl, bare old hall event Fails (λ e. cc) comes),
+      rose_once (faults old.hall.store) (faults hall.store) comes.4 comes.5,
+    ),
+  )
+
+  -- or memory is wanted
+  pub wanted : (old : Session P) (hall : HallView P) (event : Event) → Comes rows faults old.hall hall old.given event Wants → faults old.hall.store ≤ faults hall.store
+  wanted old hall event comes = comes_later rows faults old.hall hall old.given event Wants comes
+
+  pub wanted_so : (old : Session P) (hall : HallView P) (event : Event) (o : Outcome) (r : Result Done Want) → IsErr r → Comes rows faults old.hall hall old.given event o
+      → ComesTo faults old (over old hall) (Meets (machine_of old) event) r
+  wanted_so old hall event o r is comes = wants_so faults old (over old hall) (Meets (machine_of old) event) r is (comes_later rows faults old.hall hall old.given event o comes)
+
+  -- ---- requests
+
+  reply_done : (t : Told) (reply : Reply) → reply_in t ≡ Some reply → done_of t ≡ Asked reply
+  reply_done (tells.Opened happened) reply is = cc
+  reply_done (tells.Asked r) reply is = let e : r ≡ reply = cc in ap Asked e
+  reply_done (tells.Full answer) reply is = cc
+  reply_done (tells.Called called) reply is = cc
+  reply_done (tells.Next order) reply is = cc
+  reply_done (tells.Answered answered) reply is = cc
+  reply_done (tells.NoRun run back) reply is = cc
+  reply_done tells.Done reply is = cc
+  reply_done (tells.Refused refusal) reply is = cc
+  reply_done (tells.Swept swept) reply is = cc
+  reply_done (tells.Collected collected) reply is = cc
+  reply_done (tells.Drain drain) reply is = cc
+  reply_done (tells.Reopened happened) reply is = cc
+
+  asked_by : (old : Session P) (hall : HallView P) (q : HttpRequest) (reply : Reply) (o : Outcome) → Replies (Ok reply) o
+      → Comes rows faults old.hall hall old.given (events.Asked q) o → GoesTo faults old (over old hall) (Meets (machine_of old) (events.Asked q)) (Asked reply)
+  asked_by old hall q reply (Answers t) replies comes =
+      subst (λ done. GoesTo faults old (over old hall) (Meets (machine_of old) (events.Asked q)) done) (reply_done t reply replies) (met old hall (events.Asked q) t comes)
+  asked_by old hall q reply Wants never comes = absurd never
+  asked_by old hall q reply Fails is comes =
+      subst (λ r. GoesTo faults old (over old hall) (Meets (machine_of old) (events.Asked q)) (Asked r)) (sym is) (failed old hall (events.Asked q) comes)
+
+  -- a request is answered
+  pub asked : (old : Session P) (hall : HallView P) (q : HttpRequest) (reply : Reply)
+      → (o : Outcome) × Replies (Ok reply) o × Comes rows faults old.hall hall old.given (events.Asked q) o → GoesTo faults old (over old hall) (Meets (machine_of old) (events.Asked q)) (Asked reply)
+  asked old hall q reply (o, replies, comes) = asked_by old hall q reply o replies comes
+
+  pub unasked : (old : Session P) (hall : HallView P) (event : Event) (e : Want) → (o : Outcome) × Replies (Err e) o × Comes rows faults old.hall hall old.given event o → faults old.hall.store ≤ faults hall.store
+  unasked old hall event e (o, is, comes) = comes_later rows faults old.hall hall old.given event o comes
+
+  -- ---- calls
+
+  called_by : (old : Session P) (hall : HallView P) (name : FullName) (params : Pairs) (c : Called) (o : Outcome) → IsCalled (Ok c) o
+      → Comes rows faults old.hall hall old.given (events.Called name params) o → GoesTo faults old (over old hall) (Meets (machine_of old) (events.Called name params)) (dones.Called c)
+  called_by old hall name params c (Answers t) is comes =
+      met old hall (events.Called name params) (tells.Called c) (subst (λ a. Comes rows faults old.hall hall old.given (events.Called name params) (Answers a)) is comes)
+  called_by old hall name params c Wants never comes = absurd never
+  called_by old hall name params c Fails is comes =
+      subst (λ x. GoesTo faults old (over old hall) (Meets (machine_of old) (events.Called name params)) (dones.Called x)) (sym is) (failed old hall (events.Called name params) comes)
+
+  pub called : (old : Session P) (hall : HallView P) (name : FullName) (params : Pairs) (c : Called)
+      → (o : Outcome) × IsCalled (Ok c) o × Comes rows faults old.hall hall old.given (events.Called name params) o → GoesTo faults old (over old hall) (Meets (machine_of old) (events.Called name params)) (dones.Called c)
+  called old hall name params c (o, is, comes) = called_by old hall name params c o is comes
+
+  pub uncalled : (old : Session P) (hall : HallView P) (event : Event) (e : Want) → (o : Outcome) × IsCalled (Err e) o × Comes rows faults old.hall hall old.given event o → faults old.hall.store ≤ faults hall.store
+  uncalled old hall event e (o, is, comes) = comes_later rows faults old.hall hall old.given event o comes
+
+  -- ---- replies that aren't taken
+
+  pub denied : (old : Session P) (hall : HallView P) (run : ℕ) (reply : RunReply) (refused : AnswerRefusal) (r : Result Done Want)
+      → Comes rows faults old.hall hall old.given (events.Answered run reply) (reply_outcome (Err refused)) → Denies refused r
+      → ComesTo faults old (over old hall) (Meets (machine_of old) (events.Answered run reply)) r
+  denied old hall run reply (NoRun number back) (Ok done) comes is =
+      subst (λ d. GoesTo faults old (over old hall) (Meets (machine_of old) (events.Answered run reply)) d) (sym is) (met old hall (events.Answered run reply) (tells.NoRun number back) comes)
+  denied old hall run reply (NoMemory back) (Ok done) comes never = absurd never
+  denied old hall run reply (StoreFault back) (Ok done) comes is =
+      subst (λ d. GoesTo faults old (over old hall) (Meets (machine_of old) (events.Answered run reply)) d) (sym is) (failed old hall (events.Answered run reply) comes)
+  denied old hall run reply refused (Err e) comes is = comes_later rows faults old.hall hall old.given (events.Answered run reply) (reply_outcome (Err refused)) comes
+
+  -- ---- what is told of containers
+
+  pub taken : (old : Session P) (hall : HallView P) (event : Event) (r : Result (Unit {0}) FloorRefusal)
+      → Comes rows faults old.hall hall old.given event (done_outcome r) → GoesTo faults old (over old hall) (Meets (machine_of old) event) (told_of r)
+  taken old hall event (Ok tt) comes = met old hall event tells.Done comes
+  taken old hall event (Err refusal) comes = met old hall event (tells.Refused refusal) comes
+
+  -- ---- turns
+
+  -- events that the hall met one after the other
+  chained : (old : Session P) (hall : HallView P) (left : List (Laid PlainContainer)) (xs : List Exchange) → Chain rows faults old.hall hall old.given xs
+      → ExchangesAll (machine_of old) xs (with_shelf old hall left)
+  chained old hall left [] same = ap (λ h. with_shelf old h left) same
+  chained old hall left (x ∷ xs) (middle, (comes, rest)) = (
+    machine_of (over old middle),
+    (faults old.hall.store, faults middle.store, refl, bare old middle x.event (Answers x.answer) (λ e. cc) comes),
+    chained (over old middle) hall left xs rest,
+  )
+
+  pub turned : (old : Session P) (hall : HallView P) (runner : PlainRunner) (left : List (Laid PlainContainer)) (t : Turned)
+      → TurnsTo rows faults PlainGives 0 0 old.hall hall old.given old.shelf left (Ok t) → GoesTo faults old (behind_turn old hall runner left) (Does (machine_of old) Turn) (dones.Turned t)
+  turned old hall runner left t (inl (xs, (turn, chain, steps))) = (
+    0,
+    (
+      (t, refl, inl (refl, record { exchanges = xs; turn = turn; met = chained old hall left xs chain; steps = steps })),
+      rose_none (faults old.hall.store) (faults hall.store) (chain_later rows faults old.hall hall old.given xs chain),
+    ),
+  )
+  turned old hall runner left t (inr (xs, (event, (turn, (middle, (chain, comes)), steps)))) =
+      let before = rose_none (faults old.hall.store) (faults middle.store) (chain_later rows faults old.hall middle old.given xs chain) in
+      let last = rose_once (faults middle.store) (faults hall.store) comes.4 comes.5 in (
+        1,
+        (
+          (
+            t,
+            refl,
+            inr (
+              refl,
+              record {
+                exchanges = xs;
+                event = event;
+                turn = turn;
+                middle = with_shelf old middle old.shelf;
+                met = chained old middle old.shelf xs chain;
+                fails = (faults middle.store, faults hall.store, refl, bare (over old middle) hall event Fails (λ e. cc) comes);
+                steps = steps;
+              },
+            ),
+          ),
+          rose_then 0 1 (faults old.hall.store) (faults middle.store) (faults hall.store) before last,
+        ),
+      )
+
+  pub stopped : (old : Session P) (hall : HallView P) (left : List (Laid PlainContainer)) (r : Result Turned Want)
+      → TurnsTo rows faults PlainGives 0 0 old.hall hall old.given old.shelf left r → faults old.hall.store ≤ faults hall.store
+  stopped old hall left (Ok t) (inl (xs, (turn, chain, steps))) = chain_later rows faults old.hall hall old.given xs chain
+  stopped old hall left (Ok t) (inr (xs, (event, (turn, chain, steps)))) = chain_to_later rows faults old.hall hall old.given xs event Fails chain
+  stopped old hall left (Err e) (inl (xs, (begins, chain))) = chain_later rows faults old.hall hall old.given xs chain
+  stopped old hall left (Err e) (inr (order, (xs, (event, (offers, undone))))) = undone_later rows faults old.hall hall old.given xs event undone
+
+  pub stopped_so : (old : Session P) (hall : HallView P) (runner : PlainRunner) (left : List (Laid PlainContainer)) (t : Result Turned Want) (r : Result Done Want) → IsErr r
+      → TurnsTo rows faults PlainGives 0 0 old.hall hall old.given old.shelf left t → ComesTo faults old (behind_turn old hall runner left) (Does (machine_of old) Turn) r
+  stopped_so old hall runner left t r is turns = wants_so faults old (behind_turn old hall runner left) (Does (machine_of old) Turn) r is (stopped old hall left t turns)

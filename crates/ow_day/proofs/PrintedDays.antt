@@ -4,7 +4,7 @@ use Rattle.std.specs.List.{All}
 use Rattle.std.proofs.lemmas.List.{take_all}
 use Rattle.std.proofs.lemmas.List.Elements.{All-head, All-tail}
 use Rattle.ow_day.specs.Limits.{most_bytes}
-use Rattle.ow_day.specs.Statement.{Statement, At, Call, Ask, Next, Begun, Answer, Logged, Exit, NoStart, Fault, Lost, Gone, Sweep, Turn, Collect, Drain, End}
+use Rattle.ow_day.specs.Statement.{Statement, At, Call, Ask, Next, Begun, Answer, Logged, Exit, NoStart, Fault, Lost, Gone, Sweep, Turn, Collect, Drain, Reopen, End}
 use Rattle.ow_day.specs.Day.{Day, Finished, day_from, day_step, going_on, has_more, window}
 use Rattle.ow_day.specs.Printed.{DayIsReadBack, IsPrintable, before_end, printed, printed_day}
 use Rattle.ow_day.proofs.Choices.{is_short}
@@ -31,6 +31,7 @@ one_more Sweep ss = refl
 one_more (Collect id) ss = refl
 one_more Turn ss = refl
 one_more Drain ss = refl
+one_more Reopen ss = refl
 one_more End ss = refl
 
 from_here : (count n : ℕ) (ss : List Statement) → All IsPrintable ss → length (printed_day ss) < count → day_from count false n (printed_day ss) ≡ day_with ss

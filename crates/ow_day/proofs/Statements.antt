@@ -7,7 +7,7 @@ use Rattle.std.proofs.lemmas.Bool.Decides.{nat_tests}
 use Rattle.std.proofs.lemmas.List.{drop_more, take-append-drop}
 use Rattle.std.proofs.lemmas.List.Elements.{All-cons, All-nil}
 use Rattle.ow_day.specs.Limits.{most_line}
-use Rattle.ow_day.specs.Statement.{Statement, At, Call, Ask, Next, Begun, Answer, Logged, Exit, NoStart, Fault, Lost, Gone, Sweep, Turn, Collect, Drain, End, Reading, Whole, Asks, Logs, line_of}
+use Rattle.ow_day.specs.Statement.{Statement, At, Call, Ask, Next, Begun, Answer, Logged, Exit, NoStart, Fault, Lost, Gone, Sweep, Turn, Collect, Drain, Reopen, End, Reading, Whole, Asks, Logs, line_of}
 use Rattle.ow_day.specs.Day.{Day, First, Found, Wrong, Cut, Lines, LinesAre, NoLines, CutLines, lines_in, logged, asked, at_end, behind_line, day_from, day_of, day_step, first_in, first_statement, going_on, has_more, line_at, window}
 use Rattle.ow_day.specs.Printed.{HasNo, IsLogLine, IsPrintable, IsPrintedAt, logs_head, printed, printed_logs}
 use Rattle.ow_day.proofs.Choices.{either}
@@ -186,6 +186,7 @@ goes_on Sweep day can rest = All-cons IsPrintable Sweep day.statements can rest
 goes_on (Collect id) day can rest = All-cons IsPrintable (Collect id) day.statements can rest
 goes_on Turn day can rest = All-cons IsPrintable Turn day.statements can rest
 goes_on Drain day can rest = All-cons IsPrintable Drain day.statements can rest
+goes_on Reopen day can rest = All-cons IsPrintable Reopen day.statements can rest
 
 step_by : (more : Bool) (n : ℕ) (bytes : List ℕ) (f : First) (then' : List ℕ → Day) → first_statement more bytes ≡ f → ((rest : List ℕ) → All IsPrintable (then' rest).statements)
     → All IsPrintable (day_step n f then').statements

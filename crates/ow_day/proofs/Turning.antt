@@ -1,5 +1,5 @@
 -- No event of a turn opens the service.
-use Rattle.std.proofs.Common.{◌≡◌, ◌⊎◌, ◌++◌, ℕ, Bool, true, false, List, [], ◌∷◌, inl, inr, refl, ap}
+use Rattle.std.proofs.Common.{◌≡◌, ◌⊎◌, ◌++◌, Bool, true, false, List, [], ◌∷◌, inl, inr, refl, ap}
 use Rattle.ow_traits.specs.declared.replies.RunReply.{RunReply}
 use Rattle.ow_floor.specs.declared.answers.Container.{Container}
 use Rattle.ow_floor.specs.declared.answers.Order.{Order}
@@ -7,9 +7,9 @@ use Rattle.ow_floor.specs.declared.answers.Order.TheVariants as orders
 use Rattle.ow_floor.specs.declared.answers.PrewarmOrder.{PrewarmOrder}
 use Rattle.ow_floor.specs.declared.answers.RunOrder.{RunOrder}
 use Rattle.ow_decide.specs.declared.events.Event.{Event}
-use Rattle.ow_hall.specs.History.{is_opening}
+use Rattle.ow_decide.specs.Decisions.{is_opening}
 use Rattle.ow_invoker.specs.Plain.{PlainGives}
-use Rattle.ow_invoker.specs.Turns.{AreBoth, Exchange, Follows, IsAlone, IsCarriedOut, IsTurn, Opens, PrewarmFollows, Removes, Rests, RunFollows, exchange, is_answer, is_late, is_missing}
+use Rattle.ow_invoker.specs.Turns.{AreBoth, Exchange, Follows, IsAlone, IsCarriedOut, IsTurn, Offers, OffersTurn, Opens, PrewarmFollows, Removes, Rests, RunFollows, RunOffers, exchange, is_answer, is_late, is_missing}
 use Rattle.ow_invoker.specs.declared.plain_runner.PlainContainer.{PlainContainer}
 use Rattle.ow_invoker.specs.declared.shelf.Laid.{Laid}
 
@@ -75,3 +75,19 @@ follow_opens shelf (orders.Nothing why) xs left follows = rw follows.0 tt
 pub turn_opens : (shelf : Shelved) (order : Order) (xs : List Exchange) (left : Shelved) → IsTurn PlainGives 0 0 shelf order xs left → NoneOpens xs
 turn_opens shelf order [] left never = absurd never
 turn_opens shelf order (x ∷ xs) left (is, follows) = (ap (λ (e : Exchange). is_opening e.event) is, follow_opens shelf order xs left follows)
+
+-- ---- up to a runner's reply
+
+offer_opens : (missing : Bool) (order : RunOrder) (shelf : Shelved) (xs : List Exchange) (event : Event) (left : Shelved) → RunOffers missing PlainGives 0 0 order shelf xs event left → NoneOpens xs
+offer_opens true order shelf xs event left never = absurd never
+offer_opens false order shelf xs event left (reply, (is, offered)) = opening_opens order reply xs offered.opens
+
+order_offers : (shelf : Shelved) (order : Order) (xs : List Exchange) (event : Event) (left : Shelved) → Offers PlainGives 0 0 shelf order xs event left → NoneOpens xs
+order_offers shelf (orders.Run order) xs event left offers = offer_opens (is_missing order shelf) order shelf xs event left offers
+order_offers shelf (orders.Prewarm order) xs event left never = absurd never
+order_offers shelf (orders.Remove containers) xs event left never = absurd never
+order_offers shelf (orders.Nothing why) xs event left never = absurd never
+
+pub offered_opens : (shelf : Shelved) (order : Order) (xs : List Exchange) (event : Event) (left : Shelved) → OffersTurn PlainGives 0 0 shelf order xs event left → NoneOpens xs
+offered_opens shelf order [] event left never = absurd never
+offered_opens shelf order (x ∷ xs) event left (is, offers) = (ap (λ (e : Exchange). is_opening e.event) is, order_offers shelf order xs event left offers)

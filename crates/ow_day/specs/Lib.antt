@@ -8,6 +8,7 @@ pub mod Search
 pub mod Input
 pub mod Status
 pub mod Words
+pub mod Faults
 pub mod Texts
 pub mod CallWords
 pub mod Machine

@@ -4,7 +4,7 @@ use Rattle.ow_day.specs.declared.line.Statement as code
 use Rattle.ow_day.specs.declared.line.Statement.TheVariants as statements
 use Rattle.ow_day.specs.declared.line.Line.{Line}
 use Rattle.ow_day.specs.declared.line.Line.TheVariants as lines
-use Rattle.ow_day.specs.Statement.{Statement, At, Call, Ask, Next, Begun, Answer, Logged, Exit, NoStart, Fault, Lost, Gone, Sweep, Turn, Collect, Drain, End, Reading, Whole, Asks, Logs}
+use Rattle.ow_day.specs.Statement.{Statement, At, Call, Ask, Next, Begun, Answer, Logged, Exit, NoStart, Fault, Lost, Gone, Sweep, Turn, Collect, Drain, Reopen, End, Reading, Whole, Asks, Logs}
 use Rattle.ow_day.specs.Day.{Lines, LinesAre, NoLines, CutLines, lines_in}
 
 abbrev pub read_lines : Lines → List (List ℕ)
@@ -33,6 +33,7 @@ statement statements.Sweep = Sweep
 statement (statements.Collect id) = Collect id
 statement statements.Turn = Turn
 statement statements.Drain = Drain
+statement statements.Reopen = Reopen
 statement statements.End = End
 
 abbrev pub reading : Line → Reading

@@ -1,12 +1,12 @@
 -- The plain machine of a day: what comes of each statement over the book so far, what is written for it, and what is booked.
-use Rattle.std.specs.Prelude.{◌≡◌, ◌++◌, ℕ, pos, List, [], ◌∷◌, None, Result, Ok, Err}
+use Rattle.std.specs.Prelude.{◌≡◌, ◌+◌, ◌⊎◌, ◌++◌, ℕ, pos, List, [], ◌∷◌, None, Result, Ok, Err}
 use Rattle.ow_traits.specs.declared.replies.RunReply.TheVariants as runs
 use Rattle.ow_http.specs.Read.{IsRead}
 use Rattle.ow_http.specs.Refused.{refusal_of}
 use Rattle.ow_http.specs.declared.http_refusal.HttpRefusal.{HttpRefusal}
 use Rattle.ow_http.specs.declared.reason.Reason.TheVariants.{Http}
 use Rattle.ow_http.specs.declared.request.Request.{Request}
-use Rattle.ow_hall.specs.Comes.{Answers, Comes, HallView}
+use Rattle.ow_hall.specs.Comes.{Answers, Comes, Fails, HallView, Outcome, Wants, store_failed, store_reply}
 use Rattle.ow_hall.specs.History.{counted}
 use Rattle.ow_hall.specs.Ledger.{Ledger, opened}
 use Rattle.ow_decide.specs.Sight.{is_full}
@@ -14,20 +14,23 @@ use Rattle.ow_decide.specs.declared.events.Event.{Event}
 use Rattle.ow_decide.specs.declared.events.Event.TheVariants as events
 use Rattle.ow_decide.specs.declared.events.Told.{Told}
 use Rattle.ow_decide.specs.declared.events.Told.TheVariants as told
+use Rattle.ow_decide.specs.declared.replies.Called.TheVariants as called_replies
 use Rattle.ow_decide.specs.declared.replies.Reply.TheVariants as replies
+use Rattle.ow_items.specs.Sorted.{Entries}
 use Rattle.ow_tenant.specs.Table.{Table}
 use Rattle.ow_invoker.specs.Plain.{PlainGives}
-use Rattle.ow_invoker.specs.Turns.{Exchange, IsTurn, steps_in}
+use Rattle.ow_invoker.specs.Turns.{Exchange, IsTurn, OffersTurn, steps_in}
 use Rattle.ow_invoker.specs.declared.plain_runner.PlainContainer.{PlainContainer}
 use Rattle.ow_invoker.specs.declared.shelf.Laid.{Laid}
+use Rattle.ow_invoker.specs.declared.turn.TurnStep.TheVariants as turn_steps
 use Rattle.ow_invoker.specs.declared.turn.Turned.{Turned}
 use Rattle.ow_day.specs.declared.call_words.CallWords.{CallWords}
 use Rattle.ow_day.specs.declared.call_words.CallWords.TheVariants as calls
 use Rattle.ow_day.specs.declared.done.Done.{Done}
 use Rattle.ow_day.specs.declared.done.Done.TheVariants as dones
-use Rattle.ow_day.specs.declared.done.Done.TheVariants.{Silent, Refused, Asked, Called, Ordered, Answered, NoRun, Taken, Denied, Collected, Drained}
+use Rattle.ow_day.specs.declared.done.Done.TheVariants.{Silent, Refused, Asked, Called, Ordered, Answered, NoRun, Taken, Denied, Collected, Drained, Reopened, StoreFault}
 use Rattle.ow_day.specs.CallWords.{called}
-use Rattle.ow_day.specs.Statement.{Statement, At, Call, Ask, Next, Begun, Answer, Logged, Exit, NoStart, Fault, Lost, Gone, Sweep, Turn, Collect, Drain, End}
+use Rattle.ow_day.specs.Statement.{Statement, At, Call, Ask, Next, Begun, Answer, Logged, Exit, NoStart, Fault, Lost, Gone, Sweep, Turn, Collect, Drain, Reopen, End}
 use Rattle.ow_day.specs.Texts.{lines_of}
 
 -- the office table, the book so far, the moment that the day gave last, and the containers that lie between turns
@@ -37,9 +40,9 @@ pub record Machine : Type 0 where
   pub given : ℕ
   pub shelf : List (Laid PlainContainer)
 
--- the service was just opened over an office table, at moment 0
-abbrev pub start : Table → Machine
-start t = record { tenants = t; ledger = opened t 0; given = 0; shelf = [] }
+-- the service was just opened over an office table and kept rows, at moment 0
+abbrev pub start : Table → Entries → Machine
+start t rows = record { tenants = t; ledger = opened t rows 0; given = 0; shelf = [] }
 
 -- ---- what the hall meets
 
@@ -61,11 +64,24 @@ done_of (told.Refused refusal) = Denied refusal
 done_of (told.Swept swept) = dones.Swept swept
 done_of (told.Collected c) = Collected c
 done_of (told.Drain drain) = Drained drain
+done_of (told.Reopened happened) = Reopened happened
+
+-- what comes of it where the store fails at its event
+abbrev pub fault_of : Event → Done
+fault_of (events.Asked request) = Asked store_reply
+fault_of (events.Called name params) = Called (called_replies.Refused store_failed)
+fault_of event = StoreFault
+
+-- so it is, and whether the store failed: 0 or 1 times
+abbrev pub Ends : Event → Outcome → ℕ → Done → Type 0
+Ends event (Answers t) failed done = (failed ≡ 0) × (done ≡ done_of t)
+Ends event Fails failed done = (failed ≡ 1) × (done ≡ fault_of event)
+Ends event Wants failed done = ⊥
 
 -- the hall meets an event at the moment that the day gave last, and this comes of it. The containers lie as they did
-abbrev pub Meets : Machine → Event → Done → Machine → Type 0
-Meets M event done N = (t : Told) × (before : ℕ) × (later : ℕ) × (done ≡ done_of t) × (N.given ≡ M.given) × (N.shelf ≡ M.shelf)
-    × Comes (λ faults. None) (λ faults. faults) (hall_of M before) (hall_of N later) M.given event (Answers t)
+abbrev pub Meets : Machine → Event → ℕ → Done → Machine → Type 0
+Meets M event failed done N = (o : Outcome) × (before : ℕ) × (later : ℕ) × Ends event o failed done × (N.given ≡ M.given) × (N.shelf ≡ M.shelf)
+    × Comes (λ faults. None) (λ faults. faults) (hall_of M before) (hall_of N later) M.given event o
 
 -- one such event, and what the hall told of it
 abbrev pub Exchanges : Machine → Exchange → Machine → Type 0
@@ -77,6 +93,11 @@ abbrev pub ExchangesAll : Machine → List Exchange → Machine → Type 0
 ExchangesAll M [] N = N ≡ record M { shelf = N.shelf }
 ExchangesAll M (x ∷ xs) N = (K : Machine) × Exchanges M x K × ExchangesAll K xs N
 
+-- the store fails at one such event
+abbrev pub FailsAt : Machine → Event → Machine → Type 0
+FailsAt M event N = (before : ℕ) × (later : ℕ) × (N.given ≡ M.given)
+    × Comes (λ faults. None) (λ faults. faults) (hall_of M before) (hall_of N later) M.given event Fails
+
 -- a turn of the runner of plain code, which has no faults, with the containers that lie there
 pub record TakesTurn (M : Machine) (turned : Turned) (N : Machine) : Type 0 where
   pub exchanges : List Exchange
@@ -84,43 +105,64 @@ pub record TakesTurn (M : Machine) (turned : Turned) (N : Machine) : Type 0 wher
   pub met : ExchangesAll M exchanges N
   pub steps : turned.steps ≡ steps_in exchanges
 
+-- the store fails at the runner's reply, and what was booked before stands
+pub record FailsTurn (M : Machine) (turned : Turned) (N : Machine) : Type 0 where
+  pub exchanges : List Exchange
+  pub event : Event
+  pub turn : OffersTurn PlainGives 0 0 M.shelf turned.order exchanges event N.shelf
+  pub middle : Machine
+  pub met : ExchangesAll M exchanges middle
+  pub fails : FailsAt middle event N
+  pub steps : turned.steps ≡ turn_steps.StoreFault ∷ []
+
+abbrev pub Turns : Machine → Turned → ℕ → Machine → Type 0
+Turns M turned failed N = ((failed ≡ 0) × TakesTurn M turned N) ⊎ ((failed ≡ 1) × FailsTurn M turned N)
+
 -- ---- statements
 
--- a call that is refused for its own words doesn't reach the hall
-abbrev pub Calls : Machine → CallWords → Done → Machine → Type 0
-Calls M (calls.Refused reason) done N = (done ≡ Refused reason) × (N ≡ M)
-Calls M (calls.Calls name params) done N = Meets M (events.Called name params) done N
+-- nothing reaches the hall
+abbrev pub Rests : Machine → Done → ℕ → Done → Machine → Type 0
+Rests M known failed done N = (failed ≡ 0) × (done ≡ known) × (N ≡ M)
+
+-- a call that is refused for its own words doesn't reach it
+abbrev pub Calls : Machine → CallWords → ℕ → Done → Machine → Type 0
+Calls M (calls.Refused reason) failed done N = Rests M (Refused reason) failed done N
+Calls M (calls.Calls name params) failed done N = Meets M (events.Called name params) failed done N
 
 -- the reply to bytes that are no request
 abbrev pub unread : HttpRefusal → Done
 unread e = Asked (replies.Now (refusal_of (Http e)))
 
--- nor do they reach it
-abbrev pub Asks : Machine → Result Request HttpRefusal → Done → Machine → Type 0
-Asks M (Ok request) done N = Meets M (events.Asked request) done N
-Asks M (Err e) done N = (done ≡ unread e) × (N ≡ M)
+-- nor do they
+abbrev pub Asks : Machine → Result Request HttpRefusal → ℕ → Done → Machine → Type 0
+Asks M (Ok request) failed done N = Meets M (events.Asked request) failed done N
+Asks M (Err e) failed done N = Rests M (unread e) failed done N
 
--- a statement is carried out by a machine, this comes of it, and so the machine stands afterwards
-abbrev pub Does : Machine → Statement → Done → Machine → Type 0
-Does M (At moment) done N = (done ≡ Silent) × (N ≡ record M { given = moment })
-Does M (Call name text) done N = Calls M (called (is_full (counted M.ledger.entries) 0) name text) done N
-Does M (Ask bytes) done N = (read : Result Request HttpRefusal) × IsRead bytes read × Asks M read done N
-Does M Next done N = Meets M events.Next done N
-Does M (Begun run) done N = Meets M (events.Begun run) done N
-Does M (Answer run text) done N = Meets M (events.Answered run (runs.Answer text [])) done N
-Does M (Logged run text logs) done N = Meets M (events.Answered run (runs.Answer text logs)) done N
-Does M (Exit run code) done N = Meets M (events.Answered run (runs.Exit (pos code) [])) done N
-Does M (NoStart run text) done N = Meets M (events.Answered run (runs.NoStart text)) done N
-Does M (Fault run) done N = Meets M (events.Answered run runs.Fault) done N
-Does M (Lost run) done N = Meets M (events.Lost run) done N
-Does M (Gone slot generation) done N = Meets M (events.Gone slot generation) done N
-Does M Sweep done N = Meets M events.Sweep done N
-Does M (Collect id) done N = Meets M (events.Collected id) done N
-Does M Turn done N = (turned : Turned) × (done ≡ dones.Turned turned) × TakesTurn M turned N
-Does M Drain done N = Meets M events.Drain done N
-Does M End done N = (done ≡ Silent) × (N ≡ M)
+-- a statement is carried out by a machine, this comes of it, and so the machine stands afterwards; the store failed at it so
+-- many times, which is 0 or 1
+abbrev pub Does : Machine → Statement → ℕ → Done → Machine → Type 0
+Does M (At moment) failed done N = (failed ≡ 0) × (done ≡ Silent) × (N ≡ record M { given = moment })
+Does M (Call name text) failed done N = Calls M (called (is_full (counted M.ledger.entries) 0) name text) failed done N
+Does M (Ask bytes) failed done N = (read : Result Request HttpRefusal) × IsRead bytes read × Asks M read failed done N
+Does M Next failed done N = Meets M events.Next failed done N
+Does M (Begun run) failed done N = Meets M (events.Begun run) failed done N
+Does M (Answer run text) failed done N = Meets M (events.Answered run (runs.Answer text [])) failed done N
+Does M (Logged run text logs) failed done N = Meets M (events.Answered run (runs.Answer text logs)) failed done N
+Does M (Exit run code) failed done N = Meets M (events.Answered run (runs.Exit (pos code) [])) failed done N
+Does M (NoStart run text) failed done N = Meets M (events.Answered run (runs.NoStart text)) failed done N
+Does M (Fault run) failed done N = Meets M (events.Answered run runs.Fault) failed done N
+Does M (Lost run) failed done N = Meets M (events.Lost run) failed done N
+Does M (Gone slot generation) failed done N = Meets M (events.Gone slot generation) failed done N
+Does M Sweep failed done N = Meets M events.Sweep failed done N
+Does M (Collect id) failed done N = Meets M (events.Collected id) failed done N
+Does M Turn failed done N = (turned : Turned) × (done ≡ dones.Turned turned) × Turns M turned failed N
+Does M Drain failed done N = Meets M events.Drain failed done N
+Does M Reopen failed done N = Meets M events.Reopened failed done N
+Does M End failed done N = Rests M Silent failed done N
 
--- these statements are carried out one after the other: this is written, and so the machine stands afterwards
-abbrev pub CarriesOut : Machine → List Statement → List ℕ → Machine → Type 0
-CarriesOut M [] lines N = (lines ≡ []) × (N ≡ M)
-CarriesOut M (s ∷ ss) lines N = (done : Done) × (K : Machine) × (later : List ℕ) × Does M s done K × (lines ≡ lines_of done ++ later) × CarriesOut K ss later N
+-- these statements are carried out one after the other: this is written, the store failed at so many of them, and so the machine
+-- stands afterwards
+abbrev pub CarriesOut : Machine → List Statement → List ℕ → ℕ → Machine → Type 0
+CarriesOut M [] lines failed N = (lines ≡ []) × (failed ≡ 0) × (N ≡ M)
+CarriesOut M (s ∷ ss) lines failed N = (done : Done) × (here : ℕ) × (K : Machine) × (later : List ℕ) × (rest : ℕ)
+    × Does M s here done K × (lines ≡ lines_of done ++ later) × (failed ≡ here + rest) × CarriesOut K ss later rest N

@@ -1,59 +1,121 @@
 -- What the office answers and writes.
-use Rattle.std.specs.Prelude.{◌≡◌, ◌≢◌, ℕ, List, [], Option, Some, None, Result, Ok, Err, IfSome, take}
-use Rattle.ow_traits.specs.Streams.{Takes, TakesFront}
+use Rattle.std.specs.Prelude.{◌≡◌, ◌≤◌, ◌⊎◌, ℕ, Bool, true, false, List, [], Option, Some, None, Result, Ok, Err, IfSome, IsOk, take}
+use Rattle.ow_traits.specs.Streams.{Rose, Takes, TakesFront}
+use Rattle.ow_items.specs.Sorted.{Entries}
+use Rattle.ow_keep.specs.Judged.{judged}
+use Rattle.ow_keep.specs.Kept.{IsBadRow}
+use Rattle.ow_hall.specs.Comes.{HoldsBook, KeptRows}
 use Rattle.ow_hall.specs.History.{IsLegal}
+use Rattle.ow_hall.specs.declared.refusals.StartFault.{StartFault}
+use Rattle.ow_hall.specs.declared.refusals.StartFault.TheVariants as starts
 use Rattle.ow_tenant.specs.Table.{Table, table_of}
 use Rattle.ow_tenant.specs.declared.refusal.TenantRefusal.{TenantRefusal}
 use Rattle.ow_tenant.specs.declared.refusal.TenantRefusal.TheVariants as refusals
 use Rattle.ow_day.specs.declared.status.Status.{Status}
 use Rattle.ow_day.specs.declared.status.Status.TheVariants as statuses
-use Rattle.ow_day.specs.declared.words.Command.{Command}
-use Rattle.ow_day.specs.declared.words.Command.TheVariants as commands
+use Rattle.ow_words.specs.declared.command.WordsRefusal.{WordsRefusal}
+use Rattle.ow_words.specs.declared.command.WordsRefusal.TheVariants as words
+use Rattle.ow_day.specs.declared.words.Asked.{Asked}
+use Rattle.ow_day.specs.declared.words.Asked.TheVariants as asks
+use Rattle.ow_day.specs.Faults.{RoseBy}
 use Rattle.ow_day.specs.Statement.{Statement}
 use Rattle.ow_day.specs.Machine.{Machine, start, CarriesOut}
 use Rattle.ow_day.specs.Day.{Day, Finished, Bad, TooLong, day_of}
 
--- the lines of all these statements were written
-pub record Wrote (t : Table) (old new : Option (List ℕ)) (statements : List Statement) : Type 0 where
+-- ---- the store
+
+-- a store: the rows that it tells, where it does, and how many faults it has met
+pub record StoreView : Type 0 where
+  pub rows : KeptRows
+  pub faults : ℕ
+
+abbrev pub store_of : {P : Type 0} → (P → KeptRows) → (P → ℕ) → P → StoreView
+store_of rows faults store = record { rows = rows store; faults = faults store }
+
+-- the rows over which a service is opened: those that the store tells, where it does. They are allowed
+pub record IsOpenedOver (store : StoreView) (rows : Entries) : Type 0 where
+  pub told : IfSome store.rows (λ kept. rows ≡ kept)
+  pub allowed : IsOk (judged rows)
+
+-- what a day leaves of the store that it failed at so many times: its count of faults rose by so many at least, and its rows, where
+-- it tells them, are what is kept of the book, which is legal
+pub record LeavesStore (before after : StoreView) (failed : ℕ) (last : Machine) : Type 0 where
+  pub rose : RoseBy failed before.faults after.faults
+  pub legal : IsLegal last.tenants last.ledger.entries
+  pub holds : HoldsBook after.rows last.tenants last.ledger
+
+-- nothing is written, and the store's rows stay
+pub record IsUnopened (before after : StoreView) (old new : Option (List ℕ)) : Type 0 where
+  pub unwritten : new ≡ old
+  pub rows_stay : after.rows ≡ before.rows
+  pub later : before.faults ≤ after.faults
+
+-- the first bad one of the kept rows has this key
+abbrev pub HasBadRow : StoreView → List ℕ → Type 0
+HasBadRow store key = (rows : Entries) × IfSome store.rows (λ kept. rows ≡ kept) × IsBadRow rows key
+
+-- ---- a day over an opened service
+
+-- the lines of all these statements were written, at so many of which the store failed, and so the machine stands behind them
+pub record Wrote (t : Table) (rows : Entries) (old new : Option (List ℕ)) (statements : List Statement) (failed : ℕ) (last : Machine) : Type 0 where
   pub lines : List ℕ
-  pub machine : Machine
-  pub carried : CarriesOut (start t) statements lines machine
+  pub carried : CarriesOut (start t rows) statements lines failed last
   pub took : Takes old new lines
 
 -- a front of the lines of so many of them was written
-pub record WroteFront (t : Table) (old new : Option (List ℕ)) (statements : List Statement) : Type 0 where
+pub record WroteFront (t : Table) (rows : Entries) (old new : Option (List ℕ)) (statements : List Statement) (failed : ℕ) (last : Machine) : Type 0 where
   pub count : ℕ
   pub lines : List ℕ
-  pub machine : Machine
-  pub carried : CarriesOut (start t) (take count statements) lines machine
+  pub carried : CarriesOut (start t rows) (take count statements) lines failed last
   pub took : TakesFront old new lines
 
--- what was written for this day, by the status: all of its lines at its end, at its first bad statement and at its
--- greatest length, and else a front of them
-abbrev pub Tells : Table → Option (List ℕ) → Option (List ℕ) → Status → Day → Type 0
-Tells t old new statuses.Ok day = (day.ending ≡ Finished) × Wrote t old new day.statements
-Tells t old new (statuses.BadDay n) day = (day.ending ≡ Bad n) × Wrote t old new day.statements
-Tells t old new statuses.DayTooLong day = (day.ending ≡ TooLong) × Wrote t old new day.statements
-Tells t old new statuses.BadWords day = ⊥
-Tells t old new (statuses.BadTable row) day = ⊥
-Tells t old new status day = WroteFront t old new day.statements
+-- what was written for this day, by the status: all of its lines at its end, at its first bad statement and at its greatest
+-- length, and else a front of them. Where memory is wanted the machine may have gone on behind the last of these
+abbrev pub Tells : Table → Entries → Option (List ℕ) → Option (List ℕ) → Status → ℕ → Machine → Day → Type 0
+Tells t rows old new statuses.Ok failed last day = (day.ending ≡ Finished) × Wrote t rows old new day.statements failed last
+Tells t rows old new (statuses.BadDay n) failed last day = (day.ending ≡ Bad n) × Wrote t rows old new day.statements failed last
+Tells t rows old new statuses.DayTooLong failed last day = (day.ending ≡ TooLong) × Wrote t rows old new day.statements failed last
+Tells t rows old new statuses.NoMemory failed last day = (M : Machine) × WroteFront t rows old new day.statements failed M
+Tells t rows old new statuses.ReadFault failed last day = WroteFront t rows old new day.statements failed last
+Tells t rows old new statuses.WriteFault failed last day = WroteFront t rows old new day.statements failed last
+Tells t rows old new other failed last day = ⊥
+
+-- the day was carried out so far over the service that was opened. `left` is what it had left, where that is told
+pub record IsCarriedOut (t : Table) (before after : StoreView) (left old new : Option (List ℕ)) (status : Status) : Type 0 where
+  pub rows : Entries
+  pub opened : IsOpenedOver before rows
+  pub failed : ℕ
+  pub last : Machine
+  pub tells : IfSome left (λ bytes. Tells t rows old new status failed last (day_of bytes))
+  pub leaves : LeavesStore before after failed last
+
+-- what was written over an office table, by the status: the service wasn't opened, or the day was carried out
+abbrev pub TellsDay : Table → StoreView → StoreView → Option (List ℕ) → Option (List ℕ) → Option (List ℕ) → Status → Type 0
+TellsDay t before after left old new statuses.StoreFault = IsUnopened before after old new × Rose before.faults after.faults
+TellsDay t before after left old new (statuses.BadKept key) = IsUnopened before after old new × HasBadRow before key
+TellsDay t before after left old new statuses.NoMemory = IsUnopened before after old new ⊎ IsCarriedOut t before after left old new statuses.NoMemory
+TellsDay t before after left old new status = IsCarriedOut t before after left old new status
+
+-- ---- the office table
 
 -- the rows of the office table: what its source tells, where the words name one, and else none
-abbrev pub rows_named : Option (List ℕ) → Option (List ℕ) → Option (List ℕ)
-rows_named None left = Some []
-rows_named (Some name) left = left
+abbrev pub rows_named : Bool → Option (List ℕ) → Option (List ℕ)
+rows_named false left = Some []
+rows_named true left = left
 
 -- a table with a bad row ends it, and no other does, unless the table could not be read; else the day is carried out over it
-abbrev pub TellsDay : Result Table ℕ → Option (List ℕ) → Option (List ℕ) → Option (List ℕ) → Status → Type 0
-TellsDay (Ok t) left old new status = ((row : ℕ) → status ≢ statuses.BadTable row) × IfSome left (λ bytes. Tells t old new status (day_of bytes))
-TellsDay (Err row) left old new (statuses.BadTable n) = (n ≡ row) × (new ≡ old)
-TellsDay (Err row) left old new statuses.ReadFault = new ≡ old
-TellsDay (Err row) left old new statuses.NoMemory = new ≡ old
-TellsDay (Err row) left old new status = ⊥
+abbrev pub TellsOver : Result Table ℕ → StoreView → StoreView → Option (List ℕ) → Option (List ℕ) → Option (List ℕ) → Status → Type 0
+TellsOver (Ok t) before after left old new (statuses.BadTable row) = ⊥
+TellsOver (Ok t) before after left old new statuses.ReadFault = IsUnopened before after old new ⊎ TellsDay t before after left old new statuses.ReadFault
+TellsOver (Ok t) before after left old new status = TellsDay t before after left old new status
+TellsOver (Err row) before after left old new (statuses.BadTable n) = (n ≡ row) × IsUnopened before after old new
+TellsOver (Err row) before after left old new statuses.ReadFault = IsUnopened before after old new
+TellsOver (Err row) before after left old new statuses.NoMemory = IsUnopened before after old new
+TellsOver (Err row) before after left old new status = ⊥
 
 -- what was written, by the table and the status, where the table tells its bytes
-abbrev pub TellsTable : Option (List ℕ) → Option (List ℕ) → Option (List ℕ) → Option (List ℕ) → Status → Type 0
-TellsTable rows left old new status = IfSome rows (λ text. TellsDay (table_of text) left old new status)
+abbrev pub TellsTable : Option (List ℕ) → StoreView → StoreView → Option (List ℕ) → Option (List ℕ) → Option (List ℕ) → Status → Type 0
+TellsTable rows before after left old new status = IfSome rows (λ text. TellsOver (table_of text) before after left old new status)
 
 -- how it ends where the table isn't read
 abbrev pub unread : TenantRefusal → Status
@@ -63,19 +125,43 @@ unread refusals.NoMemory = statuses.NoMemory
 unread refusals.UnknownKey = statuses.NoMemory
 unread refusals.NotGranted = statuses.NoMemory
 
+-- a status with which a day over a good table ends
+abbrev pub IsOverTable : Status → Type 0
+IsOverTable statuses.BadWords = ⊥
+IsOverTable (statuses.BadTable row) = ⊥
+IsOverTable other = Unit {0}
+
+-- a status that the opening has, and no day that is begun
+abbrev pub IsOpeningFault : Status → Type 0
+IsOpeningFault statuses.StoreFault = Unit {0}
+IsOpeningFault (statuses.BadKept key) = Unit {0}
+IsOpeningFault other = ⊥
+
+-- how it ends where the service isn't opened
+abbrev pub not_opened : StartFault → Status
+not_opened (starts.BadKept key) = statuses.BadKept key
+not_opened starts.StoreFault = statuses.StoreFault
+not_opened starts.NoMemory = statuses.NoMemory
+
 -- a status of a command that writes a text
 abbrev pub TellsText : Option (List ℕ) → Option (List ℕ) → Status → List ℕ → Type 0
 TellsText old new statuses.Ok text = Takes old new text
 TellsText old new statuses.WriteFault text = TakesFront old new text
 TellsText old new status text = ⊥
 
--- what the office wrote, by the command and the status. `left` is what the day had left, where that is told
-abbrev pub TellsCommand : (help version : List ℕ) → Option Command → Option (List ℕ) → Option (List ℕ) → Option (List ℕ) → Option (List ℕ) → Status → Type 0
-TellsCommand help version None rows left old new status = (status ≡ statuses.BadWords) × (new ≡ old)
-TellsCommand help version (Some commands.Help) rows left old new status = TellsText old new status help
-TellsCommand help version (Some commands.Version) rows left old new status = TellsText old new status version
-TellsCommand help version (Some commands.Day) rows left old new status = TellsTable rows left old new status
+-- what the office wrote, by what it is asked for and the status. `left` is what the day had left, where that is told
+abbrev pub TellsCommand : (help version : List ℕ) → Option Asked → Option (List ℕ) → StoreView → StoreView → Option (List ℕ) → Option (List ℕ) → Option (List ℕ) → Status → Type 0
+TellsCommand help version None rows before after left old new status = ((status ≡ statuses.BadWords) ⊎ (status ≡ statuses.NoMemory)) × IsUnopened before after old new
+TellsCommand help version (Some asks.Help) rows before after left old new status = TellsText old new status help
+TellsCommand help version (Some asks.Version) rows before after left old new status = TellsText old new status version
+TellsCommand help version (Some (asks.Day named)) rows before after left old new status = TellsTable rows before after left old new status
 
--- the book behind the first statements of a day over this table, of however many, is legal
+-- how it ends where the words aren't read
+abbrev pub unread_words : WordsRefusal → Status
+unread_words words.BadWords = statuses.BadWords
+unread_words words.NoMemory = statuses.NoMemory
+
+-- the book behind the first statements of a day over this table, of however many, is legal, over whichever kept rows
 abbrev pub HasLegalBooks : Table → List ℕ → Type 0
-HasLegalBooks t bytes = (count : ℕ) (lines : List ℕ) (N : Machine) → CarriesOut (start t) (take count (day_of bytes).statements) lines N → IsLegal N.tenants N.ledger.entries
+HasLegalBooks t bytes = (rows : Entries) (count : ℕ) (lines : List ℕ) (failed : ℕ) (N : Machine)
+    → CarriesOut (start t rows) (take count (day_of bytes).statements) lines failed N → IsLegal N.tenants N.ledger.entries

@@ -6,7 +6,7 @@ use Rattle.std.specs.Str.{IsUtf8}
 use Rattle.ow_records.specs.Id.{id_text}
 use Rattle.ow_hall.specs.History.{greatest_moment}
 use Rattle.ow_day.specs.Limits.{most_line}
-use Rattle.ow_day.specs.Statement.{Statement, At, Call, Ask, Next, Begun, Answer, Logged, Exit, NoStart, Fault, Lost, Gone, Sweep, Turn, Collect, Drain, End}
+use Rattle.ow_day.specs.Statement.{Statement, At, Call, Ask, Next, Begun, Answer, Logged, Exit, NoStart, Fault, Lost, Gone, Sweep, Turn, Collect, Drain, Reopen, End}
 use Rattle.ow_day.specs.Day.{Finished, Found, first_statement, day_of}
 
 -- the lines of logs, each with a newline in front
@@ -36,6 +36,7 @@ printed Sweep = codes "sweep"
 printed (Collect id) = codes "collect " ++ id_text id
 printed Turn = codes "turn"
 printed Drain = codes "drain"
+printed Reopen = codes "reopen"
 printed End = codes "end"
 
 -- the statements, each with a newline behind it
@@ -80,6 +81,7 @@ IsPrintable Sweep = Unit {0}
 IsPrintable (Collect id) = (id.namespace < 2 ^ 64) × (id.count < 2 ^ 64)
 IsPrintable Turn = Unit {0}
 IsPrintable Drain = Unit {0}
+IsPrintable Reopen = Unit {0}
 IsPrintable End = Unit {0}
 
 -- ---- what is printed is read back

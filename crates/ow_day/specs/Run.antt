@@ -1,5 +1,5 @@
 -- A day that is under way: what was read of it, carried out and written, for private clauses.
-use Rattle.std.specs.Prelude.{◌≡◌, ◌≢◌, ◌<◌, ◌≤◌, ◌+◌, ◌-◌, ◌*◌, ◌++◌, ◌⊎◌, ℕ, true, false, List, [], Option, Some, None, length, take, if◌then◌else◌}
+use Rattle.std.specs.Prelude.{◌≡◌, ◌<◌, ◌≤◌, ◌+◌, ◌-◌, ◌*◌, ◌++◌, ◌⊎◌, ℕ, true, false, List, [], Option, Some, None, length, take, if◌then◌else◌}
 use Rattle.ow_traits.specs.Streams.{Takes, TakesFront}
 use Rattle.ow_tenant.specs.Table.{Table}
 use Rattle.ow_day.specs.declared.status.Status.{Status}
@@ -8,7 +8,9 @@ use Rattle.ow_day.specs.declared.session.Step.{Step}
 use Rattle.ow_day.specs.declared.session.Step.TheVariants as steps
 use Rattle.ow_day.specs.declared.run.Run.{Run}
 use Rattle.ow_day.specs.Statement.{Statement}
-use Rattle.ow_day.specs.Machine.{CarriesOut, start}
+use Rattle.ow_items.specs.Sorted.{Entries}
+use Rattle.ow_day.specs.Faults.{RoseBy}
+use Rattle.ow_day.specs.Machine.{CarriesOut, Machine, start}
 use Rattle.ow_day.specs.Session.{machine_of}
 use Rattle.ow_day.specs.Limits.{most_bytes, most_piece}
 use Rattle.ow_day.specs.Day.{DayEnd, Finished, Bad, Cut, day_from, day_of, first_statement, has_more, with_statements}
@@ -34,38 +36,53 @@ pub record HasRead {P : Type 0} (bytes rest : List ℕ) (done : List Statement) 
   pub taken : r.input.taken ≡ length (front ++ last)
   pub goes_on : r.ended ≡ false → GoesOn (front ++ last) done r.number r.input.pending
 
+-- the office table and the kept rows that the service was opened over, and how many faults its store had met then
+pub record Opening : Type 0 where
+  pub tenants : Table
+  pub rows : Entries
+  pub met : ℕ
+
+-- the machine at the opening
+abbrev pub begin : Opening → Machine
+begin o = start o.tenants o.rows
+
 -- some statements are done, and their lines written or ready: the rest of the day gives the rest of the statements
-pub record IsUnderWay {P : Type 0} (t : Table) (bytes : List ℕ) (before left taken : Option (List ℕ)) (r : Run P) : Type 0 where
+pub record IsUnderWay {P : Type 0} (faults : P → ℕ) (o : Opening) (bytes : List ℕ) (before left taken : Option (List ℕ)) (r : Run P) : Type 0 where
   pub rest : List ℕ
   pub done : List Statement
   pub count : ℕ
   pub written : List ℕ
+  pub failed : ℕ
   pub told : left ≡ Some rest
   pub read : HasRead bytes rest done r
   pub all : length bytes ≡ r.input.taken + length rest
   pub none : r.ended ≡ true → rest ≡ []
   pub enough : length (r.input.pending ++ in_window r.input.taken rest) < count
   pub took : Takes before taken written
-  pub carried : CarriesOut (start t) done (written ++ r.answers.items) (machine_of r.session)
+  pub carried : CarriesOut (begin o) done (written ++ r.answers.items) failed (machine_of r.session)
+  pub rose : RoseBy failed o.met (faults r.session.hall.store)
   pub whole : day_of bytes ≡ with_statements done (day_from count (has_more bytes) r.number (r.input.pending ++ in_window r.input.taken rest))
 
 -- the day ends here: what was written and what is ready are its lines
-pub record IsAtEnd {P : Type 0} (t : Table) (bytes : List ℕ) (before taken : Option (List ℕ)) (r : Run P) (ending : DayEnd) : Type 0 where
+pub record IsAtEnd {P : Type 0} (faults : P → ℕ) (o : Opening) (bytes : List ℕ) (before taken : Option (List ℕ)) (r : Run P) (ending : DayEnd) : Type 0 where
   pub written : List ℕ
+  pub failed : ℕ
   pub took : Takes before taken written
-  pub carried : CarriesOut (start t) (day_of bytes).statements (written ++ r.answers.items) (machine_of r.session)
+  pub carried : CarriesOut (begin o) (day_of bytes).statements (written ++ r.answers.items) failed (machine_of r.session)
+  pub rose : RoseBy failed o.met (faults r.session.hall.store)
   pub ends : (day_of bytes).ending ≡ ending
 
-abbrev pub EndsSo : {P : Type 0} → Run P → Run P → DayEnd → Type 0
-EndsSo old new ending = (t : Table) (bytes : List ℕ) (before left taken : Option (List ℕ)) → IsUnderWay t bytes before left taken old → IsAtEnd t bytes before taken new ending
+abbrev pub EndsSo : {P : Type 0} → (P → ℕ) → Run P → Run P → DayEnd → Type 0
+EndsSo faults old new ending = (o : Opening) (bytes : List ℕ) (before left taken : Option (List ℕ)) → IsUnderWay faults o bytes before left taken old → IsAtEnd faults o bytes before taken new ending
 
 -- the first statement was carried out or ends the day, or waits for more bytes
-abbrev pub StepsOn : {P : Type 0} → Run P → Run P → Step → Type 0
-StepsOn old new steps.Done = (t : Table) (bytes : List ℕ) (before left taken : Option (List ℕ)) → IsUnderWay t bytes before left taken old → IsUnderWay t bytes before left taken new
-StepsOn old new steps.End = EndsSo old new Finished
-StepsOn old new steps.Bad = EndsSo old new (Bad new.number)
-StepsOn old new steps.Cut = (new ≡ old) × (old.ended ≡ false) × (first_statement true old.input.pending ≡ Cut)
-StepsOn old new steps.NoMemory = Unit {0}
+abbrev pub StepsOn : {P : Type 0} → (P → ℕ) → Run P → Run P → Step → Type 0
+StepsOn faults old new steps.Done =
+    (o : Opening) (bytes : List ℕ) (before left taken : Option (List ℕ)) → IsUnderWay faults o bytes before left taken old → IsUnderWay faults o bytes before left taken new
+StepsOn faults old new steps.End = EndsSo faults old new Finished
+StepsOn faults old new steps.Bad = EndsSo faults old new (Bad new.number)
+StepsOn faults old new steps.Cut = (new ≡ old) × (old.ended ≡ false) × (first_statement true old.input.pending ≡ Cut)
+StepsOn faults old new steps.NoMemory = faults old.session.hall.store ≤ faults new.session.hall.store
 
 -- the lines were written, or a fault cut them
 abbrev pub ClosesSo : Option (List ℕ) → Option (List ℕ) → List ℕ → Status → Status → Type 0
@@ -77,21 +94,28 @@ Closes old new r steps.End result = ClosesSo old new r.answers.items statuses.Ok
 Closes old new r steps.Bad result = ClosesSo old new r.answers.items (statuses.BadDay r.number) result
 Closes old new r step result = (result ≡ statuses.NoMemory) × (new ≡ old)
 
--- the day ended with this status: what was written for it, what is left of it, and that all that was read is answered where
--- it could not be read on
-pub record HasEnded (t : Table) (bytes : List ℕ) (before left taken : Option (List ℕ)) (status : Status) : Type 0 where
-  pub tells : Tells t before taken status (day_of bytes)
+-- what was written for the day by its status, and how the store's count of faults rose
+pub record IsTold {P : Type 0} (faults : P → ℕ) (o : Opening) (bytes : List ℕ) (before taken : Option (List ℕ)) (r : Run P) (status : Status) : Type 0 where
+  pub failed : ℕ
+  pub tells : Tells o.tenants o.rows before taken status failed (machine_of r.session) (day_of bytes)
+  pub rose : RoseBy failed o.met (faults r.session.hall.store)
+
+-- the day ended with this status: what is left of it, too, and that all that was read is answered where it could not be read on
+pub record HasEnded {P : Type 0} (faults : P → ℕ) (o : Opening) (bytes : List ℕ) (before left taken : Option (List ℕ)) (r : Run P) (status : Status) : Type 0 where
+  pub told : IsTold faults o bytes before taken r status
   pub leaves : LeavesRest bytes left
-  pub answered : status ≡ statuses.ReadFault → IsAnswered t bytes left before taken
+  pub answered : status ≡ statuses.ReadFault → IsAnswered o.tenants o.rows bytes left before taken
 
 -- one turn: the day goes on, or ends with this status
-abbrev pub Turns : {P : Type 0} → Option (List ℕ) → Option (List ℕ) → Option (List ℕ) → Option (List ℕ) → Run P → Run P → Option Status → Type 0
-Turns left left' taken taken' old new None = (t : Table) (bytes : List ℕ) (before : Option (List ℕ)) → IsUnderWay t bytes before left taken old → IsUnderWay t bytes before left' taken' new
-Turns left left' taken taken' old new (Some status) = (t : Table) (bytes : List ℕ) (before : Option (List ℕ)) → IsUnderWay t bytes before left taken old → HasEnded t bytes before left' taken' status
+abbrev pub Turns : {P : Type 0} → (P → ℕ) → Option (List ℕ) → Option (List ℕ) → Option (List ℕ) → Option (List ℕ) → Run P → Run P → Option Status → Type 0
+Turns faults left left' taken taken' old new None =
+    (o : Opening) (bytes : List ℕ) (before : Option (List ℕ)) → IsUnderWay faults o bytes before left taken old → IsUnderWay faults o bytes before left' taken' new
+Turns faults left left' taken taken' old new (Some status) =
+    (o : Opening) (bytes : List ℕ) (before : Option (List ℕ)) → IsUnderWay faults o bytes before left taken old → HasEnded faults o bytes before left' taken' new status
 
 -- a turn that reads nothing
-abbrev pub WritesOn : {P : Type 0} → Option (List ℕ) → Option (List ℕ) → Run P → Run P → Option Status → Type 0
-WritesOn taken taken' old new result = (left : Option (List ℕ)) → Turns left left taken taken' old new result
+abbrev pub WritesOn : {P : Type 0} → (P → ℕ) → Option (List ℕ) → Option (List ℕ) → Run P → Run P → Option Status → Type 0
+WritesOn faults taken taken' old new result = (left : Option (List ℕ)) → Turns faults left left taken taken' old new result
 
 -- no number can pass its type: each statement has a byte of the day
 pub record IsBounded {P : Type 0} (r : Run P) : Type 0 where
@@ -102,6 +126,12 @@ pub record IsBounded {P : Type 0} (r : Run P) : Type 0 where
 abbrev pub work : {P : Type 0} → Run P → ℕ
 work r = 2 * (most_bytes - r.input.taken) + (if r.ended then 0 else 1) + length r.input.pending
 
--- a status that a day can end with
+-- a status that a day can end with, once the service was opened
 abbrev pub IsOfDay : Status → Type 0
-IsOfDay status = (status ≢ statuses.BadWords) × ((row : ℕ) → status ≢ statuses.BadTable row)
+IsOfDay statuses.Ok = Unit {0}
+IsOfDay (statuses.BadDay statement) = Unit {0}
+IsOfDay statuses.ReadFault = Unit {0}
+IsOfDay statuses.WriteFault = Unit {0}
+IsOfDay statuses.DayTooLong = Unit {0}
+IsOfDay statuses.NoMemory = Unit {0}
+IsOfDay other = ⊥

@@ -1,15 +1,22 @@
 -- What a statement does to a session.
-use Rattle.std.specs.Prelude.{◌≡◌, ◌++◌, ℕ, List, Result, Ok, Err, IfOk}
+use Rattle.std.specs.Prelude.{◌≡◌, ◌≤◌, ◌++◌, ℕ, List, Result, Ok, Err, IfOk, IfSome, IsOk}
 use Rattle.ow_value.specs.declared.memory.NoMemory.{NoMemory as Want}
 use Rattle.ow_floor.specs.declared.answers.AnswerRefusal.{AnswerRefusal}
 use Rattle.ow_floor.specs.declared.answers.AnswerRefusal.TheVariants as refusals
 use Rattle.ow_floor.specs.declared.answers.FloorRefusal.{FloorRefusal}
+use Rattle.ow_hall.specs.Comes.{KeptRows}
+use Rattle.ow_hall.specs.Openings.{HasStartCause}
+use Rattle.ow_items.specs.Sorted.{Entries}
+use Rattle.ow_keep.specs.Judged.{judged}
+use Rattle.ow_tenant.specs.Table.{Table}
 use Rattle.ow_day.specs.declared.done.Done.{Done}
-use Rattle.ow_day.specs.declared.done.Done.TheVariants.{NoRun, Taken, Denied}
+use Rattle.ow_day.specs.declared.done.Done.TheVariants.{NoRun, Taken, Denied, StoreFault}
 use Rattle.ow_day.specs.declared.session.Session.{Session}
+use Rattle.ow_day.specs.declared.session.Unopened.{Unopened}
 use Rattle.ow_day.specs.declared.session.Step.{Step}
 use Rattle.ow_day.specs.declared.session.Step.TheVariants as steps
-use Rattle.ow_day.specs.Machine.{Machine, Does}
+use Rattle.ow_day.specs.Faults.{RoseBy}
+use Rattle.ow_day.specs.Machine.{Machine, Does, start}
 use Rattle.ow_day.specs.Statement.{Statement, End}
 use Rattle.ow_day.specs.Texts.{lines_of}
 
@@ -17,23 +24,51 @@ use Rattle.ow_day.specs.Texts.{lines_of}
 abbrev pub machine_of : {P : Type 0} → Session P → Machine
 machine_of s = record { tenants = s.hall.tenants; ledger = s.hall.ledger; given = s.given; shelf = s.shelf }
 
--- why a runner's reply isn't taken: no live run has its number, or memory is wanted
+-- why a runner's reply isn't taken: no live run has its number, the store failed, or memory is wanted
 abbrev pub Denies : AnswerRefusal → Result Done Want → Type 0
 Denies (refusals.NoRun run reply) result = IfOk result (λ done. done ≡ NoRun run)
 Denies (refusals.NoMemory reply) result = IfOk result (λ done. ⊥)
+Denies (refusals.StoreFault reply) result = IfOk result (λ done. done ≡ StoreFault)
 
 -- what is told of a container was taken, or why not
 abbrev pub told_of : Result (Unit {0}) FloorRefusal → Done
 told_of (Ok taken) = Taken
 told_of (Err refusal) = Denied refusal
 
+-- ---- what comes of a statement
+
+-- this comes of it, and the store's count of faults rose by the times that it failed at it
+abbrev pub GoesTo : {P : Type 0} → (P → ℕ) → Session P → Session P → (ℕ → Done → Machine → Type 0) → Done → Type 0
+GoesTo faults old new Is done = (failed : ℕ) × (Is failed done (machine_of new) × RoseBy failed (faults old.hall.store) (faults new.hall.store))
+
+-- without memory the count didn't fall
+abbrev pub ComesTo : {P : Type 0} → (P → ℕ) → Session P → Session P → (ℕ → Done → Machine → Type 0) → Result Done Want → Type 0
+ComesTo faults old new Is (Ok done) = GoesTo faults old new Is done
+ComesTo faults old new Is (Err e) = faults old.hall.store ≤ faults new.hall.store
+
 -- a statement was carried out, and its lines stand behind what was written before
-abbrev pub Performs : {P : Type 0} → Session P → Session P → Statement → List ℕ → List ℕ → Type 0
-Performs old new s before now = (done : Done) × Does (machine_of old) s done (machine_of new) × (now ≡ before ++ lines_of done)
+abbrev pub Performs : {P : Type 0} → (P → ℕ) → Session P → Session P → Statement → List ℕ → List ℕ → Type 0
+Performs faults old new s before now = (done : Done) × (GoesTo faults old new (Does (machine_of old) s) done × (now ≡ before ++ lines_of done))
 
 -- a statement was carried out, or ends the day
-abbrev pub CarriesOut : {P : Type 0} → Session P → Session P → Statement → List ℕ → List ℕ → Step → Type 0
-CarriesOut old new s before now steps.Done = (s ≡ End → ⊥) × Performs old new s before now
-CarriesOut old new s before now steps.End = (s ≡ End) × (now ≡ before) × (machine_of new ≡ machine_of old)
-CarriesOut old new s before now steps.NoMemory = Unit {0}
-CarriesOut old new s before now other = ⊥
+abbrev pub CarriesOut : {P : Type 0} → (P → ℕ) → Session P → Session P → Statement → List ℕ → List ℕ → Step → Type 0
+CarriesOut faults old new s before now steps.Done = (s ≡ End → ⊥) × Performs faults old new s before now
+CarriesOut faults old new s before now steps.End = (s ≡ End) × (now ≡ before) × (new ≡ old)
+CarriesOut faults old new s before now steps.NoMemory = faults old.hall.store ≤ faults new.hall.store
+CarriesOut faults old new s before now other = ⊥
+
+-- ---- openings
+
+-- a session was begun over a store and an office table: over the rows that the store tells, where it does, which are allowed
+pub record Begins {P : Type 0} (rows : P → KeptRows) (faults : P → ℕ) (store : P) (t : Table) (s : Session P) : Type 0 where
+  pub loaded : Entries
+  pub told : IfSome (rows store) (λ kept. loaded ≡ kept)
+  pub allowed : IsOk (judged loaded)
+  pub machine : machine_of s ≡ start t loaded
+  pub later : faults store ≤ faults s.hall.store
+
+-- why it wasn't, and the store that is handed back
+pub record IsHandedBack {P : Type 0} (rows : P → KeptRows) (faults : P → ℕ) (store : P) (u : Unopened P) : Type 0 where
+  pub cause : HasStartCause rows faults store u.store u.why
+  pub rows_stay : rows u.store ≡ rows store
+  pub later : faults store ≤ faults u.store

@@ -24,6 +24,7 @@ pub data Statement : Type 0 where
   Collect : (id : Id) → Statement
   Turn : Statement
   Drain : Statement
+  Reopen : Statement
   End : Statement
 
 -- what a line is: a whole statement, or the head of one that asks by so many bytes behind it, or tells so many lines of
@@ -218,5 +219,6 @@ line_of line = if nat_lt most_line (length line) then None
     else (if bytes_eq line (codes "turn") then Some (Whole Turn)
     else (if bytes_eq line (codes "sweep") then Some (Whole Sweep)
     else (if bytes_eq line (codes "drain") then Some (Whole Drain)
+    else (if bytes_eq line (codes "reopen") then Some (Whole Reopen)
     else (if bytes_eq line (codes "end") then Some (Whole End)
-    else worded_in (parted line))))))
+    else worded_in (parted line)))))))

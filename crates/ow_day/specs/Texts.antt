@@ -120,6 +120,10 @@ abbrev pub drain_text : Drain → List ℕ
 drain_text (Drained n) = codes "drained " ++ (decimal n ++ codes "\n")
 drain_text (StillOpen n) = codes "open " ++ (decimal n ++ codes "\n")
 
+-- what a reopening did
+abbrev pub reopened_text : List Happening → List ℕ
+reopened_text happened = happenings_text happened ++ codes "reopened\n"
+
 -- what became of a call
 abbrev pub called_text : Called → List ℕ
 called_text (Happened happened) = happenings_text happened
@@ -170,3 +174,5 @@ lines_of (done.Swept swept) = swept_text swept
 lines_of (done.Collected collected) = collected_text collected
 lines_of (done.Turned turned) = turned_text turned
 lines_of (done.Drained drain) = drain_text drain
+lines_of (done.Reopened happened) = reopened_text happened
+lines_of done.StoreFault = codes "store fault\n"

@@ -1,26 +1,28 @@
 // The top call: what the words of the command line ask for, over what lies outside.
-ghost use Rattle.std.specs.Prelude.{◌≡◌, ◌≢◌, ◌↔◌, ◌⊎◌, ℕ, List, Some, None, Err, IfOk, IfSome, map, string_bytes};
+ghost use Rattle.std.specs.Prelude.{◌≡◌, ◌≢◌, ◌⊎◌, ℕ, List, Some, None, Err, IfOk, IfSome, IsSome, false, map, string_bytes, true};
 ghost use Rattle.ow_traits.specs.Streams.{Rose, Takes, TakesFront};
 ghost use Rattle.ow_tenant.specs.Reading.{Tells};
 ghost use Rattle.ow_tenant.specs.Table.{AreWantsSized, Table, table_of as table_of_text};
 ghost use Rattle.ow_hall.specs.Beginnings.{KeepsEach, KeepsLimits};
 ghost use Rattle.ow_hall.specs.History.{History, IsLegal};
-ghost use Rattle.ow_day.specs.Words.{command_of, table_of};
+ghost use Rattle.ow_words.specs.Words.{begins_day, command_of};
+ghost use Rattle.ow_day.specs.Words.{asked_by, is_day, names_table};
 ghost use Rattle.ow_day.specs.Status.{err_text};
-ghost use Rattle.ow_day.specs.Office.{HasLegalBooks, TellsCommand, TellsTable, TellsText, rows_named, unread};
+ghost use Rattle.ow_day.specs.Office.{HasBadRow, HasLegalBooks, IsOpeningFault, TellsCommand, TellsTable, TellsText, rows_named, store_of, unread, unread_words};
 ghost use Rattle.ow_day.specs.Reads.{AnswersTable, LeavesRest};
 
 use crate::run::run_day;
 use crate::status::{Status, report};
-use crate::words::{Command, HELP, VERSION, command_of, table_of};
+use crate::words::{Asked, HELP, VERSION, read_asked};
 use ow_tenant::{TenantRefusal, Tenants};
 use ow_traits::{Keeper, MemorySource, Sink, Source, write_all};
+use ow_words::WordsRefusal;
 use std::alloc::Global;
 
 /// Does what the words say: for `day`, reads the office table that they name, opens the service over it and the store, carries
 /// out the statements of the day as they come, and writes each answer before it asks for more of the day, or as soon as a megabyte
-/// is ready. The words are looked at first, then the table: where they name none it has no rows, and `table` isn't touched. The
-/// store is handed back as it was, unless memory was wanted to open the service; it isn't looked at yet.
+/// is ready. The words are looked at first, then the table, then the store: where they name no table it has no rows, and `table`
+/// isn't touched. The store is handed back in each case.
 pub fn office<T: Source, S: Source, O: Sink, E: Sink, P: Keeper + Drop>(
     alloc: Global,
     words: &[String],
@@ -30,10 +32,11 @@ pub fn office<T: Source, S: Source, O: Sink, E: Sink, P: Keeper + Drop>(
     err: &mut E,
     store: P,
 ) -> (Status, Option<P>)
-    // What was written, by the status.
-    ensures told { TellsCommand HELP.now VERSION.now (command_of (map string_bytes words.now)) (rows_named (table_of (map string_bytes words.now)) (T.left table.old)) (S.left day.old) (O.taken out.old) (O.taken out.new) result.0 }
+    // What was written, and what the store was left as, by the status.
+    ensures back { IsSome result.1 }
+    ensures told { IfSome result.1 (λ back. TellsCommand HELP.now VERSION.now (asked_by (map string_bytes words.now)) (rows_named (names_table (asked_by (map string_bytes words.now))) (T.left table.old)) (store_of P.rows P.faults store) (store_of P.rows P.faults back) (S.left day.old) (O.taken out.old) (O.taken out.new) result.0) }
     ensures reads { IfSome (S.left day.old) (λ bytes. LeavesRest bytes (S.left day.new)) }
-    ensures answered { result.0 ≡ Status.ReadFault → AnswersTable (rows_named (table_of (map string_bytes words.now)) (T.left table.old)) (S.left day.old) (S.left day.new) (O.taken out.old) (O.taken out.new) }
+    ensures answered { result.0 ≡ Status.ReadFault → AnswersTable (rows_named (names_table (asked_by (map string_bytes words.now))) (T.left table.old)) (store_of P.rows P.faults store) (S.left day.old) (S.left day.new) (O.taken out.old) (O.taken out.new) }
 
     // Each activation, and that no acceptance passes the limits of its namespace, by every legal book and each of its beginnings;
     // and the books of days are legal.
@@ -47,23 +50,24 @@ pub fn office<T: Source, S: Source, O: Sink, E: Sink, P: Keeper + Drop>(
     ensures whole_line { (Rose (E.faults err.old) (E.faults err.new) → ⊥) → Takes (E.taken err.old) (E.taken err.new) (err_text result.0) }
 
     // When the other statuses come.
-    ensures words { (result.0 ≡ Status.BadWords) ↔ (command_of (map string_bytes words.now) ≡ None) }
+    ensures words { result.0 ≡ Status.BadWords → command_of (map string_bytes words.now) ≡ None }
+    ensures refused { command_of (map string_bytes words.now) ≡ None → (result.0 ≡ Status.BadWords) ⊎ ((result.0 ≡ Status.NoMemory) × (begins_day (map string_bytes words.now) ≡ true)) }
     ensures read { result.0 ≡ Status.ReadFault → Rose (S.faults day.old) (S.faults day.new) ⊎ (Rose (T.faults table.old) (T.faults table.new) × (day.new ≡ day.old) × (out.new ≡ out.old)) }
     ensures write { result.0 ≡ Status.WriteFault → Rose (O.faults out.old) (O.faults out.new) }
+    ensures fault { result.0 ≡ Status.StoreFault → IfSome result.1 (λ back. Rose (P.faults store) (P.faults back)) }
+    ensures bad_kept { (key : List ℕ) → result.0 ≡ Status.BadKept key → HasBadRow (store_of P.rows P.faults store) key }
 
-    // What comes back.
-    ensures store { IfSome result.1 (λ back. back ≡ store) }
-    ensures lost { result.1 ≡ None → result.0 ≡ Status.NoMemory }
-    ensures unbegun { result.1 ≡ None → (day.new ≡ day.old) × (out.new ≡ out.old) }
-    ensures bad_table { (row : ℕ) → result.0 ≡ Status.BadTable row → (day.new ≡ day.old) × (out.new ≡ out.old) }
-    ensures untouched { (command_of (map string_bytes words.now) ≡ Some Command.Day → ⊥) → result.1 ≡ Some store }
-    ensures idle { (command_of (map string_bytes words.now) ≡ Some Command.Day → ⊥) → day.new ≡ day.old }
+    // What isn't touched.
+    ensures unbegun { IsOpeningFault result.0 → (day.new ≡ day.old) × (out.new ≡ out.old) }
+    ensures bad_table { (row : ℕ) → result.0 ≡ Status.BadTable row → (result.1 ≡ Some store) × (day.new ≡ day.old) × (out.new ≡ out.old) }
+    ensures untouched { is_day (asked_by (map string_bytes words.now)) ≡ false → result.1 ≡ Some store }
+    ensures idle { is_day (asked_by (map string_bytes words.now)) ≡ false → day.new ≡ day.old }
     ensures silent { command_of (map string_bytes words.now) ≡ None → out.new ≡ out.old }
-    ensures unnamed { table_of (map string_bytes words.now) ≡ None → table.new ≡ table.old }
+    ensures unnamed { names_table (asked_by (map string_bytes words.now)) ≡ false → table.new ≡ table.old }
 {
     let (status, store) = perform(alloc, words, table, store, day, out);
-    let _ = report(status, err);
-    (status, store)
+    let _ = report(&status, err);
+    (status, Some(store))
 }
 
 // Does what the words say, but for the line on standard error.
@@ -75,69 +79,80 @@ fn perform<T: Source, S: Source, O: Sink, P: Keeper + Drop>(
     store: P,
     day: &mut S,
     out: &mut O,
-) -> (Status, Option<P>)
-    ensures told { TellsCommand HELP.now VERSION.now (command_of (map string_bytes words.now)) (rows_named (table_of (map string_bytes words.now)) (T.left table.old)) (S.left day.old) (O.taken out.old) (O.taken out.new) result.0 }
+) -> (Status, P)
+    ensures told { TellsCommand HELP.now VERSION.now (asked_by (map string_bytes words.now)) (rows_named (names_table (asked_by (map string_bytes words.now))) (T.left table.old)) (store_of P.rows P.faults store) (store_of P.rows P.faults result.1) (S.left day.old) (O.taken out.old) (O.taken out.new) result.0 }
     ensures reads { IfSome (S.left day.old) (λ bytes. LeavesRest bytes (S.left day.new)) }
-    ensures answered { result.0 ≡ Status.ReadFault → AnswersTable (rows_named (table_of (map string_bytes words.now)) (T.left table.old)) (S.left day.old) (S.left day.new) (O.taken out.old) (O.taken out.new) }
-    ensures words { (result.0 ≡ Status.BadWords) ↔ (command_of (map string_bytes words.now) ≡ None) }
+    ensures answered { result.0 ≡ Status.ReadFault → AnswersTable (rows_named (names_table (asked_by (map string_bytes words.now))) (T.left table.old)) (store_of P.rows P.faults store) (S.left day.old) (S.left day.new) (O.taken out.old) (O.taken out.new) }
+    ensures words { result.0 ≡ Status.BadWords → command_of (map string_bytes words.now) ≡ None }
+    ensures refused { command_of (map string_bytes words.now) ≡ None → (result.0 ≡ Status.BadWords) ⊎ ((result.0 ≡ Status.NoMemory) × (begins_day (map string_bytes words.now) ≡ true)) }
     ensures read { result.0 ≡ Status.ReadFault → Rose (S.faults day.old) (S.faults day.new) ⊎ (Rose (T.faults table.old) (T.faults table.new) × (day.new ≡ day.old) × (out.new ≡ out.old)) }
     ensures write { result.0 ≡ Status.WriteFault → Rose (O.faults out.old) (O.faults out.new) }
-    ensures store { IfSome result.1 (λ back. back ≡ store) }
-    ensures lost { result.1 ≡ None → result.0 ≡ Status.NoMemory }
-    ensures unbegun { result.1 ≡ None → (day.new ≡ day.old) × (out.new ≡ out.old) }
-    ensures bad_table { (row : ℕ) → result.0 ≡ Status.BadTable row → (day.new ≡ day.old) × (out.new ≡ out.old) }
-    ensures untouched { (command_of (map string_bytes words.now) ≡ Some Command.Day → ⊥) → result.1 ≡ Some store }
-    ensures idle { (command_of (map string_bytes words.now) ≡ Some Command.Day → ⊥) → day.new ≡ day.old }
+    ensures fault { result.0 ≡ Status.StoreFault → Rose (P.faults store) (P.faults result.1) }
+    ensures bad_kept { (key : List ℕ) → result.0 ≡ Status.BadKept key → HasBadRow (store_of P.rows P.faults store) key }
+    ensures unbegun { IsOpeningFault result.0 → (day.new ≡ day.old) × (out.new ≡ out.old) }
+    ensures bad_table { (row : ℕ) → result.0 ≡ Status.BadTable row → (result.1 ≡ store) × (day.new ≡ day.old) × (out.new ≡ out.old) }
+    ensures untouched { is_day (asked_by (map string_bytes words.now)) ≡ false → result.1 ≡ store }
+    ensures idle { is_day (asked_by (map string_bytes words.now)) ≡ false → day.new ≡ day.old }
     ensures silent { command_of (map string_bytes words.now) ≡ None → out.new ≡ out.old }
-    ensures unnamed { table_of (map string_bytes words.now) ≡ None → table.new ≡ table.old }
+    ensures unnamed { names_table (asked_by (map string_bytes words.now)) ≡ false → table.new ≡ table.old }
 {
-    match command_of(words) {
-        Some(Command::Day) => day_over(alloc, words, table, store, day, out),
-        Some(Command::Help) => (write_text(out, HELP), Some(store)),
-        Some(Command::Version) => (write_text(out, VERSION), Some(store)),
-        None => (Status::BadWords, Some(store)),
+    match read_asked(alloc, words) {
+        Ok(Asked::Day { has_table }) => day_over(alloc, has_table, table, store, day, out),
+        Ok(Asked::Help) => (write_text(out, HELP), store),
+        Ok(Asked::Version) => (write_text(out, VERSION), store),
+        Err(refusal) => (unread_words(refusal), store),
+    }
+}
+
+// How the office ends where its words aren't read.
+fn unread_words(refusal: WordsRefusal) -> Status
+    ensures { result ≡ unread_words refusal }
+{
+    match refusal {
+        WordsRefusal::BadWords => Status::BadWords,
+        WordsRefusal::NoMemory => Status::NoMemory,
     }
 }
 
 // Reads the office table that the words name, and carries out the day over it.
 fn day_over<T: Source, S: Source, O: Sink, P: Keeper + Drop>(
     alloc: Global,
-    words: &[String],
+    has_table: bool,
     table: &mut T,
     store: P,
     day: &mut S,
     out: &mut O,
-) -> (Status, Option<P>)
-    ensures told { TellsTable (rows_named (table_of (map string_bytes words.now)) (T.left table.old)) (S.left day.old) (O.taken out.old) (O.taken out.new) result.0 }
+) -> (Status, P)
+    ensures told { TellsTable (rows_named has_table (T.left table.old)) (store_of P.rows P.faults store) (store_of P.rows P.faults result.1) (S.left day.old) (O.taken out.old) (O.taken out.new) result.0 }
     ensures reads { IfSome (S.left day.old) (λ bytes. LeavesRest bytes (S.left day.new)) }
-    ensures answered { result.0 ≡ Status.ReadFault → AnswersTable (rows_named (table_of (map string_bytes words.now)) (T.left table.old)) (S.left day.old) (S.left day.new) (O.taken out.old) (O.taken out.new) }
+    ensures answered { result.0 ≡ Status.ReadFault → AnswersTable (rows_named has_table (T.left table.old)) (store_of P.rows P.faults store) (S.left day.old) (S.left day.new) (O.taken out.old) (O.taken out.new) }
     ensures own { result.0 ≢ Status.BadWords }
     ensures read { result.0 ≡ Status.ReadFault → Rose (S.faults day.old) (S.faults day.new) ⊎ (Rose (T.faults table.old) (T.faults table.new) × (day.new ≡ day.old) × (out.new ≡ out.old)) }
     ensures write { result.0 ≡ Status.WriteFault → Rose (O.faults out.old) (O.faults out.new) }
-    ensures store { IfSome result.1 (λ back. back ≡ store) }
-    ensures lost { result.1 ≡ None → result.0 ≡ Status.NoMemory }
-    ensures unbegun { result.1 ≡ None → (day.new ≡ day.old) × (out.new ≡ out.old) }
-    ensures bad_table { (row : ℕ) → result.0 ≡ Status.BadTable row → (day.new ≡ day.old) × (out.new ≡ out.old) }
-    ensures unnamed { table_of (map string_bytes words.now) ≡ None → table.new ≡ table.old }
+    ensures fault { result.0 ≡ Status.StoreFault → Rose (P.faults store) (P.faults result.1) }
+    ensures bad_kept { (key : List ℕ) → result.0 ≡ Status.BadKept key → HasBadRow (store_of P.rows P.faults store) key }
+    ensures unbegun { IsOpeningFault result.0 → (day.new ≡ day.old) × (out.new ≡ out.old) }
+    ensures bad_table { (row : ℕ) → result.0 ≡ Status.BadTable row → (result.1 ≡ store) × (day.new ≡ day.old) × (out.new ≡ out.old) }
+    ensures unnamed { has_table ≡ false → table.new ≡ table.old }
 {
-    match tenants(alloc, words, table) {
+    match tenants(alloc, has_table, table) {
         Ok(tenants) => run_day(alloc, tenants, store, day, out),
-        Err(refusal) => (unread(refusal), Some(store)),
+        Err(refusal) => (unread(refusal), store),
     }
 }
 
 // The office table that the words name. Where they name none it has no rows.
 fn tenants<T: Source>(
     alloc: Global,
-    words: &[String],
+    has_table: bool,
     table: &mut T,
 ) -> Result<Tenants, TenantRefusal>
-    ensures told { IfSome (rows_named (table_of (map string_bytes words.now)) (T.left table.old)) (λ text. Tells (table_of_text text) result) }
+    ensures told { IfSome (rows_named has_table (T.left table.old)) (λ text. Tells (table_of_text text) result) }
     ensures sized { IfOk result (λ t. AreWantsSized t.wants) }
     ensures cause { result ≡ Err TenantRefusal.ReadFault → Rose (T.faults table.old) (T.faults table.new) }
-    ensures unnamed { table_of (map string_bytes words.now) ≡ None → table.new ≡ table.old }
+    ensures unnamed { has_table ≡ false → table.new ≡ table.old }
 {
-    if table_of(words).is_some() {
+    if has_table {
         return Tenants::read(alloc, table);
     }
     let mut none = MemorySource::new(Vec::new(alloc), Vec::new(alloc));

@@ -1,6 +1,6 @@
 // What comes of statements.
 use ow_decide::{Called, HallCollected, Reply};
-use ow_floor::{Answered, Drain, FloorRefusal, Order, Swept};
+use ow_floor::{Answered, Drain, FloorRefusal, Happened, Order, Swept};
 use ow_http::Reason;
 use ow_invoker::Turned;
 
@@ -33,4 +33,8 @@ pub enum Done {
     Collected(HallCollected),
     /// Whether all that was accepted has ended.
     Drained(Drain),
+    /// What a reopening recorded.
+    Reopened(Happened),
+    /// The store failed, and nothing has happened.
+    StoreFault,
 }

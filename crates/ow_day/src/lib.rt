@@ -24,4 +24,4 @@ pub use laws::{
     read_statements_are_printed,
 };
 pub use status::{Status, report};
-pub use words::{Command, HELP, VERSION, command_of, table_of};
+pub use words::{HELP, VERSION};

@@ -53,6 +53,8 @@ pub enum Statement<'a> {
     Turn,
     /// No more calls are taken from now on.
     Drain,
+    /// The service is opened anew.
+    Reopen,
     /// The day ends.
     End,
 }
@@ -87,6 +89,9 @@ pub fn line_of(line: &[u8]) -> Option<Line<'_>>
     }
     if line == b"drain".as_slice() {
         return Some(Line::Whole(Statement::Drain));
+    }
+    if line == b"reopen".as_slice() {
+        return Some(Line::Whole(Statement::Reopen));
     }
     if line == b"end".as_slice() {
         return Some(Line::Whole(Statement::End));

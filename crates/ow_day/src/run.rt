@@ -1,18 +1,21 @@
 // A day read as a stream: each statement is carried out as soon as its bytes are there, and the answers are written before
 // more of the day is asked for, and as soon as a megabyte of them is ready.
 ghost use Rattle.std.specs.Prelude.{◌≡◌, ◌≢◌, ◌<◌, ◌≤◌, if◌then◌else◌, length, false, true, [], Some, None, OnOk, OnErr, IfSome, IfNone};
+ghost use Rattle.ow_hall.specs.Comes.{HoldsBook};
+ghost use Rattle.ow_hall.specs.History.{IsLegal};
 ghost use Rattle.ow_traits.specs.Streams.{HasCause, Rose, Takes, TakesFront};
 ghost use Rattle.ow_tenant.specs.Table.{AreWantsSized};
-ghost use Rattle.ow_day.specs.Day.{Cut as CutFirst, day_of, first_statement};
+ghost use Rattle.ow_day.specs.Day.{Cut as CutFirst, first_statement};
 ghost use Rattle.ow_day.specs.Limits.{most_ready};
-ghost use Rattle.ow_day.specs.Office.{Tells};
-ghost use Rattle.ow_day.specs.Reads.{IsAnswered, LeavesRest};
+ghost use Rattle.ow_day.specs.Office.{IsOpeningFault, IsOverTable, TellsDay, not_opened, store_of};
+ghost use Rattle.ow_day.specs.Reads.{IsAnsweredOver, LeavesRest};
 ghost use Rattle.ow_day.specs.Run.{Closes, IsBounded, IsOfDay, StepsOn, Turns, WritesOn, work};
 
 use crate::first::{First, first_statement};
 use crate::input::{FillError, Filled, Input};
-use crate::session::{Session, Step};
+use crate::session::{Session, Step, Unopened};
 use crate::status::Status;
+use ow_hall::StartFault;
 use ow_tenant::Tenants;
 use ow_traits::{Failed, Keeper, Sink, Source, write_all};
 use std::alloc::Global;
@@ -53,10 +56,10 @@ impl<P: Keeper + Drop> Run<P> {
     // Carries out the first statement of what waits.
     fn step(&mut self, alloc: Global) -> Step
         requires { IsBounded self.old }
-        ensures steps { StepsOn self.old self.new result }
+        ensures steps { StepsOn P.faults self.old self.new result }
         ensures bounded { result ≡ Step.Done → IsBounded self.new }
         ensures falls { result ≡ Step.Done → work self.new < work self.old }
-        ensures store { self.new.session.hall.store ≡ self.old.session.hall.store }
+        ensures store { P.faults self.old.session.hall.store ≤ P.faults self.new.session.hall.store }
     {
         if self.input.len() == 0 {
             return self.without_bytes();
@@ -116,12 +119,12 @@ impl<P: Keeper + Drop> Run<P> {
         requires bounded { IsBounded self.old }
         requires unended { self.old.ended ≡ false }
         requires cut { first_statement true self.old.input.pending ≡ CutFirst }
-        ensures told { Turns (S.left day.old) (S.left day.new) (O.taken out.old) (O.taken out.new) self.old self.new result }
+        ensures told { Turns P.faults (S.left day.old) (S.left day.new) (O.taken out.old) (O.taken out.new) self.old self.new result }
         ensures bounded { IfNone result (IsBounded self.new) }
         ensures falls { IfNone result (work self.new < work self.old) }
         ensures ready { IfNone result (length self.new.answers.items < most_ready) }
         ensures own { IfSome result IsOfDay }
-        ensures store { self.new.session.hall.store ≡ self.old.session.hall.store }
+        ensures session { self.new.session ≡ self.old.session }
         ensures read { result ≡ Some Status.ReadFault → Rose (S.faults day.old) (S.faults day.new) }
         ensures write { result ≡ Some Status.WriteFault → Rose (O.faults out.old) (O.faults out.new) }
         ensures day_later { S.faults day.old ≤ S.faults day.new }
@@ -145,12 +148,12 @@ impl<P: Keeper + Drop> Run<P> {
     // Writes the answers, where enough of them are ready.
     fn write_ready<O: Sink>(&mut self, out: &mut O) -> Option<Status>
         requires { IsBounded self.old }
-        ensures told { WritesOn (O.taken out.old) (O.taken out.new) self.old self.new result }
+        ensures told { WritesOn P.faults (O.taken out.old) (O.taken out.new) self.old self.new result }
         ensures bounded { IsBounded self.new }
         ensures work { work self.new ≡ work self.old }
         ensures ready { IfNone result (length self.new.answers.items < most_ready) }
+        ensures session { self.new.session ≡ self.old.session }
         ensures fault { IfSome result (λ status. status ≡ Status.WriteFault) }
-        ensures store { self.new.session.hall.store ≡ self.old.session.hall.store }
         ensures write { IfSome result (λ status. Rose (O.faults out.old) (O.faults out.new)) }
         ensures later { O.faults out.old ≤ O.faults out.new }
     {
@@ -171,12 +174,12 @@ impl<P: Keeper + Drop> Run<P> {
         out: &mut O,
     ) -> Option<Status>
         requires { IsBounded self.old }
-        ensures told { Turns (S.left day.old) (S.left day.new) (O.taken out.old) (O.taken out.new) self.old self.new result }
+        ensures told { Turns P.faults (S.left day.old) (S.left day.new) (O.taken out.old) (O.taken out.new) self.old self.new result }
         ensures bounded { IfNone result (IsBounded self.new) }
         ensures falls { IfNone result (work self.new < work self.old) }
         ensures ready { IfNone result (length self.new.answers.items < most_ready) }
         ensures own { IfSome result IsOfDay }
-        ensures store { self.new.session.hall.store ≡ self.old.session.hall.store }
+        ensures store { P.faults self.old.session.hall.store ≤ P.faults self.new.session.hall.store }
         ensures read { result ≡ Some Status.ReadFault → Rose (S.faults day.old) (S.faults day.new) }
         ensures write { result ≡ Some Status.WriteFault → Rose (O.faults out.old) (O.faults out.new) }
         ensures day_later { S.faults day.old ≤ S.faults day.new }
@@ -191,45 +194,60 @@ impl<P: Keeper + Drop> Run<P> {
 
     // The store.
     fn finish(self) -> P
-        ensures { result ≡ self.session.hall.store }
+        ensures store { result ≡ self.session.hall.store }
+        ensures legal { IsLegal self.session.hall.tenants self.session.hall.ledger.entries }
+        ensures kept { HoldsBook (P.rows self.session.hall.store) self.session.hall.tenants self.session.hall.ledger }
     {
         let Run { session, .. } = self;
         session.finish()
     }
 }
 
-/// Carries out the statements of a day over an office table, as they come, and writes their answers. The store is lost where
-/// memory is wanted before the first of them.
+/// Opens the service over a store and an office table, carries out the statements of a day, as they come, and writes their answers.
+/// The store is handed back in each case.
 pub fn run_day<S: Source, O: Sink, P: Keeper + Drop>(
     alloc: Global,
     tenants: Tenants,
     store: P,
     day: &mut S,
     out: &mut O,
-) -> (Status, Option<P>)
+) -> (Status, P)
     requires { AreWantsSized tenants.wants }
-    ensures told { IfSome (S.left day.old) (λ bytes. Tells tenants (O.taken out.old) (O.taken out.new) result.0 (day_of bytes)) }
+    ensures told { TellsDay tenants (store_of P.rows P.faults store) (store_of P.rows P.faults result.1) (S.left day.old) (O.taken out.old) (O.taken out.new) result.0 }
     ensures reads { IfSome (S.left day.old) (λ bytes. LeavesRest bytes (S.left day.new)) }
-    ensures answered { result.0 ≡ Status.ReadFault → IfSome (S.left day.old) (λ bytes. IsAnswered tenants bytes (S.left day.new) (O.taken out.old) (O.taken out.new)) }
-    ensures own { IsOfDay result.0 }
+    ensures answered { result.0 ≡ Status.ReadFault → IfSome (S.left day.old) (λ bytes. IsAnsweredOver tenants (store_of P.rows P.faults store) bytes (S.left day.new) (O.taken out.old) (O.taken out.new)) }
+    ensures own { IsOverTable result.0 }
     ensures read { result.0 ≡ Status.ReadFault → Rose (S.faults day.old) (S.faults day.new) }
     ensures write { result.0 ≡ Status.WriteFault → Rose (O.faults out.old) (O.faults out.new) }
-    ensures store { IfSome result.1 (λ back. back ≡ store) }
-    ensures lost { result.1 ≡ None → result.0 ≡ Status.NoMemory }
-    ensures unbegun { result.1 ≡ None → (day.new ≡ day.old) × (out.new ≡ out.old) }
+    ensures unbegun { IsOpeningFault result.0 → (day.new ≡ day.old) × (out.new ≡ out.old) }
 {
     let Ok(input) = Input::new(alloc) else {
         drop(tenants);
-        return (Status::NoMemory, Some(store));
+        return (Status::NoMemory, store);
     };
-    let Ok(session) = Session::new(alloc, tenants, store) else {
-        return (Status::NoMemory, None);
+    let session = match Session::new(alloc, tenants, store) {
+        Ok(session) => session,
+        Err(Unopened { why, store }) => {
+            drop(input);
+            return (not_opened(why), store);
+        }
     };
     let mut run = Run::new(alloc, session, input);
     'turns: loop {
         if let Some(status) = run.turn(alloc, day, out) {
-            return (status, Some(run.finish()));
+            return (status, run.finish());
         }
+    }
+}
+
+// How the office ends where the service isn't opened.
+fn not_opened(why: StartFault) -> Status
+    ensures { result ≡ not_opened why }
+{
+    match why {
+        StartFault::BadKept(key) => Status::BadKept { key },
+        StartFault::StoreFault => Status::StoreFault,
+        StartFault::NoMemory => Status::NoMemory,
     }
 }
 

@@ -86,7 +86,7 @@ pub fn go_over(bytes: &[u8], search: Search) -> (bool, Search)
             None => return (false, Search::new()),
         }
     }
-    (false, Search::new())
+    (false, search)
 }
 
 // The line has no newline yet.

@@ -1,12 +1,14 @@
 // A day under way: statements carried out over the hall.
-ghost use Rattle.std.specs.Prelude.{◌≡◌, pos, [], IfOk};
+ghost use Rattle.std.specs.Prelude.{◌≡◌, pos, [], IfErr, IfOk};
 ghost use Rattle.ow_decide.specs.declared.events.Event.TheVariants as events;
+ghost use Rattle.ow_hall.specs.Comes.{HoldsBook};
+ghost use Rattle.ow_hall.specs.History.{IsLegal};
 ghost use Rattle.ow_http.specs.Read.{IsRead};
 ghost use Rattle.ow_tenant.specs.Table.{AreWantsSized};
 ghost use Rattle.ow_traits.specs.declared.replies.RunReply.TheVariants as replies;
 ghost use Rattle.ow_day.specs.Line.{lines_of, statement};
-ghost use Rattle.ow_day.specs.Machine.{Calls, Does, Meets, start, unread};
-ghost use Rattle.ow_day.specs.Session.{CarriesOut, Denies, machine_of, told_of};
+ghost use Rattle.ow_day.specs.Machine.{Calls, Does, Meets, unread};
+ghost use Rattle.ow_day.specs.Session.{Begins, CarriesOut, ComesTo, Denies, GoesTo, IsHandedBack, machine_of, told_of};
 ghost use Rattle.ow_day.specs.Statement.{Answer, Ask, At, Call, Exit, Fault, Logged, NoStart, Turn};
 
 use crate::call_words::{CallWords, call_words};
@@ -16,7 +18,7 @@ use crate::logs::lines_of;
 use crate::texts::push_done;
 use ow_decide::Reply;
 use ow_floor::{AnswerRefusal, FloorRefusal};
-use ow_hall::Hall;
+use ow_hall::{Hall, StartFault, StartRefusal, SweepRefusal};
 use ow_http::{HttpRefusal, Reason, Request, Routes, refusal};
 use ow_invoker::{PlainContainer, PlainRunner, Shelf, day_turn};
 use ow_names::FullName;
@@ -56,26 +58,44 @@ pub enum Step {
     NoMemory,
 }
 
+/// Why no service is opened, with the store, which is handed back.
+#[derive(Drop)]
+pub struct Unopened<P: Keeper + Drop> {
+    pub why: StartFault,
+    pub store: P,
+}
+
 impl<P: Keeper + Drop> Session<P> {
-    /// A service that was just opened over an office table, at moment 0. Without memory the store is lost.
-    pub fn new(alloc: Global, tenants: Tenants, store: P) -> Result<Self, NoMemory>
+    /// A service that was just opened over a store and an office table, at moment 0.
+    pub fn new(alloc: Global, tenants: Tenants, store: P) -> Result<Self, Unopened<P>>
         requires { AreWantsSized tenants.wants }
-        ensures machine { IfOk result (λ s. machine_of s ≡ start tenants) }
-        ensures store { IfOk result (λ s. s.hall.store ≡ store) }
+        ensures begins { IfOk result (λ s. Begins P.rows P.faults store tenants s) }
+        ensures unopened { IfErr result (λ u. IsHandedBack P.rows P.faults store u) }
     {
-        Ok(Session {
-            hall: Hall::start(alloc, store, tenants, 0)?,
-            given: 0,
-            scratch: Scratch::new(alloc),
-            routes: Routes::new(alloc)?,
-            runner: PlainRunner::new(),
-            shelf: Shelf::new(alloc)?,
-        })
+        let Ok((routes, shelf)) = tools(alloc) else {
+            return Err(Unopened {
+                why: StartFault::NoMemory,
+                store,
+            });
+        };
+        match Hall::start(alloc, store, tenants, 0) {
+            Ok(hall) => Ok(Session {
+                hall,
+                given: 0,
+                scratch: Scratch::new(alloc),
+                routes,
+                runner: PlainRunner::new(),
+                shelf,
+            }),
+            Err(StartRefusal { why, store, .. }) => Err(Unopened { why, store }),
+        }
     }
 
     /// The store.
     pub fn finish(self) -> P
-        ensures { result ≡ self.hall.store }
+        ensures store { result ≡ self.hall.store }
+        ensures legal { IsLegal self.hall.tenants self.hall.ledger.entries }
+        ensures kept { HoldsBook (P.rows self.hall.store) self.hall.tenants self.hall.ledger }
     {
         let Session { hall, .. } = self;
         let (store, _) = hall.finish();
@@ -84,8 +104,7 @@ impl<P: Keeper + Drop> Session<P> {
 
     /// Carries out a statement, unless it ends the day, and puts its lines behind the answers.
     pub fn carry_out(&mut self, alloc: Global, said: Statement<'_>, answers: &mut Vec<u8>) -> Step
-        ensures step { CarriesOut self.old self.new (statement said.entry) answers.old.items answers.new.items result }
-        ensures store { self.new.hall.store ≡ self.old.hall.store }
+        ensures { CarriesOut P.faults self.old self.new (statement said.entry) answers.old.items answers.new.items result }
     {
         if let Statement::End = said {
             return Step::End;
@@ -101,8 +120,7 @@ impl<P: Keeper + Drop> Session<P> {
 
     // What comes of a statement.
     fn perform(&mut self, alloc: Global, said: Statement<'_>) -> Result<Done, NoMemory>
-        ensures does { IfOk result (λ done. Does (machine_of self.old) (statement said.entry) done (machine_of self.new)) }
-        ensures store { self.new.hall.store ≡ self.old.hall.store }
+        ensures { ComesTo P.faults self.old self.new (Does (machine_of self.old) (statement said.entry)) result }
     {
         match said {
             Statement::At(moment) => Ok(self.set_moment(moment)),
@@ -123,21 +141,20 @@ impl<P: Keeper + Drop> Session<P> {
             Statement::Collect(id) => self.collect(alloc, id),
             Statement::Turn => self.turn(alloc),
             Statement::Drain => self.drain(alloc),
+            Statement::Reopen => self.reopen(alloc),
             Statement::End => Ok(Done::Silent),
         }
     }
 
     fn set_moment(&mut self, moment: u64) -> Done
-        ensures does { Does (machine_of self.old) (At moment) result (machine_of self.new) }
-        ensures store { self.new.hall.store ≡ self.old.hall.store }
+        ensures { GoesTo P.faults self.old self.new (Does (machine_of self.old) (At moment)) result }
     {
         self.given = moment;
         Done::Silent
     }
 
     fn call(&mut self, alloc: Global, name: &str, text: &str) -> Result<Done, NoMemory>
-        ensures does { IfOk result (λ done. Does (machine_of self.old) (Call name.now text.now) done (machine_of self.new)) }
-        ensures store { self.new.hall.store ≡ self.old.hall.store }
+        ensures { ComesTo P.faults self.old self.new (Does (machine_of self.old) (Call name.now text.now)) result }
     {
         let full = self.hall.book().is_full(0);
         let words = call_words(alloc, &mut self.scratch, full, name, text)?;
@@ -145,8 +162,7 @@ impl<P: Keeper + Drop> Session<P> {
     }
 
     fn call_with(&mut self, alloc: Global, words: CallWords) -> Result<Done, NoMemory>
-        ensures calls { IfOk result (λ done. Calls (machine_of self.old) words done (machine_of self.new)) }
-        ensures store { self.new.hall.store ≡ self.old.hall.store }
+        ensures { ComesTo P.faults self.old self.new (Calls (machine_of self.old) words) result }
     {
         match words {
             CallWords::Refused(reason) => Ok(Done::Refused(reason)),
@@ -155,16 +171,14 @@ impl<P: Keeper + Drop> Session<P> {
     }
 
     fn invoke(&mut self, alloc: Global, name: &FullName, params: Params) -> Result<Done, NoMemory>
-        ensures meets { IfOk result (λ done. Meets (machine_of self.old) (events.Called name.now params) done (machine_of self.new)) }
-        ensures store { self.new.hall.store ≡ self.old.hall.store }
+        ensures { ComesTo P.faults self.old self.new (Meets (machine_of self.old) (events.Called name.now params)) result }
     {
         let called = self.hall.call(alloc, self.given, name, params)?;
         Ok(Done::Called(called))
     }
 
     fn ask(&mut self, alloc: Global, bytes: &[u8]) -> Result<Done, NoMemory>
-        ensures does { IfOk result (λ done. Does (machine_of self.old) (Ask bytes.now) done (machine_of self.new)) }
-        ensures store { self.new.hall.store ≡ self.old.hall.store }
+        ensures { ComesTo P.faults self.old self.new (Does (machine_of self.old) (Ask bytes.now)) result }
     {
         match read(alloc, &self.routes, bytes)? {
             Ok(request) => self.request(alloc, &request),
@@ -173,24 +187,21 @@ impl<P: Keeper + Drop> Session<P> {
     }
 
     fn request(&mut self, alloc: Global, request: &Request) -> Result<Done, NoMemory>
-        ensures meets { IfOk result (λ done. Meets (machine_of self.old) (events.Asked request.now) done (machine_of self.new)) }
-        ensures store { self.new.hall.store ≡ self.old.hall.store }
+        ensures { ComesTo P.faults self.old self.new (Meets (machine_of self.old) (events.Asked request.now)) result }
     {
         let reply = self.hall.ask(alloc, self.given, request)?;
         Ok(Done::Asked(reply))
     }
 
     fn next(&mut self, alloc: Global) -> Result<Done, NoMemory>
-        ensures meets { IfOk result (λ done. Meets (machine_of self.old) events.Next done (machine_of self.new)) }
-        ensures store { self.new.hall.store ≡ self.old.hall.store }
+        ensures { ComesTo P.faults self.old self.new (Meets (machine_of self.old) events.Next) result }
     {
         let order = self.hall.next(alloc, self.given)?;
         Ok(Done::Ordered(order))
     }
 
     fn answer(&mut self, alloc: Global, run: u64, text: &str) -> Result<Done, NoMemory>
-        ensures does { IfOk result (λ done. Does (machine_of self.old) (Answer run text.now) done (machine_of self.new)) }
-        ensures store { self.new.hall.store ≡ self.old.hall.store }
+        ensures { ComesTo P.faults self.old self.new (Does (machine_of self.old) (Answer run text.now)) result }
     {
         let text = Str::of(alloc, text)?;
         let logs = Lines::new();
@@ -205,8 +216,7 @@ impl<P: Keeper + Drop> Session<P> {
         count: u64,
         logs: &[u8],
     ) -> Result<Done, NoMemory>
-        ensures does { IfOk result (λ done. Does (machine_of self.old) (Logged run text.now (lines_of count logs.now)) done (machine_of self.new)) }
-        ensures store { self.new.hall.store ≡ self.old.hall.store }
+        ensures { ComesTo P.faults self.old self.new (Does (machine_of self.old) (Logged run text.now (lines_of count logs.now))) result }
     {
         let text = Str::of(alloc, text)?;
         let logs = lines_of(alloc, count, logs)?;
@@ -214,24 +224,21 @@ impl<P: Keeper + Drop> Session<P> {
     }
 
     fn exit(&mut self, alloc: Global, run: u64, code: u8) -> Result<Done, NoMemory>
-        ensures does { IfOk result (λ done. Does (machine_of self.old) (Exit run code) done (machine_of self.new)) }
-        ensures store { self.new.hall.store ≡ self.old.hall.store }
+        ensures { ComesTo P.faults self.old self.new (Does (machine_of self.old) (Exit run code)) result }
     {
         let ended = exited(code);
         self.reply(alloc, run, ended)
     }
 
     fn no_start(&mut self, alloc: Global, run: u64, text: &str) -> Result<Done, NoMemory>
-        ensures does { IfOk result (λ done. Does (machine_of self.old) (NoStart run text.now) done (machine_of self.new)) }
-        ensures store { self.new.hall.store ≡ self.old.hall.store }
+        ensures { ComesTo P.faults self.old self.new (Does (machine_of self.old) (NoStart run text.now)) result }
     {
         let text = Str::of(alloc, text)?;
         self.reply(alloc, run, RunReply::NoStart { text })
     }
 
     fn reply(&mut self, alloc: Global, run: u64, reply: RunReply) -> Result<Done, NoMemory>
-        ensures meets { IfOk result (λ done. Meets (machine_of self.old) (events.Answered run reply) done (machine_of self.new)) }
-        ensures store { self.new.hall.store ≡ self.old.hall.store }
+        ensures { ComesTo P.faults self.old self.new (Meets (machine_of self.old) (events.Answered run reply)) result }
     {
         match self.hall.answered(alloc, self.given, run, reply) {
             Ok(answered) => Ok(Done::Answered(answered)),
@@ -240,45 +247,42 @@ impl<P: Keeper + Drop> Session<P> {
     }
 
     fn begun(&mut self, run: u64) -> Done
-        ensures meets { Meets (machine_of self.old) (events.Begun run) result (machine_of self.new) }
-        ensures store { self.new.hall.store ≡ self.old.hall.store }
+        ensures { GoesTo P.faults self.old self.new (Meets (machine_of self.old) (events.Begun run)) result }
     {
         told_of(self.hall.begun(self.given, run))
     }
 
     fn lost(&mut self, run: u64) -> Done
-        ensures meets { Meets (machine_of self.old) (events.Lost run) result (machine_of self.new) }
-        ensures store { self.new.hall.store ≡ self.old.hall.store }
+        ensures { GoesTo P.faults self.old self.new (Meets (machine_of self.old) (events.Lost run)) result }
     {
         told_of(self.hall.lost(self.given, run))
     }
 
     fn gone(&mut self, slot: u32, generation: u32) -> Done
-        ensures meets { Meets (machine_of self.old) (events.Gone slot generation) result (machine_of self.new) }
-        ensures store { self.new.hall.store ≡ self.old.hall.store }
+        ensures { GoesTo P.faults self.old self.new (Meets (machine_of self.old) (events.Gone slot generation)) result }
     {
         told_of(self.hall.gone(self.given, slot, generation))
     }
 
     fn sweep(&mut self, alloc: Global) -> Result<Done, NoMemory>
-        ensures meets { IfOk result (λ done. Meets (machine_of self.old) events.Sweep done (machine_of self.new)) }
-        ensures store { self.new.hall.store ≡ self.old.hall.store }
+        ensures { ComesTo P.faults self.old self.new (Meets (machine_of self.old) events.Sweep) result }
     {
-        let swept = self.hall.sweep(alloc, self.given)?;
-        Ok(Done::Swept(swept))
+        match self.hall.sweep(alloc, self.given) {
+            Ok(swept) => Ok(Done::Swept(swept)),
+            Err(SweepRefusal::StoreFault) => Ok(Done::StoreFault),
+            Err(SweepRefusal::NoMemory) => Err(NoMemory),
+        }
     }
 
     fn collect(&mut self, alloc: Global, id: Id) -> Result<Done, NoMemory>
-        ensures meets { IfOk result (λ done. Meets (machine_of self.old) (events.Collected id) done (machine_of self.new)) }
-        ensures store { self.new.hall.store ≡ self.old.hall.store }
+        ensures { ComesTo P.faults self.old self.new (Meets (machine_of self.old) (events.Collected id)) result }
     {
         let collected = self.hall.collect(alloc, self.given, &id)?;
         Ok(Done::Collected(collected))
     }
 
     fn turn(&mut self, alloc: Global) -> Result<Done, NoMemory>
-        ensures does { IfOk result (λ done. Does (machine_of self.old) Turn done (machine_of self.new)) }
-        ensures store { self.new.hall.store ≡ self.old.hall.store }
+        ensures { ComesTo P.faults self.old self.new (Does (machine_of self.old) Turn) result }
     {
         let turned = day_turn(
             alloc,
@@ -291,12 +295,30 @@ impl<P: Keeper + Drop> Session<P> {
     }
 
     fn drain(&mut self, alloc: Global) -> Result<Done, NoMemory>
-        ensures meets { IfOk result (λ done. Meets (machine_of self.old) events.Drain done (machine_of self.new)) }
-        ensures store { self.new.hall.store ≡ self.old.hall.store }
+        ensures { ComesTo P.faults self.old self.new (Meets (machine_of self.old) events.Drain) result }
     {
         let drain = self.hall.drain(alloc, self.given)?;
         Ok(Done::Drained(drain))
     }
+
+    fn reopen(&mut self, alloc: Global) -> Result<Done, NoMemory>
+        ensures { ComesTo P.faults self.old self.new (Meets (machine_of self.old) events.Reopened) result }
+    {
+        match self.hall.reopen_in_place(alloc, self.given) {
+            Ok(happened) => Ok(Done::Reopened(happened)),
+            Err(SweepRefusal::StoreFault) => Ok(Done::StoreFault),
+            Err(SweepRefusal::NoMemory) => Err(NoMemory),
+        }
+    }
+}
+
+// By which requests are read, and where containers lie.
+fn tools(alloc: Global) -> Result<(Routes, Shelf<PlainContainer>), NoMemory>
+    ensures { IfOk result (λ tools. tools.1 ≡ []) }
+{
+    let routes = Routes::new(alloc)?;
+    let shelf = Shelf::new(alloc)?;
+    Ok((routes, shelf))
 }
 
 // The request that the bytes begin with, or why they begin with none.
@@ -351,6 +373,7 @@ fn unanswered(refused: AnswerRefusal) -> Result<Done, NoMemory>
 {
     match refused {
         AnswerRefusal::NoRun { run, .. } => Ok(Done::NoRun(run)),
+        AnswerRefusal::StoreFault(_) => Ok(Done::StoreFault),
         AnswerRefusal::NoMemory(_) => Err(NoMemory),
     }
 }

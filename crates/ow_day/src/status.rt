@@ -6,9 +6,10 @@ ghost use Rattle.ow_day.specs.Status.{err_text, status_number};
 
 use itoa::Buffer;
 use ow_traits::{Failed, Sink, write_all};
+use ow_value::Str;
 
 /// How the office ended.
-#[derive(Clone, Copy, Debug, PartialEq, Eq)]
+#[derive(Drop)]
 pub enum Status {
     /// The day was read to `end` or its end, and all was written.
     Ok,
@@ -20,18 +21,22 @@ pub enum Status {
     ReadFault,
     /// An answer could not be written.
     WriteFault,
+    /// The store failed as the service was to be opened.
+    StoreFault,
     /// The row of this number of the office table breaks a rule. They are counted from 1; it is 0 where the table is too long.
     BadTable { row: u64 },
     /// There is no memory.
     NoMemory,
     /// The day has more bytes than are allowed.
     DayTooLong,
+    /// The store's rows are not allowed: the first bad one has this key.
+    BadKept { key: Str },
 }
 
 impl Status {
     /// The exit status of the program.
-    pub fn number(self) -> u8
-        ensures { result ≡ status_number self }
+    pub fn number(&self) -> u8
+        ensures { result ≡ status_number self.now }
     {
         match self {
             Status::Ok => 0,
@@ -39,30 +44,36 @@ impl Status {
             Status::BadWords => 2,
             Status::ReadFault => 3,
             Status::WriteFault => 4,
+            Status::StoreFault => 5,
             Status::BadTable { row: _ } => 6,
             Status::NoMemory => 7,
             Status::DayTooLong => 8,
+            Status::BadKept { key: _ } => 9,
         }
     }
 }
 
 /// Writes the line of the status, where it has one. That takes no memory. After a fault a front of it was taken.
 #[tactic(auto, using(crate::proofs::Results::takes_none))]
-pub fn report<E: Sink>(status: Status, err: &mut E) -> Result<(), Failed>
-    ensures ok { OnOk result (Takes (E.taken err.old) (E.taken err.new) (err_text status)) }
-    ensures err { OnErr result (TakesFront (E.taken err.old) (E.taken err.new) (err_text status)) }
+pub fn report<E: Sink>(status: &Status, err: &mut E) -> Result<(), Failed>
+    ensures ok { OnOk result (Takes (E.taken err.old) (E.taken err.new) (err_text status.now)) }
+    ensures err { OnErr result (TakesFront (E.taken err.old) (E.taken err.new) (err_text status.now)) }
     ensures cause { HasCause (E.faults err.old) (E.faults err.new) result }
-    ensures quiet { status ≡ Status.Ok → err.new ≡ err.old }
+    ensures quiet { status.now ≡ Status.Ok → err.new ≡ err.old }
 {
     match status {
         Status::Ok => Ok(()),
-        Status::BadDay { statement } => report_place(err, b"bad day at ", statement),
-        Status::BadTable { row } => report_place(err, b"bad table at ", row),
+        Status::BadDay { statement } => report_place(err, b"bad day at ", *statement),
+        Status::BadTable { row } => report_place(err, b"bad table at ", *row),
         Status::BadWords => write_all(err, b"bad words\n"),
         Status::ReadFault => write_all(err, b"read fault\n"),
         Status::WriteFault => write_all(err, b"write fault\n"),
+        Status::StoreFault => write_all(err, b"store fault\n"),
         Status::NoMemory => write_all(err, b"no memory\n"),
         Status::DayTooLong => write_all(err, b"day too long\n"),
+        Status::BadKept { key } => {
+            write_pieces(err, b"bad kept row ", key.as_str().as_bytes(), b"\n")
+        }
     }
 }
 

@@ -2,7 +2,7 @@
 ghost use Rattle.std.specs.Prelude.{◌≡◌, ◌++◌, OnOk, codes};
 ghost use Rattle.std.specs.Fmt.{decimal};
 ghost use Rattle.ow_records.specs.Id.{id_text};
-ghost use Rattle.ow_day.specs.Texts.{answered_text, asked_text, called_text, collected_text, container_text, containers_text, denied_text, drain_text, happening_text, happenings_text, idle_text, kind_text, late_text, lines_of, no_run_text, order_text, place_text, prewarm_text, refused_text, reply_text, run_text, start_text, step_text, steps_text, swept_text, turned_text};
+ghost use Rattle.ow_day.specs.Texts.{answered_text, asked_text, called_text, collected_text, container_text, containers_text, denied_text, drain_text, happening_text, happenings_text, idle_text, kind_text, late_text, lines_of, no_run_text, order_text, place_text, prewarm_text, refused_text, reopened_text, reply_text, run_text, start_text, step_text, steps_text, swept_text, turned_text};
 
 use crate::done::Done;
 use itoa::Buffer;
@@ -37,6 +37,8 @@ pub fn push_done(alloc: Global, answers: &mut Vec<u8>, done: &Done) -> Result<()
         Done::Collected(collected) => push_collected(alloc, answers, collected),
         Done::Turned(turned) => push_turned(answers, turned),
         Done::Drained(drain) => push_drain(answers, *drain),
+        Done::Reopened(happened) => push_reopened(answers, happened),
+        Done::StoreFault => push(answers, b"store fault\n"),
     }
 }
 
@@ -274,6 +276,14 @@ fn push_turned(answers: &mut Vec<u8>, turned: &Turned) -> Result<(), NoMemory>
 {
     push_order(answers, &turned.order)?;
     push_steps(answers, turned.steps.as_slice())
+}
+
+// Puts what a reopening recorded.
+fn push_reopened(answers: &mut Vec<u8>, happened: &Happened) -> Result<(), NoMemory>
+    ensures ok { OnOk result (answers.new.items ≡ answers.old.items ++ reopened_text happened.now) }
+{
+    push_happened(answers, happened)?;
+    push(answers, b"reopened\n")
 }
 
 // Puts the line of a drain.

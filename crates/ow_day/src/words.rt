@@ -1,13 +1,17 @@
 // The command line.
-ghost use Rattle.std.specs.Prelude.{◌≡◌, [], ◌∷◌, Some, None, if◌then◌else◌, is_some, map, string_bytes};
-ghost use Rattle.std.specs.Option.{option_map};
-ghost use Rattle.ow_day.specs.Words.{command_named, command_of, joined_value, table_of, value_of};
+ghost use Rattle.std.specs.Prelude.{◌≡◌, Err, MatchResult, Some, None, map, option_map, string_bytes, true};
+ghost use Rattle.ow_words.specs.Words.{begins_day, command_of};
+ghost use Rattle.ow_words.specs.declared.command.WordsRefusal.TheVariants as refusals;
+ghost use Rattle.ow_day.specs.Words.{asked_of};
 
-/// What the words ask for.
+use ow_words::{Command, WordsRefusal, read_words};
+use std::alloc::Global;
+
+/// What the office is asked to do.
 #[derive(Clone, Copy, Debug, PartialEq, Eq)]
-pub enum Command {
-    /// Carry out the statements of a day.
-    Day,
+pub enum Asked {
+    /// Carry out the statements of a day, over an office table or none.
+    Day { has_table: bool },
     /// Tell how the program is used.
     Help,
     /// Tell the program's version.
@@ -18,8 +22,9 @@ pub enum Command {
 pub const HELP: &[u8] = b"ow_whisk: a function service after Apache OpenWhisk
 
 usage: ow_whisk day < FILE     carries out the statements of a day, and writes each answer
-       ow_whisk day --table TABLE < FILE
-                               does so over the office table in the file TABLE; or --table=TABLE
+       ow_whisk day --table TABLE --store STORE < FILE
+                               does so over the office table in the file TABLE, and the store in the
+                               file STORE; one of them, in any order, or as --table=TABLE
        ow_whisk --help         writes this text
        ow_whisk --version      writes the version
 
@@ -41,6 +46,9 @@ request has a known key, and only actions of whisk.system can be called.
                      so many containers of the kind plain:1 or program:1 are started ahead
   program,NAME,PATH,,,
                      a program, which is not run yet
+
+The store keeps entities, activations and their counts from one day to the next. Without a store they
+end with the day. What had not ended when a day begins is recorded with code 3.
 
 A day has one statement a line, of at most 8388608 bytes. Its words are parted by one space, its
 numbers are decimal without leading zeros. NAME is an action's full name, percent-encoded, as
@@ -105,8 +113,14 @@ Below each statement stand the forms of its answer.
   drain              takes no more calls from now on
                        drained N             all N that were accepted have ended
                        open N                N have not ended
+  reopen             begins anew over what is kept: no container or run of before is there
+                       recorded ID 3         for each that had not ended
+                       reopened              behind these
   end                ends the day; what follows is not acted on
                        no answer
+
+Where the store fails, nothing is done, and a statement that would have changed what it keeps is answered
+  store fault        below turn, behind its order; an ask and a call are refused instead
 
 exit status, and its line on standard error:
   0  none            all was carried out
@@ -115,98 +129,26 @@ exit status, and its line on standard error:
   2  bad words       the command line is none of those above
   3  read fault      the office table or the day could not be read on
   4  write fault     an answer could not be written
+  5  store fault     the store could not be opened
   6  bad table at N  row N of the office table breaks a rule; 0: it has more than 4194304 bytes
   7  no memory       memory was wanted
   8  day too long    it has more than 1073741824 bytes
+  9  bad kept row K  the store has a row with the key K that is not allowed there
 ";
 
 /// What `--version` writes.
 pub const VERSION: &[u8] = b"ow_whisk 0.1.0\n";
 
-/// The command of the words, or none where they aren't in the command set.
-pub fn command_of(words: &[String]) -> Option<Command>
-    ensures { result ≡ command_of (map string_bytes words.now) }
+/// What the words ask the office to do.
+pub(crate) fn read_asked(alloc: Global, words: &[String]) -> Result<Asked, WordsRefusal>
+    ensures asked { MatchResult result (λ asked. option_map asked_of (command_of (map string_bytes words.now)) ≡ Some asked) (λ e. e ≡ refusals.BadWords → command_of (map string_bytes words.now) ≡ None) }
+    ensures memory { result ≡ Err refusals.NoMemory → begins_day (map string_bytes words.now) ≡ true }
 {
-    match words {
-        [] => None,
-        [word] => command_named(word.as_str()),
-        _ => day_with_table(words),
-    }
-}
-
-// A day, where the words ask for one with a table.
-fn day_with_table(words: &[String]) -> Option<Command>
-    ensures { result ≡ (if is_some (table_of (map string_bytes words.now)) then Some Command.Day else None) }
-{
-    if table_of(words).is_some() {
-        Some(Command::Day)
-    } else {
-        None
-    }
-}
-
-fn command_named(word: &str) -> Option<Command>
-    ensures { result ≡ command_named word.now }
-{
-    match word {
-        "day" => Some(Command::Day),
-        "--help" => Some(Command::Help),
-        "--version" => Some(Command::Version),
-        _ => None,
-    }
-}
-
-/// The name of the file with the office table, where the words ask for a day with one: `day --table FILE`, or
-/// `day --table=FILE`.
-pub fn table_of(words: &[String]) -> Option<&[u8]>
-    ensures { option_map (λ name. name.now) result ≡ table_of (map string_bytes words.now) }
-{
-    match words {
-        [day, option] => table_joined(day.as_bytes(), option.as_bytes()),
-        [day, option, value] => table_apart(day.as_bytes(), option.as_bytes(), value.as_bytes()),
-        _ => None,
-    }
-}
-
-fn table_joined<'a>(day: &[u8], option: &'a [u8]) -> Option<&'a [u8]>
-    ensures { option_map (λ name. name.now) result ≡ table_of (day.now ∷ option.now ∷ []) }
-{
-    if day == b"day".as_slice() {
-        joined_value(option)
-    } else {
-        None
-    }
-}
-
-fn table_apart<'a>(day: &[u8], option: &[u8], value: &'a [u8]) -> Option<&'a [u8]>
-    ensures { option_map (λ name. name.now) result ≡ table_of (day.now ∷ option.now ∷ value.now ∷ []) }
-{
-    if day != b"day".as_slice() {
-        return None;
-    }
-    if option == b"--table".as_slice() {
-        value_of(value)
-    } else {
-        None
-    }
-}
-
-// The value behind `--table=`, in one word.
-#[tactic(auto, unfolding(crate::specs::Words::joined_value))]
-fn joined_value(word: &[u8]) -> Option<&[u8]>
-    ensures { option_map (λ value. value.now) result ≡ joined_value word.now }
-{
-    let value = word.strip_prefix(b"--table=".as_slice())?;
-    value_of(value)
-}
-
-// The value of an option: it isn't empty, and begins with no `-`.
-fn value_of(value: &[u8]) -> Option<&[u8]>
-    ensures { option_map (λ value. value.now) result ≡ value_of value.now }
-{
-    match value {
-        [] => None,
-        [b'-', ..] => None,
-        _ => Some(value),
+    match read_words(alloc, words)? {
+        Command::Day { table, .. } => Ok(Asked::Day {
+            has_table: table.is_some(),
+        }),
+        Command::Help => Ok(Asked::Help),
+        Command::Version => Ok(Asked::Version),
     }
 }

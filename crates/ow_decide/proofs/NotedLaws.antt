@@ -20,7 +20,8 @@ use Rattle.ow_decide.specs.declared.events.Event.TheVariants as events
 use Rattle.ow_decide.specs.Sight.{Sight}
 use Rattle.ow_decide.specs.Noted.{MayAllEnd, invoked_by, invoked_in, noted_end, noted_ends, noted_invoked}
 use Rattle.ow_decide.specs.Decisions.{decide, wants_memory}
-use Rattle.ow_decide.proofs.AcceptLaws.{AcceptNothing, by_decision, is_acceptance}
+use Rattle.ow_kept.specs.Keeping.{AreLater, IsLater}
+use Rattle.ow_decide.proofs.AcceptLaws.{by_decision}
 use Rattle.ow_decide.proofs.SoundLaws.{decided_sound}
 
 -- ---- records
@@ -46,30 +47,30 @@ record IsPlain (item : Item) : Type 0 where
   accepted : (xs : List Activation) → accepted_after item xs ≡ xs
   notes : (rs : List Record) (ns : Notes) → noted_after item (noted_ends rs ns) ≡ noted_ends (records_after item rs) ns
 
-is_plain : (item : Item) → is_acceptance item ≡ false → IsPlain item
-is_plain (Accepted a) none = cc
-is_plain (Ended e) none = record { invoked = refl; accepted = λ xs. refl; notes = λ rs ns. sym (ends_push rs (record_of e) ns) }
-is_plain item none = record { invoked = refl; accepted = λ xs. refl; notes = λ rs ns. refl }
+is_plain : (item : Item) → IsLater item → IsPlain item
+is_plain (Accepted a) later = absurd later
+is_plain (Ended e) later = record { invoked = refl; accepted = λ xs. refl; notes = λ rs ns. sym (ends_push rs (record_of e) ns) }
+is_plain item later = record { invoked = refl; accepted = λ xs. refl; notes = λ rs ns. refl }
 
-nothing_invoked : (items : Trace) → AcceptNothing items → invoked_in items ≡ None
-nothing_invoked [] none = refl
-nothing_invoked (item ∷ items) none = (is_plain item none.0).invoked
+pub later_invoked : (items : Trace) → AreLater items → invoked_in items ≡ None
+later_invoked [] later = refl
+later_invoked (item ∷ items) later = (is_plain item later.0).invoked
 
-nothing_noted : (items T : Trace) → AcceptNothing items → notes_of (items ++ T) ≡ noted_ends (records items) (notes_of T)
-nothing_noted [] T none = refl
-nothing_noted (item ∷ items) T none = ap (noted_after item) (nothing_noted items T none.1) ∙ (is_plain item none.0).notes (records items) (notes_of T)
+later_noted : (items T : Trace) → AreLater items → notes_of (items ++ T) ≡ noted_ends (records items) (notes_of T)
+later_noted [] T later = refl
+later_noted (item ∷ items) T later = ap (noted_after item) (later_noted items T later.1) ∙ (is_plain item later.0).notes (records items) (notes_of T)
 
-nothing_accepted : (items T : Trace) → AcceptNothing items → accepted (items ++ T) ≡ accepted T
-nothing_accepted [] T none = refl
-nothing_accepted (item ∷ items) T none = (is_plain item none.0).accepted (accepted (items ++ T)) ∙ nothing_accepted items T none.1
+pub later_accepted : (items T : Trace) → AreLater items → accepted (items ++ T) ≡ accepted T
+later_accepted [] T later = refl
+later_accepted (item ∷ items) T later = (is_plain item later.0).accepted (accepted (items ++ T)) ∙ later_accepted items T later.1
 
 -- ---- what is noted
 
 abbrev AreNoted : ℕ → Trace → Trace → Type 0
 AreNoted at T items = notes_of (items ++ T) ≡ noted_ends (records items) (noted_invoked (invoked_in items) at (notes_of T))
 
-nothing_notes : (at : ℕ) (T items : Trace) → AcceptNothing items → AreNoted at T items
-nothing_notes at T items none = nothing_noted items T none ∙ ap (λ (n : Option (List ℕ)). noted_ends (records items) (noted_invoked n at (notes_of T))) (sym (nothing_invoked items none))
+later_notes : (at : ℕ) (T items : Trace) → AreLater items → AreNoted at T items
+later_notes at T items later = later_noted items T later ∙ ap (λ (n : Option (List ℕ)). noted_ends (records items) (noted_invoked n at (notes_of T))) (sym (later_invoked items later))
 
 one_noted : (b : Bool) (n : List ℕ) (at : ℕ) (ns : Notes) → noted_if b (invoked n at) ns ≡ noted_invoked (cond b (Some n) None) at ns
 one_noted true n at ns = refl
@@ -78,7 +79,7 @@ one_noted false n at ns = refl
 -- the invocation is noted, or the ends are, the first one first
 pub decided_noted : (S : Sight) (event : Event) → notes_of ((decide S event).items ++ S.trace) ≡ noted_ends (records (decide S event).items) (noted_invoked (invoked_in (decide S event).items) S.moment (notes_of S.trace))
 decided_noted S event =
-    by_decision S (AreNoted S.moment S.trace) (nothing_notes S.moment S.trace) (λ plan ok. one_noted (is_none plan.cause) plan.namespace S.moment (notes_of S.trace)) event
+    by_decision S (AreNoted S.moment S.trace) (later_notes S.moment S.trace) (λ plan ok. one_noted (is_none plan.cause) plan.namespace S.moment (notes_of S.trace)) (λ counts rs. refl) event
 
 if_quiet : (b : Bool) (item : Item) (T : Trace) → notes_of (item ∷ T) ≡ notes_of T → notes_of (items_if b item ++ T) ≡ notes_of T
 if_quiet true item T same = same
@@ -168,5 +169,5 @@ up_to_now now a T here up = all_push (λ x. x.at ≤ now) a (accepted T) up here
 pub decided_up_to : (S : Sight) (event : Event) → AreUpTo S.moment S.trace → AreUpTo S.moment ((decide S event).items ++ S.trace)
 decided_up_to S event up =
     by_decision S (λ (items : Trace). AreUpTo S.moment (items ++ S.trace))
-    (λ items none. subst (λ (xs : List Activation). AllByRecursion (λ a. a.at ≤ S.moment) xs) (sym (nothing_accepted items S.trace none)) up)
-    (λ plan ok. up_to_now S.moment (activation_of S.moment plan) S.trace (omega arith) up) event
+    (λ items later. subst (λ (xs : List Activation). AllByRecursion (λ a. a.at ≤ S.moment) xs) (sym (later_accepted items S.trace later)) up)
+    (λ plan ok. up_to_now S.moment (activation_of S.moment plan) S.trace (omega arith) up) (λ counts rs. up) event

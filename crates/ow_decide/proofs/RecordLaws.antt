@@ -1,5 +1,5 @@
 -- What is seen of the records by whoever asks.
-use Rattle.std.proofs.Common.{◌≡◌, ◌∙◌, ◌&&◌, ◌+◌, ◌≤◌, ℕ, Bool, true, false, if◌then◌else◌, List, [], ◌∷◌, Option, Some, None, Ok, map, take, drop, reverse, refl, sym, ap, subst, arith}
+use Rattle.std.proofs.Common.{◌≡◌, ◌∙◌, ◌&&◌, ◌++◌, ◌+◌, ◌≤◌, ℕ, Bool, true, false, if◌then◌else◌, List, [], ◌∷◌, Option, Some, None, Ok, map, take, drop, reverse, refl, sym, ap, subst, arith}
 use Rattle.std.specs.List.{filter, find}
 use Rattle.ow_value.specs.Value.{V, list, items_of}
 use Rattle.ow_records.specs.Id.{same_id}
@@ -9,10 +9,9 @@ use Rattle.ow_records.specs.declared.ids.Id.{Id}
 use Rattle.ow_records.specs.declared.record.Record.{Record}
 use Rattle.ow_floor.specs.Laws.{IsSound, Stands, times}
 use Rattle.ow_floor.specs.View.{Shown as FloorShown}
-use Rattle.ow_floor.specs.Trace.{Trace, records}
+use Rattle.ow_floor.specs.Trace.{Trace, all_records}
 use Rattle.ow_floor.proofs.Alters.{same_id_refl}
 use Rattle.ow_floor.proofs.Firsts.{find_passes}
-use Rattle.ow_floor.proofs.Soundness.{parted}
 use Rattle.ow_floor.proofs.Tallies.{eq_of}
 use Rattle.ow_http.specs.Parts.{Parts}
 use Rattle.ow_http.specs.Steps.{◌>>=◌}
@@ -32,6 +31,7 @@ use Rattle.ow_decide.specs.Sight.{Sight}
 use Rattle.ow_decide.specs.Steps.{or_else}
 use Rattle.ow_decide.specs.View.{is_visible_record, may_read, view_of}
 use Rattle.ow_decide.proofs.Filters.{filter_filter, find_filter, find_only_none, find_only_some, not_wider}
+use Rattle.ow_decide.proofs.OnceLaws.{recorded_once}
 use Rattle.ow_decide.proofs.ReadLaws.{granted_right, second, shows}
 
 -- ---- lists
@@ -44,10 +44,10 @@ read_listing rights here skip limit rs reads = ap (λ (xs : List Record). map su
     (filter_filter (is_in here) (is_visible_record rights) rs (λ r stands. is_in_visible rights here r reads stands))
 
 -- what a list of the records of a namespace shows
-pub records_shown : (S : Sight) (h : Holder) (p : Parts) (c : Call) (vs : List V) → granted_call h [] (Reads Activations) p ≡ Ok c → vs ≡ listing (home h.home (namespace_of p.route)) c.skip c.limit (records S.trace)
+pub records_shown : (S : Sight) (h : Holder) (p : Parts) (c : Call) (vs : List V) → granted_call h [] (Reads Activations) p ≡ Ok c → vs ≡ listing (home h.home (namespace_of p.route)) c.skip c.limit (all_records S.trace)
     → shows (list (items_of vs)) ≡ shown_done (read_value (view_of S h) Activations p c)
 records_shown S h p c vs granted is = ap (λ (xs : List V). shows (list (items_of xs)))
-    (is ∙ sym (read_listing h.rights (home h.home (namespace_of p.route)) c.skip c.limit (records S.trace) (granted_right h p c granted)))
+    (is ∙ sym (read_listing h.rights (home h.home (namespace_of p.route)) c.skip c.limit (all_records S.trace) (granted_right h p c granted)))
 
 -- ---- one record
 
@@ -92,9 +92,6 @@ once_only id q r (x ∷ rs) few found other narrow = by_test (is_of_id id x) ref
         let few' : 0 + times id (map (λ y. y.id) rs) ≤ 1 = rw (untimed_at id x false e) at few in
         rw (not_wider q (is_of_id id) x narrow e) (rest (omega (arith, few')) (rw e at found))
 
-recorded_once : (T : Trace) (id : Id) → IsSound T → times id (map (λ r. r.id) (records T)) ≤ 1
-recorded_once T id sound = let h = (parted T sound).parts id in let k = (parted T sound).once id in omega (arith, h, k)
-
 first : (a b : Bool) → (a && b) ≡ true → a ≡ true
 first true b both = refl
 first false b both = cc
@@ -109,31 +106,31 @@ narrow here id r h = second (is_in here r) (same_id r.id id) h
 placed : (rights : ByText Rights) (here : List ℕ) (id : Id) (r : Record) → may_read rights here ≡ true → is_recorded here id r ≡ true → is_visible_record rights r ≡ true
 placed rights here id r reads h = is_in_visible rights here r reads (first (is_in here r) (same_id r.id id) h)
 
-by_place : (here : List ℕ) (id : Id) (T : Trace) (r : Record) (b : Bool) → IsSound T → is_in here r ≡ b → find (is_of_id id) (records T) ≡ Some r
-    → find (is_recorded here id) (records T) ≡ in_own here (Some r)
+by_place : (here : List ℕ) (id : Id) (T : Trace) (r : Record) (b : Bool) → IsSound T → is_in here r ≡ b → find (is_of_id id) (all_records T) ≡ Some r
+    → find (is_recorded here id) (all_records T) ≡ in_own here (Some r)
 by_place here id T r true sound e found =
-    rw e (find_only_some (is_of_id id) (is_recorded here id) r (records T) (narrow here id) found (rw e (find_passes (is_of_id id) r (records T) found)))
+    rw e (find_only_some (is_of_id id) (is_recorded here id) r (all_records T) (narrow here id) found (rw e (find_passes (is_of_id id) r (all_records T) found)))
 by_place here id T r false sound e found =
-    rw e (once_only id (is_recorded here id) r (records T) (recorded_once T id sound) found (rw e refl) (narrow here id))
+    rw e (once_only id (is_recorded here id) r (all_records T) (recorded_once T id sound) found (rw e refl) (narrow here id))
 
-by_found : (here : List ℕ) (id : Id) (T : Trace) (o : Option Record) → IsSound T → find (is_of_id id) (records T) ≡ o → find (is_recorded here id) (records T) ≡ in_own here o
-by_found here id T None sound found = find_only_none (is_of_id id) (is_recorded here id) (records T) (narrow here id) found
+by_found : (here : List ℕ) (id : Id) (T : Trace) (o : Option Record) → IsSound T → find (is_of_id id) (all_records T) ≡ o → find (is_recorded here id) (all_records T) ≡ in_own here o
+by_found here id T None sound found = find_only_none (is_of_id id) (is_recorded here id) (all_records T) (narrow here id) found
 by_found here id T (Some r) sound found = by_place here id T r (is_in here r) sound refl found
 
 -- a record of a namespace that may be read, by its id
-read_record : (rights : ByText Rights) (here : List ℕ) (id : Id) (T : Trace) (o : Option Record) → may_read rights here ≡ true → IsSound T → find (is_of_id id) (records T) ≡ o
-    → find (is_recorded here id) (filter (is_visible_record rights) (records T)) ≡ in_own here o
+read_record : (rights : ByText Rights) (here : List ℕ) (id : Id) (T : Trace) (o : Option Record) → may_read rights here ≡ true → IsSound T → find (is_of_id id) (all_records T) ≡ o
+    → find (is_recorded here id) (filter (is_visible_record rights) (all_records T)) ≡ in_own here o
 read_record rights here id T o reads sound found =
-    find_filter (is_recorded here id) (is_visible_record rights) (records T) (λ r h. placed rights here id r reads h) ∙ by_found here id T o sound found
+    find_filter (is_recorded here id) (is_visible_record rights) (all_records T) (λ r h. placed rights here id r reads h) ∙ by_found here id T o sound found
 
 -- the record of the namespace, over a floor
-pub read_recorded : (rights : ByText Rights) (here : List ℕ) (id : Id) (v : FloorShown) (T : Trace) (o : Option Record) → may_read rights here ≡ true → Stands v T → find (is_of_id id) v.ended ≡ o
-    → in_own here o ≡ recorded_under here (Some id) (filter (is_visible_record rights) (records T))
+pub read_recorded : (rights : ByText Rights) (here : List ℕ) (id : Id) (v : FloorShown) (T : Trace) (o : Option Record) → may_read rights here ≡ true → Stands v T → find (is_of_id id) (v.resumed ++ v.ended) ≡ o
+    → in_own here o ≡ recorded_under here (Some id) (filter (is_visible_record rights) (all_records T))
 read_recorded rights here id v T o reads stands found =
-    sym (read_record rights here id T o reads stands.sound (sym (ap (λ (w : FloorShown). find (is_of_id id) w.ended) stands.is) ∙ found))
+    sym (read_record rights here id T o reads stands.sound (sym (ap (λ (w : FloorShown). find (is_of_id id) (w.resumed ++ w.ended)) stands.is) ∙ found))
 
 -- what is shown of a record
 pub record_read : (S : Sight) (h : Holder) (p : Parts) (c : Call) (part : Part) (o : Option Record)
-    → o ≡ recorded (home h.home (namespace_of p.route)) (id_of p.route) (filter (is_visible_record h.rights) (records S.trace))
+    → o ≡ recorded (home h.home (namespace_of p.route)) (id_of p.route) (filter (is_visible_record h.rights) (all_records S.trace))
     → shown_done (or_else o not_found >>= (λ (r : Record). Ok (part_value part r))) ≡ shown_done (read_value (view_of S h) (Activation part) p c)
 record_read S h p c part o is = ap (λ (x : Option Record). shown_done (or_else x not_found >>= (λ (r : Record). Ok (part_value part r)))) is

@@ -11,6 +11,7 @@ use Rattle.ow_entity.specs.declared.rows.Row.{Row}
 use Rattle.ow_tables.specs.Contents.{Change}
 use Rattle.ow_tables.specs.Refusal.{table_refusal, old_row, put_refusal, remove_refusal}
 use Rattle.ow_tables.specs.Rows.{found, with_row}
+use Rattle.ow_kept.specs.Commits.{row_changes}
 use Rattle.ow_floor.specs.Calls.{accept_items}
 use Rattle.ow_floor.specs.declared.activations.Plan.{Plan}
 use Rattle.ow_tables.specs.declared.refusal.TableRefusal.{TableRefusal}
@@ -43,7 +44,7 @@ use Rattle.ow_tenant.specs.Tenants.{holder_of}
 use Rattle.ow_decide.specs.Tenants.{asker, may}
 use Rattle.ow_decide.specs.Steps.{or_else, unless}
 use Rattle.ow_decide.specs.Reasons.{no_route, not_found, not_granted, table_reason, tells_full}
-use Rattle.ow_decide.specs.Sight.{Sight, is_full, room_for}
+use Rattle.ow_decide.specs.Sight.{Sight, is_full, room_for, store_room}
 use Rattle.ow_decide.specs.Decision.{Decision, tells}
 use Rattle.ow_decide.specs.View.{view_of}
 use Rattle.ow_decide.specs.Reading.{good, is_opened, name_in, namespace_of, or_call_reason, read_answer, read_done, read_kind}
@@ -147,11 +148,19 @@ pub data Done : Type 0 where
   Changed : (change : Change) (value : V) → Done
   Invoked : (plan : Plan) (shows : Shows) → Done
 
--- the row that is put is stored, and shown as all stands then
+abbrev pub put_of : Row → Change
+put_of row = record { row = row; removes = false }
+
+-- the row that is put is stored, where the store has room for it, and shown as all stands then
+abbrev pub row_done : Sight → Row → Result Done Reason
+row_done S row = do
+  room ← store_room S (row_changes (put_of row))
+  Ok (Changed (put_of row) (shown_row (with_row row S.rows) row))
+
 abbrev pub put_done : Sight → Draft → Bool → Result Done Reason
 put_done S draft overwrite = do
   row ← row_of S draft overwrite
-  Ok (Changed (record { row = row; removes = false }) (shown_row (with_row row S.rows) row))
+  row_done S row
 
 -- what comes of an act that isn't a read, of what a request wants
 abbrev pub change_done : Sight → Holder → Act → Call → Result Done Reason

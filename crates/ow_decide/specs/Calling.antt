@@ -15,8 +15,10 @@ use Rattle.ow_packages.specs.declared.effective_action.Effective.{Effective}
 use Rattle.ow_tables.specs.Rows.{standing}
 use Rattle.ow_records.specs.declared.ids.Id.{Id}
 use Rattle.ow_floor.specs.Trace.{last}
-use Rattle.ow_floor.specs.Calls.{accept_items, happened_accepted}
+use Rattle.ow_floor.specs.Calls.{accept_items, activation_of, happened_accepted}
 use Rattle.ow_floor.specs.declared.activations.Plan.{Plan}
+use Rattle.ow_kept.specs.Commits.{accept_changes}
+use Rattle.ow_records.specs.Unrecorded.{unrecorded_of}
 use Rattle.ow_http.specs.Steps.{◌>>=◌}
 use Rattle.ow_http.specs.declared.reason.Reason.{Reason}
 use Rattle.ow_http.specs.declared.reason.Reason.TheVariants.{Fixed}
@@ -31,7 +33,7 @@ use Rattle.ow_decide.specs.declared.call_steps.Callee.{Callee}
 use Rattle.ow_decide.specs.Tenants.{office}
 use Rattle.ow_decide.specs.Steps.{or_else}
 use Rattle.ow_decide.specs.Reasons.{not_found, too_large}
-use Rattle.ow_decide.specs.Sight.{Sight, room_for, takes_calls, within_limits}
+use Rattle.ow_decide.specs.Sight.{Sight, room_for, store_room, takes_calls, within_limits}
 use Rattle.ow_decide.specs.Decision.{Decision, adds, tells}
 
 -- ---- what is wanted, or why it isn't there
@@ -93,11 +95,17 @@ plan_for subject until id namespace e params = record {
   until = until;
 }
 
+-- where the store has room for what is kept of it, and the limits allow it
+abbrev pub admitted_plan : Sight → Plan → Result Plan Reason
+admitted_plan S plan = do
+  room ← store_room S (accept_changes (unrecorded_of (activation_of S.moment plan)))
+  within ← within_limits S plan.namespace
+  Ok plan
+
 abbrev pub merged_plan : Sight → List ℕ → List ℕ → Bool → Callee → Pairs → Result Plan Reason
 merged_plan S subject namespace blocking c merged = do
   taken ← takes_calls S
-  within ← within_limits S namespace
-  Ok (plan_for subject (until_of S.moment blocking c.effective.action) (next_id S c.number) namespace c.effective merged)
+  admitted_plan S (plan_for subject (until_of S.moment blocking c.effective.action) (next_id S c.number) namespace c.effective merged)
 
 abbrev pub called_plan : Sight → List ℕ → List ℕ → Bool → Callee → Pairs → Result Plan Reason
 called_plan S subject namespace blocking c given = do
@@ -105,7 +113,7 @@ called_plan S subject namespace blocking c given = do
   merged_plan S subject namespace blocking c merged
 
 -- what is to be accepted, whose refusals stand in the order of their places: what is called, the fixed parameters, the merged
--- parameters, the drain, and the limits
+-- parameters, the drain, the room of the store, and the limits
 abbrev pub invocation_plan : Sight → List ℕ → List ℕ → Bool → FullName → Pairs → Result Plan Reason
 invocation_plan S subject namespace blocking name given = do
   c ← callee S name namespace

@@ -1,7 +1,13 @@
 -- What is done at an event: what is told, which items are added on the floor, how the rows change, and who waits then.
-use Rattle.std.specs.Prelude.{List, []}
-use Rattle.ow_floor.specs.Trace.{Trace}
+use Rattle.std.specs.Prelude.{◌++◌, List, [], ◌∷◌, map}
+use Rattle.std.specs.List.{flat_map}
+use Rattle.ow_entity.specs.declared.rows.Row.{Row}
+use Rattle.ow_records.specs.Unrecorded.{unrecorded_of}
+use Rattle.ow_traits.specs.declared.change_list.Change.{Change as StoreChange}
+use Rattle.ow_floor.specs.Trace.{Trace, accepted}
+use Rattle.ow_kept.specs.Commits.{accept_changes, commits_of, row_changes}
 use Rattle.ow_tables.specs.Contents.{Change}
+use Rattle.ow_tables.specs.Rows.{changed}
 use Rattle.ow_decide.specs.declared.events.Told.{Told}
 use Rattle.ow_decide.specs.declared.waits.Waits.{Waits}
 use Rattle.ow_decide.specs.declared.waits.Waits.TheVariants.{Keep}
@@ -20,3 +26,18 @@ tells t = record { told = t; items = []; changes = []; waits = Keep }
 -- something is told, and happens on the floor
 abbrev pub adds : Told → Trace → Decision
 adds t items = record { told = t; items = items; changes = []; waits = Keep }
+
+-- the rows after these changes, of which the first is made first
+abbrev pub all_changed : List Change → List Row → List Row
+all_changed [] rs = rs
+all_changed (c ∷ cs) rs = all_changed cs (changed c rs)
+
+-- ---- what is committed to the store
+
+-- what it changes of what is kept: what is accepted, the rows, and what ends
+abbrev pub commits : Decision → List StoreChange
+commits d = commits_of d.items d.changes
+
+-- the same but for what ends
+abbrev pub commits_but_ends : Decision → List StoreChange
+commits_but_ends d = flat_map accept_changes (map unrecorded_of (accepted d.items)) ++ flat_map row_changes d.changes

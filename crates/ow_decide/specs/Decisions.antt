@@ -1,8 +1,9 @@
 -- What the service does at an event, by what is seen: one case for each kind of event.
 use Rattle.std.specs.Prelude.{ℕ, [], ◌∷◌, length, Bool, true, false, Option, Some, None, Result, Ok, Err}
 use Rattle.ow_traits.specs.declared.replies.RunReply.{RunReply}
+use Rattle.ow_keep.specs.Judged.{judged}
 use Rattle.ow_floor.specs.Trace.{Drained, Trace}
-use Rattle.ow_floor.specs.Calls.{answer_to, answered_items, begun_answer, begun_items, drain_answer, gone_answer, gone_items, happened, lost_answer, lost_items, next_items, next_order, swept_ends, swept_items}
+use Rattle.ow_floor.specs.Calls.{abandon_items, abandoned_ends, answer_to, answered_items, begun_answer, begun_items, drain_answer, gone_answer, gone_items, happened, lost_answer, lost_items, next_items, next_order, swept_ends, swept_items}
 use Rattle.ow_floor.specs.Collecting.{collected}
 use Rattle.ow_floor.specs.declared.answers.Answered.{Answered}
 use Rattle.ow_floor.specs.declared.answers.FloorRefusal.{FloorRefusal}
@@ -14,7 +15,9 @@ use Rattle.ow_decide.specs.declared.events.Told.{Told}
 use Rattle.ow_decide.specs.declared.events.Told.TheVariants as told
 use Rattle.ow_decide.specs.Sight.{Sight}
 use Rattle.ow_decide.specs.Decision.{Decision, adds, tells}
+use Rattle.ow_decide.specs.declared.waits.Waits.TheVariants.{Clear}
 use Rattle.ow_decide.specs.Asking.{ask_decision, request_done}
+use Rattle.ow_decide.specs.Opening.{opened_decision, parts_taken}
 use Rattle.ow_decide.specs.Calling.{call_decision, call_plan}
 use Rattle.ow_decide.specs.Waiting.{collected_told, shows_for}
 
@@ -32,6 +35,15 @@ taken_told (Err refusal) = told.Refused refusal
 abbrev pub swept_told : ℕ → Trace → Swept
 swept_told at T = record { happened = happened (swept_ends at T); late = length (swept_ends at T) }
 
+-- the service is opened
+abbrev pub is_opening : Event → Bool
+is_opening (events.Opened rows) = true
+is_opening event = false
+
+-- what is done at a reopening: all that has not ended is recorded as abandoned, and nobody waits any more
+abbrev pub reopened_decision : ℕ → Trace → Decision
+reopened_decision at T = record { told = told.Reopened (happened (abandoned_ends at T)); items = abandon_items at T; changes = []; waits = Clear }
+
 -- a beginning, a loss and a going take no memory
 abbrev pub wants_memory : Event → Bool
 wants_memory (events.Begun run) = false
@@ -40,7 +52,7 @@ wants_memory (events.Gone slot generation) = false
 wants_memory event = true
 
 abbrev pub decide : Sight → Event → Decision
-decide S (events.Opened rows) = tells (told.Opened [])
+decide S (events.Opened rows) = opened_decision S.moment (parts_taken S.moment S.trace (judged rows))
 decide S (events.Asked r) = ask_decision S.moment (request_done S (parts_of r))
 decide S (events.Called name params) = call_decision S (call_plan S name params)
 decide S events.Next = adds (told.Next (next_order S.trace)) (next_items S.moment S.trace)
@@ -51,3 +63,4 @@ decide S (events.Gone slot generation) = adds (taken_told (gone_answer slot gene
 decide S events.Sweep = adds (told.Swept (swept_told S.moment S.trace)) (swept_items S.moment S.trace)
 decide S (events.Collected id) = tells (told.Collected (collected_told id (shows_for S.waits id) (collected S.moment id S.trace)))
 decide S events.Drain = adds (told.Drain (drain_answer S.trace)) (Drained S.moment ∷ [])
+decide S events.Reopened = reopened_decision S.moment S.trace

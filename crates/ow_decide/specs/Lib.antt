@@ -12,5 +12,6 @@ pub mod Waiting
 pub mod Decision
 pub mod Noted
 pub mod Asking
+pub mod Opening
 pub mod Decisions
 pub mod Making

@@ -1,12 +1,21 @@
 -- A step, as the code has it: what comes of a request, and that a step has what was decided.
 use Rattle.std.specs.Prelude.{◌≡◌, ◌≤◌, ◌+◌, ◌++◌, ℕ, List, [], ◌∷◌, false, Option, Some, None, Result, Ok, Err}
+use Rattle.ow_traits.specs.declared.change_list.Change.{Change as StoreChange}
 use Rattle.ow_value.specs.View.{view}
 use Rattle.ow_entity.specs.declared.rows.Row.{Row}
+use Rattle.ow_floor.specs.Calls.{activation_of}
 use Rattle.ow_floor.specs.Laws.{Stands}
+use Rattle.ow_floor.specs.declared.activations.Plan.{Plan}
+use Rattle.ow_floor.specs.Trace.{Accepted}
+use Rattle.ow_kept.specs.Commits.{accept_changes, row_changes}
+use Rattle.ow_kept.specs.Keeping.{AreLater, CommitView, KeepingView, StandsAfter, StandsForKept}
+use Rattle.ow_records.specs.Unrecorded.{unrecorded_of}
 use Rattle.ow_floor.specs.View.{Shown, last_of}
 use Rattle.ow_records.specs.declared.ids.Id.{Id}
 use Rattle.ow_http.specs.declared.reason.Reason.{Reason}
 use Rattle.ow_tables.specs.Contents.{Change}
+use Rattle.ow_tables.specs.Rows.{changed}
+use Rattle.ow_decide.specs.declared.call_steps.Planned.{Planned}
 use Rattle.ow_decide.specs.declared.done.Done.{Done}
 use Rattle.ow_decide.specs.declared.done.Done.TheVariants as codes
 use Rattle.ow_decide.specs.declared.done.Served.{Served}
@@ -20,8 +29,11 @@ use Rattle.ow_counts.specs.View.{AreUpTo, CountsView, StandsFor, notes_of}
 use Rattle.ow_decide.specs.declared.waits.Wait.{Wait}
 use Rattle.ow_decide.specs.declared.waits.Waits.TheVariants.{Keep}
 use Rattle.ow_decide.specs.Asking as asking
-use Rattle.ow_decide.specs.Sight.{Sight}
-use Rattle.ow_decide.specs.Decision.{Decision}
+use Rattle.ow_http.specs.Steps.{◌>>=◌}
+use Rattle.ow_decide.specs.Reasons.{store_full}
+use Rattle.ow_decide.specs.Steps.{unless}
+use Rattle.ow_decide.specs.Sight.{Sight, is_store_full, within_limits}
+use Rattle.ow_decide.specs.Decision.{Decision, all_changed, commits_but_ends}
 use Rattle.ow_decide.specs.Noted.{invoked_in}
 
 -- ---- what comes of a request, of the code
@@ -29,11 +41,11 @@ use Rattle.ow_decide.specs.Noted.{invoked_in}
 abbrev pub done_of : Done → Result asking.Done Reason
 done_of (codes.Refused reason) = Err reason
 done_of (codes.Shown value) = Ok (asking.Shown (view value))
-done_of (codes.Changed ready shown) = Ok (asking.Changed ready (view shown))
+done_of (codes.Changed ready shown commit) = Ok (asking.Changed ready (view shown))
 
 abbrev pub served_of : Served → Result asking.Done Reason
 served_of (served.Done done) = done_of done
-served_of (served.Accepts plan shows) = Ok (asking.Invoked plan shows)
+served_of (served.Accepts planned shows) = Ok (asking.Invoked planned.plan shows)
 
 -- there is room for a change
 abbrev pub HasPlace : Option Change → ℕ → Type 0
@@ -41,17 +53,55 @@ HasPlace None room = Unit {0}
 HasPlace (Some change) room = change.removes ≡ false → 1 ≤ room
 
 abbrev pub change_of : Done → Option Change
-change_of (codes.Changed ready shown) = Some ready
+change_of (codes.Changed ready shown commit) = Some ready
 change_of done = None
 
 abbrev pub served_change : Served → Option Change
 served_change (served.Done done) = change_of done
-served_change (served.Accepts plan shows) = None
+served_change (served.Accepts planned shows) = None
+
+abbrev pub plan_in : Result Planned Reason → Result Plan Reason
+plan_in (Ok planned) = Ok planned.plan
+plan_in (Err reason) = Err reason
 
 -- the id of what is to be accepted is the next of its namespace
 abbrev pub IsNextOf : List Id → Served → Type 0
 IsNextOf drawn (served.Done done) = Unit {0}
-IsNextOf drawn (served.Accepts plan shows) = plan.id.count ≡ last_of drawn plan.id.namespace + 1
+IsNextOf drawn (served.Accepts planned shows) = planned.plan.id.count ≡ last_of drawn planned.plan.id.namespace + 1
+
+-- ---- what is committed of it
+
+abbrev pub changes_of : Option Change → List Change
+changes_of None = []
+changes_of (Some change) = change ∷ []
+
+-- a commit makes these changes of what is kept, and with it what is known of that stands for these rows and this trace
+pub record IsCommitOf (commit : CommitView) (cs : List StoreChange) (b : KeepingView) (rs : List Row) (T : Trace) : Type 0 where
+  pub changes : commit.changes ≡ cs
+  pub stands : StandsAfter commit b rs T
+
+-- of a change of the rows
+abbrev pub CommitsDone : Done → KeepingView → Sight → Type 0
+CommitsDone (codes.Changed ready shown commit) b S = IsCommitOf commit (row_changes ready) b (changed ready S.rows) S.trace
+CommitsDone done b S = Unit {0}
+
+abbrev pub commit_of : Done → Option CommitView
+commit_of (codes.Changed ready shown commit) = Some commit
+commit_of done = None
+
+-- of what is planned to be accepted
+abbrev pub CommitsPlan : Planned → KeepingView → Sight → Type 0
+CommitsPlan planned b S = IsCommitOf planned.commit (accept_changes (unrecorded_of (activation_of S.moment planned.plan))) b S.rows (Accepted (activation_of S.moment planned.plan) ∷ S.trace)
+
+abbrev pub CommitsServed : Served → KeepingView → Sight → Type 0
+CommitsServed (served.Done done) b S = CommitsDone done b S
+CommitsServed (served.Accepts planned shows) b S = CommitsPlan planned b S
+
+-- so many bytes may be kept, and the limits allow one more invocation that is charged to a namespace
+abbrev pub admits : Sight → List ℕ → ℕ → Result (Unit {0}) Reason
+admits S namespace bytes = do
+  room ← unless (is_store_full bytes) store_full
+  within_limits S namespace
 
 -- ---- a step: what is decided is done on the floor, and made ready beside it
 
@@ -61,33 +111,36 @@ pub record AreCounted (k : CountsView) (at : ℕ) (T : Trace) : Type 0 where
   pub up_to : AreUpTo at T
 
 -- what is seen is of these
-pub record IsSeen (S : Sight) (t : Table) (rs : List Row) (k : CountsView) (v : Shown) (now : Now) : Type 0 where
+pub record IsSeen (S : Sight) (t : Table) (rs : List Row) (k : CountsView) (b : KeepingView) (v : Shown) (now : Now) : Type 0 where
   pub tenants : S.tenants ≡ t
   pub rows : S.rows ≡ rs
   pub counts : AreCounted k now.at S.trace
+  pub keeping : StandsForKept b S.rows S.trace
   pub stands : Stands v S.trace
   pub counted : S.counted ≡ now.counted
   pub moment : S.moment ≡ now.at
 
+-- what is to be committed of what is decided, but for what ends: where there is no commit, no row is changed, and no activation accepted
+abbrev pub IsCommit : Option CommitView → Decision → KeepingView → Sight → Type 0
+IsCommit None d b S = (d.changes ≡ []) × AreLater d.items
+IsCommit (Some commit) d b S = IsCommitOf commit (commits_but_ends d) b (all_changed d.changes S.rows) (d.items ++ S.trace)
+
 -- something is told, and nothing else is made ready
 abbrev pub telling : Told → Step
-telling t = record { told = t; change = None; waits = Keep; invoked = None }
+telling t = record { told = t; change = None; waits = Keep; invoked = None; commit = None }
 
-abbrev pub changes_of : Option Change → List Change
-changes_of None = []
-changes_of (Some change) = change ∷ []
-
--- a step has what was decided
-pub record Carries (step : Step) (d : Decision) : Type 0 where
+-- a step has what was decided of what is seen, and commits it but for what ends
+pub record Carries (step : Step) (d : Decision) (b : KeepingView) (S : Sight) : Type 0 where
   pub told : step.told ≡ d.told
   pub changes : changes_of step.change ≡ d.changes
   pub waits : step.waits ≡ d.waits
   pub invoked : step.invoked ≡ invoked_in d.items
+  pub commit : IsCommit step.commit d b S
 
 -- over a floor and rows: a step has what is decided of what is seen, and the floor has its items
-abbrev pub Makes : Table → List Row → CountsView → Now → Shown → Shown → (Sight → Decision) → Step → Type 0
-Makes t rs k now old new decided step = (S : Sight) → IsSeen S t rs k old now → Carries step (decided S) × Stands new ((decided S).items ++ S.trace)
+abbrev pub Makes : Table → List Row → CountsView → KeepingView → Now → Shown → Shown → (Sight → Decision) → Step → Type 0
+Makes t rs k b now old new decided step = (S : Sight) → IsSeen S t rs k b old now → Carries step (decided S) b S × Stands new ((decided S).items ++ S.trace)
 
 -- over those who wait too
-abbrev pub MakesFor : List Wait → Table → List Row → CountsView → Now → Shown → Shown → (Sight → Decision) → Step → Type 0
-MakesFor ws t rs k now old new decided step = (S : Sight) → IsSeen S t rs k old now → S.waits ≡ ws → Carries step (decided S) × Stands new ((decided S).items ++ S.trace)
+abbrev pub MakesFor : List Wait → Table → List Row → CountsView → KeepingView → Now → Shown → Shown → (Sight → Decision) → Step → Type 0
+MakesFor ws t rs k b now old new decided step = (S : Sight) → IsSeen S t rs k b old now → S.waits ≡ ws → Carries step (decided S) b S × Stands new ((decided S).items ++ S.trace)

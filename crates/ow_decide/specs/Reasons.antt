@@ -33,6 +33,10 @@ unknown_key = Service services.UnknownKey
 abbrev pub draining : Reason
 draining = Service services.Draining
 
+-- the store has no room
+abbrev pub store_full : Reason
+store_full = Service services.KeptFull
+
 -- the book is full
 abbrev pub book_full : Reason
 book_full = Service services.BookFull

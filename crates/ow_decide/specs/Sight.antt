@@ -1,14 +1,18 @@
 -- What is seen when an event comes, and the tests that events of several kinds share. Each test takes what is seen.
 use Rattle.std.specs.Prelude.{◌+◌, ℕ, Bool, nat_lt, List, Result, Ok, Err}
 use Rattle.ow_entity.specs.declared.rows.Row.{Row}
+use Rattle.ow_traits.specs.Changes.{changed}
+use Rattle.ow_traits.specs.declared.change_list.Change.{Change}
 use Rattle.ow_floor.specs.Trace.{Trace, is_draining}
+use Rattle.ow_items.specs.Bytes.{bytes_of}
+use Rattle.ow_kept.specs.Kept.{kept}
 use Rattle.ow_http.specs.declared.reason.Reason.{Reason}
 use Rattle.ow_tenant.specs.Table.{Table}
 use Rattle.ow_tenant.specs.Tenants.{limits_of}
 use Rattle.ow_counts.specs.Counts.{admitted}
 use Rattle.ow_counts.specs.declared.refusal.LimitRefusal.{LimitRefusal}
 use Rattle.ow_decide.specs.declared.waits.Wait.{Wait}
-use Rattle.ow_decide.specs.Reasons.{book_full, draining, limit_reason}
+use Rattle.ow_decide.specs.Reasons.{book_full, draining, limit_reason, store_full}
 use Rattle.ow_decide.specs.Steps.{unless}
 
 -- the office table, the rows, what happened on the floor, who waits for an end, how many bytes the book counts, and the moment
@@ -31,6 +35,14 @@ room_for S size = unless (is_full S.counted size) book_full
 -- the floor takes calls
 abbrev pub takes_calls : Sight → Result (Unit {0}) Reason
 takes_calls S = unless (is_draining S.trace) draining
+
+-- so many bytes of keys and texts are more than the store holds: it holds 1,073,741,824 at most
+unfoldable pub is_store_full : ℕ → Bool
+is_store_full bytes = nat_lt 1073741824 bytes
+
+-- the store has room for what is kept after these changes
+abbrev pub store_room : Sight → List Change → Result (Unit {0}) Reason
+store_room S changes = unless (is_store_full (bytes_of (changed changes (kept S.rows S.trace)))) store_full
 
 abbrev pub or_limit : Result (Unit {0}) LimitRefusal → Result (Unit {0}) Reason
 or_limit (Ok u) = Ok u

@@ -11,7 +11,7 @@ use Rattle.ow_packages.specs.Access.{reached_package}
 use Rattle.ow_tables.specs.Inside.{lies_in}
 use Rattle.ow_tables.specs.Rows.{is_row, standing}
 use Rattle.ow_records.specs.declared.record.Record.{Record}
-use Rattle.ow_floor.specs.Trace.{records}
+use Rattle.ow_floor.specs.Trace.{all_records}
 use Rattle.ow_tenant.specs.ByText.{ByText, value_at}
 use Rattle.ow_tenant.specs.Rights.{has_right, rights_or_none}
 use Rattle.ow_tenant.specs.declared.entries.Holder.{Holder}
@@ -73,5 +73,5 @@ view_of S h = record {
   subject = h.subject;
   rights = h.rights;
   rows = visible_rows h.rights S.rows;
-  records = filter (is_visible_record h.rights) (records S.trace);
+  records = filter (is_visible_record h.rights) (all_records S.trace);
 }

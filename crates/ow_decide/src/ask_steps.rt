@@ -1,18 +1,21 @@
 // What comes of a request: its first refusal, in the order of their places, or what it reads and changes.
-ghost use Rattle.std.specs.Prelude.{◌≡◌, None, Some, Ok, IfOk};
-ghost use Rattle.ow_floor.specs.Laws.{Stands};
+ghost use Rattle.std.specs.Prelude.{◌≡◌, ◌≢◌, None, Some, Ok, Err, false, IfOk, IfErr, IfSome};
+ghost use Rattle.ow_kept.specs.Commits.{row_changes};
+ghost use Rattle.ow_kept.specs.Keeping.{KeepingView, StandsForKept};
 ghost use Rattle.ow_http.specs.Request.{parts_of};
-ghost use Rattle.ow_tables.specs.Rows.{with_row};
+ghost use Rattle.ow_tables.specs.Rows.{changed as rows_changed, with_row};
 ghost use Rattle.ow_decide.specs.Asking as asking;
+ghost use Rattle.ow_decide.specs.declared.done.Served.TheVariants as served;
 ghost use Rattle.ow_decide.specs.Shown.{shown_row};
-ghost use Rattle.ow_decide.specs.Asking.{ask_decision, called_done, change_done, put_done, request_done};
+ghost use Rattle.ow_decide.specs.Asking.{ask_decision, called_done, change_done, put_done, request_done, row_done};
 ghost use Rattle.ow_decide.specs.Sight.{Sight};
 ghost use Rattle.ow_tenant.specs.declared.entries.Holder.{Holder};
-ghost use Rattle.ow_decide.specs.Making.{AreCounted, HasPlace, IsNextOf, IsSeen, Makes, change_of, done_of, served_change, served_of};
+ghost use Rattle.ow_decide.specs.Making.{CommitsDone, CommitsServed, HasPlace, IsCommitOf, IsNextOf, IsSeen, Makes, change_of, done_of, served_change, served_of};
 
 use crate::acts::{Act, act_of};
 use crate::askers::asker;
 use crate::call_steps::{charged_namespace, invocation_plan};
+use crate::commits::{changing, is_store_full};
 use crate::done::{Done, Served, accepted};
 use crate::grants::granted_call;
 use crate::reads::read;
@@ -24,7 +27,8 @@ use crate::waits::shows_of;
 use ow_counts::Counts;
 use ow_entity::{Draft, EntityKind};
 use ow_floor::Floor;
-use ow_http::{Call, HttpRefusal, Reason, Request};
+use ow_http::{Call, HttpRefusal, Reason, Request, ServiceRefusal};
+use ow_kept::{Commit, Keeping};
 use ow_tables::{Ready, TableRefusal, Tables};
 use ow_tenant::{Holder, Tenants};
 use ow_value::NoMemory;
@@ -35,19 +39,20 @@ pub(crate) fn ask(
     alloc: Global,
     tenants: &Tenants,
     counts: &Counts,
+    keeping: &Keeping,
     floor: &mut Floor,
     tables: &mut Tables,
     now: Now,
     request: &Request,
 ) -> Result<Step, NoMemory>
-    ensures ok { IfOk result (Makes tenants.now tables.old.rows counts.now now floor.old.now floor.new.now (λ S. ask_decision S.moment (request_done S (parts_of request.now)))) }
+    ensures ok { IfOk result (Makes tenants.now tables.old.rows counts.now keeping.now now floor.old.now floor.new.now (λ S. ask_decision S.moment (request_done S (parts_of request.now)))) }
     ensures before { floor.new.before ≡ floor.old.before }
     ensures rows { tables.new.rows ≡ tables.old.rows }
     ensures place { IfOk result (λ s. HasPlace s.change tables.new.room) }
 {
-    match request_served(alloc, tenants, counts, floor, tables, now, request)? {
+    match request_served(alloc, tenants, counts, keeping, floor, tables, now, request)? {
         Served::Done(done) => done.step(alloc),
-        Served::Accepts { plan, shows } => accepted(alloc, floor, now.at, plan, shows),
+        Served::Accepts { planned, shows } => accepted(alloc, floor, now.at, planned, shows),
     }
 }
 
@@ -56,12 +61,14 @@ fn request_served(
     alloc: Global,
     tenants: &Tenants,
     counts: &Counts,
+    keeping: &Keeping,
     floor: &Floor,
     tables: &mut Tables,
     now: Now,
     request: &Request,
 ) -> Result<Served, NoMemory>
-    ensures done { IfOk result (λ d. (S : Sight) → IsSeen S tenants.now tables.old.rows counts.now floor.now.now now → served_of d ≡ request_done S (parts_of request.now)) }
+    ensures done { IfOk result (λ d. (S : Sight) → IsSeen S tenants.now tables.old.rows counts.now keeping.now floor.now.now now → served_of d ≡ request_done S (parts_of request.now)) }
+    ensures commit { IfOk result (λ d. (S : Sight) → IsSeen S tenants.now tables.old.rows counts.now keeping.now floor.now.now now → CommitsServed d keeping.now S) }
     ensures rows { tables.new.rows ≡ tables.old.rows }
     ensures place { IfOk result (λ d. HasPlace (served_change d) tables.new.room) }
     ensures next { IfOk result (IsNextOf floor.now.now.drawn) }
@@ -81,7 +88,7 @@ fn request_served(
             alloc, holder, floor, tables, reading, request,
         )?)),
         act => called_served(
-            alloc, tenants, holder, counts, floor, tables, now.at, act, request,
+            alloc, tenants, holder, counts, keeping, floor, tables, now, act, request,
         ),
     }
 }
@@ -92,20 +99,23 @@ fn called_served(
     tenants: &Tenants,
     holder: &Holder,
     counts: &Counts,
+    keeping: &Keeping,
     floor: &Floor,
     tables: &mut Tables,
-    at: u64,
+    now: Now,
     act: Act,
     request: &Request,
 ) -> Result<Served, NoMemory>
-    ensures done { IfOk result (λ d. (S : Sight) → S.tenants ≡ tenants.now → S.rows ≡ tables.old.rows → Stands floor.now.now S.trace → S.moment ≡ at → AreCounted counts.now at S.trace
-        → served_of d ≡ called_done S holder.now act (parts_of request.now)) }
+    ensures done { IfOk result (λ d. (S : Sight) → IsSeen S tenants.now tables.old.rows counts.now keeping.now floor.now.now now → served_of d ≡ called_done S holder.now act (parts_of request.now)) }
+    ensures commit { IfOk result (λ d. (S : Sight) → IsSeen S tenants.now tables.old.rows counts.now keeping.now floor.now.now now → CommitsServed d keeping.now S) }
     ensures rows { tables.new.rows ≡ tables.old.rows }
     ensures place { IfOk result (λ d. HasPlace (served_change d) tables.new.room) }
     ensures next { IfOk result (IsNextOf floor.now.now.drawn) }
 {
     match granted_call(alloc, holder, tables, act, request)? {
-        Ok(call) => { call_served(alloc, tenants, holder, counts, floor, tables, at, act, call) }
+        Ok(call) => call_served(
+            alloc, tenants, holder, counts, keeping, floor, tables, now, act, call,
+        ),
         Err(reason) => Ok(Served::Done(Done::Refused(reason))),
     }
 }
@@ -115,23 +125,56 @@ fn call_served(
     tenants: &Tenants,
     holder: &Holder,
     counts: &Counts,
+    keeping: &Keeping,
     floor: &Floor,
     tables: &mut Tables,
-    at: u64,
+    now: Now,
     act: Act,
     call: Call,
 ) -> Result<Served, NoMemory>
-    ensures done { IfOk result (λ d. (S : Sight) → S.tenants ≡ tenants.now → S.rows ≡ tables.old.rows → Stands floor.now.now S.trace → S.moment ≡ at → AreCounted counts.now at S.trace
-        → served_of d ≡ change_done S holder.now act call) }
+    ensures done { IfOk result (λ d. (S : Sight) → IsSeen S tenants.now tables.old.rows counts.now keeping.now floor.now.now now → served_of d ≡ change_done S holder.now act call) }
+    ensures commit { IfOk result (λ d. (S : Sight) → IsSeen S tenants.now tables.old.rows counts.now keeping.now floor.now.now now → CommitsServed d keeping.now S) }
     ensures rows { tables.new.rows ≡ tables.old.rows }
     ensures place { IfOk result (λ d. HasPlace (served_change d) tables.new.room) }
     ensures next { IfOk result (IsNextOf floor.now.now.drawn) }
 {
     match act {
-        Act::Reads(_) => Ok(Served::Done(Done::Refused(Reason::Http(HttpRefusal::NoRoute)))),
-        Act::Puts => Ok(Served::Done(put(alloc, tables, call)?)),
-        Act::Removes(kind) => Ok(Served::Done(removed(alloc, tables, kind, &call)?)),
-        Act::Invokes => invoked(alloc, tenants, holder, counts, floor, tables, at, &call),
+        Act::Invokes => invoked(
+            alloc, tenants, holder, counts, keeping, floor, tables, now, &call,
+        ),
+        act => done_served(changed(alloc, keeping, tables, act, call)),
+    }
+}
+
+fn done_served(done: Result<Done, NoMemory>) -> Result<Served, NoMemory>
+    ensures ok { IfOk done (λ d. result ≡ Ok (served.Done d)) }
+    ensures err { IfErr done (λ e. result ≡ Err e) }
+{
+    match done {
+        Ok(done) => Ok(Served::Done(done)),
+        Err(e) => Err(e),
+    }
+}
+
+// What comes of a put or a removal. A read is no call.
+fn changed(
+    alloc: Global,
+    keeping: &Keeping,
+    tables: &mut Tables,
+    act: Act,
+    call: Call,
+) -> Result<Done, NoMemory>
+    requires { act ≢ Act.Invokes }
+    ensures done { IfOk result (λ d. (S : Sight) (h : Holder) → S.rows ≡ tables.old.rows → StandsForKept keeping.now S.rows S.trace → done_of d ≡ change_done S h act call) }
+    ensures commit { IfOk result (λ d. (S : Sight) → S.rows ≡ tables.old.rows → StandsForKept keeping.now S.rows S.trace → CommitsDone d keeping.now S) }
+    ensures rows { tables.new.rows ≡ tables.old.rows }
+    ensures place { IfOk result (λ d. HasPlace (change_of d) tables.new.room) }
+{
+    match act {
+        Act::Puts => put(alloc, keeping, tables, call),
+        Act::Removes(kind) => removed(alloc, keeping, tables, kind, &call),
+        Act::Reads(_) => Ok(Done::Refused(Reason::Http(HttpRefusal::NoRoute))),
+        Act::Invokes => unreachable!(),
     }
 }
 
@@ -141,13 +184,14 @@ fn invoked(
     tenants: &Tenants,
     holder: &Holder,
     counts: &Counts,
+    keeping: &Keeping,
     floor: &Floor,
     tables: &Tables,
-    at: u64,
+    now: Now,
     call: &Call,
 ) -> Result<Served, NoMemory>
-    ensures done { IfOk result (λ d. (S : Sight) → S.tenants ≡ tenants.now → S.rows ≡ tables.now.rows → Stands floor.now.now S.trace → S.moment ≡ at → AreCounted counts.now at S.trace
-        → served_of d ≡ change_done S holder.now Act.Invokes call.now) }
+    ensures done { IfOk result (λ d. (S : Sight) → IsSeen S tenants.now tables.now.rows counts.now keeping.now floor.now.now now → served_of d ≡ change_done S holder.now Act.Invokes call.now) }
+    ensures commit { IfOk result (λ d. (S : Sight) → IsSeen S tenants.now tables.now.rows counts.now keeping.now floor.now.now now → CommitsServed d keeping.now S) }
     ensures change { IfOk result (λ d. served_change d ≡ None) }
     ensures next { IfOk result (IsNextOf floor.now.now.drawn) }
 {
@@ -158,9 +202,10 @@ fn invoked(
         alloc,
         tenants,
         counts,
+        keeping,
         floor,
         tables,
-        at,
+        now,
         &holder.subject,
         charged_namespace(holder, name),
         call.blocking,
@@ -168,16 +213,17 @@ fn invoked(
         &call.params,
     )?;
     match plan {
-        Ok(plan) => Ok(Served::Accepts {
-            plan,
+        Ok(planned) => Ok(Served::Accepts {
+            planned,
             shows: shows_of(call.result_only),
         }),
         Err(reason) => Ok(Served::Done(Done::Refused(reason))),
     }
 }
 
-fn put(alloc: Global, tables: &mut Tables, call: Call) -> Result<Done, NoMemory>
-    ensures done { IfOk result (λ d. (S : Sight) (h : Holder) → S.rows ≡ tables.old.rows → done_of d ≡ change_done S h Act.Puts call) }
+fn put(alloc: Global, keeping: &Keeping, tables: &mut Tables, call: Call) -> Result<Done, NoMemory>
+    ensures done { IfOk result (λ d. (S : Sight) (h : Holder) → S.rows ≡ tables.old.rows → StandsForKept keeping.now S.rows S.trace → done_of d ≡ change_done S h Act.Puts call) }
+    ensures commit { IfOk result (λ d. (S : Sight) → S.rows ≡ tables.old.rows → StandsForKept keeping.now S.rows S.trace → CommitsDone d keeping.now S) }
     ensures rows { tables.new.rows ≡ tables.old.rows }
     ensures place { IfOk result (λ d. HasPlace (change_of d) tables.new.room) }
 {
@@ -187,51 +233,67 @@ fn put(alloc: Global, tables: &mut Tables, call: Call) -> Result<Done, NoMemory>
         ..
     } = call;
     match draft {
-        Some(draft) => put_draft(alloc, tables, draft, overwrite),
+        Some(draft) => put_draft(alloc, keeping, tables, draft, overwrite),
         None => Ok(Done::Refused(Reason::Http(HttpRefusal::NoRoute))),
     }
 }
 
 fn put_draft(
     alloc: Global,
+    keeping: &Keeping,
     tables: &mut Tables,
     draft: Draft,
     overwrite: bool,
 ) -> Result<Done, NoMemory>
-    ensures done { IfOk result (λ d. (S : Sight) → S.rows ≡ tables.old.rows → done_of d ≡ put_done S draft overwrite) }
+    ensures done { IfOk result (λ d. (S : Sight) → S.rows ≡ tables.old.rows → StandsForKept keeping.now S.rows S.trace → done_of d ≡ put_done S draft overwrite) }
+    ensures commit { IfOk result (λ d. (S : Sight) → S.rows ≡ tables.old.rows → StandsForKept keeping.now S.rows S.trace → CommitsDone d keeping.now S) }
     ensures rows { tables.new.rows ≡ tables.old.rows }
     ensures place { IfOk result (λ d. HasPlace (change_of d) tables.new.room) }
 {
     match tables.prepare_put(alloc, draft, overwrite) {
-        Ok(ready) => put_shown(alloc, tables, ready),
+        Ok(ready) => put_ready(alloc, keeping, tables, ready),
         Err(TableRefusal::NoMemory) => Err(NoMemory),
         Err(refusal) => Ok(Done::Refused(table_reason(refusal))),
     }
 }
 
-// A put that was made ready, with its row as it is shown then.
-fn put_shown(alloc: Global, tables: &Tables, ready: Ready) -> Result<Done, NoMemory>
-    ensures done { IfOk result (λ d. done_of d ≡ Ok (asking.Changed ready (shown_row (with_row ready.row tables.now.rows) ready.row))) }
-    ensures change { IfOk result (λ d. change_of d ≡ Some ready) }
+// A put that was made ready, where the store has room for it.
+fn put_ready(
+    alloc: Global,
+    keeping: &Keeping,
+    tables: &Tables,
+    ready: Ready,
+) -> Result<Done, NoMemory>
+    requires puts { ready.removes ≡ false }
+    ensures done { IfOk result (λ d. (S : Sight) → S.rows ≡ tables.now.rows → StandsForKept keeping.now S.rows S.trace → done_of d ≡ row_done S ready.row) }
+    ensures commit { IfOk result (λ d. (S : Sight) → S.rows ≡ tables.now.rows → StandsForKept keeping.now S.rows S.trace → CommitsDone d keeping.now S) }
+    ensures change { IfOk result (λ d. IfSome (change_of d) (λ c. c ≡ ready)) }
 {
-    match shown_once_put(alloc, tables, ready.row()) {
-        Ok(shown) => Ok(Done::Changed { ready, shown }),
-        Err(e) => {
-            drop(ready);
-            Err(e)
-        }
+    let Ok(commit) = changing(alloc, keeping, tables, &ready) else {
+        drop(ready);
+        return Err(NoMemory);
+    };
+    if is_store_full(commit.bytes()) {
+        drop((ready, commit));
+        return Ok(Done::Refused(Reason::Service(ServiceRefusal::KeptFull)));
     }
+    put_shown(alloc, tables, ready, commit)
 }
 
-// A removal that was made ready, with its row as it is shown still.
-fn removal_shown(alloc: Global, tables: &Tables, ready: Ready) -> Result<Done, NoMemory>
-    ensures done { IfOk result (λ d. done_of d ≡ Ok (asking.Changed ready (shown_row tables.now.rows ready.row))) }
+// The same with its row as it is shown then.
+fn put_shown(alloc: Global, tables: &Tables, ready: Ready, commit: Commit) -> Result<Done, NoMemory>
+    ensures done { IfOk result (λ d. done_of d ≡ Ok (asking.Changed ready (shown_row (with_row ready.row tables.now.rows) ready.row))) }
     ensures change { IfOk result (λ d. change_of d ≡ Some ready) }
+    ensures commit { IfOk result (λ d. (b : KeepingView) (S : Sight) → IsCommitOf commit (row_changes ready) b (rows_changed ready S.rows) S.trace → CommitsDone d b S) }
 {
-    match shown_row(alloc, tables, ready.row()) {
-        Ok(shown) => Ok(Done::Changed { ready, shown }),
+    match shown_once_put(alloc, tables, ready.row()) {
+        Ok(shown) => Ok(Done::Changed {
+            ready,
+            shown,
+            commit,
+        }),
         Err(e) => {
-            drop(ready);
+            drop((ready, commit));
             Err(e)
         }
     }
@@ -239,11 +301,13 @@ fn removal_shown(alloc: Global, tables: &Tables, ready: Ready) -> Result<Done, N
 
 fn removed(
     alloc: Global,
+    keeping: &Keeping,
     tables: &mut Tables,
     kind: EntityKind,
     call: &Call,
 ) -> Result<Done, NoMemory>
     ensures done { IfOk result (λ d. (S : Sight) (h : Holder) → S.rows ≡ tables.old.rows → done_of d ≡ change_done S h (Act.Removes kind) call.now) }
+    ensures commit { IfOk result (λ d. (S : Sight) → S.rows ≡ tables.old.rows → StandsForKept keeping.now S.rows S.trace → CommitsDone d keeping.now S) }
     ensures rows { tables.new.rows ≡ tables.old.rows }
     ensures place { IfOk result (λ d. HasPlace (change_of d) tables.new.room) }
 {
@@ -251,8 +315,50 @@ fn removed(
         return Ok(Done::Refused(Reason::Http(HttpRefusal::NoRoute)));
     };
     match tables.prepare_remove(alloc, kind, name) {
-        Ok(ready) => removal_shown(alloc, tables, ready),
+        Ok(ready) => removal_ready(alloc, keeping, tables, ready),
         Err(TableRefusal::NoMemory) => Err(NoMemory),
         Err(refusal) => Ok(Done::Refused(table_reason(refusal))),
+    }
+}
+
+// A removal that was made ready: the store has room for it always.
+fn removal_ready(
+    alloc: Global,
+    keeping: &Keeping,
+    tables: &Tables,
+    ready: Ready,
+) -> Result<Done, NoMemory>
+    ensures done { IfOk result (λ d. done_of d ≡ Ok (asking.Changed ready (shown_row tables.now.rows ready.row))) }
+    ensures commit { IfOk result (λ d. (S : Sight) → S.rows ≡ tables.now.rows → StandsForKept keeping.now S.rows S.trace → CommitsDone d keeping.now S) }
+    ensures change { IfOk result (λ d. change_of d ≡ Some ready) }
+{
+    let Ok(commit) = changing(alloc, keeping, tables, &ready) else {
+        drop(ready);
+        return Err(NoMemory);
+    };
+    removal_shown(alloc, tables, ready, commit)
+}
+
+// The same with its row as it is shown still.
+fn removal_shown(
+    alloc: Global,
+    tables: &Tables,
+    ready: Ready,
+    commit: Commit,
+) -> Result<Done, NoMemory>
+    ensures done { IfOk result (λ d. done_of d ≡ Ok (asking.Changed ready (shown_row tables.now.rows ready.row))) }
+    ensures change { IfOk result (λ d. change_of d ≡ Some ready) }
+    ensures commit { IfOk result (λ d. (b : KeepingView) (S : Sight) → IsCommitOf commit (row_changes ready) b (rows_changed ready S.rows) S.trace → CommitsDone d b S) }
+{
+    match shown_row(alloc, tables, ready.row()) {
+        Ok(shown) => Ok(Done::Changed {
+            ready,
+            shown,
+            commit,
+        }),
+        Err(e) => {
+            drop((ready, commit));
+            Err(e)
+        }
     }
 }

@@ -1,13 +1,17 @@
 // Invocations of actions: by requests, and the office's own.
-ghost use Rattle.std.specs.Prelude.{◌≡◌, ◌+◌, None, Ok, IfOk, OnOk};
-ghost use Rattle.ow_floor.specs.View.{last_of};
-ghost use Rattle.ow_floor.specs.Calls.{accept_items};
-ghost use Rattle.ow_floor.specs.Laws.{Grows, IsSound, Stands};
-ghost use Rattle.ow_decide.specs.Calling.{call_decision, call_plan, called_plan, callee_in, charged_namespace, fitting, given_over, invocation_plan, merged_plan, pairs_of, plan_for, until_of};
+ghost use Rattle.std.specs.Prelude.{◌≡◌, ◌+◌, List, None, Ok, IfOk, OnOk};
+ghost use Rattle.ow_entity.specs.declared.rows.Row.{Row};
+ghost use Rattle.ow_floor.specs.Calls.{IsNext, accept_items};
+ghost use Rattle.ow_floor.specs.Laws.{Grows, IsSound};
+ghost use Rattle.ow_floor.specs.View.{Shown, last_of};
+ghost use Rattle.ow_kept.specs.Keeping.{KeepingView};
+ghost use Rattle.ow_decide.specs.Calling.{admitted_plan, call_decision, call_plan, called_plan, callee_in, charged_namespace, fitting, given_over, invocation_plan, merged_plan, pairs_of, plan_for, until_of};
 ghost use Rattle.ow_decide.specs.Sight.{Sight, within_limits};
-ghost use Rattle.ow_decide.specs.Making.{AreCounted, Carries, IsSeen, Makes};
+ghost use Rattle.ow_decide.specs.Making.{admits};
+ghost use Rattle.ow_decide.specs.Making.{AreCounted, Carries, CommitsPlan, IsCommitOf, IsSeen, Makes, plan_in};
 
 use crate::askers::office;
+use crate::commits::{accepting, is_store_full};
 use crate::done::charged;
 use crate::events::Told;
 use crate::reasons::limit_reason;
@@ -19,6 +23,7 @@ use ow_counts::Counts;
 use ow_entity::{Action, EntityRefusal};
 use ow_floor::{Floor, Plan};
 use ow_http::{CallRefusal, Reason, ServiceRefusal};
+use ow_kept::{Commit, Keeping};
 use ow_names::{EntityName, FullName};
 use ow_packages::{Effective, PackageRefusal, check_override, effective};
 use ow_records::Id;
@@ -37,41 +42,52 @@ pub(crate) struct Callee {
     pub(crate) effective: Effective,
 }
 
+/// What is to be accepted, and what is committed of it.
+#[derive(Drop)]
+pub(crate) struct Planned {
+    pub(crate) plan: Plan,
+    pub(crate) commit: Commit,
+}
+
 /// What is done at a call: the action is accepted, unless the call is refused.
 pub(crate) fn call(
     alloc: Global,
     tenants: &Tenants,
     counts: &Counts,
+    keeping: &Keeping,
     floor: &mut Floor,
     tables: &Tables,
     now: Now,
     name: &FullName,
     params: &Params,
 ) -> Result<Step, NoMemory>
-    ensures ok { IfOk result (Makes tenants.now tables.now.rows counts.now now floor.old.now floor.new.now (λ S. call_decision S (call_plan S name.now params.now))) }
+    ensures ok { IfOk result (Makes tenants.now tables.now.rows counts.now keeping.now now floor.old.now floor.new.now (λ S. call_decision S (call_plan S name.now params.now))) }
     ensures change { IfOk result (λ s. s.change ≡ None) }
     ensures before { floor.new.before ≡ floor.old.before }
 {
-    match call_plan(alloc, tenants, counts, floor, tables, now, name, params)? {
-        Ok(plan) => called(alloc, floor, now.at, plan),
+    match call_plan(
+        alloc, tenants, counts, keeping, floor, tables, now, name, params,
+    )? {
+        Ok(planned) => called(alloc, floor, now.at, planned),
         Err(reason) => Ok(Step::telling(Told::Called(Called::Refused(reason)))),
     }
 }
 
 // What is told of a call, whose activation is accepted.
-fn called(alloc: Global, floor: &mut Floor, at: u64, plan: Plan) -> Result<Step, NoMemory>
-    requires next { plan.id.count ≡ last_of floor.old.now.drawn plan.id.namespace + 1 }
-    ensures ok { IfOk result (λ s. (S : Sight) → S.moment ≡ at → Carries s (call_decision S (Ok plan))) }
+fn called(alloc: Global, floor: &mut Floor, at: u64, planned: Planned) -> Result<Step, NoMemory>
+    requires next { planned.plan.id.count ≡ last_of floor.old.now.drawn planned.plan.id.namespace + 1 }
+    ensures ok { IfOk result (λ s. (S : Sight) (b : KeepingView) → S.moment ≡ at → CommitsPlan planned b S → Carries s (call_decision S (Ok planned.plan)) b S) }
     ensures change { IfOk result (λ s. s.change ≡ None) }
-    ensures grows { OnOk result (Grows floor.old.now floor.new.now (λ T. accept_items at plan)) }
+    ensures grows { OnOk result (Grows floor.old.now floor.new.now (λ T. accept_items at planned.plan)) }
     ensures before { floor.new.before ≡ floor.old.before }
 {
+    let Planned { plan, commit } = planned;
     let Ok(invoked) = charged(alloc, &plan) else {
-        drop(plan);
+        drop((plan, commit));
         return Err(NoMemory);
     };
     let Ok(happened) = floor.accept(alloc, at, plan) else {
-        drop(invoked);
+        drop((invoked, commit));
         return Err(NoMemory);
     };
     Ok(Step {
@@ -79,6 +95,7 @@ fn called(alloc: Global, floor: &mut Floor, at: u64, plan: Plan) -> Result<Step,
         change: None,
         waits: Waits::Keep,
         invoked,
+        commit: Some(commit),
     })
 }
 
@@ -87,14 +104,16 @@ fn call_plan(
     alloc: Global,
     tenants: &Tenants,
     counts: &Counts,
+    keeping: &Keeping,
     floor: &Floor,
     tables: &Tables,
     now: Now,
     name: &FullName,
     params: &Params,
-) -> Result<Result<Plan, Reason>, NoMemory>
-    ensures plan { IfOk result (λ p. (S : Sight) → IsSeen S tenants.now tables.now.rows counts.now floor.now.now now → p ≡ call_plan S name.now params.now) }
-    ensures next { IfOk result (λ p. IfOk p (λ plan. plan.id.count ≡ last_of floor.now.now.drawn plan.id.namespace + 1)) }
+) -> Result<Result<Planned, Reason>, NoMemory>
+    ensures plan { IfOk result (λ p. (S : Sight) → IsSeen S tenants.now tables.now.rows counts.now keeping.now floor.now.now now → plan_in p ≡ call_plan S name.now params.now) }
+    ensures commit { IfOk result (λ p. IfOk p (λ q. (S : Sight) → IsSeen S tenants.now tables.now.rows counts.now keeping.now floor.now.now now → CommitsPlan q keeping.now S)) }
+    ensures next { IfOk result (λ p. IfOk p (λ q. q.plan.id.count ≡ last_of floor.now.now.drawn q.plan.id.namespace + 1)) }
 {
     if let Err(reason) = room_for(now.counted, 0) {
         return Ok(Err(reason));
@@ -104,9 +123,10 @@ fn call_plan(
         alloc,
         tenants,
         counts,
+        keeping,
         floor,
         tables,
-        now.at,
+        now,
         &subject,
         &name.namespace,
         false,
@@ -120,22 +140,25 @@ pub(crate) fn invocation_plan(
     alloc: Global,
     tenants: &Tenants,
     counts: &Counts,
+    keeping: &Keeping,
     floor: &Floor,
     tables: &Tables,
-    at: u64,
+    now: Now,
     subject: &Str,
     namespace: &EntityName,
     blocking: bool,
     name: &FullName,
     params: &Params,
-) -> Result<Result<Plan, Reason>, NoMemory>
-    ensures plan { IfOk result (λ p. (S : Sight) → S.tenants ≡ tenants.now → S.rows ≡ tables.now.rows → Stands floor.now.now S.trace → S.moment ≡ at → AreCounted counts.now at S.trace
-        → p ≡ invocation_plan S subject.now namespace.now blocking name.now params.now) }
-    ensures next { IfOk result (λ p. IfOk p (λ plan. plan.id.count ≡ last_of floor.now.now.drawn plan.id.namespace + 1)) }
+) -> Result<Result<Planned, Reason>, NoMemory>
+    ensures plan { IfOk result (λ p. (S : Sight) → IsSeen S tenants.now tables.now.rows counts.now keeping.now floor.now.now now
+        → plan_in p ≡ invocation_plan S subject.now namespace.now blocking name.now params.now) }
+    ensures commit { IfOk result (λ p. IfOk p (λ q. (S : Sight) → IsSeen S tenants.now tables.now.rows counts.now keeping.now floor.now.now now → CommitsPlan q keeping.now S)) }
+    ensures next { IfOk result (λ p. IfOk p (λ q. q.plan.id.count ≡ last_of floor.now.now.drawn q.plan.id.namespace + 1)) }
 {
     match callee_in(alloc, tenants, tables, name, namespace)? {
         Some(called) => called_plan(
-            alloc, tenants, counts, floor, at, subject, namespace, blocking, called, params,
+            alloc, tenants, counts, keeping, floor, now, subject, namespace, blocking, called,
+            params,
         ),
         None => Ok(Err(Reason::Service(ServiceRefusal::NotFound))),
     }
@@ -146,22 +169,25 @@ fn called_plan(
     alloc: Global,
     tenants: &Tenants,
     counts: &Counts,
+    keeping: &Keeping,
     floor: &Floor,
-    at: u64,
+    now: Now,
     subject: &Str,
     namespace: &EntityName,
     blocking: bool,
     called: Callee,
     params: &Params,
-) -> Result<Result<Plan, Reason>, NoMemory>
-    ensures plan { IfOk result (λ p. (S : Sight) → S.tenants ≡ tenants.now → Stands floor.now.now S.trace → S.moment ≡ at → AreCounted counts.now at S.trace → p ≡ called_plan S subject.now namespace.now blocking called params.now) }
-    ensures next { IfOk result (λ p. IfOk p (λ plan. plan.id.count ≡ last_of floor.now.now.drawn plan.id.namespace + 1)) }
+) -> Result<Result<Planned, Reason>, NoMemory>
+    ensures plan { IfOk result (λ p. (S : Sight) (rs : List Row) → IsSeen S tenants.now rs counts.now keeping.now floor.now.now now
+        → plan_in p ≡ called_plan S subject.now namespace.now blocking called params.now) }
+    ensures commit { IfOk result (λ p. IfOk p (λ q. (S : Sight) (rs : List Row) → IsSeen S tenants.now rs counts.now keeping.now floor.now.now now → CommitsPlan q keeping.now S)) }
+    ensures next { IfOk result (λ p. IfOk p (λ q. q.plan.id.count ≡ last_of floor.now.now.drawn q.plan.id.namespace + 1)) }
 {
     let Callee { number, effective } = called;
     match given_over(alloc, &effective, params) {
         Ok(Ok(merged)) => merged_plan(
-            alloc, tenants, counts, floor, at, subject, namespace, blocking, number, effective,
-            merged,
+            alloc, tenants, counts, keeping, floor, now, subject, namespace, blocking, number,
+            effective, merged,
         ),
         Ok(Err(reason)) => {
             drop(effective);
@@ -179,25 +205,25 @@ fn merged_plan(
     alloc: Global,
     tenants: &Tenants,
     counts: &Counts,
+    keeping: &Keeping,
     floor: &Floor,
-    at: u64,
+    now: Now,
     subject: &Str,
     namespace: &EntityName,
     blocking: bool,
     number: u64,
     effective: Effective,
     merged: Params,
-) -> Result<Result<Plan, Reason>, NoMemory>
-    ensures plan { IfOk result (λ p. (S : Sight) → S.tenants ≡ tenants.now → Stands floor.now.now S.trace → S.moment ≡ at → AreCounted counts.now at S.trace → p ≡ merged_plan S subject.now namespace.now blocking (record { number = number; effective = effective }) merged) }
-    ensures next { IfOk result (λ p. IfOk p (λ plan. plan.id.count ≡ last_of floor.now.now.drawn plan.id.namespace + 1)) }
+) -> Result<Result<Planned, Reason>, NoMemory>
+    ensures plan { IfOk result (λ p. (S : Sight) (rs : List Row) → IsSeen S tenants.now rs counts.now keeping.now floor.now.now now
+        → plan_in p ≡ merged_plan S subject.now namespace.now blocking (record { number = number; effective = effective }) merged) }
+    ensures commit { IfOk result (λ p. IfOk p (λ q. (S : Sight) (rs : List Row) → IsSeen S tenants.now rs counts.now keeping.now floor.now.now now → CommitsPlan q keeping.now S)) }
+    ensures next { IfOk result (λ p. IfOk p (λ q. q.plan.id.count ≡ last_of floor.now.now.drawn q.plan.id.namespace + 1)) }
 {
     if floor.is_draining() {
         return Ok(Err(Reason::Service(ServiceRefusal::Draining)));
     }
-    if let Err(reason) = within_limits(tenants, counts, namespace, at) {
-        return Ok(Err(reason));
-    }
-    let until = until_of(at, blocking, effective.action.get())?;
+    let until = until_of(now.at, blocking, effective.action.get())?;
     let Some(count) = floor.last(number).checked_add(1) else {
         return Err(NoMemory);
     };
@@ -205,7 +231,50 @@ fn merged_plan(
         namespace: number,
         count,
     };
-    Ok(Ok(plan_for(alloc, subject, until, id, namespace, effective, merged)?))
+    let plan = plan_for(alloc, subject, until, id, namespace, effective, merged)?;
+    admitted_plan(alloc, tenants, counts, keeping, now, plan)
+}
+
+// What is planned, whose id is the next of its namespace, where the store has room and the limits allow it.
+fn admitted_plan(
+    alloc: Global,
+    tenants: &Tenants,
+    counts: &Counts,
+    keeping: &Keeping,
+    now: Now,
+    plan: Plan,
+) -> Result<Result<Planned, Reason>, NoMemory>
+    ensures plan { IfOk result (λ p. (S : Sight) (rs : List Row) (v : Shown) → IsSeen S tenants.now rs counts.now keeping.now v now → IsNext plan.id S.trace → plan_in p ≡ admitted_plan S plan) }
+    ensures commit { IfOk result (λ p. IfOk p (λ q. (S : Sight) (rs : List Row) (v : Shown) → IsSeen S tenants.now rs counts.now keeping.now v now → IsNext plan.id S.trace → CommitsPlan q keeping.now S)) }
+    ensures same { IfOk result (λ p. IfOk p (λ q. q.plan ≡ plan)) }
+{
+    let Ok(commit) = accepting(alloc, keeping, now.at, &plan) else {
+        drop(plan);
+        return Err(NoMemory);
+    };
+    match admit(tenants, counts, now.at, &plan.namespace, commit.bytes()) {
+        Ok(()) => Ok(Ok(Planned { plan, commit })),
+        Err(reason) => {
+            drop((plan, commit));
+            Ok(Err(reason))
+        }
+    }
+}
+
+// Whether the store has room for so many bytes, and the limits allow one more invocation that is charged to the namespace.
+fn admit(
+    tenants: &Tenants,
+    counts: &Counts,
+    at: u64,
+    namespace: &EntityName,
+    bytes: u64,
+) -> Result<(), Reason>
+    ensures { (S : Sight) → S.tenants ≡ tenants.now → IsSound S.trace → S.moment ≡ at → AreCounted counts.now at S.trace → result ≡ admits S namespace.now bytes }
+{
+    if is_store_full(bytes) {
+        return Err(Reason::Service(ServiceRefusal::KeptFull));
+    }
+    within_limits(tenants, counts, namespace, at)
 }
 
 // Whether the limits allow one more invocation that is charged to the namespace.

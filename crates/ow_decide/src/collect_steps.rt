@@ -8,6 +8,7 @@ ghost use Rattle.ow_decide.specs.Making.{MakesFor};
 ghost use Rattle.ow_decide.specs.Waiting.{collected_told, ended_answer, ended_status, shown_value, shows_for, wait_shows};
 ghost use Rattle.ow_tenant.specs.Table.{Table};
 ghost use Rattle.ow_counts.specs.View.{CountsView};
+ghost use Rattle.ow_kept.specs.Keeping.{KeepingView};
 ghost use Rattle.ow_decide.specs.declared.events.Event.TheVariants as events;
 
 use crate::events::Told;
@@ -28,7 +29,7 @@ pub(crate) fn collect(
     now: Now,
     id: Id,
 ) -> Result<Step, NoMemory>
-    ensures ok { IfOk result (λ s. (t : Table) (rs : List Row) (k : CountsView) → MakesFor waits.now t rs k now floor.now.now floor.now.now (λ S. decide S (events.Collected id)) s) }
+    ensures ok { IfOk result (λ s. (t : Table) (rs : List Row) (k : CountsView) (b : KeepingView) → MakesFor waits.now t rs k b now floor.now.now floor.now.now (λ S. decide S (events.Collected id)) s) }
     ensures change { IfOk result (λ s. s.change ≡ None) }
 {
     let shows = shows_for(waits, id);

@@ -6,9 +6,12 @@ ghost use Rattle.ow_floor.specs.Laws.{Grows};
 ghost use Rattle.ow_floor.specs.View.{last_of};
 ghost use Rattle.ow_decide.specs.Asking.{Invoked, ask_decision, refusal_told};
 ghost use Rattle.ow_decide.specs.Reading.{good};
-ghost use Rattle.ow_decide.specs.Making.{Carries, change_of, done_of};
+ghost use Rattle.ow_kept.specs.Keeping.{KeepingView};
+ghost use Rattle.ow_decide.specs.Sight.{Sight};
+ghost use Rattle.ow_decide.specs.Making.{Carries, CommitsDone, CommitsPlan, change_of, commit_of, done_of};
 ghost use Rattle.ow_decide.specs.Noted.{invoked_in};
 
+use crate::call_steps::Planned;
 use crate::events::Told;
 use crate::reasons::tells_full;
 use crate::replies::Reply;
@@ -16,6 +19,7 @@ use crate::step::Step;
 use crate::waits::{Shows, Waits, invoked_reply, waits_of};
 use ow_floor::{Floor, Plan};
 use ow_http::{Answer, Reason, refusal};
+use ow_kept::Commit;
 use ow_names::EntityName;
 use ow_tables::Ready;
 use ow_value::{Bytes, NoMemory, Pairs, PlainData, Val, write_val};
@@ -27,7 +31,7 @@ pub(crate) enum Served {
     /// This is told, or made ready.
     Done(Done),
     /// This is to be accepted. Where it has a moment up to which it is waited for, this is shown to one who waits.
-    Accepts { plan: Plan, shows: Shows },
+    Accepts { planned: Planned, shows: Shows },
 }
 
 /// A refusal, a value to be shown, or a change that was made ready.
@@ -37,25 +41,31 @@ pub(crate) enum Done {
     Refused(Reason),
     /// This is shown.
     Shown(Val),
-    /// This change was made ready, of which this is shown.
-    Changed { ready: Ready, shown: Val },
+    /// This change was made ready, of which this is shown and committed.
+    Changed {
+        ready: Ready,
+        shown: Val,
+        commit: Commit,
+    },
 }
 
 impl Done {
     /// What is told of it, and the change.
     pub(crate) fn step(self, alloc: Global) -> Result<Step, NoMemory>
-        ensures ok { IfOk result (λ s. (at : ℕ) → Carries s (ask_decision at (done_of self))) }
+        ensures ok { IfOk result (λ s. (at : ℕ) (b : KeepingView) (S : Sight) → CommitsDone self b S → Carries s (ask_decision at (done_of self)) b S) }
         ensures change { IfOk result (λ s. s.change ≡ change_of self) }
     {
         let Ok(told) = self.told(alloc) else {
             drop(self);
             return Err(NoMemory);
         };
+        let (change, commit) = self.parts();
         Ok(Step {
             told,
-            change: self.change(),
+            change,
             waits: Waits::Keep,
             invoked: None,
+            commit,
         })
     }
 
@@ -70,12 +80,14 @@ impl Done {
         }
     }
 
-    fn change(self) -> Option<Ready>
-        ensures { result ≡ change_of self }
+    // The change, and what is committed of it.
+    fn parts(self) -> (Option<Ready>, Option<Commit>)
+        ensures change { result.0 ≡ change_of self }
+        ensures commit { result.1 ≡ commit_of self }
     {
         match self {
-            Done::Changed { ready, .. } => Some(ready),
-            _ => None,
+            Done::Changed { ready, commit, .. } => (Some(ready), Some(commit)),
+            _ => (None, None),
         }
     }
 }
@@ -85,26 +97,27 @@ pub(crate) fn accepted(
     alloc: Global,
     floor: &mut Floor,
     at: u64,
-    plan: Plan,
+    planned: Planned,
     shows: Shows,
 ) -> Result<Step, NoMemory>
-    requires next { plan.id.count ≡ last_of floor.old.now.drawn plan.id.namespace + 1 }
-    ensures ok { IfOk result (λ s. Carries s (ask_decision at (Ok (Invoked plan shows)))) }
+    requires next { planned.plan.id.count ≡ last_of floor.old.now.drawn planned.plan.id.namespace + 1 }
+    ensures ok { IfOk result (λ s. (b : KeepingView) (S : Sight) → S.moment ≡ at → CommitsPlan planned b S → Carries s (ask_decision at (Ok (Invoked planned.plan shows))) b S) }
     ensures change { IfOk result (λ s. s.change ≡ None) }
-    ensures grows { OnOk result (Grows floor.old.now floor.new.now (λ T. accept_items at plan)) }
+    ensures grows { OnOk result (Grows floor.old.now floor.new.now (λ T. accept_items at planned.plan)) }
     ensures before { floor.new.before ≡ floor.old.before }
 {
+    let Planned { plan, commit } = planned;
     let Ok(reply) = invoked_reply(alloc, plan.id, plan.until) else {
-        drop(plan);
+        drop((plan, commit));
         return Err(NoMemory);
     };
     let Ok(invoked) = charged(alloc, &plan) else {
-        drop((plan, reply));
+        drop((plan, commit, reply));
         return Err(NoMemory);
     };
     let waits = waits_of(plan.id, shows, plan.until);
     if floor.accept(alloc, at, plan).is_err() {
-        drop((reply, invoked));
+        drop((reply, invoked, commit));
         return Err(NoMemory);
     }
     Ok(Step {
@@ -112,6 +125,7 @@ pub(crate) fn accepted(
         change: None,
         waits,
         invoked,
+        commit: Some(commit),
     })
 }
 

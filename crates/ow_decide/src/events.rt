@@ -33,6 +33,8 @@ pub enum Event {
     Collected(Id),
     /// The office asks whether all has ended, and takes no more calls.
     Drain,
+    /// The service begins anew over what it keeps: no run of before is live any more.
+    Reopened,
 }
 
 /// What is told of an event, also where that isn't booked.
@@ -62,6 +64,8 @@ pub enum Told {
     Collected(HallCollected),
     /// To the office that drains.
     Drain(Drain),
+    /// To a reopening: what was recorded.
+    Reopened(Happened),
 }
 
 impl PlainData for Event {
@@ -95,7 +99,8 @@ impl PlainData for Event {
             (Event::Collected(a), Event::Collected(b)) => a == b,
             (Event::Next, Event::Next)
             | (Event::Sweep, Event::Sweep)
-            | (Event::Drain, Event::Drain) => true,
+            | (Event::Drain, Event::Drain)
+            | (Event::Reopened, Event::Reopened) => true,
             _ => false,
         }
     }
@@ -123,6 +128,7 @@ impl PlainData for Event {
             Event::Sweep => Ok(Event::Sweep),
             Event::Collected(id) => Ok(Event::Collected(*id)),
             Event::Drain => Ok(Event::Drain),
+            Event::Reopened => Ok(Event::Reopened),
         }
     }
 }
@@ -148,6 +154,7 @@ impl PlainData for Told {
             (Told::Swept(a), Told::Swept(b)) => a.same(b),
             (Told::Collected(a), Told::Collected(b)) => a.same(b),
             (Told::Drain(a), Told::Drain(b)) => a == b,
+            (Told::Reopened(a), Told::Reopened(b)) => a.same(b),
             _ => false,
         }
     }
@@ -169,6 +176,7 @@ impl PlainData for Told {
             Told::Swept(swept) => Ok(Told::Swept(swept.copy(alloc)?)),
             Told::Collected(collected) => Ok(Told::Collected(collected.copy(alloc)?)),
             Told::Drain(drain) => Ok(Told::Drain(*drain)),
+            Told::Reopened(happened) => Ok(Told::Reopened(happened.copy(alloc)?)),
         }
     }
 }

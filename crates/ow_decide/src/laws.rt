@@ -2,11 +2,15 @@
 ghost use Rattle.std.specs.Prelude.{◌≡◌, ◌++◌, false};
 ghost use Rattle.ow_floor.specs.Laws.{IsSound};
 ghost use Rattle.ow_floor.specs.Trace.{Trace, records};
+ghost use Rattle.ow_kept.specs.Kept.{kept};
+ghost use Rattle.ow_kept.specs.Keeping.{AreIds};
+ghost use Rattle.ow_traits.specs.Changes.{changed};
 ghost use Rattle.ow_tenant.specs.Tenants.{limits_of};
 ghost use Rattle.ow_counts.specs.View.{AreUpTo, notes_of};
 ghost use Rattle.ow_counts.specs.Within.{AreWithin};
 ghost use Rattle.ow_decide.specs.Asking.{IsOfView};
-ghost use Rattle.ow_decide.specs.Decisions.{decide, wants_memory};
+ghost use Rattle.ow_decide.specs.Decision.{all_changed, commits};
+ghost use Rattle.ow_decide.specs.Decisions.{decide, is_opening, wants_memory};
 ghost use Rattle.ow_decide.specs.Noted.{MayAllEnd, invoked_in, noted_ends, noted_invoked};
 ghost use Rattle.ow_decide.specs.Sight.{Sight};
 ghost use Rattle.ow_decide.specs.declared.events.Event.{Event};
@@ -34,4 +38,10 @@ pub fn notes_follow_decisions()
 /// What is decided at an event keeps the limits of the office table: what is accepted had room.
 pub fn decisions_keep_limits()
     ensures { (S : Sight) (event : Event) → AreWithin (λ n. limits_of n S.tenants) S.trace → AreWithin (λ n. limits_of n S.tenants) ((decide S event).items ++ S.trace) }
+{}
+
+/// What a decision commits makes what is kept then of what was kept. An opening commits otherwise.
+pub fn decisions_commit_what_is_kept()
+    ensures { (S : Sight) (event : Event) → is_opening event ≡ false → IsSound S.trace → AreIds S.trace → AreIds ((decide S event).items ++ S.trace)
+        → changed (commits (decide S event)) (kept S.rows S.trace) ≡ kept (all_changed (decide S event).changes S.rows) ((decide S event).items ++ S.trace) }
 {}

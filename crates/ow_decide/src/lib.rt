@@ -6,6 +6,7 @@ mod ask_steps;
 mod askers;
 mod call_steps;
 mod collect_steps;
+mod commits;
 mod done;
 mod events;
 mod floor_steps;
@@ -23,8 +24,8 @@ mod waits;
 pub use events::{Event, Told};
 pub use floor_steps::{take, taken_told};
 pub use laws::{
-    decisions_keep_limits, decisions_keep_traces_sound, notes_follow_decisions,
-    reads_are_answered_of_the_view,
+    decisions_commit_what_is_kept, decisions_keep_limits, decisions_keep_traces_sound,
+    notes_follow_decisions, reads_are_answered_of_the_view,
 };
 pub use reasons::tells_full;
 pub use replies::{Called, HallCollected, Reply};

@@ -3,7 +3,7 @@ ghost use Rattle.std.specs.Prelude.{◌≡◌, [], Some, None, Ok, true, if◌th
 ghost use Rattle.ow_value.specs.View.{view};
 ghost use Rattle.ow_entity.specs.Row.{name_of};
 ghost use Rattle.ow_floor.specs.Laws.{Stands};
-ghost use Rattle.ow_floor.specs.Trace.{Trace, records};
+ghost use Rattle.ow_floor.specs.Trace.{Trace, all_records};
 ghost use Rattle.ow_http.specs.Parts.{Parts};
 ghost use Rattle.ow_http.specs.Request.{parts_of};
 ghost use Rattle.ow_http.specs.declared.call.Call.{Call};
@@ -296,7 +296,7 @@ fn visible_record<'a>(
 ) -> Option<&'a Record>
     requires { may_read holder.now.rights namespace.now ≡ true }
     ensures { (T : Trace) → Stands floor.now.now T
-        → option_copied result ≡ recorded namespace.now text.now (filter (is_visible_record holder.now.rights) (records T)) }
+        → option_copied result ≡ recorded namespace.now text.now (filter (is_visible_record holder.now.rights) (all_records T)) }
 {
     match id_in(text) {
         Some(id) => record_of(holder, floor, namespace, id),
@@ -307,7 +307,7 @@ fn visible_record<'a>(
 fn record_of<'a>(holder: &Holder, floor: &'a Floor, namespace: &[u8], id: Id) -> Option<&'a Record>
     requires { may_read holder.now.rights namespace.now ≡ true }
     ensures { (T : Trace) → Stands floor.now.now T
-        → option_copied result ≡ recorded_under namespace.now (Some id) (filter (is_visible_record holder.now.rights) (records T)) }
+        → option_copied result ≡ recorded_under namespace.now (Some id) (filter (is_visible_record holder.now.rights) (all_records T)) }
 {
     match floor.records().get(&id) {
         Ok(ended) => record_in(namespace, ended),

@@ -1,30 +1,33 @@
 // What is done at each event, over the floor and the rows.
-ghost use Rattle.std.specs.Prelude.{◌≡◌, [], None, true, IfOk};
-ghost use Rattle.ow_decide.specs.Decisions.{decide, wants_memory};
+ghost use Rattle.std.specs.Prelude.{◌≡◌, [], None, true, false, IfOk};
+ghost use Rattle.ow_decide.specs.Decisions.{decide, is_opening, wants_memory};
 ghost use Rattle.ow_decide.specs.Making.{HasPlace, MakesFor, telling};
 
 use crate::ask_steps::ask;
 use crate::call_steps::call;
 use crate::collect_steps::collect;
 use crate::events::{Event, Told};
-use crate::floor_steps::{answered, drain, next, sweep};
+use crate::floor_steps::{answered, drain, next, reopen, sweep};
 use crate::waits::{Wait, Waits};
 use ow_counts::Counts;
-use ow_floor::{Floor, Happened};
+use ow_floor::Floor;
+use ow_kept::{Commit, Keeping};
 use ow_names::EntityName;
 use ow_tables::{Ready, Tables};
 use ow_tenant::Tenants;
 use ow_value::NoMemory;
 use std::alloc::Global;
 
-/// What was done: what is told, the change of the rows that was made ready, what becomes of those who wait, and which namespace is
-/// charged for what was accepted, where no other activation caused it.
+/// What was done: what is told, the change of the rows that was made ready, what becomes of those who wait, which namespace is
+/// charged for what was accepted, where no other activation caused it, and what is to be committed of an acceptance or a change of
+/// the rows. What has ended is to be committed beside it.
 #[derive(Drop)]
 pub struct Step {
     pub told: Told,
     pub change: Option<Ready>,
     pub waits: Waits,
     pub invoked: Option<EntityName>,
+    pub commit: Option<Commit>,
 }
 
 /// How many bytes the book counts, and the moment in milliseconds.
@@ -44,38 +47,54 @@ impl Step {
             change: None,
             waits: Waits::Keep,
             invoked: None,
+            commit: None,
         }
     }
 }
 
-/// What is done at an event, but for a beginning, a loss or a going. On the floor it is done already; without memory some of it may be.
+/// What is done at an event, but for a beginning, a loss, a going or an opening. On the floor it is done already; without memory some of it may be.
 pub fn step_for(
     alloc: Global,
     tenants: &Tenants,
     counts: &Counts,
+    keeping: &Keeping,
     floor: &mut Floor,
     tables: &mut Tables,
     waits: &[Wait],
     now: Now,
     event: &Event,
 ) -> Result<Step, NoMemory>
-    requires { wants_memory event.now ≡ true }
-    ensures ok { IfOk result (MakesFor waits.now tenants.now tables.old.rows counts.now now floor.old.now floor.new.now (λ S. decide S event.now)) }
+    requires event { wants_memory event.now ≡ true }
+    requires opened { is_opening event.now ≡ false }
+    ensures ok { IfOk result (MakesFor waits.now tenants.now tables.old.rows counts.now keeping.now now floor.old.now floor.new.now (λ S. decide S event.now)) }
     ensures before { floor.new.before ≡ floor.old.before }
     ensures rows { tables.new.rows ≡ tables.old.rows }
     ensures place { IfOk result (λ s. HasPlace s.change tables.new.room) }
 {
     match event {
-        Event::Opened(_) => Ok(Step::telling(Told::Opened(Happened::none()))),
-        Event::Asked(request) => ask(alloc, tenants, counts, floor, tables, now, request.get()),
+        Event::Asked(request) => ask(
+            alloc,
+            tenants,
+            counts,
+            keeping,
+            floor,
+            tables,
+            now,
+            request.get(),
+        ),
         Event::Called { name, params } => {
-            call(alloc, tenants, counts, floor, tables, now, name, params)
+            call(
+                alloc, tenants, counts, keeping, floor, tables, now, name, params,
+            )
         }
         Event::Next => next(alloc, floor, now),
         Event::Answered { run, reply } => answered(alloc, floor, now, *run, reply),
         Event::Sweep => sweep(alloc, floor, now),
-        Event::Begun { .. } | Event::Lost { .. } | Event::Gone { .. } => unreachable!(),
+        Event::Begun { .. } | Event::Lost { .. } | Event::Gone { .. } | Event::Opened(_) => {
+            unreachable!()
+        }
         Event::Collected(id) => collect(alloc, floor, waits, now, *id),
         Event::Drain => Ok(drain(floor, now)),
+        Event::Reopened => reopen(alloc, floor, now),
     }
 }

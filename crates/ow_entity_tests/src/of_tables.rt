@@ -1,8 +1,8 @@
 use crate::held::{boxed, name_of, value_of};
-use ow_entity::{Draft, EntityKind, EntityRefusal, Lookup, read_entity};
+use ow_entity::{Draft, EntityKind, EntityRefusal, Lookup, Row, read_entity};
 use ow_names::{FullName, read_name};
-use ow_tables::{TableRefusal, Tables};
-use ow_value::{Str, Val, Vals};
+use ow_tables::{TableRefusal, Tables, is_builtin};
+use ow_value::{PlainData, Str, Val, Vals};
 use std::alloc::Global;
 use std::test::Fail;
 
@@ -201,5 +201,72 @@ fn rows_are_found_by_kind_and_name(rt: HostRuntime) -> Result<(), Fail> {
             .row(EntityKind::Action, &b)
             .is_some_and(|row| row.version() == 1)
     );
+    Ok(())
+}
+
+// Copies of the rows of these actions.
+fn copies(alloc: Global, tables: &Tables, paths: &[&str]) -> Result<Vec<Row>, Fail> {
+    let mut rows = Vec::new(alloc);
+    for path in paths.iter() {
+        let name = name_of(alloc, path)?;
+        rows.push(tables.get(EntityKind::Action, &name)?.copy(alloc)?)?;
+    }
+    Ok(rows)
+}
+
+// Tables of a later run with three rows of an earlier one.
+fn resumed(alloc: Global) -> Result<Box<Tables>, Fail> {
+    let earlier = filled(alloc)?;
+    let mut tables = boxed(alloc, Tables::new(alloc))?;
+    tables.resume(copies(alloc, &earlier, &["b", "/other/d", "a"])?)?;
+    Ok(tables)
+}
+
+#[test]
+fn rows_of_an_earlier_run_stand_again(rt: HostRuntime) -> Result<(), Fail> {
+    let alloc = rt.alloc();
+    let tables = resumed(alloc)?;
+    let parts = [
+        ("guest", "a b "),
+        ("other", "d "),
+        ("whisk.system", "echo "),
+    ];
+    for (namespace, names) in parts.iter() {
+        let of = (EntityKind::Action, *namespace);
+        assert!(rt; lists(alloc, &tables, of, (0, 10), *names)?);
+    }
+    let a = name_of(alloc, "a")?;
+    assert_eq!(rt; tables.get(EntityKind::Action, &a)?.version(), 2);
+    Ok(())
+}
+
+// Whether the row at the path is built in.
+fn told_builtin(alloc: Global, tables: &Tables, of: (EntityKind, &str)) -> Result<bool, Fail> {
+    let name = name_of(alloc, of.1)?;
+    Ok(is_builtin(tables.get(of.0, &name)?))
+}
+
+#[test]
+fn two_rows_are_built_in(rt: HostRuntime) -> Result<(), Fail> {
+    let alloc = rt.alloc();
+    let mut tables = filled(alloc)?;
+    assert_eq!(rt;
+        told_of_put(&mut tables, alloc, "/whisk.system/echo", CODE, false)?,
+        0
+    );
+    assert_eq!(rt;
+        told_of_put(&mut tables, alloc, "/whisk.system/utils", CODE, false)?,
+        0
+    );
+    let rows = [
+        (EntityKind::Action, "/whisk.system/utils/echo", true),
+        (EntityKind::Package, "/whisk.system/utils", true),
+        (EntityKind::Action, "/whisk.system/utils", false),
+        (EntityKind::Action, "/whisk.system/echo", false),
+        (EntityKind::Action, "a", false),
+    ];
+    for (kind, path, expected) in rows.iter() {
+        assert_eq!(rt; told_builtin(alloc, &tables, (*kind, path))?, *expected);
+    }
     Ok(())
 }

@@ -13,9 +13,13 @@ among_more : (a y x : Activation) (xs : List Activation) → (a ≡ x) ⊎ IsAmo
 among_more a y x xs (inl same) rest = inl same
 among_more a y x xs (inr among) rest = inr (rest among)
 
-among_push : (a y : Activation) (xs : List Activation) → IsAmong a xs → IsAmong a (xs ++ y ∷ [])
+pub among_push : (a y : Activation) (xs : List Activation) → IsAmong a xs → IsAmong a (xs ++ y ∷ [])
 among_push a y [] among = absurd among
 among_push a y (x ∷ xs) among = among_more a y x xs among (among_push a y xs)
+
+pub among_last : (a : Activation) (xs : List Activation) → IsAmong a (xs ++ a ∷ [])
+among_last a [] = inl refl
+among_last a (x ∷ xs) = inr (among_last a xs)
 
 -- what was known stays so
 pub known_push : (y : Activation) (xs : List Activation) (es : List End) → AllByRecursion (λ e. IsAmong e.task xs) es → AllByRecursion (λ e. IsAmong e.task (xs ++ y ∷ [])) es

@@ -1,7 +1,7 @@
 -- The items of each call may come.
-use Rattle.std.proofs.Common.{◌≡◌, ◌≤◌, ◌+◌, ◌++◌, ◌&&◌, ℕ, Bool, true, false, cond, List, [], ◌∷◌, Option, Some, None, map, refl, sym, ap, ◌∙◌, arith, subst}
+use Rattle.std.proofs.Common.{◌≡◌, ◌≤◌, ◌+◌, ◌++◌, ◌&&◌, ℕ, Bool, true, false, cond, List, [], ◌∷◌, Option, Some, None, length, map, refl, sym, ap, ◌∙◌, arith, subst}
 use Rattle.std.specs.Prelude.{is_none, is_some}
-use Rattle.std.specs.List.{find, slice_get, AllByRecursion}
+use Rattle.std.specs.List.{find, slice_get, AllByRecursion, IsDistinct}
 use Rattle.ow_records.specs.declared.ids.Id.{Id}
 use Rattle.ow_records.specs.declared.outcomes.Ending.{Ending}
 use Rattle.ow_records.specs.declared.outcomes.Ending.TheVariants.{Replied, Overran, Abandoned}
@@ -20,14 +20,15 @@ use Rattle.ow_floor.specs.declared.activations.Open.{Open}
 use Rattle.ow_floor.specs.declared.answers.Container.{Container}
 use Rattle.ow_records.specs.declared.record.Record.{Record}
 use Rattle.ow_floor.specs.declared.runs.Run.{Run}
-use Rattle.ow_floor.specs.View.{Shown, containers_of, is_of, is_number, is_end_of, remove_first, waits}
-use Rattle.ow_floor.specs.Trace.{Trace, End, Answered, Begun, Drained, Ended, Gone, Lost, Removed, Reopened, Swept, end_of, live, live_run, open_items, overrun_of, record_of, records, shown, slots}
+use Rattle.ow_floor.specs.View.{Shown, containers_of, is_of, is_number, is_end_of, remove_first, same_open, waits}
+use Rattle.ow_floor.specs.Trace.{Trace, End, Answered, Begun, Drained, Ended, Gone, Lost, Reopened, Swept, end_of, live, live_run, open_items, overrun_of, record_of, records, shown, slots}
 use Rattle.ow_floor.specs.Growth.{grow, grown, IsEventRight, IsLive, IsRight, AreRight}
 use Rattle.ow_floor.specs.Laws.{IsSound, bearers}
-use Rattle.ow_floor.specs.Calls.{KeepSound, abandoned_items, accept_items, answered_items, end_items, ended_by, goes_by, head_by, is_late, items_if, items_on, late_items, late_of, leaves_alive, next_items, order_items, overrun_items, place_on, reply_items, reopened_items, run_by, swept_items}
+use Rattle.ow_floor.specs.Calls.{KeepSound, abandon_items, abandoned_items, accept_items, answered_items, end_items, ended_by, goes_by, head_by, is_late, items_if, items_on, late_items, late_of, leaves_alive, next_items, order_items, overrun_items, place_on, reply_items, resume_items, run_by, sorted_by_id, swept_items}
 use Rattle.ow_floor.proofs.Alters.{same_id_refl}
+use Rattle.ow_floor.proofs.Apart.{AreFound, all_sorted, distinct_sorted, each_by_id, found_left, length_sorted, open_distinct}
 use Rattle.ow_floor.proofs.Drawn.{drawn_last}
-use Rattle.ow_floor.proofs.Tallies.{eq_of}
+use Rattle.ow_floor.proofs.Tallies.{eq_of, length-removed}
 use Rattle.ow_floor.proofs.Firsts.{find_passes, find_push, or_new}
 use Rattle.ow_floor.proofs.Numbers.{each_found, found_by_own}
 use Rattle.ow_floor.proofs.Placing.{PlaceFits, place_fits}
@@ -205,22 +206,20 @@ right_swept at v within single = ((tt, tt), right_overrun at v.live v within (ea
 
 -- ---- openings
 
-first_found : (o : Open) (os : List Open) → find (is_of o.task.id) (o ∷ os) ≡ Some o
-first_found o os = rw (same_id_refl o.task.id) refl
+no_more : (os : List Open) → length os ≡ 0 → os ≡ []
+no_more [] none = refl
+no_more (o ∷ os) none = absurd (omega (arith, none))
 
-first_removed : (o : Open) (os : List Open) → remove_first (is_of o.task.id) (o ∷ os) ≡ os
-unfolding remove_first
-first_removed o os = rw (same_id_refl o.task.id) refl
-
-pub right_abandoned : (at : ℕ) (os : List Open) (v : Shown) → v.open_items ≡ os
+-- these are all that is open, in any order
+pub right_abandoned : (at : ℕ) (os : List Open) (v : Shown) → AreFound v.open_items os → IsDistinct same_open os → length v.open_items ≡ length os
     → AreRight (abandoned_items at os) v × ((grown (abandoned_items at os) v).open_items ≡ [])
-right_abandoned at [] v is = (tt, is)
-right_abandoned at (o ∷ os) v is =
+unfolding IsDistinct
+right_abandoned at [] v found apart size = (tt, no_more v.open_items size)
+right_abandoned at (o ∷ os) v found apart size =
     let last = end_items at Abandoned None (Some o) in
-    let found : find (is_of o.task.id) v.open_items ≡ Some o = ap (find (is_of o.task.id)) is ∙ first_found o os in
-    let left : (grown last v).open_items ≡ os = ap (remove_first (is_of o.task.id)) is ∙ first_removed o os in
-    let rest = right_abandoned at os (grown last v) left in (
-      right_append (abandoned_items at os) last v rest.0 (end_at at Abandoned None o.task.id (Some o) v tt found tt),
+    let one = length-removed (is_of o.task.id) v.open_items o found.0 in
+    let rest = right_abandoned at os (grown last v) (found_left o v.open_items os found.0 apart.0 found.1) apart.1 (omega (arith, one, size)) in (
+      right_append (abandoned_items at os) last v rest.0 (end_at at Abandoned None o.task.id (Some o) v tt found.0 tt),
       ap (λ (u : Shown). u.open_items) (grown_append (abandoned_items at os) last v) ∙ rest.1,
     )
 
@@ -232,11 +231,13 @@ abandoned_left at (o ∷ os) v =
     let both = grown_append (abandoned_items at os) last v in
     (ap (λ (u : Shown). u.slots) both ∙ rest.0, ap (λ (u : Shown). u.pool) both ∙ rest.1)
 
-pub right_reopened : (at : ℕ) (v : Shown) → memory_held v.slots ≤ v.pool → AreRight (Reopened at ∷ abandoned_items at v.open_items) v
-right_reopened at v within =
-    let both = right_abandoned at v.open_items v refl in
-    let left = abandoned_left at v.open_items v in
-    let ended = grown (abandoned_items at v.open_items) v in
+pub right_reopened : (at : ℕ) (v : Shown) → memory_held v.slots ≤ v.pool → IsDistinct same_open v.open_items → AreRight (Reopened at ∷ abandoned_items at (sorted_by_id v.open_items)) v
+right_reopened at v within apart =
+    let os = sorted_by_id v.open_items in
+    let each = all_sorted (λ o. find (is_of o.task.id) v.open_items ≡ Some o) v.open_items (each_by_id v.open_items apart) in
+    let both = right_abandoned at os v each (distinct_sorted v.open_items apart) (sym (length_sorted v.open_items)) in
+    let left = abandoned_left at os v in
+    let ended = grown (abandoned_items at os) v in
     ((both.1, comes lives.Reopened ended refl (rw (left.0, left.1) within) tt), both.0)
 
 -- ---- each call keeps a trace sound
@@ -244,6 +245,7 @@ right_reopened at v within =
 pub calls_keep_sound : KeepSound
 calls_keep_sound = record {
   start = sound_start;
+  resume = λ counts rs T fresh resumable sound. (sound_items (resume_items counts rs) T (((fresh, resumable), tt), tt) sound).0;
   accept = λ at plan T next sound. (sound_items (accept_items at plan) T ((next ∙ ap (λ n. n + 1) (sym (drawn_last T plan.id.namespace)), tt), tt) sound).0;
   next = λ at T sound. (sound_items (next_items at T) T (right_next at (shown T) sound.slotted.within) sound).0;
   begun = λ at run T sound. (sound_items _ T (right_begun at run (shown T) sound.slotted.within) sound).0;
@@ -252,5 +254,5 @@ calls_keep_sound = record {
   gone = λ at slot generation T sound. (sound_items _ T (right_gone at slot generation (shown T) sound.slotted.within) sound).0;
   sweep = λ at T sound. (sound_items (swept_items at T) T (right_swept at (shown T) sound.slotted.within sound.single) sound).0;
   drain = λ at T sound. (sound_items (Drained at ∷ []) T ((tt, tt), tt) sound).0;
-  reopen = λ at T sound. (sound_items (reopened_items at T) T (right_reopened at (shown T) sound.slotted.within) sound).0;
+  abandon = λ at T sound. (sound_items (abandon_items at T) T (right_reopened at (shown T) sound.slotted.within (open_distinct T sound)) sound).0;
 }

@@ -1,10 +1,10 @@
 -- The last count of each namespace.
 use Rattle.std.proofs.Common.{◌≡◌, ◌==◌, ℕ, Bool, true, false, cond, List, [], ◌∷◌, ◌++◌, Option, Some, None, refl, ap, ◌∙◌, arith}
-use Rattle.std.specs.List.{find}
+use Rattle.std.specs.List.{find, AllByRecursion, IsDistinct}
 use Rattle.std.proofs.lemmas.Bool.Decides.{nat_tests}
 use Rattle.ow_records.specs.declared.ids.Id.{Id}
-use Rattle.ow_floor.specs.View.{count_or_zero, is_in, last_of, put_id, update_first}
-use Rattle.ow_floor.specs.Trace.{Trace, Item, Opened, Accepted, Ordered, Prewarming, Removed, Begun, Answered, Lost, Gone, Ended, Swept, Drained, Reopened, drawn, last}
+use Rattle.ow_floor.specs.View.{count_or_zero, is_in, last_of, put_id, same_namespace, update_first}
+use Rattle.ow_floor.specs.Trace.{Trace, Item, Opened, Resumed, Accepted, Ordered, Prewarming, Removed, Begun, Answered, Lost, Gone, Ended, Swept, Drained, Reopened, drawn, last}
 
 last_here : (id x : Id) (n before after : ℕ) (b c : Bool) → (x.namespace == id.namespace) ≡ false → (x.namespace == n) ≡ b → (id.namespace == n) ≡ c
     → after ≡ cond c id.count before → cond b x.count after ≡ cond c id.count (cond b x.count before)
@@ -71,6 +71,7 @@ drawn_last (item ∷ T) n = of_item item T n (drawn_last T n)
   where
     of_item : (item : Item) (T : Trace) (n : ℕ) → last_of (drawn T) n ≡ last T n → last_of (drawn (item ∷ T)) n ≡ last (item ∷ T) n
     of_item (Opened pool wants) T n e = e
+    of_item (Resumed counts rs) T n e = refl
     of_item (Accepted a) T n e = last_put a.id (drawn T) n ∙ ap (λ k. cond (a.id.namespace == n) a.id.count k) e
     of_item (Ordered run key) T n e = e
     of_item (Prewarming order at) T n e = e
@@ -83,3 +84,30 @@ drawn_last (item ∷ T) n = of_item item T n (drawn_last T n)
     of_item (Swept at) T n e = e
     of_item (Drained at) T n e = e
     of_item (Reopened at) T n e = e
+
+-- ---- each namespace once
+
+others_at : (y id x : Id) (xs : List Id) (b : Bool) → is_in id.namespace x ≡ b → same_namespace y id ≡ false → same_namespace y x ≡ false → AllByRecursion (λ z. same_namespace y z ≡ false) xs
+    → AllByRecursion (λ z. same_namespace y z ≡ false) (put_id id xs) → AllByRecursion (λ z. same_namespace y z ≡ false) (put_id id (x ∷ xs))
+unfolding put_id
+others_at y id x xs true e new here all rest = rw e (new, all)
+others_at y id x xs false e new here all rest = rw e (here, rest)
+
+others_put : (y id : Id) (xs : List Id) → same_namespace y id ≡ false → AllByRecursion (λ z. same_namespace y z ≡ false) xs → AllByRecursion (λ z. same_namespace y z ≡ false) (put_id id xs)
+unfolding put_id
+others_put y id [] new all = (new, tt)
+others_put y id (x ∷ xs) new all = others_at y id x xs (is_in id.namespace x) refl new all.0 all.1 (others_put y id xs new all.1)
+
+others_of : (id x : Id) (xs : List Id) → is_in id.namespace x ≡ true → AllByRecursion (λ z. same_namespace x z ≡ false) xs → AllByRecursion (λ z. same_namespace id z ≡ false) xs
+others_of id x xs e all = let same : x.namespace ≡ id.namespace = grind (arith, nat_tests) in rw (← same) all
+
+once_at : (id x : Id) (xs : List Id) (b : Bool) → is_in id.namespace x ≡ b → IsDistinct same_namespace (x ∷ xs) → IsDistinct same_namespace (put_id id xs) → IsDistinct same_namespace (put_id id (x ∷ xs))
+unfolding put_id IsDistinct
+once_at id x xs true e once rest = rw e (others_of id x xs e once.0, once.1)
+once_at id x xs false e once rest = rw e (others_put x id xs e once.0, rest)
+
+-- one last id of each namespace
+pub once_put : (id : Id) (xs : List Id) → IsDistinct same_namespace xs → IsDistinct same_namespace (put_id id xs)
+unfolding put_id IsDistinct
+once_put id [] once = (tt, tt)
+once_put id (x ∷ xs) once = once_at id x xs (is_in id.namespace x) refl once (once_put id xs once.1)

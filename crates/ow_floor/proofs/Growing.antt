@@ -1,8 +1,11 @@
 -- How a floor grows by what is done to the kept lists.
-use Rattle.std.proofs.Common.{◌≡◌, ◌+◌, ◌++◌, ◌&&◌, ℕ, Bool, true, false, cond, not, List, [], ◌∷◌, Option, Some, None, length, get_or, refl, sym, ap, ◌∙◌, arith, subst, length-append}
-use Rattle.std.specs.List.{find}
-use Rattle.std.specs.Prelude.{is_err, is_none, is_some, slice_get, IsSome, OnOk, Result, Ok, Err}
-use Rattle.ow_records.specs.declared.outcomes.Ending.TheVariants.{Replied, Overran}
+use Rattle.std.proofs.Common.{◌≡◌, ◌+◌, ◌++◌, ◌&&◌, ℕ, Bool, true, false, cond, not, List, [], ◌∷◌, Option, Some, None, length, get_or, refl, sym, ap, ◌∙◌, arith, subst, length-append, append_assoc, append-nil, map}
+use Rattle.std.specs.List.{find, IsDistinct}
+use Rattle.std.specs.Prelude.{is_err, is_none, is_some, slice_get, OnOk, Result, Ok, Err}
+use Rattle.ow_records.specs.declared.outcomes.Ending.TheVariants.{Abandoned, Replied, Overran}
+use Rattle.ow_records.specs.declared.ids.Id.{Id}
+use Rattle.ow_records.specs.declared.record.Record.{Record}
+use Rattle.ow_records.specs.declared.unrecorded.Unrecorded.{Unrecorded}
 use Rattle.ow_traits.specs.declared.replies.RunReply.{RunReply}
 use Rattle.ow_slots.specs.declared.refusal.SlotRefusal.{SlotRefusal}
 use Rattle.ow_slots.specs.declared.refusal.SlotRefusal.TheVariants as slots
@@ -17,22 +20,23 @@ use Rattle.ow_floor.specs.declared.answers.Happening.{Happening}
 use Rattle.ow_floor.specs.declared.answers.Order.{Order}
 use Rattle.ow_floor.specs.declared.lists.Berth.{Berth}
 use Rattle.ow_floor.specs.declared.runs.Run.{Run}
-use Rattle.ow_floor.specs.View.{Shown, is_number, is_of, last_of}
+use Rattle.ow_floor.specs.View.{Shown, is_number, is_of, last_of, same_open}
 use Rattle.ow_floor.specs.Places.{recorded_there}
-use Rattle.ow_floor.specs.Trace.{Trace, Accepted, Answered as replied, Begun, Drained, Gone, Lost, Reopened, Swept, last, shown}
-use Rattle.ow_floor.specs.Growth.{grow, grown}
+use Rattle.ow_floor.specs.Trace.{Trace, Accepted, Answered as replied, Begun, Drained, Gone, Lost, Reopened, Swept, last, open_items, records, shown}
+use Rattle.ow_floor.specs.Growth.{AreResumable, IsFresh, grow, grown}
 use Rattle.ow_floor.specs.Laws.{Grows, Stands}
-use Rattle.ow_floor.specs.Calls.{abandoned_items, accept_items, activation_of, answer_by, answer_to, answered_by, answered_items, begun_items, busy_run, drain_answer, drain_by, end_items, goes_by, gone_items, happened, is_late, items_if, items_on, late_items, late_of, leaves_alive, lost_items, next_items, next_order, order_on, overrun_items, reopened_items, reply_items, run_by, swept_ends, swept_items}
-use Rattle.ow_floor.specs.Store.{IsCell, IsGood, IsGoodPast, Store, answered_in, at_moment, drained_in, event_in, opens, reopened_in, run_in, run_put, show, show_past, taken_back, there}
-use Rattle.ow_floor.specs.Ends.{IsEndedRun, IsMade, IsRunBegun, IsRunLost, abandons, sweeps}
+use Rattle.ow_floor.specs.Calls.{abandon_items, abandoned_ends, abandoned_items, accept_items, activation_of, answer_by, answer_to, answered_by, answered_items, begun_items, busy_run, drain_answer, drain_by, end_items, goes_by, gone_items, happened, is_late, items_if, items_on, late_items, late_of, leaves_alive, lost_items, next_items, next_order, order_on, overrun_items, record_abandoned, reply_items, resume_items, sorted_by_id, swept_ends, swept_items, unrecorded_by, unrecorded_in}
+use Rattle.ow_floor.specs.Store.{IsCell, IsGood, IsGoodPast, Store, answered_in, at_moment, drained_in, event_in, opens, reopened_in, resumed_in, run_in, run_put, show, show_past, taken_back, there}
+use Rattle.ow_floor.specs.Ends.{AreAbandoned, IsEndedRun, IsMade, IsRunBegun, IsRunLost, sweeps}
 use Rattle.ow_floor.proofs.Coming.{right_begun, right_gone, right_lost, right_next, right_reopened, right_reply, right_swept}
 use Rattle.ow_floor.proofs.Drawn.{drawn_last}
 use Rattle.ow_floor.proofs.Making.{happened_append}
 use Rattle.ow_floor.proofs.Numbers.{number_is}
 use Rattle.ow_floor.proofs.Results.{sure}
 use Rattle.ow_floor.proofs.Serving.{is_order, within_kept}
-use Rattle.ow_floor.proofs.Showing.{good_event, good_marked, good_put, good_reopened, show_answered, show_reopened}
+use Rattle.ow_floor.proofs.Showing.{good_event, good_marked, good_put, show_answered, show_reopened, show_resumed}
 use Rattle.ow_floor.proofs.Soundness.{grows}
+use Rattle.ow_floor.proofs.Apart.{open_distinct}
 
 -- what is made, and that the kept lists are good
 abbrev pub Makes : Store → Store → (Trace → Trace) → Type 0
@@ -118,12 +122,42 @@ made_sweep R S at told made = (
   (good_marked S at made.good).0,
 )
 
-pub made_reopen : (R S : Store) (at : ℕ) (told : List Happening) → IsMade (abandons at R) R S told → Makes R (reopened_in at S) (λ T. reopened_items at T)
-made_reopen R S at told made = (
-  grows (λ v. Reopened at ∷ abandoned_items at v.open_items) (show R) (show (reopened_in at S)) (λ T st. right_reopened at (shown T) st.sound.slotted.within)
-      (show_reopened S at ∙ ap (grow (Reopened at)) made.shows),
-  good_reopened S at made.good,
-)
+-- what is open on a floor that stands as a sound trace says differs
+shown_distinct : (v : Shown) (T : Trace) → Stands v T → IsDistinct same_open v.open_items
+shown_distinct v T st = subst (λ (u : Shown). IsDistinct same_open u.open_items) (sym st.is) (open_distinct T st.sound)
+
+pub grows_abandon : (R S : Store) (at : ℕ) (told : List Happening) → AreAbandoned at R S told → Grows (show R) (show (reopened_in at S)) (λ T. abandon_items at T)
+grows_abandon R S at told made T st =
+    let done = made (shown_distinct (show R) T st) in
+    grows (λ v. Reopened at ∷ abandoned_items at (sorted_by_id v.open_items)) (show R) (show (reopened_in at S))
+    (λ U us. right_reopened at (shown U) us.sound.slotted.within (open_distinct U us.sound)) (show_reopened S at ∙ ap (grow (Reopened at)) done.shows) T st
+
+pub abandon_told : (R S : Store) (at : ℕ) (told : List Happening) → AreAbandoned at R S told → (T : Trace) → Stands (show R) T → told ≡ happened (abandoned_ends at T)
+abandon_told R S at told made T st =
+    (made (shown_distinct (show R) T st)).tells ∙ ap (λ (v : Shown). happened (abandoned_items at (sorted_by_id v.open_items))) st.is
+
+abandoned_records : (at : ℕ) (os : List Open) (T : Trace) → records (abandoned_items at os ++ T) ≡ records T ++ map (record_abandoned at) os
+abandoned_records at [] T = sym (append-nil (records T))
+abandoned_records at (o ∷ os) T =
+    let last = end_items at Abandoned None (Some o) in
+    ap records (append_assoc (abandoned_items at os) last T)
+    ∙ (abandoned_records at os (last ++ T) ∙ append_assoc (records T) (record_abandoned at o ∷ []) (map (record_abandoned at) os))
+
+-- the records of what was abandoned come behind the others
+pub abandon_recorded : (v w : Shown) (at : ℕ) → Grows v w (λ T. abandon_items at T) → (T : Trace) → Stands v T → w.ended ≡ records T ++ map (record_abandoned at) (sorted_by_id (open_items T))
+abandon_recorded v w at grows T st = ap (λ (u : Shown). u.ended) (grows T st).is ∙ abandoned_records at (sorted_by_id (open_items T)) T
+
+-- ---- what is taken over
+
+pub grows_resume : (R : Store) (counts : List Id) (rs : List Record) → IsFresh (show R) → AreResumable counts rs → Grows (show R) (show (resumed_in counts rs R)) (λ T. resume_items counts rs)
+grows_resume R counts rs fresh resumable =
+    grows (λ v. resume_items counts rs) (show R) (show (resumed_in counts rs R))
+    (λ T st. (((subst (λ (v : Shown). IsFresh v) st.is fresh, resumable), tt), tt)) (show_resumed R counts rs)
+
+-- ---- what is kept of what is open
+
+pub unrecorded_told : (v : Shown) (id : Id) (u : Option Unrecorded) → u ≡ unrecorded_by (find (is_of id) v.open_items) → (T : Trace) → Stands v T → u ≡ unrecorded_in id T
+unrecorded_told v id u is T st = is ∙ ap (λ (w : Shown). unrecorded_by (find (is_of id) w.open_items)) st.is
 
 pub grows_drain : (R : Store) (at : ℕ) → Grows (show R) (show (drained_in at R)) (λ T. Drained at ∷ [])
 grows_drain R at = grows (λ v. Drained at ∷ []) (show R) (show (drained_in at R)) (λ T st. ((tt, tt), tt)) refl

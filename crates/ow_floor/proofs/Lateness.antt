@@ -1,5 +1,5 @@
 -- Where what a run carries isn't late.
-use Rattle.std.proofs.Common.{◌≡◌, ◌&&◌, ℕ, Bool, true, false, cond, List, [], ◌∷◌, Option, Some, None, refl}
+use Rattle.std.proofs.Common.{◌≡◌, ◌&&◌, ℕ, Bool, true, false, cond, [], Option, Some, None, refl}
 use Rattle.std.specs.List.{find}
 use Rattle.std.specs.Prelude.{is_none}
 use Rattle.ow_slots.specs.declared.states.Slot.{Slot}
@@ -8,7 +8,7 @@ use Rattle.ow_slots.specs.State.{IsUnrecorded, recorded_of, runs}
 use Rattle.ow_floor.specs.declared.activations.Open.{Open}
 use Rattle.ow_floor.specs.declared.runs.Run.{Run}
 use Rattle.ow_floor.specs.View.{is_of}
-use Rattle.ow_floor.specs.Trace.{Item, Trace}
+use Rattle.ow_floor.specs.Trace.{Trace}
 use Rattle.ow_floor.specs.Calls.{is_late, late_items, late_of}
 use Rattle.ow_floor.specs.Store.{Store, opens, show}
 

@@ -19,6 +19,8 @@ pub mod Placing
 pub mod Serving
 pub mod Slotting
 pub mod Soundness
+pub mod Apart
+pub mod Sorting
 pub mod Coming
 pub mod Sweeping
 pub mod Showing

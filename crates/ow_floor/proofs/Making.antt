@@ -1,9 +1,12 @@
 -- Which items ends over the kept lists make.
-use Rattle.std.proofs.Common.{◌≡◌, ◌<◌, ◌+◌, ◌++◌, ℕ, suc, Bool, true, List, [], ◌∷◌, Option, Some, None, length, get_or, take, drop, drop-cons, refl, sym, ap, ◌∙◌, arith, subst, append_assoc, append-nil}
-use Rattle.std.specs.List.{find}
+use Rattle.std.proofs.Common.{◌≡◌, ◌≢◌, ◌<◌, ◌≤◌, ◌+◌, ◌++◌, ℕ, zero, suc, Bool, true, false, List, [], ◌∷◌, Option, Some, None, length, get_or, drop, drop-cons, refl, sym, ap, ◌∙◌, arith, subst, append_assoc, append-nil}
+use Rattle.std.specs.List.{find, AllByRecursion, IsDistinct}
 use Rattle.std.specs.Prelude.{is_none, slice_set}
-use Rattle.std.proofs.lemmas.List.{length-set, take-set-le, get_or-set_same}
+use Rattle.std.proofs.lemmas.List.{length-set, get_or-set_other}
+use Rattle.std.proofs.lemmas.List.Elements.{All-from_recursion, recursion_from_All}
+use Rattle.std.proofs.lemmas.List.Sorted.{All-permutation}
 use Rattle.ow_records.specs.declared.ids.Id.{Id}
+use Rattle.ow_records.specs.Id.{same_id}
 use Rattle.ow_records.specs.declared.outcomes.Ending.{Ending}
 use Rattle.ow_records.specs.declared.outcomes.Ending.TheVariants.{Replied, Overran, Abandoned}
 use Rattle.ow_records.specs.Outcome.{outcome}
@@ -12,26 +15,28 @@ use Rattle.ow_records.specs.declared.activations.Activation.{Activation}
 use Rattle.ow_floor.specs.declared.activations.Open.{Open}
 use Rattle.ow_floor.specs.declared.answers.Happening.{Happening}
 use Rattle.ow_floor.specs.declared.answers.Happening.TheVariants as happenings
-use Rattle.ow_floor.specs.declared.activations.State.TheVariants.{Waiting}
+use Rattle.ow_floor.specs.declared.by_id.OpenPlace.{OpenPlace}
+use Rattle.ow_floor.specs.declared.lists.Spot.{Spot}
 use Rattle.ow_floor.specs.declared.lists.Berth.{Berth}
 use Rattle.ow_floor.specs.declared.runs.Run.{Run}
-use Rattle.ow_floor.specs.View.{Shown, is_of, remove_first}
+use Rattle.ow_floor.specs.View.{Shown, is_of, remove_first, same_open}
 use Rattle.ow_slots.specs.declared.states.Slot.{Slot}
 use Rattle.ow_slots.specs.Slots.{IsThere, first_with}
 use Rattle.ow_slots.specs.State.{IsUnrecorded, recorded_of, runs}
 use Rattle.ow_lifecycle.specs.Life as lives
 use Rattle.ow_floor.specs.Trace.{Trace, overrun_of, record_of}
 use Rattle.ow_floor.specs.Growth.{grown}
-use Rattle.ow_floor.specs.Calls.{abandoned_items, end_items, ended_by, happened, happened_by, overrun_items}
+use Rattle.ow_floor.specs.Calls.{abandoned_items, end_items, ended_by, happened, happened_by, overrun_items, sorted_by_id}
 use Rattle.ow_floor.specs.Store.{IsGood, IsSpot, Store, ended_in, event_in, opens, run_in, show, there}
-use Rattle.ow_floor.specs.Ends.{IsAbandonedAt, IsAbandoning, IsEndedAt, IsEndedRun, IsLateEnd, IsLateSpot, IsMade, IsOverrunAt, IsSweeping, IsSweptOne, abandons, always, late_at, sweeps}
+use Rattle.ow_floor.specs.Ends.{AreAbandoned, ArePlaced, IsAbandonedAt, IsAbandoning, IsByIds, IsEndedAt, IsEndedRun, IsLateEnd, IsLateSpot, IsLeft, IsMade, IsOverrunAt, IsSweeping, IsSweptOne, abandons, late_at, placed, sweeps}
 use Rattle.ow_floor.proofs.Alters.{same_id_refl}
+use Rattle.ow_floor.proofs.Apart.{IsOther, distinct_removed, distinct_sorted}
 use Rattle.ow_floor.proofs.Coming.{grown_append}
-use Rattle.ow_floor.proofs.Finding.{none_at_all, none_more, spot_at}
 use Rattle.ow_floor.proofs.Firsts.{find_passes}
 use Rattle.ow_floor.proofs.Serving.{within_kept}
 use Rattle.ow_floor.proofs.Showing.{good_ended, good_event, show_ended, show_overran}
 use Rattle.ow_floor.proofs.Tallies.{eq_of}
+use Rattle.ow_floor.proofs.Sorting.{placed_by_ids}
 
 pub happened_append : (xs ys : Trace) → happened (xs ++ ys) ≡ happened ys ++ happened xs
 happened_append [] ys = sym (append-nil (happened ys))
@@ -160,112 +165,175 @@ sweeps_at at old now new i told after lt before one =
 
 -- ---- openings
 
-first_there : (os : List Open) (o : Open) → find always os ≡ Some o → os ≡ o ∷ remove_first always os
-unfolding remove_first
-first_there [] o found = cc
-first_there (x ∷ os) o found = let same : x ≡ o = cc in ap (λ (y : Open). y ∷ os) same
+placed_from : (all : List (Option Activation)) (k : ℕ) (ss : List Spot) (ts : List (Option Activation)) → length ts ≡ length ss → ((j : ℕ) → get_or ts j None ≡ get_or all (k + j) None)
+    → ArePlaced all (placed k ts) (opens ss ts)
+placed_from all k [] [] same here = tt
+placed_from all k [] (t ∷ ts) same here = absurd (omega (arith, same))
+placed_from all k (s ∷ ss) [] same here = absurd (omega (arith, same))
+placed_from all k (s ∷ ss) (t ∷ ts) same here =
+    placed_at t refl (placed_from all (k + 1) ss ts (omega (arith, same)) (λ j. here (suc j) ∙ ap (λ n. get_or all n None) (next j)))
+  where
+    next : (j : ℕ) → k + suc j ≡ k + 1 + j
+    next j = omega arith
 
-none_there : (os : List Open) → find always os ≡ None → os ≡ []
-none_there [] none = refl
-none_there (x ∷ os) none = cc
+    first : get_or all k None ≡ t
+    first = let zero : k + 0 ≡ k = omega arith in sym (here 0 ∙ ap (λ n. get_or all n None) zero)
+
+    placed_at : (u : Option Activation) → t ≡ u → ArePlaced all (placed (k + 1) ts) (opens ss ts) → ArePlaced all (placed k (u ∷ ts)) (opens (s ∷ ss) (u ∷ ts))
+    placed_at None is rest = rest
+    placed_at (Some a) is rest = (refl, first ∙ is, rest)
+
+-- what is open stands at its places
+opens_placed : (R : Store) → IsGood R → ArePlaced R.tasks (placed 0 R.tasks) (opens R.spots R.tasks)
+opens_placed R good = placed_from R.tasks 0 R.spots R.tasks good.paired (λ j. let same : j ≡ 0 + j = omega arith in ap (λ n. get_or R.tasks n None) same)
+
+-- what stands at a place is one of all that is open
+open_there : (P : Open → Type 0) (ss : List Spot) (ts : List (Option Activation)) (k : ℕ) (a : Activation) → length ts ≡ length ss → get_or ts k None ≡ Some a → AllByRecursion P (opens ss ts)
+    → (s : Spot) × P (record { task = a; state = s.state })
+open_there P ss [] k a same here all = cc
+open_there P [] (t ∷ ts) k a same here all = absurd (omega (arith, same))
+open_there P (s ∷ ss) (None ∷ ts) zero a same here all = cc
+open_there P (s ∷ ss) (Some b ∷ ts) zero a same here all = let e : b ≡ a = cc in (s, subst (λ (x : Activation). P (record { task = x; state = s.state })) e all.0)
+open_there P (s ∷ ss) (None ∷ ts) (suc k) a same here all = open_there P ss ts k a (omega (arith, same)) here all
+open_there P (s ∷ ss) (Some b ∷ ts) (suc k) a same here all = open_there P ss ts k a (omega (arith, same)) here all.1
+
+past_other : (o : Open) (a : Activation) (os us : List Open) → same_id o.task.id a.id ≡ false → us ≡ remove_first (is_of a.id) os → o ∷ us ≡ remove_first (is_of a.id) (o ∷ os)
+unfolding remove_first
+past_other o a os us other rest = rw other (ap (λ zs. o ∷ zs) rest)
 
 first_cut : (o : Open) (os : List Open) → remove_first (is_of o.task.id) (o ∷ os) ≡ os
 unfolding remove_first
 first_cut o os = rw (same_id_refl o.task.id) refl
 
-first_found : (o : Open) (os : List Open) → find (is_of o.task.id) (o ∷ os) ≡ Some o
-first_found o os = rw (same_id_refl o.task.id) refl
+-- where the ids differ, what stands at a place is the first of its id
+opens_cut : (ss : List Spot) (ts : List (Option Activation)) (k : ℕ) (a : Activation) → length ts ≡ length ss → get_or ts k None ≡ Some a → IsDistinct same_open (opens ss ts)
+    → opens ss (slice_set ts k None) ≡ remove_first (is_of a.id) (opens ss ts)
+unfolding IsDistinct
+opens_cut ss [] k a same here apart = cc
+opens_cut [] (t ∷ ts) k a same here apart = absurd (omega (arith, same))
+opens_cut (s ∷ ss) (None ∷ ts) zero a same here apart = cc
+opens_cut (s ∷ ss) (Some b ∷ ts) zero a same here apart =
+    let e : b ≡ a = cc in
+    sym (first_cut (record { task = b; state = s.state }) (opens ss ts)) ∙ ap (λ (x : Activation). remove_first (is_of x.id) (record { task = b; state = s.state } ∷ opens ss ts)) e
+opens_cut (s ∷ ss) (None ∷ ts) (suc k) a same here apart = opens_cut ss ts k a (omega (arith, same)) here apart
+opens_cut (s ∷ ss) (Some b ∷ ts) (suc k) a same here apart =
+    let o : Open = record { task = b; state = s.state } in
+    let other = open_there (λ x. same_open o x ≡ false) ss ts k a (omega (arith, same)) here apart.0 in
+    past_other o a (opens ss ts) (opens ss (slice_set ts k None)) other.1 (opens_cut ss ts k a (omega (arith, same)) here apart.1)
 
--- the first of all is the first of its id
-spot_of_id : (R : Store) (place : ℕ) (spot : IsSpot always R.spots R.tasks place) → opens R.spots (slice_set R.tasks place None) ≡ remove_first (is_of spot.item.task.id) (opens R.spots R.tasks)
-spot_of_id R place spot =
-    let all = first_there (opens R.spots R.tasks) spot.item spot.found in
-    spot.removed ∙ (sym (first_cut spot.item (remove_first always (opens R.spots R.tasks))) ∙ ap (remove_first (is_of spot.item.task.id)) (sym all))
+-- ends elsewhere leave what stands at these places
+placed_left : (ts : List (Option Activation)) (k : ℕ) (o : Open) (ps : List OpenPlace) (os : List Open) → get_or ts k None ≡ Some o.task → ArePlaced ts ps os → IsOther o os → ArePlaced (slice_set ts k None) ps os
+placed_left ts k o [] [] here all other = tt
+placed_left ts k o [] (x ∷ os) here all other = absurd all
+placed_left ts k o (p ∷ ps) [] here all other = absurd all
+placed_left ts k o (p ∷ ps) (x ∷ os) here all other = (all.0, elsewhere ∙ all.1, placed_left ts k o ps os here all.2 other.1)
+  where
+    different : p.place ≢ k
+    different e =
+        let same : Some x.task ≡ Some o.task = sym all.1 ∙ (ap (λ n. get_or ts n None) e ∙ here) in
+        let task : x.task ≡ o.task = cc in
+        let id : same_open o x ≡ true = rw task (same_id_refl o.task.id) in
+        let no = other.0 in
+        cc
 
-pub abandoned_made : (at place : ℕ) (R S : Store) (h : Happening) → IsGood R → (spot : IsSpot always R.spots R.tasks place) → IsEndedAt at Abandoned None place R S h
-    → IsMade (end_items at Abandoned None (Some spot.item)) R S (h ∷ [])
-abandoned_made at place R S h good spot x =
-    let task = same_task R always place spot x.task x.here in
-    let e = ended_by at Abandoned None spot.item.task in
-    let now : S ≡ ended_in at place (record_of e) R = x.now ∙ ap (λ a. ended_in at place (record_of (ended_by at Abandoned None a)) R) task in
+    elsewhere : get_or (slice_set ts k None) p.place None ≡ get_or ts p.place None
+    elsewhere = get_or-set_other ts k p.place None None different
+
+pub abandoning_start : (at : ℕ) (R : Store) (ps : List OpenPlace) → IsGood R → IsByIds R.tasks ps → IsAbandoning at R R ps []
+abandoning_start at R ps good sorted = record {
+  ends = λ apart. record {
+    left = sorted_by_id (opens R.spots R.tasks);
+    placed = placed_by_ids R.tasks ps (opens R.spots R.tasks) (opens_placed R good) apart sorted;
+    others = distinct_sorted (opens R.spots R.tasks) apart;
+    apart = apart;
+    shows = refl;
+    tells = refl;
+  };
+  size = refl;
+  runs = refl;
+  good = good;
+}
+
+-- the places are those of tasks
+placed_below : (n k : ℕ) (ts : List (Option Activation)) → k + length ts ≤ n → AllByRecursion (λ p. p.place < n) (placed k ts)
+placed_below n k [] le = tt
+placed_below n k (None ∷ ts) le = placed_below n (k + 1) ts (omega (arith, le))
+placed_below n k (Some a ∷ ts) le = (omega (arith, le), placed_below n (k + 1) ts (omega (arith, le)))
+
+all_at : (P : OpenPlace → Type 0) (ps : List OpenPlace) (i : ℕ) (d : OpenPlace) → AllByRecursion P ps → i < length ps → P (get_or ps i d)
+all_at P [] i d all lt = absurd (omega (arith, lt))
+all_at P (p ∷ ps) zero d all lt = all.0
+all_at P (p ∷ ps) (suc i) d all lt = all_at P ps i d all.1 (omega (arith, lt))
+
+pub place_within : (ts : List (Option Activation)) (ps : List OpenPlace) (i : ℕ) (d : OpenPlace) → IsByIds ts ps → i < length ps → (get_or ps i d).place < length ts
+place_within ts ps i d sorted lt =
+    let all = All-permutation (λ (p : OpenPlace). p.place < length ts) (placed 0 ts) ps sorted.same (All-from_recursion _ (placed 0 ts) (placed_below (length ts) 0 ts (omega arith))) in
+    all_at (λ p. p.place < length ts) ps i d (recursion_from_All _ ps all) lt
+
+-- what stands at the first of these places ends
+left_on : (at : ℕ) (old now new : Store) (p : OpenPlace) (ps : List OpenPlace) (told after : List Happening) (h : Happening) (os : List Open) → IsGood now → IsEndedAt at Abandoned None p.place now new h
+    → after ≡ told ++ h ∷ [] → (left : IsLeft at old now (p ∷ ps) told) → left.left ≡ os → IsLeft at old new ps after
+unfolding IsDistinct
+left_on at old now new p ps told after h [] good x is left e = absurd (subst (λ (os : List Open). ArePlaced now.tasks (p ∷ ps) os) e left.placed)
+left_on at old now new p ps told after h (o ∷ os) good x is left e =
+    let all : ArePlaced now.tasks (p ∷ ps) (o ∷ os) = subst (λ (zs : List Open). ArePlaced now.tasks (p ∷ ps) zs) e left.placed in
+    let others : IsDistinct same_open (o ∷ os) = subst (λ (zs : List Open). IsDistinct same_open zs) e left.others in
+    let there : Some x.task ≡ Some o.task = sym x.here ∙ all.1 in
+    let task : x.task ≡ o.task = cc in
+    let end = ended_by at Abandoned None o.task in
+    let now_is : new ≡ ended_in at p.place (record_of end) now = x.now ∙ ap (λ a. ended_in at p.place (record_of (ended_by at Abandoned None a)) now) task in
+    let cut = opens_cut now.spots now.tasks p.place o.task good.paired all.1 left.apart in
+    let last : Trace = end_items at Abandoned None (Some o) in
+    let made : show new ≡ grown last (show now) = ap show now_is ∙ rw cut refl in
+    let tells : h ∷ [] ≡ happened last = ap (λ (y : Happening). y ∷ []) (x.told ∙ ap (λ (a : Activation). happenings.Recorded a.id (outcome Abandoned a.action.limits).code) task) in
+    let items : abandoned_items at left.left ≡ abandoned_items at os ++ last = ap (abandoned_items at) e in
     record {
-      shows = ap show now ∙ rw (spot_of_id R place spot) refl;
-      good = subst (λ (U : Store). IsGood U) (sym now) (good_ended R always at place (record_of e) spot good);
-      runs = ap (λ (U : Store). U.runs) now;
-      tells = ap (λ (y : Happening). y ∷ []) (x.told ∙ ap (λ (a : Activation). happenings.Recorded a.id (outcome Abandoned a.action.limits).code) task);
-    }
-
-pub abandoning_start : (at : ℕ) (R : Store) → IsGood R → IsAbandoning at R R 0 []
-abandoning_start at R good = record { shows = refl; tells = refl; none = refl; size = refl; runs = refl; good = good }
-
--- nothing stands at this place
-pub abandons_past : (at : ℕ) (old now : Store) (i : ℕ) (told : List Happening) → i < length now.spots → get_or now.tasks i None ≡ None → IsAbandoning at old now i told
-    → IsAbandoning at old now (i + 1) told
-abandons_past at old now i told lt empty before =
-    let next : suc i ≡ i + 1 = omega arith in
-    let none = none_more always now.spots now.tasks i (record { state = Waiting }) None lt before.good.paired before.none (rw empty refl) in
-    record {
-      shows = before.shows;
-      tells = before.tells;
-      none = subst (λ n. find always (opens (take n now.spots) (take n now.tasks)) ≡ None) next none;
-      size = before.size;
-      runs = before.runs;
-      good = before.good;
-    }
-
-none_cut : (R : Store) (place : ℕ) → place < length R.spots → length R.tasks ≡ length R.spots → find always (opens (take place R.spots) (take place R.tasks)) ≡ None
-    → find always (opens (take (suc place) R.spots) (take (suc place) (slice_set R.tasks place None))) ≡ None
-none_cut R place lt paired none =
-    let same : take place (slice_set R.tasks place None) ≡ take place R.tasks = take-set-le place R.tasks place None (omega arith) in
-    let len : length (slice_set R.tasks place None) ≡ length R.spots = length-set R.tasks place None ∙ paired in
-    let gone : get_or (slice_set R.tasks place None) place None ≡ None = get_or-set_same R.tasks place None None (omega (arith, paired, lt)) in
-    none_more always R.spots (slice_set R.tasks place None) place (record { state = Waiting }) None lt len (rw same none) (rw gone refl)
-
--- what stands at this place ends
-pub abandons_on : (at : ℕ) (old now new : Store) (i : ℕ) (a : Activation) (told after : List Happening) (h : Happening) → i < length now.spots → get_or now.tasks i None ≡ Some a
-    → IsEndedAt at Abandoned None i now new h → after ≡ told ++ h ∷ [] → IsAbandoning at old now i told → IsAbandoning at old new (i + 1) after
-abandons_on at old now new i a told after h lt here x is before =
-    let next : suc i ≡ i + 1 = omega arith in
-    let spot = spot_at always now.spots now.tasks i (record { state = Waiting }) None lt before.good.paired before.none (rw here refl) in
-    let made = abandoned_made at i now new h before.good spot x in
-    let rest = remove_first always (opens now.spots now.tasks) in
-    let all = first_there (opens now.spots now.tasks) spot.item spot.found in
-    let left : opens new.spots new.tasks ≡ rest = ap (λ (U : Store). opens U.spots U.tasks) x.now ∙ spot.removed in
-    let ends : Trace = end_items at Abandoned None (Some spot.item) in
-    let items : abandons at now ≡ abandoned_items at rest ++ ends = ap (abandoned_items at) all in
-    let ahead : abandons at new ≡ abandoned_items at rest = ap (abandoned_items at) left in
-    record {
+      left = os;
+      placed = subst (λ (U : Store). ArePlaced U.tasks ps os) (sym now_is) (placed_left now.tasks p.place o ps os all.1 all.2 others.0);
+      others = others.1;
+      apart = subst (λ (U : Store). IsDistinct same_open (opens U.spots U.tasks)) (sym now_is) (subst (λ (zs : List Open). IsDistinct same_open zs) (sym cut) (distinct_removed (is_of o.task.id) (opens now.spots now.tasks) left.apart));
       shows =
-          ap (λ items. grown items (show new)) ahead ∙ (ap (grown (abandoned_items at rest)) made.shows
-          ∙ (sym (grown_append (abandoned_items at rest) ends (show now)) ∙ (ap (λ items. grown items (show now)) (sym items) ∙ before.shows)));
+          ap (grown (abandoned_items at os)) made
+          ∙ (sym (grown_append (abandoned_items at os) last (show now)) ∙ (ap (λ items. grown items (show now)) (sym items) ∙ left.shows));
       tells =
-          ap (λ (hs : List Happening). hs ++ happened (abandons at new)) (is ∙ ap (λ (hs : List Happening). told ++ hs) made.tells)
-          ∙ (append_assoc told (happened ends) (happened (abandons at new))
-          ∙ (ap (λ items. told ++ (happened ends ++ happened items)) ahead
-          ∙ (ap (λ (hs : List Happening). told ++ hs) (sym (happened_append (abandoned_items at rest) ends) ∙ ap happened (sym items)) ∙ before.tells)));
-      none = subst (λ n. find always (opens (take n new.spots) (take n new.tasks)) ≡ None) next
-          (subst (λ (U : Store). find always (opens (take (suc i) U.spots) (take (suc i) U.tasks)) ≡ None) (sym x.now) (none_cut now i lt before.good.paired before.none));
-      size = ap (λ (U : Store). length U.tasks) x.now ∙ (length-set now.tasks i None ∙ before.size);
-      runs = made.runs ∙ before.runs;
-      good = made.good;
-    }
-
-pub abandoning_end : (at : ℕ) (old now : Store) (n : ℕ) (told : List Happening) → n ≡ length old.tasks → IsAbandoning at old now n told → IsMade (abandons at old) old now told
-abandoning_end at old now n told whole done =
-    let count : n ≡ length now.spots = whole ∙ (sym done.size ∙ done.good.paired) in
-    let empty : opens now.spots now.tasks ≡ [] = none_there (opens now.spots now.tasks) (none_at_all always now.spots now.tasks n count done.good.paired done.none) in
-    let items : abandons at now ≡ [] = ap (abandoned_items at) empty in
-    record {
-      shows = ap (λ items. grown items (show now)) (sym items) ∙ done.shows;
-      good = done.good;
-      runs = done.runs;
-      tells = sym (append-nil told) ∙ (ap (λ items. told ++ happened items) (sym items) ∙ done.tells);
+          ap (λ (hs : List Happening). hs ++ happened (abandoned_items at os)) (is ∙ ap (λ (hs : List Happening). told ++ hs) tells)
+          ∙ (append_assoc told (happened last) (happened (abandoned_items at os))
+          ∙ (ap (λ (hs : List Happening). told ++ hs) (sym (happened_append (abandoned_items at os) last) ∙ ap happened (sym items)) ∙ left.tells));
     }
 
 -- one place further
-pub abandons_at : (at : ℕ) (old now new : Store) (i : ℕ) (cell : Option Activation) (told after : List Happening) → i < length now.spots → get_or now.tasks i None ≡ cell
-    → IsAbandonedAt at i cell now new told after → IsAbandoning at old now i told → IsAbandoning at old new (i + 1) after
-abandons_at at old now new i None told after lt here one before =
-    let same : IsAbandoning at old now (i + 1) after = subst (λ (hs : List Happening). IsAbandoning at old now (i + 1) hs) (sym one.1) (abandons_past at old now i told lt here before) in
-    subst (λ (U : Store). IsAbandoning at old U (i + 1) after) (sym one.0) same
-abandons_at at old now new i (Some a) told after lt here one before = abandons_on at old now new i a told after one.0 lt here one.1 one.2 before
+pub abandons_at : (at : ℕ) (old now new : Store) (ps : List OpenPlace) (i : ℕ) (d : OpenPlace) (told after : List Happening) → i < length ps → IsGood new
+    → IsAbandonedAt at (get_or ps i d).place now new told after → IsAbandoning at old now (drop i ps) told → IsAbandoning at old new (drop (i + 1) ps) after
+abandons_at at old now new ps i d told after lt good one before =
+    let x = one.1 in
+    let cells : drop i ps ≡ get_or ps i d ∷ drop (suc i) ps = drop-cons ps i d lt in
+    let next : suc i ≡ i + 1 = omega arith in
+    subst (λ n. IsAbandoning at old new (drop n ps) after) next
+    record {
+      ends = λ apart.
+          let left = subst (λ (qs : List OpenPlace). IsLeft at old now qs told) cells (before.ends apart) in
+          left_on at old now new (get_or ps i d) (drop (suc i) ps) told after one.0 left.left before.good x one.2 left refl;
+      size = ap (λ (U : Store). length U.tasks) x.now ∙ (length-set now.tasks (get_or ps i d).place None ∙ before.size);
+      runs = ap (λ (U : Store). U.runs) x.now ∙ before.runs;
+      good = good;
+    }
+
+end_by : (at : ℕ) (old now : Store) (told : List Happening) (os : List Open) → (left : IsLeft at old now [] told) → left.left ≡ os → now.runs ≡ old.runs → IsGood now → IsMade (abandons at old) old now told
+end_by at old now told [] left e runs good = record {
+  shows = ap (λ os. grown (abandoned_items at os) (show now)) (sym e) ∙ left.shows;
+  good = good;
+  runs = runs;
+  tells = sym (append-nil told) ∙ (ap (λ os. told ++ happened (abandoned_items at os)) (sym e) ∙ left.tells);
+}
+end_by at old now told (o ∷ os) left e runs good = absurd (subst (λ (zs : List Open). ArePlaced now.tasks [] zs) e left.placed)
+
+none_left : (ps : List OpenPlace) (n : ℕ) → length ps ≤ n → drop n ps ≡ []
+none_left [] zero le = refl
+none_left [] (suc n) le = refl
+none_left (p ∷ ps) zero le = absurd (omega (arith, le))
+none_left (p ∷ ps) (suc n) le = none_left ps n (omega (arith, le))
+
+pub abandoning_end : (at : ℕ) (old now : Store) (ps : List OpenPlace) (n : ℕ) (told : List Happening) → length ps ≤ n → IsAbandoning at old now (drop n ps) told → AreAbandoned at old now told
+abandoning_end at old now ps n told le done apart =
+    let left = subst (λ (qs : List OpenPlace). IsLeft at old now qs told) (none_left ps n le) (done.ends apart) in
+    end_by at old now told left.left left refl done.runs done.good

@@ -17,10 +17,10 @@ use Rattle.ow_floor.specs.declared.activations.Open.{Open}
 use Rattle.ow_floor.specs.declared.answers.Container.{Container}
 use Rattle.ow_floor.specs.declared.runs.Run.{Run}
 use Rattle.ow_floor.specs.View.{Shown, is_of, waits}
-use Rattle.ow_floor.specs.Trace.{Trace, Item, Opened, Accepted, Ordered, Prewarming, Removed, Begun, Answered, Lost, Gone, Ended, Swept, Drained, Reopened, event_of, live, overrun_of, run_count, shown, slots, slots_by}
+use Rattle.ow_floor.specs.Trace.{Trace, Item, Opened, Resumed, Accepted, Ordered, Prewarming, Removed, Begun, Answered, Lost, Gone, Ended, Swept, Drained, Reopened, event_of, live, overrun_of, run_count, shown, slots, slots_by}
 use Rattle.ow_floor.specs.Growth.{AreRight, IsRight, grown}
 use Rattle.ow_floor.specs.Laws.{IsSound}
-use Rattle.ow_floor.specs.Calls.{RaisesLittle, abandoned_items, begins, end_items, goes, is_late, late_items, late_of, loses, overrun_items, reply_items, reopened_items, busy_run, order_items, place_on, swept_items}
+use Rattle.ow_floor.specs.Calls.{RaisesLittle, abandoned_items, begins, end_items, goes, is_late, late_items, late_of, loses, overrun_items, reply_items, busy_run, order_items, place_on, sorted_by_id}
 use Rattle.ow_floor.specs.Owed.{owed, rise, rises}
 use Rattle.ow_floor.proofs.Coming.{comes, goes_there, there}
 use Rattle.ow_floor.proofs.Slotting.{slots_item}
@@ -36,6 +36,7 @@ ended_rises Abandoned run at slots = omega arith
 
 item_rises : (item : Item) (slots : List Slot) → lives.owed (slots_by (event_of item) slots) ≤ lives.owed slots + rise item
 item_rises (Opened pool wants) slots = omega arith
+item_rises (Resumed counts rs) slots = omega arith
 item_rises (Accepted a) slots = omega arith
 item_rises (Ordered r key) slots = raises (events.Ran r.slot r.number key r.start r.at) slots
 item_rises (Prewarming o at) slots = raises (events.Prewarming o.slot o.run o.kind o.memory) slots
@@ -127,9 +128,10 @@ rises_reply at run reply v (Some r) = let h = rises_end at reply r (find (is_of 
 
 pub raises_little : RaisesLittle
 raises_little = record {
+  resume = λ counts rs. refl;
   accept = λ at plan. refl;
   next = λ at T. rises_order (place_on (shown T)) (find waits (shown T).open_items) at (shown T);
   answered = λ at run reply T. rises_reply at run reply (shown T) (busy_run run (shown T));
   sweep = λ at T. let h = rises_overrun at (live T) (shown T) in omega (arith, h);
-  reopen = λ at T. let h = rises_abandoned at (shown T).open_items in omega (arith, h);
+  abandon = λ at T. let h = rises_abandoned at (sorted_by_id (shown T).open_items) in omega (arith, h);
 }

@@ -1,6 +1,6 @@
 -- Each order of the rules fits the slots, and leaves what they hold within the pool, whatever memory the head has.
-use Rattle.std.proofs.Common.{◌≡◌, ◌==◌, ◌+◌, ◌≤◌, ◌++◌, ℕ, Bool, true, false, cond, List, [], ◌∷◌, Option, Some, None, map, refl, ◌∙◌, arith}
-use Rattle.std.specs.Prelude.{nat_le, nat_lt, fold, max, count_by}
+use Rattle.std.proofs.Common.{◌≡◌, ◌+◌, ◌≤◌, ◌++◌, ℕ, Bool, true, false, cond, List, [], ◌∷◌, Option, Some, None, map, refl, ◌∙◌, arith}
+use Rattle.std.specs.Prelude.{nat_le, fold, max}
 use Rattle.std.specs.List.{find, slice_get, position, AllByRecursion}
 use Rattle.ow_traits.specs.declared.prewarms.Prewarm.{Prewarm}
 use Rattle.ow_traits.specs.declared.replies.Kind.{Kind}
@@ -8,7 +8,7 @@ use Rattle.ow_slots.specs.declared.keys.Key.{Key}
 use Rattle.ow_slots.specs.declared.keys.Start.{Start}
 use Rattle.ow_slots.specs.declared.keys.Start.TheVariants as starts
 use Rattle.ow_slots.specs.declared.states.Slot.{Slot}
-use Rattle.ow_slots.specs.Key.{kind_of, same_key}
+use Rattle.ow_slots.specs.Key.{kind_of}
 use Rattle.ow_slots.specs.Slots.{IsThere, change, memory_held}
 use Rattle.ow_slots.specs.State.{IsVacant, StartFits, assigned, can_open, opened}
 use Rattle.ow_pool.specs.declared.answers.Head.{Head}
@@ -18,7 +18,7 @@ use Rattle.ow_pool.specs.declared.answers.Unplaced.TheVariants.{NoRoom}
 use Rattle.ow_pool.specs.declared.candidates.Candidate.{Candidate}
 use Rattle.ow_pool.specs.Candidates.{candidates_from, numbers_of, shortest}
 use Rattle.ow_pool.specs.Keeping.{CanAllGo, IsFor, removed}
-use Rattle.ow_pool.specs.Rules.{fresh, is_kept_for, is_ready, is_used_at, is_wanted, last_uses, makes_room, place_of, placed, prewarm_or_wait, prewarmed, removal, remove_or_wait, run_or, warmest}
+use Rattle.ow_pool.specs.Rules.{fresh, is_ready, is_used_at, is_wanted, last_uses, makes_room, place_of, placed, prewarm_or_wait, prewarmed, removal, remove_or_wait, run_or, warmest}
 use Rattle.ow_pool.proofs.OrderLaws.{IfBeginning, Goable, KeysTell, all_front, all_go, at_position, both_of, can_go, distinct_front, le_of, now_go, open_fits, ready_fits, ready_size, remove_one, shortest_begins, warm_fits, warm_size}
 use Rattle.ow_pool.proofs.Room.{Distinct, distinct}
 use Rattle.ow_pool.proofs.Sums.{held_change, size}

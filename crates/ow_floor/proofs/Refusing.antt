@@ -7,7 +7,7 @@ use Rattle.ow_slots.specs.declared.refusal.SlotRefusal.TheVariants as refusals
 use Rattle.ow_slots.specs.declared.states.State.{State}
 use Rattle.ow_slots.specs.declared.states.Slot.{Slot}
 use Rattle.ow_slots.specs.Slots.{change, change_first, first_with, gone_answer, has, run_answer}
-use Rattle.ow_slots.specs.State.{after_gone, goes, gone_state, with_state}
+use Rattle.ow_slots.specs.State.{after_gone, goes}
 use Rattle.ow_pool.proofs.OrderLaws.{none_changed}
 use Rattle.ow_floor.proofs.Firsts.{none_tail}
 

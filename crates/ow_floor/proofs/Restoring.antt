@@ -1,5 +1,5 @@
 -- Undoing a change of slots gives the slots before it.
-use Rattle.std.proofs.Common.{◌≡◌, ◌≤◌, ◌++◌, ℕ, zero, suc, Bool, true, false, List, [], ◌∷◌, Option, Some, None, length, refl, sym, ap, ◌∙◌, arith}
+use Rattle.std.proofs.Common.{◌≡◌, ◌≤◌, ◌++◌, ℕ, zero, suc, Bool, true, false, List, [], ◌∷◌, Option, Some, None, length, refl, sym, ap, ◌∙◌}
 use Rattle.std.specs.List.{position, slice_get}
 use Rattle.ow_slots.specs.declared.states.Slot.{Slot}
 use Rattle.std.proofs.Math.ListN.{set}

@@ -1,7 +1,7 @@
 -- What events of slots do to the slots that are busy with a run, to those that hold one, and to what they hold.
-use Rattle.std.proofs.Common.{◌≡◌, ◌==◌, ◌+◌, ◌≤◌, ◌&&◌, ◌||◌, ℕ, zero, suc, Bool, true, false, cond, List, [], ◌∷◌, Option, Some, None, refl, sym, ap, ◌∙◌, arith, subst}
+use Rattle.std.proofs.Common.{◌≡◌, ◌==◌, ◌+◌, ◌≤◌, ◌&&◌, ℕ, zero, suc, Bool, true, false, cond, List, [], ◌∷◌, Option, Some, None, refl, ap, ◌∙◌, arith}
 use Rattle.std.specs.List.{find, slice_get, AllByRecursion}
-use Rattle.std.specs.Prelude.{map, is_none}
+use Rattle.std.specs.Prelude.{is_none}
 use Rattle.std.proofs.lemmas.Bool.Decides.{nat_tests}
 use Rattle.std.proofs.lemmas.List.Sums.{sum_by-cons}
 use Rattle.ow_traits.specs.declared.replies.Kind.{Kind}
@@ -13,7 +13,7 @@ use Rattle.ow_slots.specs.declared.states.State.TheVariants.{Vacant, Opening, Pr
 use Rattle.ow_slots.specs.declared.states.Slot.{Slot}
 use Rattle.ow_slots.specs.Slots.{IsThere, change, change_first, first_with, has, memory_held}
 use Rattle.ow_slots.specs.State.{IsSized, IsVacant, StartFits, after_gone, answered_state, assigned, begun_state, goes, gone_state, holds, is_idle, is_prewarmed, is_vacant, lost_state, opened, overrun_state, removed_state, runs, with_state}
-use Rattle.ow_pool.specs.Keeping.{EventsKeep, removed}
+use Rattle.ow_pool.specs.Keeping.{removed}
 use Rattle.ow_pool.specs.Rules.{IsWithinPool}
 use Rattle.ow_pool.proofs.EventLaws.{answered_lessens, begun_lessens, events_keep, gone_at, lost_lessens, overrun_lessens}
 use Rattle.ow_pool.proofs.OrderLaws.{removed_keeps}

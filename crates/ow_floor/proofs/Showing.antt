@@ -19,10 +19,10 @@ use Rattle.ow_floor.specs.declared.lists.Berth.{Berth}
 use Rattle.ow_floor.specs.declared.lists.Spot.{Spot}
 use Rattle.ow_floor.specs.declared.runs.Run.{Run}
 use Rattle.ow_floor.specs.View.{begun, is_number, is_of, waits, with_state}
-use Rattle.ow_floor.specs.Trace.{End, Accepted, Answered, Drained, Ended, Opened, Ordered, Prewarming, Removed, Reopened, Swept, overrun_of, record_of, slot_count}
+use Rattle.ow_floor.specs.Trace.{End, Accepted, Answered, Drained, Ended, Opened, Ordered, Prewarming, Removed, Reopened, Resumed, Swept, overrun_of, record_of, slot_count}
 use Rattle.ow_floor.specs.Growth.{grow}
 use Rattle.ow_floor.specs.Ends.{IsRunBegun, IsRunLost}
-use Rattle.ow_floor.specs.Store.{Store, IsCell, IsGood, IsSpot, accepted_in, answered_in, at_moment, counted_in, drained_in, ended_in, event_in, freed_in, empty_of, opens, ordered_in, prewarmed_in, reopened_in, run_in, run_put, show, started_in, there}
+use Rattle.ow_floor.specs.Store.{Store, IsCell, IsGood, IsSpot, accepted_in, answered_in, at_moment, counted_in, drained_in, ended_in, event_in, freed_in, empty_of, opens, ordered_in, prewarmed_in, reopened_in, resumed_in, run_in, run_put, show, started_in, there}
 use Rattle.ow_floor.proofs.Firsts.{remove_none, update_none}
 use Rattle.ow_floor.proofs.Serving.{within_kept}
 use Rattle.ow_floor.proofs.Slotting.{slots_opened, vacant_held}
@@ -198,6 +198,12 @@ good_ended R p at k e spot good =
 pub show_swept : (R : Store) (at : ℕ) → show (at_moment at R) ≡ grow (Swept at) (show R)
 show_swept R at = refl
 
+pub show_resumed : (R : Store) (counts : List Id) (rs : List Record) → show (resumed_in counts rs R) ≡ grow (Resumed counts rs) (show R)
+show_resumed R counts rs = refl
+
+pub good_resumed : (R : Store) (counts : List Id) (rs : List Record) → IsGood R → IsGood (resumed_in counts rs R)
+good_resumed R counts rs good = record { paired = good.paired; opened = good.opened; number = good.number; owed = good.owed; pool = good.pool; wants = good.wants }
+
 pub show_drained : (R : Store) (at : ℕ) → show (drained_in at R) ≡ grow (Drained at) (show R)
 show_drained R at = refl
 
@@ -247,6 +253,7 @@ opened_store pool wants = record {
   runs = [];
   slots = replicate (slot_count pool) vacant_slot;
   ended = [];
+  resumed = [];
   drawn = [];
   blocking = [];
   marks = record { latest = 0; opened = 0; owed = 0; draining = false };

@@ -1,8 +1,7 @@
 -- Behind each item that may come the slots are sound.
-use Rattle.std.proofs.Common.{◌≡◌, ◌==◌, ◌+◌, ◌≤◌, ◌<◌, ℕ, zero, suc, Bool, true, false, cond, List, [], ◌∷◌, Option, Some, None, refl, sym, ap, ◌∙◌, arith, subst}
+use Rattle.std.proofs.Common.{◌≡◌, ◌==◌, ◌+◌, ◌≤◌, ℕ, zero, suc, Bool, true, false, List, [], ◌∷◌, Option, Some, None, refl, sym, ap, ◌∙◌, arith, subst}
 use Rattle.std.specs.List.{find, slice_get}
 use Rattle.std.specs.Prelude.{is_some, map, replicate}
-use Rattle.std.proofs.lemmas.Bool.Decides.{nat_tests}
 use Rattle.std.proofs.lemmas.List.Sums.{sum_by-cons}
 use Rattle.ow_records.specs.declared.outcomes.Ending.{Ending}
 use Rattle.ow_records.specs.declared.outcomes.Ending.TheVariants.{Replied, Overran, Abandoned}
@@ -14,16 +13,15 @@ use Rattle.ow_pool.proofs.Sums.{size}
 use Rattle.ow_lifecycle.specs.Life as lives
 use Rattle.ow_lifecycle.specs.Life.{Event, Life, slots_of}
 use Rattle.ow_lifecycle.specs.Fitting.{AreFit, IsAny, IsFit, changed}
-use Rattle.ow_lifecycle.specs.Laws.{HasRun, StandsAt}
 use Rattle.ow_lifecycle.proofs.Changing.{begin, changes}
 use Rattle.ow_lifecycle.proofs.Standing.{runs_stand}
 use Rattle.ow_floor.specs.declared.answers.Container.{Container}
 use Rattle.ow_floor.specs.declared.runs.Run.{Run}
-use Rattle.ow_floor.specs.View.{begun, is_number, remove_first, update_first}
-use Rattle.ow_floor.specs.Trace.{Item, Trace, Opened, Accepted, Ordered, Prewarming, Removed, Begun, Answered, Lost, Gone, Ended, Swept, Drained, Reopened, event_of, life, life_by, live, live_run, overrun_of, pool_of, run_count, shown, slot_count, slots, slots_by}
-use Rattle.ow_floor.specs.Growth.{IsEventRight, IsItemRight, IsRight}
+use Rattle.ow_floor.specs.View.{begun, is_number, remove_first}
+use Rattle.ow_floor.specs.Trace.{Item, Trace, Opened, Resumed, Accepted, Ordered, Prewarming, Removed, Begun, Answered, Lost, Gone, Ended, Swept, Drained, Reopened, event_of, life, life_by, live, live_run, overrun_of, pool_of, run_count, shown, slot_count, slots, slots_by}
+use Rattle.ow_floor.specs.Growth.{IsEventRight, IsRight}
 use Rattle.ow_floor.specs.Laws.{AreSlotsSound, StandInSlots, bearers, tally}
-use Rattle.ow_floor.proofs.Firsts.{find_passes, find_zero, remove_none, tally_none, tally_push, tally_removed, tally_some, tally_updated}
+use Rattle.ow_floor.proofs.Firsts.{find_passes, remove_none, tally_none, tally_push, tally_removed, tally_some, tally_updated}
 use Rattle.ow_floor.proofs.Numbers.{number_is}
 use Rattle.ow_floor.proofs.Tallies.{one_if}
 use Rattle.ow_floor.proofs.Serving.{busies, busies_answered, busies_begun, busies_emptied, busies_gone, busies_lost, busies_overran, busies_prewarming, busies_ran, busies_removed, busy_found, busy_holds, opening_apart, tally_less, tally_sub}
@@ -43,6 +41,7 @@ counted (item ∷ T) = of_item item (counted T)
   where
     of_item : (item : Item) → lives.run_count (life T) ≡ run_count T → lives.run_count (life (item ∷ T)) ≡ run_count (item ∷ T)
     of_item (Opened pool wants) e = e
+    of_item (Resumed counts rs) e = e
     of_item (Accepted a) e = e
     of_item (Ordered r key) e = ap (λ n. n + 1) e
     of_item (Prewarming o at) e = ap (λ n. n + 1) e
@@ -172,6 +171,7 @@ busies_ended Abandoned run at m slots = refl
 
 pub slotted_item : (item : Item) (T : Trace) → IsRight item (shown T) → AreSlotsSound T → AreSlotsSound (item ∷ T)
 slotted_item (Opened pool wants) T right sound = absurd right.0
+slotted_item (Resumed counts rs) T right sound = slotted_of None T (Resumed counts rs ∷ T) refl refl tt sound sound.busy
 slotted_item (Accepted a) T right sound = slotted_of None T (Accepted a ∷ T) refl refl tt sound sound.busy
 slotted_item (Ordered r key) T right sound =
     slotted_of (event_of (Ordered r key)) T (Ordered r key ∷ T) refl refl right.1 sound
@@ -200,6 +200,7 @@ slotted_item (Reopened at) T right sound =
 -- the slots behind an item
 pub slots_item : (item : Item) (T : Trace) → IsRight item (shown T) → AreSlotsSound T → slots (item ∷ T) ≡ slots_by (event_of item) (slots T)
 slots_item (Opened pool wants) T right sound = absurd right.0
+slots_item (Resumed counts rs) T right sound = refl
 slots_item (Accepted a) T right sound = refl
 slots_item (Ordered r key) T right sound = slots_one (event_of (Ordered r key)) T right.1 sound
 slots_item (Prewarming o at) T right sound = slots_one (event_of (Prewarming o at)) T right.1 sound

@@ -1,6 +1,6 @@
 -- Each item that may come keeps a trace sound, and does to the lists what it should.
-use Rattle.std.proofs.Common.{◌≡◌, ◌==◌, ◌+◌, ◌≤◌, ◌<◌, ◌++◌, ℕ, Bool, true, false, cond, List, [], ◌∷◌, Option, Some, None, length, refl, sym, ap, ◌∙◌, arith, rules, subst}
-use Rattle.std.specs.List.{find, AllByRecursion}
+use Rattle.std.proofs.Common.{◌≡◌, ◌==◌, ◌+◌, ◌≤◌, ◌<◌, ◌++◌, ℕ, Bool, true, false, cond, List, [], ◌∷◌, Option, Some, None, length, map, refl, sym, ap, ◌∙◌, arith, rules, subst}
+use Rattle.std.specs.List.{find, AllByRecursion, IsDistinct}
 use Rattle.std.proofs.lemmas.Bool.Decides.{nat_tests}
 use Rattle.ow_traits.specs.declared.prewarms.Prewarm.{Prewarm}
 use Rattle.ow_records.specs.declared.ids.Id.{Id}
@@ -12,13 +12,13 @@ use Rattle.ow_floor.specs.declared.activations.State.TheVariants.{Waiting, Runni
 use Rattle.ow_floor.specs.declared.answers.Drain.TheVariants as drains
 use Rattle.ow_floor.specs.declared.runs.Run.{Run}
 use Rattle.ow_floor.specs.View.{Shown, waits, carries, begun, ids_of, is_of, is_number, is_end_of, with_state, remove_first}
-use Rattle.ow_floor.specs.Trace.{Trace, Item, End, Opened, Accepted, Ordered, Prewarming, Removed, Begun, Answered, Lost, Gone, Ended, Swept, Drained, Reopened, slots, slots_after, accepted, accepted_ids, count, ends, records, recorded, record_of, last, drawn, standing, open_items, run_count, head, live, live_run, shown}
-use Rattle.ow_floor.specs.Growth.{grow, grown, open_after, IsRight, AreRight}
+use Rattle.ow_floor.specs.Trace.{Trace, Item, End, Opened, Resumed, Accepted, Ordered, Prewarming, Removed, Begun, Answered, Lost, Gone, Ended, Swept, Drained, Reopened, slots, slots_after, accepted, accepted_ids, count, ends, records, recorded, resumed, record_of, last, drawn, standing, open_items, run_count, head, live, live_run, shown}
+use Rattle.ow_floor.specs.Growth.{grow, grown, open_after, IsRight, AreRight, IsFresh, AreResumable}
 use Rattle.ow_floor.specs.Laws.{AreSlotsSound, times, IsAmong, loads, bearers, tally, IsApart, AreApart, IsParted, IsSound, RunOnce, Stands, Grows}
 use Rattle.ow_floor.specs.Calls.{drain_answer, AllRecorded}
 use Rattle.ow_floor.proofs.Among.{all_among, known_push, known_more, found_among}
-use Rattle.ow_floor.proofs.Alters.{opens_new}
-use Rattle.ow_floor.proofs.Drawn.{drawn_last}
+use Rattle.ow_floor.proofs.Alters.{opens_new, same_id_refl}
+use Rattle.ow_floor.proofs.Drawn.{drawn_last, once_put}
 use Rattle.ow_floor.proofs.Firsts.{all_more, all_push, all_removed, all_updated, find_none, tally_fewer, tally_none, tally_push, tally_updated, update_none}
 use Rattle.ow_floor.proofs.Tallies.{one_if, eq_of, times-push, ids_of-started, times-removed, times-split, times_once}
 use Rattle.ow_floor.proofs.Slotting.{slots_item, slotted_item, slotted_start}
@@ -84,10 +84,19 @@ open_drawn : (p : Open → Bool) (o : Open) (T : Trace) → find p (open_items T
 open_drawn p o T found sound =
     all_among (λ x. x.id.count ≤ last T x.id.namespace) o.task (accepted T) (found_among p (standing T) (accepted T) o found) sound.drawn
 
+-- what was taken over is apart from a new id
+strange_push : (a : Activation) (xs : List Activation) (n : ℕ → ℕ) → a.id.count ≡ n a.id.namespace + 1 → (rs : List Record) → AllByRecursion (λ r. r.id.count ≤ n r.id.namespace) rs
+    → AllByRecursion (λ r. IsApart r.id xs) rs → AllByRecursion (λ r. IsApart r.id (xs ++ a ∷ [])) rs
+strange_push a xs n new [] drawn strange = tt
+strange_push a xs n new (r ∷ rs) drawn strange =
+    let no = new_other a.id r.id n new drawn.0 in
+    (apart_one r.id a xs strange.0 (no, turned r.id a.id no), strange_push a xs n new rs drawn.1 strange.1)
+
 -- ---- items
 
 pub sound_start : (pool : ℕ) (wants : List Prewarm) → IsSound (Opened pool wants ∷ [])
-sound_start pool wants = record { apart = tt; drawn = tt; ended_drawn = tt; live_drawn = tt; once = λ id. refl; known = tt; one = λ id. omega arith; single = λ run. omega arith; numbered = tt; slotted = slotted_start pool wants }
+unfolding IsDistinct
+sound_start pool wants = record { apart = tt; drawn = tt; ended_drawn = tt; live_drawn = tt; once = λ id. refl; known = tt; one = λ id. omega arith; single = λ run. omega arith; numbered = tt; slotted = slotted_start pool wants; namespaces = tt; resumed = record { drawn = tt; apart = tt; strange = tt } }
 
 sound_accepted : (a : Activation) (T : Trace) → a.id.count ≡ last T a.id.namespace + 1 → AreSlotsSound (Accepted a ∷ T) → IsSound T → IsSound (Accepted a ∷ T)
 sound_accepted a T new slotted sound =
@@ -108,6 +117,12 @@ sound_accepted a T new slotted sound =
       single = sound.single;
       numbered = sound.numbered;
       slotted = slotted;
+      namespaces = once_put a.id (drawn T) sound.namespaces;
+      resumed = record {
+        drawn = all_more _ _ (resumed T) (λ r le. let up = rises r.id.namespace in omega (arith, up, le)) sound.resumed.drawn;
+        apart = sound.resumed.apart;
+        strange = strange_push a (accepted T) (last T) new (resumed T) sound.resumed.drawn sound.resumed.strange;
+      };
     }
 
 sound_ended : (e : End) (o : Open) (T : Trace) → find (is_of e.task.id) (open_items T) ≡ Some o → e.task ≡ o.task → AreSlotsSound (Ended e ∷ T) → IsSound T → IsSound (Ended e ∷ T)
@@ -132,6 +147,8 @@ sound_ended e o T found is slotted sound =
       single = sound.single;
       numbered = sound.numbered;
       slotted = slotted;
+      namespaces = sound.namespaces;
+      resumed = sound.resumed;
     }
 
 -- the new run is the only one of its activation, and of its number
@@ -168,6 +185,8 @@ sound_ordered r key o T next found is slotted sound =
       single = bearers_more r T next sound;
       numbered = all_push _ r (live T) (omega (arith, next)) (all_more _ _ (live T) (λ x le. omega (arith, le)) sound.numbered);
       slotted = slotted;
+      namespaces = sound.namespaces;
+      resumed = sound.resumed;
     }
 
 fewer : {X : Type 0} (p q : X → Bool) (xs : List X) → tally q xs ≤ 1 → tally q (remove_first p xs) ≤ 1
@@ -185,6 +204,8 @@ left_answered run alive at T ids slotted sound = record {
   single = λ n. fewer (is_number run) (is_number n) (live T) (sound.single n);
   numbered = all_removed _ (is_number run) (live T) sound.numbered;
   slotted = slotted;
+  namespaces = sound.namespaces;
+  resumed = sound.resumed;
 }
 
 left_lost : (run at : ℕ) (T : Trace) → ids_of (open_items (Lost run at ∷ T)) ≡ ids_of (open_items T) → AreSlotsSound (Lost run at ∷ T) → IsSound T → IsSound (Lost run at ∷ T)
@@ -199,6 +220,8 @@ left_lost run at T ids slotted sound = record {
   single = λ n. fewer (is_number run) (is_number n) (live T) (sound.single n);
   numbered = all_removed _ (is_number run) (live T) sound.numbered;
   slotted = slotted;
+  namespaces = sound.namespaces;
+  resumed = sound.resumed;
 }
 
 sound_begun : (run at : ℕ) (T : Trace) → AreSlotsSound (Begun run at ∷ T) → IsSound T → IsSound (Begun run at ∷ T)
@@ -213,10 +236,12 @@ sound_begun run at T slotted sound = record {
   single = λ n. rw (tally_updated (is_number run) (is_number n) (begun at) (live T) (λ x. refl)) (sound.single n);
   numbered = all_updated _ (is_number run) (begun at) (live T) (λ x le. le) sound.numbered;
   slotted = slotted;
+  namespaces = sound.namespaces;
+  resumed = sound.resumed;
 }
 
 sound_gone : (slot generation at : ℕ) (T : Trace) → AreSlotsSound (Gone slot generation at ∷ T) → IsSound T → IsSound (Gone slot generation at ∷ T)
-sound_gone slot generation at T slotted sound = record { apart = sound.apart; drawn = sound.drawn; ended_drawn = sound.ended_drawn; live_drawn = sound.live_drawn; once = sound.once; known = sound.known; one = sound.one; single = sound.single; numbered = sound.numbered; slotted = slotted }
+sound_gone slot generation at T slotted sound = record { apart = sound.apart; drawn = sound.drawn; ended_drawn = sound.ended_drawn; live_drawn = sound.live_drawn; once = sound.once; known = sound.known; one = sound.one; single = sound.single; numbered = sound.numbered; slotted = slotted; namespaces = sound.namespaces; resumed = sound.resumed }
 
 sound_prewarming : (o : PrewarmOrder) (at : ℕ) (T : Trace) → AreSlotsSound (Prewarming o at ∷ T) → IsSound T → IsSound (Prewarming o at ∷ T)
 sound_prewarming o at T slotted sound = record {
@@ -230,16 +255,18 @@ sound_prewarming o at T slotted sound = record {
   single = sound.single;
   numbered = all_more _ _ (live T) (λ x le. omega (arith, le)) sound.numbered;
   slotted = slotted;
+  namespaces = sound.namespaces;
+  resumed = sound.resumed;
 }
 
 sound_removed : (containers : List Container) (at : ℕ) (T : Trace) → AreSlotsSound (Removed containers at ∷ T) → IsSound T → IsSound (Removed containers at ∷ T)
-sound_removed containers at T slotted sound = record { apart = sound.apart; drawn = sound.drawn; ended_drawn = sound.ended_drawn; live_drawn = sound.live_drawn; once = sound.once; known = sound.known; one = sound.one; single = sound.single; numbered = sound.numbered; slotted = slotted }
+sound_removed containers at T slotted sound = record { apart = sound.apart; drawn = sound.drawn; ended_drawn = sound.ended_drawn; live_drawn = sound.live_drawn; once = sound.once; known = sound.known; one = sound.one; single = sound.single; numbered = sound.numbered; slotted = slotted; namespaces = sound.namespaces; resumed = sound.resumed }
 
 sound_swept : (at : ℕ) (T : Trace) → AreSlotsSound (Swept at ∷ T) → IsSound T → IsSound (Swept at ∷ T)
-sound_swept at T slotted sound = record { apart = sound.apart; drawn = sound.drawn; ended_drawn = sound.ended_drawn; live_drawn = sound.live_drawn; once = sound.once; known = sound.known; one = sound.one; single = sound.single; numbered = sound.numbered; slotted = slotted }
+sound_swept at T slotted sound = record { apart = sound.apart; drawn = sound.drawn; ended_drawn = sound.ended_drawn; live_drawn = sound.live_drawn; once = sound.once; known = sound.known; one = sound.one; single = sound.single; numbered = sound.numbered; slotted = slotted; namespaces = sound.namespaces; resumed = sound.resumed }
 
 sound_drained : (at : ℕ) (T : Trace) → AreSlotsSound (Drained at ∷ T) → IsSound T → IsSound (Drained at ∷ T)
-sound_drained at T slotted sound = record { apart = sound.apart; drawn = sound.drawn; ended_drawn = sound.ended_drawn; live_drawn = sound.live_drawn; once = sound.once; known = sound.known; one = sound.one; single = sound.single; numbered = sound.numbered; slotted = slotted }
+sound_drained at T slotted sound = record { apart = sound.apart; drawn = sound.drawn; ended_drawn = sound.ended_drawn; live_drawn = sound.live_drawn; once = sound.once; known = sound.known; one = sound.one; single = sound.single; numbered = sound.numbered; slotted = slotted; namespaces = sound.namespaces; resumed = sound.resumed }
 
 sound_reopened : (at : ℕ) (T : Trace) → open_items T ≡ [] → AreSlotsSound (Reopened at ∷ T) → IsSound T → IsSound (Reopened at ∷ T)
 sound_reopened at T none slotted sound = record {
@@ -255,7 +282,33 @@ sound_reopened at T none slotted sound = record {
   single = λ n. omega arith;
   numbered = tt;
   slotted = slotted;
+  namespaces = sound.namespaces;
+  resumed = sound.resumed;
 }
+
+-- nothing was accepted where nothing is open and nothing has ended
+none_accepted : (xs : List Activation) → ((id : Id) → times id (ids_of []) + times id [] ≡ times id (map (λ a. a.id) xs)) → xs ≡ []
+none_accepted [] once = refl
+none_accepted (a ∷ xs) once = let h : 0 ≡ one_if (same_id a.id a.id) + times a.id (map (λ a. a.id) xs) = once a.id in absurd (let own = same_id_refl a.id in let h' : 0 ≡ 1 + times a.id (map (λ a. a.id) xs) = rw own at h in omega (arith, h'))
+
+sound_resumed : (counts : List Id) (rs : List Record) (T : Trace) → IsFresh (shown T) → AreResumable counts rs → AreSlotsSound (Resumed counts rs ∷ T) → IsSound T → IsSound (Resumed counts rs ∷ T)
+sound_resumed counts rs T fresh resumable slotted sound =
+    let none : accepted T ≡ [] = none_accepted (accepted T)
+    (λ id. ap (λ (os : List Open). times id (ids_of os) + times id []) (sym fresh.open_items) ∙ (ap (λ (es : List Record). times id (ids_of (open_items T)) + times id (map (λ e. e.id) es)) (sym fresh.ended) ∙ sound.once id)) in
+    record {
+      apart = sound.apart;
+      drawn = rw none tt;
+      ended_drawn = rw fresh.ended tt;
+      live_drawn = rw fresh.live tt;
+      once = sound.once;
+      known = sound.known;
+      one = sound.one;
+      single = sound.single;
+      numbered = sound.numbered;
+      slotted = slotted;
+      namespaces = resumable.namespaces;
+      resumed = record { drawn = resumable.drawn; apart = resumable.apart; strange = rw none (all_more _ _ rs (λ r le. tt) resumable.drawn) };
+    }
 
 -- ---- each item
 
@@ -280,6 +333,8 @@ grown_lost run at (Some r) T found slotted sound = of_open (find (is_of r.id) (o
 
 grown_item : (item : Item) (T : Trace) → IsRight item (shown T) → IsSound T → IsGrown item T
 grown_item (Opened pool wants) T right sound = absurd right.0
+grown_item (Resumed counts rs) T right sound =
+    (sound_resumed counts rs T right.0.0 right.0.1 (slotted_item (Resumed counts rs) T right sound.slotted) sound, refl)
 grown_item (Accepted a) T right sound =
     let new : a.id.count ≡ last T a.id.namespace + 1 = right.0 ∙ ap (λ n. n + 1) (drawn_last T a.id.namespace) in
     (sound_accepted a T new (slotted_item (Accepted a) T right sound.slotted) sound, open_accepted a T new sound)

@@ -1,5 +1,5 @@
 -- A reply of a live run that a sweep recorded is late.
-use Rattle.std.proofs.Common.{◌≡◌, ℕ, true, false, Option, Some, None, refl, sym, ap, ◌∙◌}
+use Rattle.std.proofs.Common.{◌≡◌, ℕ, true, false, Option, Some, None, refl, ◌∙◌}
 use Rattle.std.specs.Prelude.{is_some}
 use Rattle.ow_traits.specs.declared.replies.RunReply.{RunReply}
 use Rattle.ow_slots.specs.declared.states.Slot.{Slot}

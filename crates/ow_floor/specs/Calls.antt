@@ -1,12 +1,19 @@
 -- What the calls of a floor answer, and which items they add, the newest first.
 use Rattle.std.specs.Prelude.{◌≡◌, ◌==◌, ◌+◌, ◌-◌, ◌++◌, ◌≤◌, ℕ, Bool, true, false, List, [], ◌∷◌, Option, Some, None, length, if◌then◌else◌, is_some, is_none, nat_lt, ◌&&◌, slice_get, Result, Ok, Err, IsSome}
 use Rattle.std.specs.List.{find}
+use Rattle.std.specs.Ordering.{is_lt}
+use Rattle.ow_value.specs.Value.{text_cmp}
 use Rattle.ow_traits.specs.declared.replies.RunReply.{RunReply}
 use Rattle.ow_traits.specs.declared.replies.RunReply.TheVariants as runs
 use Rattle.ow_records.specs.declared.ids.Id.{Id}
 use Rattle.ow_records.specs.declared.outcomes.Ending.{Ending}
 use Rattle.ow_records.specs.declared.outcomes.Ending.TheVariants.{Replied, Overran, Abandoned}
 use Rattle.ow_records.specs.Outcome.{outcome}
+use Rattle.ow_records.specs.declared.record.Record.{Record}
+use Rattle.ow_records.specs.declared.unrecorded.Unrecorded.{Unrecorded}
+use Rattle.ow_records.specs.Record.{record_of}
+use Rattle.ow_records.specs.Records.{id_numbers}
+use Rattle.ow_records.specs.Unrecorded.{unrecorded_of}
 use Rattle.ow_floor.specs.declared.activations.Plan.{Plan}
 use Rattle.ow_records.specs.declared.activations.Activation.{Activation}
 use Rattle.ow_floor.specs.declared.activations.Open.{Open}
@@ -31,7 +38,7 @@ use Rattle.ow_floor.specs.declared.answers.Happening.TheVariants as happenings
 use Rattle.ow_floor.specs.declared.answers.Answered.{Answered}
 use Rattle.ow_floor.specs.declared.answers.Answered.TheVariants as answers
 use Rattle.ow_floor.specs.declared.answers.AnswerRefusal.{AnswerRefusal}
-use Rattle.ow_floor.specs.declared.answers.AnswerRefusal.TheVariants.{NoRun, NoMemory}
+use Rattle.ow_floor.specs.declared.answers.AnswerRefusal.TheVariants.{NoRun, NoMemory, StoreFault}
 use Rattle.ow_floor.specs.declared.answers.FloorRefusal.{FloorRefusal}
 use Rattle.ow_floor.specs.declared.answers.FloorRefusal.TheVariants as refusals
 use Rattle.ow_traits.specs.declared.prewarms.Prewarm.{Prewarm}
@@ -39,8 +46,8 @@ use Rattle.ow_floor.specs.declared.answers.Drain.{Drain}
 use Rattle.ow_floor.specs.declared.answers.Drain.TheVariants.{Drained, StillOpen}
 use Rattle.ow_floor.specs.View.{Shown, waits, containers_of, generation_after, generation_in, is_number, is_of, key_of, order_for, prewarm_of, recorded_in}
 use Rattle.ow_floor.specs.Trace as trace
-use Rattle.ow_floor.specs.Trace.{Trace, Item, End, count, last, live, open_items, shown, slots}
-use Rattle.ow_floor.specs.Growth.{grown}
+use Rattle.ow_floor.specs.Trace.{Trace, Item, End, count, last, live, open_item, open_items, shown, slots}
+use Rattle.ow_floor.specs.Growth.{AreResumable, IsFresh, grown}
 use Rattle.ow_floor.specs.Owed.{rises}
 use Rattle.ow_floor.specs.Laws.{AreAllRecorded, Grows, IsSound, Stands}
 
@@ -251,6 +258,11 @@ answer_or run reply (Some answered) = Ok answered
 abbrev pub HandsBack : ℕ → RunReply → AnswerRefusal → Type 0
 HandsBack run reply (NoRun number back) = (number ≡ run) × (back ≡ reply)
 HandsBack run reply (NoMemory back) = back ≡ reply
+HandsBack run reply (StoreFault back) = back ≡ reply
+
+abbrev pub is_store_fault : AnswerRefusal → Bool
+is_store_fault (StoreFault back) = true
+is_store_fault refusal = false
 
 -- memory is wanted only where the run is live
 abbrev pub AnswersSo : Shown → ℕ → ℕ → RunReply → Result Answered AnswerRefusal → Type 0
@@ -265,6 +277,7 @@ GrowsBy old new items result = Grows old new items
 abbrev pub answer_number : AnswerRefusal → ℕ
 answer_number (NoRun run reply) = 29
 answer_number (NoMemory reply) = 0
+answer_number (StoreFault reply) = 0
 
 -- ---- sweeps
 
@@ -301,9 +314,41 @@ abbrev pub abandoned_items : ℕ → List Open → Trace
 abandoned_items at [] = []
 abandoned_items at (o ∷ os) = abandoned_items at os ++ end_items at Abandoned None (Some o)
 
--- what `reopen` adds: all that is open ends, by acceptance, and then no run is live
-abbrev pub reopened_items : ℕ → Trace → Trace
-reopened_items at T = trace.Reopened at ∷ abandoned_items at (open_items T)
+-- before the first whose id is greater, by the numbers of namespaces and then by counts
+abbrev pub put_by_id : Open → List Open → List Open
+put_by_id o [] = o ∷ []
+put_by_id o (x ∷ xs) = if is_lt (text_cmp (id_numbers o.task.id) (id_numbers x.task.id)) then o ∷ x ∷ xs else x ∷ put_by_id o xs
+
+-- by their ids, in the order of their texts
+abbrev pub sorted_by_id : List Open → List Open
+sorted_by_id [] = []
+sorted_by_id (o ∷ os) = put_by_id o (sorted_by_id os)
+
+-- the ends that `abandon` makes: of all that is open, by id
+abbrev pub abandoned_ends : ℕ → Trace → Trace
+abandoned_ends at T = abandoned_items at (sorted_by_id (open_items T))
+
+-- what it adds: these, and then no run is live
+abbrev pub abandon_items : ℕ → Trace → Trace
+abandon_items at T = trace.Reopened at ∷ abandoned_ends at T
+
+-- the record of an open activation that is abandoned at this moment
+abbrev pub record_abandoned : ℕ → Open → Record
+record_abandoned at o = record_of o.task Abandoned None None at
+
+-- what `resume` adds: these last ids and records of an earlier run
+abbrev pub resume_items : List Id → List Record → Trace
+resume_items counts rs = trace.Resumed counts rs ∷ []
+
+-- ---- what is kept of an activation that has not ended
+
+abbrev pub unrecorded_by : Option Open → Option Unrecorded
+unrecorded_by None = None
+unrecorded_by (Some o) = Some (unrecorded_of o.task)
+
+-- of the activation of this id: nothing where it wasn't accepted, or has ended
+abbrev pub unrecorded_in : Id → Trace → Option Unrecorded
+unrecorded_in id T = unrecorded_by (open_item T id)
 
 -- ---- drains
 
@@ -322,6 +367,7 @@ AllRecorded T (StillOpen n) = Unit {0}
 -- ---- each call keeps the trace sound
 pub record KeepSound : Type 0 where
   pub start : (pool : ℕ) (wants : List Prewarm) → IsSound (trace.Opened pool wants ∷ [])
+  pub resume : (counts : List Id) (rs : List Record) (T : Trace) → IsFresh (shown T) → AreResumable counts rs → IsSound T → IsSound (resume_items counts rs ++ T)
   pub accept : (at : ℕ) (plan : Plan) (T : Trace) → IsNext plan.id T → IsSound T → IsSound (accept_items at plan ++ T)
   pub next : (at : ℕ) (T : Trace) → IsSound T → IsSound (next_items at T ++ T)
   pub begun : (at run : ℕ) (T : Trace) → IsSound T → IsSound (begun_items at run T ++ T)
@@ -330,12 +376,13 @@ pub record KeepSound : Type 0 where
   pub gone : (at slot generation : ℕ) (T : Trace) → IsSound T → IsSound (gone_items at slot generation T ++ T)
   pub sweep : (at : ℕ) (T : Trace) → IsSound T → IsSound (swept_items at T ++ T)
   pub drain : (at : ℕ) (T : Trace) → IsSound T → IsSound (trace.Drained at ∷ T)
-  pub reopen : (at : ℕ) (T : Trace) → IsSound T → IsSound (reopened_items at T ++ T)
+  pub abandon : (at : ℕ) (T : Trace) → IsSound T → IsSound (abandon_items at T ++ T)
 
 -- how much the items of each call raise what is owed
 pub record RaisesLittle : Type 0 where
+  pub resume : (counts : List Id) (rs : List Record) → rises (resume_items counts rs) ≡ 0
   pub accept : (at : ℕ) (plan : Plan) → rises (accept_items at plan) ≡ 0
   pub next : (at : ℕ) (T : Trace) → rises (next_items at T) ≤ 3
   pub answered : (at run : ℕ) (reply : RunReply) (T : Trace) → rises (answered_items at run reply T) ≡ 0
   pub sweep : (at : ℕ) (T : Trace) → rises (swept_items at T) ≡ 0
-  pub reopen : (at : ℕ) (T : Trace) → rises (reopened_items at T) ≡ 0
+  pub abandon : (at : ℕ) (T : Trace) → rises (abandon_items at T) ≡ 0

@@ -1,6 +1,10 @@
 -- For private clauses: ends of activations over the kept lists.
-use Rattle.std.specs.Prelude.{◌≡◌, ◌⊎◌, ◌++◌, ℕ, Bool, true, List, [], ◌∷◌, Option, Some, None, length, take, slice_index_or}
-use Rattle.std.specs.List.{find}
+use Rattle.std.specs.Prelude.{◌≡◌, ◌⊎◌, ◌++◌, ◌+◌, ℕ, true, List, [], ◌∷◌, Option, Some, None, length, slice_index_or}
+use Rattle.std.specs.List.{find, IsDistinct}
+use Rattle.std.specs.declared.cmp.Ordering.{Ordering}
+use Rattle.std.specs.List.Sorted.{IsPermutation, IsSorted}
+use Rattle.ow_value.specs.Value.{text_cmp}
+use Rattle.ow_records.specs.Records.{id_numbers}
 use Rattle.ow_records.specs.declared.outcomes.Ending.{Ending}
 use Rattle.ow_records.specs.declared.outcomes.Ending.TheVariants.{Abandoned, Overran, Replied}
 use Rattle.ow_traits.specs.declared.replies.RunReply.{RunReply}
@@ -10,15 +14,16 @@ use Rattle.ow_floor.specs.declared.activations.Open.{Open}
 use Rattle.ow_floor.specs.declared.answers.Order.{Order}
 use Rattle.ow_floor.specs.declared.answers.Happening.{Happening}
 use Rattle.ow_floor.specs.declared.answers.Happening.TheVariants as happenings
+use Rattle.ow_floor.specs.declared.by_id.OpenPlace.{OpenPlace}
 use Rattle.ow_floor.specs.declared.lists.Berth.{Berth}
 use Rattle.ow_floor.specs.declared.runs.Run.{Run}
-use Rattle.ow_floor.specs.View.{begun, is_number, is_of, remove_first, update_first}
+use Rattle.ow_floor.specs.View.{begun, is_number, is_of, remove_first, same_open, update_first}
 use Rattle.ow_floor.specs.Trace.{Trace, record_of}
 use Rattle.ow_floor.specs.Growth.{freed, grown}
 use Rattle.ow_lifecycle.specs.Life as lives
 use Rattle.ow_slots.specs.Slots.{IsThere, first_with}
 use Rattle.ow_slots.specs.State.{IsUnrecorded, runs as is_busy_with}
-use Rattle.ow_floor.specs.Calls.{abandoned_items, end_items, ended_by, happened, is_late, items_on, late_of, order_on, overrun_items}
+use Rattle.ow_floor.specs.Calls.{abandoned_items, end_items, ended_by, happened, is_late, items_on, late_of, order_on, overrun_items, sorted_by_id}
 use Rattle.ow_floor.specs.Store.{IsGood, IsSpot, Store, ended_in, event_in, freed_in, opens, run_in, show, there}
 
 -- what stands there has ended, and it is told so
@@ -72,7 +77,30 @@ abbrev pub sweeps : ℕ → Store → Trace
 sweeps at R = overrun_items at (show R).live (show R)
 
 abbrev pub abandons : ℕ → Store → Trace
-abandons at R = abandoned_items at (show R).open_items
+abandons at R = abandoned_items at (sorted_by_id (show R).open_items)
+
+-- ---- by their ids
+
+-- what is open of these, with the places from this one on
+abbrev pub placed : ℕ → List (Option Activation) → List OpenPlace
+placed k [] = []
+placed k (None ∷ ts) = placed (k + 1) ts
+placed k (Some a ∷ ts) = record { id = a.id; place = k } ∷ placed (k + 1) ts
+
+abbrev pub place_cmp : OpenPlace → OpenPlace → Ordering
+place_cmp a b = text_cmp (id_numbers a.id) (id_numbers b.id)
+
+-- what is open of these, with its places, in the order of the ids
+pub record IsByIds (ts : List (Option Activation)) (ps : List OpenPlace) : Type 0 where
+  pub same : IsPermutation (placed 0 ts) ps
+  pub sorted : IsSorted place_cmp ps
+
+-- these stand at these places
+abbrev pub ArePlaced : List (Option Activation) → List OpenPlace → List Open → Type 0
+ArePlaced ts [] [] = Unit {0}
+ArePlaced ts [] (o ∷ os) = ⊥
+ArePlaced ts (p ∷ ps) [] = ⊥
+ArePlaced ts (p ∷ ps) (o ∷ os) = (p.id ≡ o.task.id) × (slice_index_or ts p.place None ≡ Some o.task) × ArePlaced ts ps os
 
 -- ---- under way
 
@@ -83,21 +111,28 @@ pub record IsSweeping (at : ℕ) (old now : Store) (cells : List (Option Berth))
   pub runs : now.runs ≡ old.runs
   pub good : IsGood now
 
-abbrev pub always : Open → Bool
-always o = true
+-- what is left to be abandoned stands at these places
+pub record IsLeft (at : ℕ) (old now : Store) (ps : List OpenPlace) (told : List Happening) : Type 0 where
+  pub left : List Open
+  pub placed : ArePlaced now.tasks ps left
+  pub others : IsDistinct same_open left
+  pub apart : IsDistinct same_open (opens now.spots now.tasks)
+  pub shows : grown (abandoned_items at left) (show now) ≡ grown (abandons at old) (show old)
+  pub tells : told ++ happened (abandoned_items at left) ≡ happened (abandons at old)
 
--- nothing is open before this place any more
-pub record IsAbandoning (at : ℕ) (old now : Store) (place : ℕ) (told : List Happening) : Type 0 where
-  pub shows : grown (abandons at now) (show now) ≡ grown (abandons at old) (show old)
-  pub tells : told ++ happened (abandons at now) ≡ happened (abandons at old)
-  pub none : find always (opens (take place now.spots) (take place now.tasks)) ≡ None
+-- these places are still to be abandoned, where the ids of all that is open differ
+pub record IsAbandoning (at : ℕ) (old now : Store) (ps : List OpenPlace) (told : List Happening) : Type 0 where
+  pub ends : IsDistinct same_open (opens old.spots old.tasks) → IsLeft at old now ps told
   pub size : length now.tasks ≡ length old.tasks
   pub runs : now.runs ≡ old.runs
   pub good : IsGood now
 
-abbrev pub IsAbandonedAt : ℕ → ℕ → Option Activation → Store → Store → List Happening → List Happening → Type 0
-IsAbandonedAt at place None old new before after = (new ≡ old) × (after ≡ before)
-IsAbandonedAt at place (Some a) old new before after = (h : Happening) × IsEndedAt at Abandoned None place old new h × (after ≡ before ++ h ∷ [])
+abbrev pub IsAbandonedAt : ℕ → ℕ → Store → Store → List Happening → List Happening → Type 0
+IsAbandonedAt at place old new before after = (h : Happening) × IsEndedAt at Abandoned None place old new h × (after ≡ before ++ h ∷ [])
+
+-- all has ended as abandoned, where the ids of all that is open differ
+abbrev pub AreAbandoned : ℕ → Store → Store → List Happening → Type 0
+AreAbandoned at old new told = IsDistinct same_open (opens old.spots old.tasks) → IsMade (abandons at old) old new told
 
 -- what the run carries waits again at its place, or isn't open
 abbrev pub IsFreed : Run → Store → Store → Type 0

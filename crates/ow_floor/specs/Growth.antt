@@ -1,14 +1,16 @@
 -- What items do to the lists of a floor, and which item may come.
 use Rattle.std.specs.Prelude.{◌≡◌, ◌+◌, ◌++◌, ◌≤◌, List, [], ◌∷◌, Option, Some, None}
-use Rattle.std.specs.List.{find}
+use Rattle.std.specs.List.{find, AllByRecursion, IsDistinct}
+use Rattle.ow_records.specs.declared.ids.Id.{Id}
+use Rattle.ow_records.specs.declared.record.Record.{Record}
 use Rattle.ow_floor.specs.declared.activations.Open.{Open}
 use Rattle.ow_floor.specs.declared.activations.State.TheVariants.{Waiting, Running}
 use Rattle.ow_floor.specs.declared.runs.Run.{Run}
 use Rattle.ow_slots.specs.Slots.{memory_held}
 use Rattle.ow_lifecycle.specs.Life.{Event}
 use Rattle.ow_lifecycle.specs.Fitting.{IsFit, changed}
-use Rattle.ow_floor.specs.View.{Shown, is_number, is_of, last_of, remove_first, update_first, waits, with_state}
-use Rattle.ow_floor.specs.Trace.{Item, Trace, Opened, Accepted, Ordered, Answered, Lost, Ended, Reopened, blocking_after, count_after, draining_after, drawn_after, event_of, live_after, moment_of, pool_after, records_after, run_count_after, slots_after, wants_after}
+use Rattle.ow_floor.specs.View.{Shown, is_number, is_of, last_of, remove_first, same_namespace, same_record, update_first, waits, with_state}
+use Rattle.ow_floor.specs.Trace.{Item, Trace, Opened, Resumed, Accepted, Ordered, Answered, Lost, Ended, Reopened, blocking_after, count_after, draining_after, drawn_after, event_of, live_after, moment_of, pool_after, records_after, resumed_after, run_count_after, slots_after, wants_after}
 
 -- what a lost run carries waits again
 abbrev pub freed : Option Run → List Open → List Open
@@ -30,6 +32,7 @@ grow item v = record {
   live = live_after item v.live;
   slots = slots_after item v.slots;
   ended = records_after item v.ended;
+  resumed = resumed_after item v.resumed;
   drawn = drawn_after item v.drawn;
   runs = run_count_after item v.runs;
   count = count_after item v.count;
@@ -52,10 +55,25 @@ abbrev pub IsLive : Option Run → List Run → Type 0
 IsLive None rs = Unit {0}
 IsLive (Some r) rs = find (is_number r.number) rs ≡ Some r
 
--- a floor is opened once, first of all; an id is the next of its namespace; a run carries the first that waits; a reply comes from a live run
+-- nothing has happened to an activation yet, and nothing was taken over
+pub record IsFresh (v : Shown) : Type 0 where
+  pub open_items : v.open_items ≡ []
+  pub live : v.live ≡ []
+  pub ended : v.ended ≡ []
+  pub resumed : v.resumed ≡ []
+  pub drawn : v.drawn ≡ []
+
+-- what may be taken over: last ids of different namespaces, and records of different activations whose ids were drawn
+pub record AreResumable (counts : List Id) (rs : List Record) : Type 0 where
+  pub namespaces : IsDistinct same_namespace counts
+  pub apart : IsDistinct same_record rs
+  pub drawn : AllByRecursion (λ r. r.id.count ≤ last_of counts r.id.namespace) rs
+
+-- a floor is opened once, first of all, and takes over what may be before anything else happens to an activation; an id is the next of its namespace; a run carries the first that waits; a reply comes from a live run
 -- whose activation has ended; what ends is open, and the run that it names is live; at an opening nothing is open
 abbrev pub IsItemRight : Item → Shown → Type 0
 IsItemRight (Opened pool wants) v = ⊥
+IsItemRight (Resumed counts rs) v = IsFresh v × AreResumable counts rs
 IsItemRight (Accepted a) v = a.id.count ≡ last_of v.drawn a.id.namespace + 1
 IsItemRight (Ordered r key) v = (o : Open) × (find waits v.open_items ≡ Some o) × (r.id ≡ o.task.id)
 IsItemRight (Answered run alive at) v = (r : Run) × (find (is_number run) v.live ≡ Some r) × (find (is_of r.id) v.open_items ≡ None)

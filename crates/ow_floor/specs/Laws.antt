@@ -1,15 +1,17 @@
 -- What is true of every trace that the calls of a floor make, and when a floor stands as a trace says.
 use Rattle.std.specs.Prelude.{◌≡◌, ◌⊎◌, ◌+◌, ◌++◌, ◌≤◌, ℕ, Bool, false, List, [], ◌∷◌, if◌then◌else◌, is_some}
-use Rattle.std.specs.List.{AllByRecursion}
+use Rattle.std.specs.List.{AllByRecursion, IsDistinct}
 use Rattle.ow_records.specs.declared.ids.Id.{Id}
 use Rattle.ow_records.specs.Id.{same_id}
 use Rattle.ow_records.specs.declared.activations.Activation.{Activation}
+use Rattle.ow_records.specs.declared.record.Record.{Record}
 use Rattle.ow_floor.specs.declared.runs.Run.{Run}
 use Rattle.ow_slots.specs.Slots.{first_with, has, memory_held}
 use Rattle.ow_slots.specs.State.{runs as is_busy_with}
 use Rattle.ow_lifecycle.specs.Fitting.{AreFit}
-use Rattle.ow_floor.specs.View.{Shown, carries, ids_of, is_number, recorded_of, running_of, waiting_of}
+use Rattle.ow_floor.specs.View.{Shown, carries, ids_of, is_number, recorded_of, running_of, same_namespace, same_record, waiting_of}
 use Rattle.ow_floor.specs.Trace.{Trace, accepted, accepted_ids, ends, last, life, live, live_run, open_items, pool_of, records, recorded, run_count, running, shown, slot_count, slots, waiting}
+use Rattle.ow_floor.specs.Trace as trace
 
 -- how often an id stands in a list
 abbrev pub times : Id → List Id → ℕ
@@ -67,8 +69,15 @@ pub record AreSlotsSound (T : Trace) : Type 0 where
   pub within : memory_held (slots T) ≤ pool_of T
   pub busy : (run : ℕ) → bearers run (live T) ≡ tally (has (is_busy_with run)) (slots T)
 
+-- these records were taken over: their ids were drawn, and differ from one another and from those of these activations
+pub record AreResumedApart (rs : List Record) (last : ℕ → ℕ) (xs : List Activation) : Type 0 where
+  pub drawn : AllByRecursion (λ r. r.id.count ≤ last r.id.namespace) rs
+  pub apart : IsDistinct same_record rs
+  pub strange : AllByRecursion (λ r. IsApart r.id xs) rs
+
 -- no id is accepted twice; counts are drawn upwards, and what has ended or runs was drawn; each accepted id is open or recorded,
--- once; what has ended was accepted; an activation has one live run at most; live runs have numbers of their own, drawn upwards
+-- once; what has ended was accepted; an activation has one live run at most; live runs have numbers of their own, drawn upwards; one last id is known of each namespace;
+-- what was taken over was drawn, and isn't accepted again
 pub record IsSound (T : Trace) : Type 0 where
   pub apart : AreApart (accepted T)
   pub drawn : AllByRecursion (λ a. a.id.count ≤ last T a.id.namespace) (accepted T)
@@ -80,6 +89,8 @@ pub record IsSound (T : Trace) : Type 0 where
   pub single : (run : ℕ) → bearers run (live T) ≤ 1
   pub numbered : AllByRecursion (λ r. r.number ≤ run_count T) (live T)
   pub slotted : AreSlotsSound T
+  pub namespaces : IsDistinct same_namespace (trace.drawn T)
+  pub resumed : AreResumedApart (trace.resumed T) (last T) (accepted T)
 
 -- a run is live exactly where a slot is busy with it, and then one is
 abbrev pub StandInSlots : Trace → Type 0

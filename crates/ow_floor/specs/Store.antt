@@ -31,6 +31,7 @@ pub record Store : Type 0 where
   pub runs : List (Option Berth)
   pub slots : List Slot
   pub ended : List Record
+  pub resumed : List Record
   pub drawn : List Id
   pub blocking : List Blocking
   pub marks : Marks
@@ -42,11 +43,11 @@ pub record StoreView : Type 0 where
   pub now : Store
   pub past : Option Store
 
--- all the parts as they were, where they are held. The pool, and what is wanted ahead, never change
-abbrev pub past_of : ℕ → List Prewarm → Option (List Spot) → Option (List (Option Activation)) → Option (List (Option Berth)) → Option (List Slot) → Option (List Record) → Option (List Id) → Option (List Blocking) → Option Marks → Option Store
-past_of pool wants (Some spots) (Some tasks) (Some runs) (Some slots) (Some ended) (Some drawn) (Some blocking) (Some marks) =
-    Some (record { spots = spots; tasks = tasks; runs = runs; slots = slots; ended = ended; drawn = drawn; blocking = blocking; marks = marks; pool = pool; wants = wants })
-past_of pool wants spots tasks runs slots ended drawn blocking marks = None
+-- all the parts as they were, where they are held. The pool, what is wanted ahead, and what was taken over don't change in a hold
+abbrev pub past_of : ℕ → List Prewarm → List Record → Option (List Spot) → Option (List (Option Activation)) → Option (List (Option Berth)) → Option (List Slot) → Option (List Record) → Option (List Id) → Option (List Blocking) → Option Marks → Option Store
+past_of pool wants resumed (Some spots) (Some tasks) (Some runs) (Some slots) (Some ended) (Some drawn) (Some blocking) (Some marks) =
+    Some (record { spots = spots; tasks = tasks; runs = runs; slots = slots; ended = ended; resumed = resumed; drawn = drawn; blocking = blocking; marks = marks; pool = pool; wants = wants })
+past_of pool wants resumed spots tasks runs slots ended drawn blocking marks = None
 
 -- what was before, where they are held
 abbrev pub taken_back : Option Store → Store → Store
@@ -80,6 +81,7 @@ show R = record {
   live = there run_in R.runs;
   slots = R.slots;
   ended = R.ended;
+  resumed = R.resumed;
   drawn = R.drawn;
   runs = length R.runs;
   count = length R.spots - R.marks.opened;
@@ -165,6 +167,7 @@ accepted_in a R = record {
   runs = R.runs;
   slots = R.slots;
   ended = R.ended;
+  resumed = R.resumed;
   drawn = put_id a.id R.drawn;
   blocking = blocked_by a.id a.until R.blocking;
   marks = with_latest a.at R.marks;
@@ -215,12 +218,17 @@ ended_in at place e R = record {
   runs = R.runs;
   slots = R.slots;
   ended = R.ended ++ e ∷ [];
+  resumed = R.resumed;
   drawn = R.drawn;
   blocking = R.blocking;
   marks = with_latest at R.marks;
   pool = R.pool;
   wants = R.wants;
 }
+
+-- these last ids and records are taken over
+abbrev pub resumed_in : List Id → List Record → Store → Store
+resumed_in counts rs R = record R { resumed = rs; drawn = counts; marks = with_latest 0 R.marks }
 
 abbrev pub drained_in : ℕ → Store → Store
 drained_in at R = record R { marks = record { latest = at; opened = R.marks.opened; owed = R.marks.owed; draining = true } }

@@ -23,7 +23,7 @@ use Rattle.ow_slots.specs.declared.states.Slot.{Slot}
 use Rattle.ow_lifecycle.specs.Life as lives
 use Rattle.ow_lifecycle.specs.Life.{Event, Life, slots_of}
 use Rattle.ow_lifecycle.specs.Fitting.{changed}
-use Rattle.ow_floor.specs.View.{Shown, begun, carries, ids_of, is_end_of, is_number, is_of, newest, put_id, remove_first, runs_now, update_first, waits}
+use Rattle.ow_floor.specs.View.{Shown, begun, carries, ids_of, is_end_of, is_number, is_of, newest, last_of, put_id, remove_first, runs_now, update_first, waits}
 
 -- the end of an activation: what ended it, the run that carried it then as it was then, and the moment
 pub record End : Type 0 where
@@ -32,10 +32,11 @@ pub record End : Type 0 where
   pub run : Option Run
   pub at : ℕ
 
--- one thing that happened on a floor; first of all it was opened, with a pool of so many MB and containers that are wanted ahead. A reply tells whether the
--- container can be used again
+-- one thing that happened on a floor; first of all it was opened, with a pool of so many MB and containers that are wanted ahead. Then it may take over the last ids
+-- and the records of an earlier run. A reply tells whether the container can be used again
 pub data Item : Type 0 where
   Opened : (pool : ℕ) (wants : List Prewarm) → Item
+  Resumed : (counts : List Id) (records : List Record) → Item
   Accepted : (activation : Activation) → Item
   Ordered : (run : Run) (key : Key) → Item
   Prewarming : (order : PrewarmOrder) (at : ℕ) → Item
@@ -130,12 +131,26 @@ abbrev pub records_after : Item → List Record → List Record
 records_after (Ended end) xs = xs ++ record_of end ∷ []
 records_after item xs = xs
 
--- the records, by their order
+-- the records of what has ended since, by their order
 abbrev pub records : Trace → List Record
 records [] = []
 records (item ∷ T) = records_after item (records T)
 
+abbrev pub resumed_after : Item → List Record → List Record
+resumed_after (Resumed counts rs) xs = rs
+resumed_after item xs = xs
+
+-- the records that were taken over from an earlier run
+abbrev pub resumed : Trace → List Record
+resumed [] = []
+resumed (item ∷ T) = resumed_after item (resumed T)
+
+-- all records: those of an earlier run, and those of what has ended since
+abbrev pub all_records : Trace → List Record
+all_records T = resumed T ++ records T
+
 abbrev pub drawn_after : Item → List Id → List Id
+drawn_after (Resumed counts rs) ids = counts
 drawn_after (Accepted a) ids = put_id a.id ids
 drawn_after item ids = ids
 
@@ -145,6 +160,7 @@ drawn [] = []
 drawn (item ∷ T) = drawn_after item (drawn T)
 
 abbrev pub last_after : Item → ℕ → ℕ → ℕ
+last_after (Resumed counts rs) namespace n = last_of counts namespace
 last_after (Accepted a) namespace n = if a.id.namespace == namespace then a.id.count else n
 last_after item namespace n = n
 
@@ -211,9 +227,10 @@ slots_by (Some e) slots = changed e slots
 abbrev pub slots_after : Item → List Slot → List Slot
 slots_after item slots = slots_by (event_of item) slots
 
--- when a thing happened; an opening with a pool has no moment
+-- when a thing happened; an opening with a pool has no moment, and neither has what is taken over
 abbrev pub moment_of : Item → ℕ
 moment_of (Opened pool wants) = 0
+moment_of (Resumed counts rs) = 0
 moment_of (Accepted a) = a.at
 moment_of (Ordered run key) = run.at
 moment_of (Prewarming order at) = at
@@ -316,7 +333,7 @@ waiting T = ids_of (filter waits (open_items T))
 abbrev pub running : Trace → List Id
 running T = ids_of (filter runs_now (open_items T))
 
--- the ids that are recorded, by their ends
+-- the ids that are recorded since, by their ends
 abbrev pub recorded : Trace → List Id
 recorded T = map (λ e. e.id) (records T)
 
@@ -331,6 +348,7 @@ shown T = record {
   live = live T;
   slots = slots T;
   ended = records T;
+  resumed = resumed T;
   drawn = drawn T;
   runs = run_count T;
   count = count T;

@@ -26,7 +26,7 @@ use Rattle.ow_slots.specs.declared.keys.Start.{Start}
 use Rattle.ow_traits.specs.declared.prewarms.Prewarm.{Prewarm}
 
 -- the activations that have not ended, by acceptance; the live runs, by their orders; the slots, by number;
--- the records of the activations that have ended, by their ends; the last id of each namespace; how many runs were
+-- the records of the activations that have ended, by their ends, and those that were taken over from an earlier run; the last id of each namespace; how many runs were
 -- ordered, those of containers ahead among them; how many were accepted since the last opening; which of these a request waits for; the moment of the newest thing; whether
 -- it drains; the memory of the pool, in MB, and which containers are wanted ahead
 pub record Shown : Type 0 where
@@ -34,6 +34,7 @@ pub record Shown : Type 0 where
   pub live : List Run
   pub slots : List Slot
   pub ended : List Record
+  pub resumed : List Record
   pub drawn : List Id
   pub runs : ℕ
   pub count : ℕ
@@ -77,6 +78,18 @@ carries id r = same_id r.id id
 -- whether a record is that of this id
 abbrev pub is_end_of : Id → Record → Bool
 is_end_of id e = same_id e.id id
+
+-- whether two open activations are one
+abbrev pub same_open : Open → Open → Bool
+same_open a b = same_id a.task.id b.task.id
+
+-- whether two records are of one activation
+abbrev pub same_record : Record → Record → Bool
+same_record a b = same_id a.id b.id
+
+-- whether two ids are of one namespace
+abbrev pub same_namespace : Id → Id → Bool
+same_namespace a b = a.namespace == b.namespace
 
 -- whether an id is of this namespace
 abbrev pub is_in : ℕ → Id → Bool

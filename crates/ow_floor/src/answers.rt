@@ -130,6 +130,8 @@ pub enum AnswerRefusal {
     NoRun { run: u64, reply: RunReply },
     /// Memory was wanted.
     NoMemory(RunReply),
+    /// The store failed. A floor has none, and never answers so.
+    StoreFault(RunReply),
 }
 
 /// What is told of the end of an activation for which a request waits.
@@ -166,13 +168,13 @@ pub enum Drain {
 impl AnswerRefusal {
     ghost use Rattle.ow_floor.specs.Calls.{answer_number};
 
-    /// By which a client tells the refusals apart. Want of memory has 0.
+    /// By which a client tells the refusals apart. Want of memory and a fault of the store have 0.
     pub fn number(&self) -> u32
         ensures { result ≡ answer_number self.now }
     {
         match self {
             AnswerRefusal::NoRun { .. } => 29,
-            AnswerRefusal::NoMemory(_) => 0,
+            AnswerRefusal::NoMemory(_) | AnswerRefusal::StoreFault(_) => 0,
         }
     }
 }
@@ -310,8 +312,8 @@ impl Happened {
         Happened::of(items)
     }
 
-    // These things happened.
-    pub(crate) fn of(items: Vec<Happening>) -> Result<Happened, NoMemory>
+    /// These things happened.
+    pub fn of(items: Vec<Happening>) -> Result<Happened, NoMemory>
         ensures { IfOk result (λ h. h ≡ items.items) }
     {
         Ok(Happened {

@@ -1,13 +1,13 @@
 // Ends of activations.
-ghost use Rattle.std.specs.Prelude.{◌≡◌, ◌<◌, ◌++◌, ◌∷◌, [], length, None, Some, slice_index_or, is_some, ◌↔◌, IsTrue, IfOk, OnOk};
+ghost use Rattle.std.specs.Prelude.{◌≡◌, ◌<◌, ◌++◌, ◌∷◌, [], length, None, Some, slice_index_or, ◌↔◌, IsTrue, IfOk, OnOk};
 ghost use Rattle.ow_slots.specs.Slots.{IsThere, first_with};
 ghost use Rattle.ow_slots.specs.State.{IsUnrecorded, runs};
-ghost use Rattle.ow_records.specs.declared.activations.Activation.{Activation};
 ghost use Rattle.ow_floor.specs.Trace.{began, started};
 ghost use Rattle.ow_floor.specs.Calls.{is_late};
-ghost use Rattle.ow_floor.specs.Ends.{IsAbandonedAt, IsEndedAt, IsEndedRun, IsFreed, IsLateEnd, IsLateSpot, IsMade, IsOverrunAt, IsSweptOne, abandons, sweeps};
+ghost use Rattle.ow_floor.specs.Ends.{IsAbandonedAt, IsEndedAt, IsEndedRun, IsFreed, IsLateEnd, IsLateSpot, IsMade, IsOverrunAt, IsSweptOne, AreAbandoned, sweeps};
 ghost use Rattle.ow_floor.specs.Store.{IsGood};
 
+use crate::by_id::places_by_id;
 use crate::lists::Lists;
 use crate::{Happened, Happening, Run};
 use ow_records::{Activation, Ending, ReadyRecord, record_of};
@@ -199,7 +199,7 @@ pub(crate) fn sweep(
     Ok(happened)
 }
 
-// What stands at this place ends as abandoned, where an activation stands there.
+// What stands at this place ends as abandoned.
 fn abandon_at(
     alloc: Global,
     lists: &mut Lists,
@@ -211,21 +211,12 @@ fn abandon_at(
     requires good { IsGood lists.old.now }
     requires within { place < length lists.old.now.tasks }
     ensures good { IsGood lists.new.now }
-    ensures made { OnOk result (IsAbandonedAt at place (slice_index_or lists.old.now.tasks place None) lists.old.now lists.new.now happened.old.items happened.new.items) }
+    ensures made { OnOk result (IsAbandonedAt at place lists.old.now lists.new.now happened.old.items happened.new.items) }
     ensures past { lists.new.past ≡ lists.old.past }
 {
-    if !is_there(&lists.tasks()[place]) {
-        return Ok(());
-    }
     let happening = end_at(alloc, lists, scratch, at, place, &Ending::Abandoned, None)?;
     happened.push(happening)?;
     Ok(())
-}
-
-fn is_there(task: &Option<Shared<Activation>>) -> bool
-    ensures { result ≡ is_some task.now }
-{
-    task.is_some()
 }
 
 /// What a lost run carries waits again, where it is open. Nothing is held.
@@ -240,7 +231,7 @@ pub(crate) fn free_run(lists: &mut Lists, run: Run)
     }
 }
 
-/// Ends all that is open as abandoned, by acceptance. It tells what happened.
+/// Ends all that is open as abandoned, by its ids. It tells what happened.
 pub(crate) fn abandon(
     alloc: Global,
     lists: &mut Lists,
@@ -249,13 +240,13 @@ pub(crate) fn abandon(
 ) -> Result<Vec<Happening>, NoMemory>
     requires { IsGood lists.old.now }
     ensures good { IsGood lists.new.now }
-    ensures made { IfOk result (λ hs. IsMade (abandons at lists.old.now) lists.old.now lists.new.now hs.items) }
+    ensures made { IfOk result (λ hs. AreAbandoned at lists.old.now lists.new.now hs.items) }
     ensures past { lists.new.past ≡ lists.old.past }
 {
     let mut happened = Vec::new(alloc);
-    let count = lists.tasks().len();
-    for i in 0..count {
-        abandon_at(alloc, lists, scratch, at, i, &mut happened)?;
+    let places = places_by_id(alloc, lists.tasks())?;
+    for i in 0..places.len() {
+        abandon_at(alloc, lists, scratch, at, places[i].place, &mut happened)?;
     }
     Ok(happened)
 }

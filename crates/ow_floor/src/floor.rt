@@ -1,31 +1,33 @@
 // The floor and its calls. Each adds items to the trace. What was before a hold is kept until it is settled.
-ghost use Rattle.std.specs.Prelude.{◌≡◌, ◌+◌, ◌-◌, ◌<◌, ◌≤◌, [], ◌∷◌, length, None, Some, true, false, option_copied, IfOk, IfSome, OnOk, OnErr, IfErr, IsSome};
-ghost use Rattle.ow_floor.specs.View.{last_of};
-ghost use Rattle.ow_floor.specs.Trace.{Drained, Opened, Trace, is_draining, last, latest, open_items, shown};
+ghost use Rattle.std.specs.Prelude.{◌≡◌, ◌+◌, ◌-◌, ◌<◌, ◌≤◌, ◌++◌, [], ◌∷◌, length, find, map, None, Some, true, false, option_copied, IfOk, IfSome, OnOk, OnErr, IfErr, IsSome};
+ghost use Rattle.ow_floor.specs.View.{is_of, last_of};
+ghost use Rattle.ow_floor.specs.Trace.{Drained, Opened, Trace, is_draining, last, latest, open_items, records, shown};
+ghost use Rattle.ow_floor.specs.Growth.{AreResumable, IsFresh};
 ghost use Rattle.ow_floor.specs.Laws.{Grows, Stands};
 ghost use Rattle.ow_pool.specs.Rules.{AreWantsSized};
 ghost use Rattle.ow_floor.specs.Collecting.{collected, collected_by, collection_of};
 ghost use Rattle.ow_floor.specs.Owed.{owed, owed_of};
-ghost use Rattle.ow_floor.specs.Calls.{AllRecorded, AnswersSo, GrowsBy, HandsBack, HasWork, accept_items, activation_of, answer_to, answered_by, answered_items, begun_answer, begun_items, busy_run, drain_answer, drain_by, gone_answer, gone_items, happened, happened_accepted, leaves_alive, lost_answer, lost_items, next_items, next_order, reopened_items, swept_ends, swept_items};
+ghost use Rattle.ow_floor.specs.Calls.{AllRecorded, AnswersSo, GrowsBy, HandsBack, HasWork, abandon_items, abandoned_ends, accept_items, activation_of, answer_to, answered_by, answered_items, begun_answer, begun_items, busy_run, drain_answer, drain_by, gone_answer, gone_items, happened, happened_accepted, is_store_fault, leaves_alive, lost_answer, lost_items, next_items, next_order, record_abandoned, resume_items, sorted_by_id, swept_ends, swept_items, unrecorded_by, unrecorded_in};
 
 use crate::ends::{abandon, end_run, sweep};
 use crate::lists::Lists;
 use crate::orders::next_order;
 use crate::places::last_of;
+use crate::resuming::{records_of, unrecorded};
 use crate::runs::{begin_run, generation_in, lose_run, recorded_in};
 use crate::{
     AnswerRefusal, Answered, Collected, Drain, FloorRefusal, Happened, Happening, Order, Plan,
     Swept,
 };
 use ow_packages::Effective;
-use ow_records::{Activation, Id, Record, Records};
+use ow_records::{Activation, Id, Record, Records, Unrecorded};
 use ow_traits::{Prewarms, RunReply};
 use ow_value::{NoMemory, Scratch, Shared};
 use std::alloc::Global;
 use std::marker::Model;
 
 /// What was accepted: the activations that have not ended, by acceptance, the live runs, and the records of the
-/// activations that have ended, by their ends. What it holds of an ended activation is its record alone, and up to which
+/// activations that have ended, by their ends, behind those that were taken over from an earlier run. What it holds of an ended activation is its record alone, and up to which
 /// moment its request waits, where one does and it was accepted since the last opening.
 #[derive(Drop)]
 pub struct Floor {
@@ -80,7 +82,7 @@ impl Floor {
         self.lists.marks().latest
     }
 
-    /// Whether the last of `drain` and `reopen` was `drain`.
+    /// Whether the last of `drain` and `abandon` was `drain`.
     pub fn is_draining(&self) -> bool
         ensures value { result ≡ self.now.now.draining }
         ensures trace { (T : Trace) → Stands self.now.now T → result ≡ is_draining T }
@@ -93,7 +95,7 @@ impl Floor {
         ensures value { result ≡ length self.now.now.open_items }
         ensures trace { (T : Trace) → Stands self.now.now T → result ≡ length (open_items T) }
     {
-        (self.lists.spots().len() - self.lists.records().len()) as u64
+        (self.lists.spots().len() - self.lists.ended()) as u64
     }
 
     /// How many entries are owed: how many beginnings, replies or losses, and goings may still come.
@@ -104,9 +106,9 @@ impl Floor {
         self.lists.marks().owed
     }
 
-    /// The records of the activations that have ended, by their ends.
+    /// The records that were taken over, and behind them those of the activations that have ended, by their ends.
     pub fn records(&self) -> &Records
-        ensures { result.now.items ≡ self.now.now.ended }
+        ensures { result.now.items ≡ self.now.now.resumed ++ self.now.now.ended }
     {
         self.lists.records()
     }
@@ -117,6 +119,14 @@ impl Floor {
         ensures unknown { IfErr result (λ refusal. refusal ≡ FloorRefusal.NotFound) }
     {
         collected_by(at, self.lists.until(*id), self.lists.record_of(*id))
+    }
+
+    /// What is kept of the activation of this id, where it was accepted and hasn't ended.
+    pub fn unrecorded(&self, alloc: Global, id: &Id) -> Result<Option<Unrecorded>, NoMemory>
+        ensures value { IfOk result (λ u. u ≡ unrecorded_by (find (is_of id.now) self.now.now.open_items)) }
+        ensures trace { IfOk result (λ u. (T : Trace) → Stands self.now.now T → u ≡ unrecorded_in id.now T) }
+    {
+        unrecorded(alloc, &self.lists, *id)
     }
 
     /// From now on the state of this moment is kept. It takes no memory, and nothing is copied.
@@ -138,6 +148,26 @@ impl Floor {
         } else {
             self.lists.take_back();
         }
+    }
+
+    /// Takes over what is known of an earlier run: the last ids of its namespaces, and its records. Nothing has happened to an activation
+    /// yet. Without memory both are dropped.
+    pub fn resume(
+        &mut self,
+        alloc: Global,
+        counts: Vec<Id>,
+        records: Vec<Record>,
+    ) -> Result<(), NoMemory>
+        requires fresh { IsFresh self.old.now }
+        requires resumable { AreResumable counts.items records.items }
+        requires free { self.old.before ≡ None }
+        ensures ok { OnOk result (Grows self.old.now self.new.now (λ T. resume_items counts.items records.items)) }
+        ensures err { OnErr result (self.new.now ≡ self.old.now) }
+        ensures before { self.new.before ≡ None }
+    {
+        let records = records_of(alloc, records)?;
+        self.lists.resume(counts, records);
+        Ok(())
     }
 
     /// Accepts an activation, which waits from now on. `at` is the moment, in milliseconds. Without
@@ -259,6 +289,7 @@ impl Floor {
         ensures told { AnswersSo self.old.now at run reply result }
         ensures ok { GrowsBy self.old.now self.new.now (λ T. answered_items at run reply T) result }
         ensures refused { IfErr result (λ refusal. HandsBack run reply refusal) }
+        ensures store { IfErr result (λ refusal. is_store_fault refusal ≡ false) }
         ensures before { self.new.before ≡ self.old.before }
     {
         match self.replied(alloc, at, run, &reply) {
@@ -283,10 +314,11 @@ impl Floor {
         })
     }
 
-    /// Ends each open activation as abandoned, by acceptance. From then on no run is live, no container is there, and it doesn't drain.
-    pub fn reopen(&mut self, alloc: Global, at: u64) -> Result<Happened, NoMemory>
-        ensures told { IfOk result (λ h. (T : Trace) → Stands self.old.now T → h ≡ happened (reopened_items at T)) }
-        ensures ok { OnOk result (Grows self.old.now self.new.now (λ T. reopened_items at T)) }
+    /// Ends each open activation as abandoned, by its id. From then on no run is live, no container is there, and it doesn't drain.
+    pub fn abandon(&mut self, alloc: Global, at: u64) -> Result<Happened, NoMemory>
+        ensures told { IfOk result (λ h. (T : Trace) → Stands self.old.now T → h ≡ happened (abandoned_ends at T)) }
+        ensures ok { OnOk result (Grows self.old.now self.new.now (λ T. abandon_items at T)) }
+        ensures recorded { OnOk result ((T : Trace) → Stands self.old.now T → self.new.now.ended ≡ records T ++ map (record_abandoned at) (sorted_by_id (open_items T))) }
         ensures before { self.new.before ≡ self.old.before }
     {
         let happened = abandon(alloc, &mut self.lists, &mut self.scratch, at)?;

@@ -3,6 +3,7 @@
 
 mod activations;
 mod answers;
+mod by_id;
 mod ends;
 mod floor;
 mod kept;
@@ -11,6 +12,7 @@ mod laws;
 mod lists;
 mod orders;
 mod places;
+mod resuming;
 mod runs;
 
 pub use activations::{Open, Plan, State};

@@ -1,5 +1,5 @@
 // The lists of a floor as they are kept. What is taken out leaves its place empty, so places stay.
-ghost use Rattle.std.specs.Prelude.{◌≡◌, ◌<◌, ◌≤◌, ◌^◌, [], ◌∷◌, length, None, Some, true, false, option_copied, IfOk, IfSome, IsOk, OnOk, OnErr, replicate, slice_get, slice_set};
+ghost use Rattle.std.specs.Prelude.{◌≡◌, ◌<◌, ◌≤◌, ◌^◌, ◌++◌, [], ◌∷◌, length, None, Some, true, false, option_copied, IfOk, IfSome, IsOk, OnOk, OnErr, replicate, slice_get, slice_set};
 ghost use Rattle.std.specs.List.{find};
 ghost use Rattle.ow_floor.specs.Kept.{past};
 ghost use Rattle.ow_floor.specs.View.{is_end_of, is_number, is_of, put_id, wait_in, waits};
@@ -13,7 +13,7 @@ ghost use Rattle.ow_lifecycle.specs.Life.{Event, Removed};
 ghost use Rattle.ow_lifecycle.specs.Owed.{may_begin, owed, owed_by};
 ghost use Rattle.ow_slots.specs.declared.states.State.TheVariants.{Busy};
 ghost use Rattle.ow_floor.specs.Trace.{slot_count};
-ghost use Rattle.ow_floor.specs.Store.{AreGone, CellOf, IsGood, SpotOf, Store, accepted_in, answered_in, at_moment, drained_in, empty_of, ended_in, event_in, freed_in, ordered_in, prewarmed_in, reopened_in, run_in, run_put, taken_back, with_owed};
+ghost use Rattle.ow_floor.specs.Store.{AreGone, CellOf, IsGood, SpotOf, Store, accepted_in, answered_in, at_moment, drained_in, empty_of, ended_in, event_in, freed_in, ordered_in, prewarmed_in, reopened_in, resumed_in, run_in, run_put, taken_back, with_owed};
 
 use crate::kept::Kept;
 use crate::kept_slots::KeptSlots;
@@ -67,6 +67,8 @@ pub(crate) struct Lists {
     records: Records,
     // How many records there were at the hold.
     records_held: usize,
+    // How many of them were taken over. These come first.
+    resumed: usize,
     // The last id of each namespace.
     drawn: Kept<Id>,
     // Those that were accepted since the last opening.
@@ -84,7 +86,7 @@ pub(crate) struct Lists {
 }
 
 impl Model for Lists {
-    ghost use Rattle.std.specs.Prelude.{take};
+    ghost use Rattle.std.specs.Prelude.{drop, take};
     ghost use Rattle.std.specs.Coded.{codes};
     ghost use Rattle.ow_value.specs.Code.{value_code};
     ghost use Rattle.ow_floor.specs.Kept.{past};
@@ -100,21 +102,22 @@ impl Model for Lists {
         tasks = l.tasks.now;
         runs = l.runs.now;
         slots = l.slots.now;
-        ended = l.records.items;
+        ended = drop l.resumed l.records.items;
+        resumed = take l.resumed l.records.items;
         drawn = l.drawn.now;
         blocking = l.blocking.now;
         marks = l.marks;
         pool = l.pool;
         wants = l.wants;
       };
-      past = past_of l.pool l.wants (past l.held l.spots.before) (past l.held l.tasks.before) (past l.held l.runs.before) (past l.held l.slots.before)
-          (past l.held (take l.records_held l.records.items)) (past l.held l.drawn.before) (past l.held l.blocking.before) (past l.held l.before);
+      past = past_of l.pool l.wants (take l.resumed l.records.items) (past l.held l.spots.before) (past l.held l.tasks.before) (past l.held l.runs.before) (past l.held l.slots.before)
+          (past l.held (drop l.resumed (take l.records_held l.records.items))) (past l.held l.drawn.before) (past l.held l.blocking.before) (past l.held l.before);
     } };
 
     ghost use Rattle.std.specs.Prelude.{◌≤◌, length};
     ghost use Rattle.ow_floor.specs.Store.{AreGone};
 
-    ghost invariant = { λ l. AreGone l.tasks_gone l.tasks.now × AreGone l.runs_gone l.runs.now × (l.records_held ≤ length l.records.items) };
+    ghost invariant = { λ l. AreGone l.tasks_gone l.tasks.now × AreGone l.runs_gone l.runs.now × (l.resumed ≤ l.records_held) × (l.records_held ≤ length l.records.items) };
 }
 
 const NO_MARKS: Marks = Marks {
@@ -127,7 +130,7 @@ const NO_MARKS: Marks = Marks {
 impl Lists {
     /// Nothing stands in them, and they aren't held. All slots of the pool are vacant.
     pub(crate) fn new(alloc: Global, pool: u32, wants: Prewarms) -> Result<Lists, NoMemory>
-        ensures now { IfOk result (λ l. l.now ≡ record { spots = []; tasks = []; runs = []; slots = replicate (slot_count pool) vacant_slot; ended = []; drawn = []; blocking = []; marks = record { latest = 0; opened = 0; owed = 0; draining = false }; pool = pool; wants = wants }) }
+        ensures now { IfOk result (λ l. l.now ≡ record { spots = []; tasks = []; runs = []; slots = replicate (slot_count pool) vacant_slot; ended = []; resumed = []; drawn = []; blocking = []; marks = record { latest = 0; opened = 0; owed = 0; draining = false }; pool = pool; wants = wants }) }
         ensures past { IfOk result (λ l. l.past ≡ None) }
     {
         let slots = KeptSlots::new(alloc, pool / LEAST_MEMORY)?;
@@ -138,6 +141,7 @@ impl Lists {
             slots,
             records: Records::new(alloc),
             records_held: 0,
+            resumed: 0,
             drawn: Kept::new(alloc),
             blocking: Kept::new(alloc),
             marks: NO_MARKS,
@@ -207,15 +211,23 @@ impl Lists {
         place(self.slots.slots(), head, self.wants.as_slice(), self.pool)
     }
 
+    /// All records, those first that were taken over.
     pub(crate) fn records(&self) -> &Records
-        ensures { result.now.items ≡ self.now.now.ended }
+        ensures { result.now.items ≡ self.now.now.resumed ++ self.now.now.ended }
     {
         &self.records
     }
 
+    /// How many activations have ended.
+    pub(crate) fn ended(&self) -> usize
+        ensures { result ≡ length self.now.now.ended }
+    {
+        self.records.len() - self.resumed
+    }
+
     /// The record of an activation that has ended.
     pub(crate) fn record_of(&self, id: Id) -> Option<&Record>
-        ensures { option_copied result ≡ find (is_end_of id) self.now.now.ended }
+        ensures { option_copied result ≡ find (is_end_of id) (self.now.now.resumed ++ self.now.now.ended) }
     {
         match self.records.get(&id) {
             Ok(ended) => Some(ended),
@@ -632,6 +644,20 @@ impl Lists {
         self.tasks.set(held, place, None);
         self.tasks_gone = further(self.tasks.items(), self.tasks_gone);
         Ok(())
+    }
+
+    /// These last ids and records are taken over. Nothing has ended, and nothing is held.
+    pub(crate) fn resume(&mut self, counts: Vec<Id>, records: Records)
+        requires free { self.old.past ≡ None }
+        requires none { self.old.now.ended ≡ [] }
+        ensures now { self.new.now ≡ resumed_in counts.items records.items self.old.now }
+        ensures past { self.new.past ≡ None }
+    {
+        self.drawn.replace(self.held, counts);
+        self.resumed = records.len();
+        self.records_held = records.len();
+        self.records = records;
+        self.marks.latest = 0;
     }
 
     /// The moment of the newest thing is this one.

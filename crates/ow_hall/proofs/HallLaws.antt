@@ -30,17 +30,26 @@ use Rattle.ow_counts.specs.View.{CountsView, StandsFor, notes_of}
 use Rattle.ow_decide.specs.declared.waits.Waits.{Waits}
 use Rattle.ow_decide.specs.declared.waits.Waits.TheVariants.{Keep}
 use Rattle.ow_decide.specs.Sight.{Sight}
-use Rattle.ow_decide.specs.Decision.{Decision, adds, tells}
+use Rattle.ow_decide.specs.Decision.{Decision, adds, all_changed, tells}
 use Rattle.ow_decide.specs.Asking.{Done, Shown as ShownDone, Changed, Invoked, ask_decision, refusal_told, request_done}
 use Rattle.ow_decide.specs.Calling.{call_decision, call_plan}
-use Rattle.ow_decide.specs.Decisions.{decide, reply_told, taken_told, wants_memory}
+use Rattle.ow_decide.specs.Decisions.{decide, is_opening, reply_told, taken_told, wants_memory}
+use Rattle.ow_decide.specs.Opening.{opened_decision, parts_taken}
 use Rattle.ow_decide.specs.Waiting.{collected_told, shows_for}
 use Rattle.ow_floor.specs.Collecting.{collected}
 use Rattle.ow_hall.specs.Posting.{posting_by}
-use Rattle.ow_hall.specs.History.{AreAnswered, History, IsLegal, after, all_changed, answer, counted, decision, greatest_moment, is_idle, is_opening, last_moment, moment, opens_here, posting, seen, sight, waits_after}
-use Rattle.ow_hall.specs.Ledger.{Ledger, no_entries, posted, posted_as}
-use Rattle.ow_decide.specs.Making.{Carries, changes_of, telling}
-use Rattle.ow_hall.specs.State.{Does, IsAt, Keeps, KeepsNotes, Notes, StateView}
+use Rattle.ow_hall.specs.History.{AreAnswered, History, IsLegal, after, answer, counted, decision, greatest_moment, is_idle, last_moment, least_moment, moment, opens_here, posting, seen, sight, waits_after}
+use Rattle.ow_hall.specs.Ledger.{Ledger, posted, posted_as}
+use Rattle.ow_decide.specs.Making.{IsSeen, changes_of, telling}
+use Rattle.ow_keep.specs.Judged.{judged}
+use Rattle.ow_keep.specs.Split.{Parts}
+use Rattle.ow_kept.specs.Keeping.{AreIds, KeepingView, StandsForKept}
+use Rattle.ow_hall.specs.State.{Does, IsAt, IsStep, IsWhole, Keeps, KeepsCommit, KeepsNotes, Makes, Notes, StateView, StaysKept, all_ended}
+use Rattle.ow_traits.specs.Changes.{changed}
+use Rattle.ow_decide.specs.Decision.{commits}
+use Rattle.ow_decide.proofs.KeptLaws.{decided_kept}
+use Rattle.ow_hall.specs.Comes.{HoldsBook, HoldsRows, KeptRows, kept_after, kept_of}
+use Rattle.ow_hall.proofs.KeepLaws.{leaves_commits, quiet_whole, stands_same}
 use Rattle.ow_hall.proofs.NoteLaws.{counted_at, noted_at, quiet_at, seen_up_to}
 
 -- ---- what isn't booked changes nothing
@@ -90,8 +99,12 @@ taken_so : (idle b : Bool) (refusal : FloorRefusal) (item : Item) → Unbooks id
 taken_so idle true refusal item = tt
 taken_so idle false refusal item = (refl, refl, refl)
 
+opened_so : (idle : Bool) (at : ℕ) (parts : Option Parts) → Unbooks idle (opened_decision at parts)
+opened_so idle at None = tt
+opened_so idle at (Some parts) = tt
+
 pub unbooked : (idle : Bool) (S : Sight) (event : Event) → Unbooks idle (decide S event)
-unbooked idle S (events.Opened rows) = tt
+unbooked idle S (events.Opened rows) = opened_so idle S.moment (parts_taken S.moment S.trace (judged rows))
 unbooked idle S (events.Asked r) = ask_so idle S.moment (request_done S (parts_of r))
 unbooked idle S (events.Called name params) = call_so idle S (call_plan S name params)
 unbooked idle S events.Next = order_so idle S.moment (shown S.trace) (place_on (shown S.trace)) (head S.trace)
@@ -102,6 +115,7 @@ unbooked idle S events.Sweep = tt
 unbooked idle S (events.Answered run reply) = reply_so idle S.moment run reply (shown S.trace) (busy_run run (shown S.trace))
 unbooked idle S (events.Collected id) = tells_so idle (told.Collected (collected_told id (shows_for S.waits id) (collected S.moment id S.trace)))
 unbooked idle S events.Drain = tt
+unbooked idle S events.Reopened = tt
 
 -- ---- moments
 
@@ -129,9 +143,25 @@ opens_so (events.Gone slot generation) B b later = refl
 opens_so events.Sweep B b later = refl
 opens_so (events.Collected id) B b later = refl
 opens_so events.Drain B b later = refl
+opens_so events.Reopened B b later = refl
+
+-- any other event comes at any moment
+least_later : (event : Event) (at : ℕ) → is_opening event ≡ false → least_moment event ≤ at
+least_later (events.Opened rows) at later = cc
+least_later (events.Asked r) at later = omega arith
+least_later (events.Called name params) at later = omega arith
+least_later events.Next at later = omega arith
+least_later (events.Begun run) at later = omega arith
+least_later (events.Answered run reply) at later = omega arith
+least_later (events.Lost run) at later = omega arith
+least_later (events.Gone slot generation) at later = omega arith
+least_later events.Sweep at later = omega arith
+least_later (events.Collected id) at later = omega arith
+least_later events.Drain at later = omega arith
+least_later events.Reopened at later = omega arith
 
 -- an opening takes memory
-later_free : (event : Event) → wants_memory event ≡ false → is_opening event ≡ false
+pub later_free : (event : Event) → wants_memory event ≡ false → is_opening event ≡ false
 later_free (events.Opened rows) free = cc
 later_free (events.Asked r) free = refl
 later_free (events.Called name params) free = refl
@@ -143,12 +173,15 @@ later_free (events.Gone slot generation) free = refl
 later_free events.Sweep free = refl
 later_free (events.Collected id) free = refl
 later_free events.Drain free = refl
+later_free events.Reopened free = refl
 
 left : (t : Table) (L : Ledger) (new : StateView) (at : ℕ) (event : Event) → IsAt new (after (decision t L.entries at event) (seen t L.entries))
     → Leaves (decision t L.entries at event) → IsAt new (seen t L.entries)
 left t L new at event stands leaves =
     let s = seen t L.entries in
     record {
+      keeping = subst (λ (cs : List Change). StandsForKept new.keeping (all_changed cs s.rows) s.trace) leaves.1
+          (subst (λ (T : Trace). StandsForKept new.keeping (all_changed (decision t L.entries at event).changes s.rows) (T ++ s.trace)) leaves.0 stands.keeping);
       counts = subst (λ (T : Trace). StandsFor new.counts (notes_of (T ++ s.trace))) leaves.0 stands.counts;
       stands = subst (λ (T : Trace). Stands new.floor.now (T ++ s.trace)) leaves.0 stands.stands;
       rows = subst (λ (cs : List Change). new.rows ≡ all_changed cs s.rows) leaves.1 stands.rows;
@@ -161,20 +194,35 @@ post_by : (p : Posting) (t : Table) (L : Ledger) (new : StateView) (at : ℕ) (e
     → Keeps new t (posted_as p (record { at = at; event = event; answer = told_is }) L)
 post_by Booked t L new at event told_is booked legal late most later same free stands leaves = record {
   stands = stands;
-  legal = record { answered = (same, booked, late, most, legal.answered); opened = opens_so event L.entries _ later ∙ legal.opened };
+  legal = record { answered = (same, booked, late, most, least_later event at later, legal.answered); opened = opens_so event L.entries _ later ∙ legal.opened };
   free = free;
 }
 post_by Quiet t L new at event told_is booked legal late most later same free stands leaves = record { stands = left t L new at event stands leaves; legal = legal; free = free }
 post_by Denied t L new at event told_is booked legal late most later same free stands leaves = record { stands = left t L new at event stands leaves; legal = legal; free = free }
 post_by Unbooked t L new at event told_is booked legal late most later same free stands leaves = record { stands = left t L new at event stands leaves; legal = legal; free = free }
 
--- what a step has that was done, and what the floor has then
+-- what a step has that was done, what is committed of it, and what the floor has then
+abbrev pub HasDone : Table → History → ℕ → Event → StateView → Shown → Step → Type 0
+HasDone t B at event old mid step =
+    let d = decision t B at event in
+    IsStep step d × IsWhole step.commit d old.keeping (sight t (seen t B) (counted B) at) × Stands mid (d.items ++ (seen t B).trace)
+
+pub is_seen : (t : Table) (B : History) (old : StateView) (now : Now) → AreAnswered t B → last_moment B ≤ now.at → IsAt old (seen t B) → now.counted ≡ counted B
+    → IsSeen (sight t (seen t B) (counted B) now.at) t old.rows old.counts old.keeping old.floor.now now
+is_seen t B old now answered late stands count = record {
+  tenants = refl;
+  rows = sym stands.rows;
+  counts = counted_at t B now.at old answered late stands;
+  keeping = stands.keeping;
+  stands = stands.stands;
+  counted = sym count;
+  moment = refl;
+}
+
 pub step_at : (t : Table) (B : History) (old : StateView) (mid : Shown) (now : Now) (event : Event) (step : Step) → AreAnswered t B → last_moment B ≤ now.at → IsAt old (seen t B)
-    → now.counted ≡ counted B → Does old mid t now (λ S. decide S event) step
-    → Carries step (decision t B now.at event) × Stands mid ((decision t B now.at event).items ++ (seen t B).trace)
+    → now.counted ≡ counted B → Does old mid t now (λ S. decide S event) step → HasDone t B now.at event old mid step
 step_at t B old mid now event step answered late stands count does =
-    does (sight t (seen t B) (counted B) now.at)
-    (record { tenants = refl; rows = sym stands.rows; counts = counted_at t B now.at old answered late stands; stands = stands.stands; counted = sym count; moment = refl }) (sym stands.waits)
+    does (sight t (seen t B) (counted B) now.at) (is_seen t B old now answered late stands count) (sym stands.waits)
 
 -- the counts stand as what happened then, where it is noted
 abbrev pub CountsAfter : Table → History → ℕ → Event → StateView → Type 0
@@ -182,13 +230,14 @@ CountsAfter t B at event new = StandsFor new.counts (notes_of ((decision t B at 
 
 -- how floor, rows, waits and counts stand once its change is made
 at_after : (t : Table) (B : History) (old new : StateView) (mid : Shown) (at : ℕ) (event : Event) (step : Step) → IsAt old (seen t B)
-    → Carries step (decision t B at event) × Stands mid ((decision t B at event).items ++ (seen t B).trace)
+    → HasDone t B at event old mid step
     → new.floor.now ≡ mid → new.rows ≡ all_changed (changes_of step.change) old.rows → new.waits ≡ waits_after step.waits old.waits → CountsAfter t B at event new
-    → IsAt new (after (decision t B at event) (seen t B))
-at_after t B old new mid at event step stands done floor rows waits counts =
+    → KeepsCommit step.commit old.keeping new.keeping → IsAt new (after (decision t B at event) (seen t B))
+at_after t B old new mid at event step stands done floor rows waits counts kept =
     let s = seen t B in
     record {
-      stands = rw floor done.1;
+      keeping = kept (all_changed (decision t B at event).changes s.rows) ((decision t B at event).items ++ s.trace) done.1.stands;
+      stands = rw floor done.2;
       rows = rows ∙ (ap (λ (rs : _). all_changed (changes_of step.change) rs) stands.rows ∙ ap (λ (cs : List Change). all_changed cs s.rows) done.0.changes);
       waits = waits ∙ (ap (waits_after step.waits) stands.waits ∙ ap (λ (w : Waits). waits_after w s.waits) done.0.waits);
       counts = counts;
@@ -197,64 +246,100 @@ at_after t B old new mid at event step stands done floor rows waits counts =
 -- an answer that is posted
 pub answers : (t : Table) (L : Ledger) (old new : StateView) (mid : Shown) (at : ℕ) (event : Event) (step : Step) → Keeps old t L
     → last_moment L.entries ≤ at → at ≤ greatest_moment → is_opening event ≡ false → new.floor.before ≡ None
-    → Carries step (decision t L.entries at event) × Stands mid ((decision t L.entries at event).items ++ (seen t L.entries).trace)
+    → HasDone t L.entries at event old mid step
     → new.floor.now ≡ mid → new.rows ≡ all_changed (changes_of step.change) old.rows → new.waits ≡ waits_after step.waits old.waits → CountsAfter t L.entries at event new
-    → (step.told ≡ answer t L.entries at event) × Keeps new t (posted L at event step.told)
-answers t L old new mid at event step keeps late most later free done floor rows waits counts =
-    let stands = at_after t L.entries old new mid at event step keeps.stands done floor rows waits counts in
+    → KeepsCommit step.commit old.keeping new.keeping → (step.told ≡ answer t L.entries at event) × Keeps new t (posted L at event step.told)
+answers t L old new mid at event step keeps late most later free done floor rows waits counts kept =
+    let stands = at_after t L.entries old new mid at event step keeps.stands done floor rows waits counts kept in
     let un = unbooked (is_idle L.entries) (sight t (seen t L.entries) (counted L.entries) at) event in
     let un' = subst (λ (x : Told). Unless (posting_by (is_idle L.entries) x) (Leaves (decision t L.entries at event))) (sym done.0.told) un in
     (done.0.told, post_by (posting L.entries step.told) t L new at event step.told refl keeps.legal late most later done.0.told free stands un')
 
 -- a step that was done, settled and made, and is noted then: `mid` is the state behind the step, `put` behind the changes
 pub noted : (t : Table) (L : Ledger) (old mid put new : StateView) (now : Now) (event : Event) (step : Step) (before : ℕ) → Keeps old t L
-    → last_moment L.entries ≤ now.at → before ≡ length old.floor.now.ended
-    → Carries step (decision t L.entries now.at event) × Stands mid.floor.now ((decision t L.entries now.at event).items ++ (seen t L.entries).trace)
+    → is_opening event ≡ false → last_moment L.entries ≤ now.at → before ≡ length (all_ended old.floor.now)
+    → HasDone t L.entries now.at event old mid.floor.now step
     → KeepsNotes old.counts mid.counts → put.floor.now ≡ mid.floor.now → put.counts ≡ mid.counts
-    → Notes step.invoked now.at (drop before put.floor.now.ended) put.counts new.counts → CountsAfter t L.entries now.at event new
-noted t L old mid put new now event step before keeps late count done kept floor counts notes =
+    → Notes step.invoked now.at (drop before (all_ended put.floor.now)) put.counts new.counts → CountsAfter t L.entries now.at event new
+noted t L old mid put new now event step before keeps later late count done kept floor counts notes =
     let S = sight t (seen t L.entries) (counted L.entries) now.at in
     let T = (seen t L.entries).trace in
     let there : StandsFor put.counts (notes_of T) = subst (λ (v : CountsView). StandsFor v (notes_of T)) (sym counts) (kept (notes_of T) keeps.stands.counts) in
-    let grown : Stands put.floor.now ((decision t L.entries now.at event).items ++ T) = rw floor done.1 in
-    noted_at S event old.floor.now put.floor.now before step.invoked put.counts new.counts keeps.stands.stands grown count done.0.invoked
+    let grown : Stands put.floor.now ((decision t L.entries now.at event).items ++ T) = rw floor done.2 in
+    noted_at S event old.floor.now put.floor.now before step.invoked put.counts new.counts later keeps.stands.stands grown count done.0.invoked
     (seen_up_to t L.entries now.at keeps.legal.answered late) there notes
+
+-- the ids of what has happened then
+abbrev pub AreIdsAfter : Table → Ledger → ℕ → Event → Type 0
+AreIdsAfter t L at event = AreIds ((decision t L.entries at event).items ++ (seen t L.entries).trace)
+
+-- a beginning, a loss or a going commits nothing
+quiet_done : (t : Table) (B : History) (old : StateView) (mid : Shown) (now : Now) (event : Event) (step : Step) → wants_memory event ≡ false → step.commit ≡ None
+    → AreAnswered t B → last_moment B ≤ now.at → IsAt old (seen t B) → now.counted ≡ counted B → Makes old mid t now (λ S. decide S event) step → HasDone t B now.at event old mid step
+quiet_done t B old mid now event step free none answered late stands count makes =
+    let S = sight t (seen t B) (counted B) now.at in
+    let made = makes S (is_seen t B old now answered late stands count) (sym stands.waits) in (
+      record { told = made.0.told; changes = made.0.changes; waits = made.0.waits; invoked = made.0.invoked },
+      quiet_whole S event old.keeping step.commit free none stands.stands.sound stands.keeping made.0.commit,
+      made.1,
+    )
 
 -- a beginning, a loss or a going that is posted
 pub takes : (t : Table) (L : Ledger) (old new : StateView) (now : Now) (event : Event) (taken : Result (Unit {0}) FloorRefusal) (at : ℕ) → Keeps old t L → now.counted ≡ counted L.entries
-    → now.at ≡ moment L.entries at → wants_memory event ≡ false → new.floor.before ≡ None → Does old new.floor.now t now (λ S. decide S event) (telling (taken_told taken))
-    → (new.rows ≡ old.rows) × (new.waits ≡ old.waits) → new.counts ≡ old.counts
-    → (taken_told taken ≡ answer t L.entries now.at event) × Keeps new t (posted L now.at event (taken_told taken))
-takes t L old new now event taken at keeps count same free before does rest counts =
+    → now.at ≡ moment L.entries at → wants_memory event ≡ false → new.floor.before ≡ None → Makes old new.floor.now t now (λ S. decide S event) (telling (taken_told taken))
+    → (new.rows ≡ old.rows) × (new.waits ≡ old.waits) → new.counts ≡ old.counts → new.keeping ≡ old.keeping
+    → (taken_told taken ≡ answer t L.entries now.at event) × Keeps new t (posted L now.at event (taken_told taken)) × AreIdsAfter t L now.at event
+takes t L old new now event taken at keeps count same free before makes rest counts keeping =
     let late = subst (λ (m : ℕ). last_moment L.entries ≤ m) (sym same) (not_before L.entries at) in
     let most = subst (λ (m : ℕ). m ≤ greatest_moment) (sym same) (not_after t L.entries at keeps.legal) in
-    let done = step_at t L.entries old new.floor.now now event (telling (taken_told taken)) keeps.legal.answered late keeps.stands count does in
+    let done = quiet_done t L.entries old new.floor.now now event (telling (taken_told taken)) free refl keeps.legal.answered late keeps.stands count makes in
     let quiet = quiet_at (sight t (seen t L.entries) (counted L.entries) now.at) event old.counts new.counts free counts keeps.stands.counts in
-    answers t L old new new.floor.now now.at event (telling (taken_told taken)) keeps late most (later_free event free) before done refl rest.0 rest.1 quiet
+    let both = answers t L old new new.floor.now now.at event (telling (taken_told taken)) keeps late most (later_free event free) before done refl rest.0 rest.1 quiet
+    (λ rs T stands. subst (λ (v : KeepingView). StandsForKept v rs T) (sym keeping) stands) in
+    (both.0, both.1, done.1.stands.ids)
 
 -- what was taken back stands as before
 pub stays : (old new : StateView) (t : Table) (L : Ledger) → new.floor.now ≡ old.floor.now → new.floor.before ≡ None → new.rows ≡ old.rows → new.waits ≡ old.waits
-    → KeepsNotes old.counts new.counts → Keeps old t L → Keeps new t L
-stays old new t L floor free rows waits counts keeps = record {
+    → KeepsNotes old.counts new.counts → StaysKept old.keeping new.keeping → Keeps old t L → Keeps new t L
+stays old new t L floor free rows waits counts kept keeps = record {
   stands = record {
     stands = rw floor keeps.stands.stands;
     rows = rows ∙ keeps.stands.rows;
     waits = waits ∙ keeps.stands.waits;
     counts = counts (notes_of (seen t L.entries).trace) keeps.stands.counts;
+    keeping = stands_same old.keeping new.keeping (seen t L.entries).rows (seen t L.entries).trace kept.0 kept.1 keeps.stands.keeping;
   };
   legal = keeps.legal;
   free = free;
 }
 
--- ---- an opening
+-- ---- what the store holds
 
-pub small_at : (at : ℕ) → moment [] at ≤ greatest_moment
-small_at at = max-le (omega arith) (min-le_right at greatest_moment)
+-- an answer that is booked: with what it commits the store holds what is kept then
+booked_holds : (told : KeptRows) (t : Table) (L : Ledger) (old : StateView) (at : ℕ) (event : Event) → is_opening event ≡ false → Keeps old t L → AreIdsAfter t L at event → HoldsBook told t L
+    → HoldsRows (kept_after (commits (decision t L.entries at event)) told) (kept_of (after (decision t L.entries at event) (seen t L.entries)))
+booked_holds None t L old at event later keeps ids holds = tt
+booked_holds (Some rows) t L old at event later keeps ids holds =
+    let S = sight t (seen t L.entries) (counted L.entries) at in
+    ap (changed (commits (decide S event))) holds ∙ decided_kept S event later keeps.stands.stands.sound keeps.stands.keeping.ids ids
 
-pub opened_keeps : (t : Table) (w : StateView) (at : ℕ) → IsAt w (seen t []) → w.floor.before ≡ None → at ≤ greatest_moment
-    → Keeps w t (posted no_entries at (events.Opened []) (told.Opened []))
-opened_keeps t w at stands free most = record {
-  stands = stands;
-  legal = record { answered = (refl, refl, omega arith, most, tt); opened = refl };
-  free = free;
-}
+unbooked_holds : (told : KeptRows) (t : Table) (L : Ledger) (d : Decision) → Leaves d → HoldsBook told t L → HoldsBook (kept_after (commits d) told) t L
+unbooked_holds None t L d leaves holds = tt
+unbooked_holds (Some rows) t L d leaves holds = ap (λ cs. changed cs rows) (leaves_commits d leaves.0 leaves.1) ∙ holds
+
+held_by : (p : Posting) (old_rows : KeptRows) (t : Table) (L : Ledger) (old : StateView) (at : ℕ) (event : Event) (told_is : Told) → is_opening event ≡ false → Keeps old t L → AreIdsAfter t L at event
+    → Unless p (Leaves (decision t L.entries at event)) → HoldsBook old_rows t L
+    → HoldsBook (kept_after (commits (decision t L.entries at event)) old_rows) t (posted_as p (record { at = at; event = event; answer = told_is }) L)
+held_by Booked old_rows t L old at event told_is later keeps ids leaves holds = booked_holds old_rows t L old at event later keeps ids holds
+held_by Quiet old_rows t L old at event told_is later keeps ids leaves holds = unbooked_holds old_rows t L (decision t L.entries at event) leaves holds
+held_by Denied old_rows t L old at event told_is later keeps ids leaves holds = unbooked_holds old_rows t L (decision t L.entries at event) leaves holds
+held_by Unbooked old_rows t L old at event told_is later keeps ids leaves holds = unbooked_holds old_rows t L (decision t L.entries at event) leaves holds
+
+-- behind an answer the store holds what is kept of the book, where it holds what the answer commits
+pub held_posted : (old_rows new_rows : KeptRows) (t : Table) (L : Ledger) (old : StateView) (at : ℕ) (event : Event) (told_is : Told) → is_opening event ≡ false → Keeps old t L → AreIdsAfter t L at event
+    → told_is ≡ answer t L.entries at event → new_rows ≡ kept_after (commits (decision t L.entries at event)) old_rows → HoldsBook old_rows t L
+    → HoldsBook new_rows t (posted L at event told_is)
+held_posted old_rows new_rows t L old at event told_is later keeps ids same made holds =
+    let un = unbooked (is_idle L.entries) (sight t (seen t L.entries) (counted L.entries) at) event in
+    let un' = subst (λ (x : Told). Unless (posting_by (is_idle L.entries) x) (Leaves (decision t L.entries at event))) (sym same) un in
+    subst (λ (rows : KeptRows). HoldsBook rows t (posted L at event told_is)) (sym made) (held_by (posting L.entries told_is) old_rows t L old at event told_is later keeps ids un' holds)

@@ -1,4 +1,7 @@
 pub mod Beginnings
+pub mod KeepLaws
+pub mod OpenLaws
 mod HallLaws
 mod NoteLaws
 mod RoomLaws
+pub mod UndoneLaws

@@ -1,25 +1,31 @@
 -- What is noted for the limits counts what happened.
-use Rattle.std.proofs.Common.{◌≡◌, ◌∙◌, ◌+◌, ◌<◌, ◌≤◌, ◌++◌, ℕ, suc, false, List, [], ◌∷◌, Option, length, drop, get_or, sym, ap, subst, add-one, drop-cons, arith}
+use Rattle.std.proofs.Common.{◌≡◌, ◌∙◌, ◌+◌, ◌<◌, ◌≤◌, ◌++◌, ℕ, suc, false, List, [], ◌∷◌, Option, Result, Ok, Err, IfOk, length, drop, min, get_or, sym, ap, subst, add-one, append_assoc, drop-cons, arith}
 use Rattle.std.specs.List.{AllByRecursion}
+use Rattle.std.proofs.Math.Nat.{min-eq_left}
 use Rattle.std.proofs.Math.Seq.{drop-append_seam}
 use Rattle.std.proofs.lemmas.List.{length-append}
 use Rattle.ow_records.specs.declared.activations.Activation.{Activation}
 use Rattle.ow_records.specs.declared.record.Record.{Record}
 use Rattle.ow_floor.specs.Laws.{Stands}
-use Rattle.ow_floor.specs.Trace.{Trace, accepted, records}
+use Rattle.ow_floor.specs.Trace.{Trace, accepted, records, resumed}
 use Rattle.ow_floor.specs.View.{Shown}
 use Rattle.ow_tenant.specs.Notes as notes
 use Rattle.ow_tenant.specs.Table.{Table}
 use Rattle.ow_counts.specs.View.{AreUpTo, CountsView, StandsFor, notes_of}
 use Rattle.ow_counts.proofs.Noting.{latest_noted}
-use Rattle.ow_decide.specs.Decisions.{decide, wants_memory}
-use Rattle.ow_decide.specs.Making.{AreCounted}
+use Rattle.ow_decide.specs.Decisions.{decide, is_opening, wants_memory}
+use Rattle.ow_value.specs.declared.memory.NoMemory.{NoMemory}
+use Rattle.ow_decide.specs.declared.step.Now.{Now}
+use Rattle.ow_decide.specs.declared.step.Step.{Step}
+use Rattle.ow_decide.specs.Making.{AreCounted, Carries, changes_of}
 use Rattle.ow_decide.specs.Noted.{MayAllEnd, invoked_in, noted_end, noted_ends}
 use Rattle.ow_decide.specs.Sight.{Sight}
 use Rattle.ow_decide.specs.declared.events.Event.{Event}
 use Rattle.ow_decide.proofs.NotedLaws.{decided_may_end, decided_noted, decided_up_to, quiet_noted, records_more}
 use Rattle.ow_hall.specs.History.{AreAnswered, History, counted, last_moment, seen, sight}
-use Rattle.ow_hall.specs.State.{IsAt, Notes, NotesEnds, StateView}
+use Rattle.ow_hall.specs.State.{CommitsEnds, Does, IsAt, IsStep, IsWhole, Makes, Notes, NotesEnds, StateView, all_ended}
+use Rattle.ow_kept.specs.Keeping.{KeepingView, StandsForKept}
+use Rattle.ow_hall.proofs.KeepLaws.{StayResumed, stay_resumed, whole}
 
 -- ---- moments
 
@@ -35,7 +41,7 @@ up_to_later m n T le all = more m n (accepted T) le all
 pub legal_up_to : (t : Table) (B : History) → AreAnswered t B → AreUpTo (last_moment B) (seen t B).trace
 legal_up_to t [] answered = tt
 legal_up_to t (e ∷ B) answered =
-    decided_up_to (sight t (seen t B) (counted B) e.at) e.event (up_to_later (last_moment B) e.at (seen t B).trace answered.2 (legal_up_to t B answered.4))
+    decided_up_to (sight t (seen t B) (counted B) e.at) e.event (up_to_later (last_moment B) e.at (seen t B).trace answered.2 (legal_up_to t B answered.5))
 
 -- nor behind a moment that may be booked
 pub seen_up_to : (t : Table) (B : History) (at : ℕ) → AreAnswered t B → last_moment B ≤ at → AreUpTo at (seen t B).trace
@@ -46,21 +52,28 @@ counted_at t B at w answered late stands = record { stands = stands.counts; up_t
 
 -- ---- ends
 
-ended_more : (items T : Trace) (new : Shown) → Stands new (items ++ T) → new.ended ≡ records T ++ records items
-ended_more items T new stands = ap (λ (v : Shown). v.ended) stands.is ∙ records_more items T
+ended_before : (T : Trace) (old : Shown) → Stands old T → all_ended old ≡ resumed T ++ records T
+ended_before T old was = ap all_ended was.is
+
+ended_more : (items T : Trace) (new : Shown) → StayResumed items T → Stands new (items ++ T) → all_ended new ≡ (resumed T ++ records T) ++ records items
+ended_more items T new stay is =
+    ap all_ended is.is
+    ∙ (ap (λ (rs : List Record). rs ++ records (items ++ T)) stay
+    ∙ (ap (λ (rs : List Record). resumed T ++ rs) (records_more items T) ∙ sym (append_assoc (resumed T) (records T) (records items))))
 
 -- as many have ended before
-pub fewer_before : (items T : Trace) (old new : Shown) → Stands old T → Stands new (items ++ T) → length old.ended ≤ length new.ended
-fewer_before items T old new was is =
-    let before : length old.ended ≡ length (records T) = ap (λ (v : Shown). length v.ended) was.is in
-    let after : length new.ended ≡ length (records T) + length (records items) = ap (λ (rs : List Record). length rs) (ended_more items T new is) ∙ length-append (records T) (records items) in
+pub fewer_before : (items T : Trace) (old new : Shown) → StayResumed items T → Stands old T → Stands new (items ++ T) → length (all_ended old) ≤ length (all_ended new)
+fewer_before items T old new stay was is =
+    let before : length (all_ended old) ≡ length (resumed T ++ records T) = ap (λ (rs : List Record). length rs) (ended_before T old was) in
+    let after : length (all_ended new) ≡ length (resumed T ++ records T) + length (records items) =
+    ap (λ (rs : List Record). length rs) (ended_more items T new stay is) ∙ length-append (resumed T ++ records T) (records items) in
     omega (arith, before, after)
 
 -- behind them stand the new ones
-ended_behind : (items T : Trace) (old new : Shown) → Stands old T → Stands new (items ++ T) → drop (length old.ended) new.ended ≡ records items
-ended_behind items T old new was is =
-    ap (λ (v : Shown). drop (length v.ended) new.ended) was.is
-    ∙ (ap (λ (rs : List Record). drop (length (records T)) rs) (ended_more items T new is) ∙ drop-append_seam (records T) (records items))
+pub ended_behind : (items T : Trace) (old new : Shown) → StayResumed items T → Stands old T → Stands new (items ++ T) → drop (length (all_ended old)) (all_ended new) ≡ records items
+ended_behind items T old new stay was is =
+    ap (λ (rs : List Record). drop (length rs) (all_ended new)) (ended_before T old was)
+    ∙ (ap (λ (rs : List Record). drop (length (resumed T ++ records T)) rs) (ended_more items T new stay is) ∙ drop-append_seam (resumed T ++ records T) (records items))
 
 -- ---- one end after another
 
@@ -88,12 +101,12 @@ next_noted ends i end old new newer h is so_far noted =
 
 -- where an invocation and the new ends are noted, the counts stand as the trace says
 pub noted_at : (S : Sight) (event : Event) (old new : Shown) (before : ℕ) (invoked : Option (List ℕ)) (k l : CountsView)
-    → Stands old S.trace → Stands new ((decide S event).items ++ S.trace) → before ≡ length old.ended → invoked ≡ invoked_in (decide S event).items
-    → AreUpTo S.moment S.trace → StandsFor k (notes_of S.trace) → Notes invoked S.moment (drop before new.ended) k l
+    → is_opening event ≡ false → Stands old S.trace → Stands new ((decide S event).items ++ S.trace) → before ≡ length (all_ended old) → invoked ≡ invoked_in (decide S event).items
+    → AreUpTo S.moment S.trace → StandsFor k (notes_of S.trace) → Notes invoked S.moment (drop before (all_ended new)) k l
     → StandsFor l (notes_of ((decide S event).items ++ S.trace))
-noted_at S event old new before invoked k l was is count same up_to counts noted =
+noted_at S event old new before invoked k l later was is count same up_to counts noted =
     let items = (decide S event).items in
-    let ends : drop before new.ended ≡ records items = ap (λ (n : ℕ). drop n new.ended) count ∙ ended_behind items S.trace old new was is in
+    let ends : drop before (all_ended new) ≡ records items = ap (λ (n : ℕ). drop n (all_ended new)) count ∙ ended_behind items S.trace old new (stay_resumed S event later) was is in
     let of_records = subst (λ (rs : List Record). Notes invoked S.moment rs k l) ends noted in
     let of_items = subst (λ (n : Option (List ℕ)). Notes n S.moment (records items) k l) same of_records in
     subst (λ (ns : notes.Notes). StandsFor l ns) (sym (decided_noted S event))
@@ -104,3 +117,37 @@ pub quiet_at : (S : Sight) (event : Event) (k l : CountsView) → wants_memory e
     → StandsFor l (notes_of ((decide S event).items ++ S.trace))
 quiet_at S event k l free same counts =
     subst (λ (ns : notes.Notes). StandsFor l ns) (sym (quiet_noted S event free)) (subst (λ (v : CountsView). StandsFor v (notes_of S.trace)) (sym same) counts)
+
+-- ---- what is committed of ends
+
+-- a step with what is committed of its ends does what is decided
+pub step_done : (S : Sight) (event : Event) (old new : Shown) (b : KeepingView) (before : ℕ) (all : List Record) (step after : Step) → is_opening event ≡ false
+    → Stands old S.trace → StandsForKept b S.rows S.trace → before ≡ length (all_ended old) → all ≡ all_ended new
+    → Carries step (decide S event) b S × Stands new ((decide S event).items ++ S.trace)
+    → (after.told ≡ step.told) × (after.change ≡ step.change) × (after.waits ≡ step.waits) × (after.invoked ≡ step.invoked)
+    → CommitsEnds b (drop (min before (length all)) all) step.commit after.commit
+    → IsStep after (decide S event) × IsWhole after.commit (decide S event) b S × Stands new ((decide S event).items ++ S.trace)
+step_done S event old new b before all step after later was kept count is made same commits =
+    let d = decide S event in
+    let stay = stay_resumed S event later in
+    let few : before ≤ length (all_ended new) = subst (λ (n : ℕ). n ≤ length (all_ended new)) (sym count) (fewer_before d.items S.trace old new stay was made.1) in
+    let ends : drop (min before (length all)) all ≡ records d.items =
+    ap (λ (rs : List Record). drop (min before (length rs)) rs) is
+    ∙ (ap (λ (n : ℕ). drop n (all_ended new)) (min-eq_left few ∙ count) ∙ ended_behind d.items S.trace old new stay was made.1) in
+    let carried = made.0 in (
+      record { told = same.0 ∙ carried.told; changes = ap changes_of same.1 ∙ carried.changes; waits = same.2 ∙ carried.waits; invoked = same.3 ∙ carried.invoked },
+      whole S event b (drop (min before (length all)) all) step.commit after.commit later was.sound kept carried.commit ends commits,
+      made.1,
+    )
+
+-- and so does what comes of it
+pub result_done : (r : Result Step NoMemory) (t : Table) (now : Now) (event : Event) (old : StateView) (new : Shown) (before : ℕ) (all ends : List Record) (b : KeepingView) (step : Step)
+    → is_opening event ≡ false → before ≡ length (all_ended old.floor.now) → all ≡ all_ended new → ends ≡ drop (min before (length all)) all → b ≡ old.keeping
+    → Makes old new t now (λ S. decide S event) step
+    → IfOk r (λ s. (s.told ≡ step.told) × (s.change ≡ step.change) × (s.waits ≡ step.waits) × (s.invoked ≡ step.invoked))
+    → IfOk r (λ s. CommitsEnds b ends step.commit s.commit) → IfOk r (Does old new t now (λ S. decide S event))
+result_done (Err e) t now event old new before all ends b step later count is cut keeping made same commits = tt
+result_done (Ok after) t now event old new before all ends b step later count is cut keeping made same commits = λ S seen waits.
+    step_done S event old.floor.now new old.keeping before all step after later seen.stands seen.keeping count is (made S seen waits) same
+    (subst (λ (v : KeepingView). CommitsEnds v (drop (min before (length all)) all) step.commit after.commit) keeping
+    (subst (λ (rs : List Record). CommitsEnds b rs step.commit after.commit) cut commits))

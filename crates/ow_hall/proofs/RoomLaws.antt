@@ -18,17 +18,15 @@ use Rattle.ow_floor.specs.declared.answers.FloorRefusal.TheVariants as refusals
 use Rattle.ow_decide.specs.declared.events.Event.{Event}
 use Rattle.ow_decide.specs.declared.events.Event.TheVariants as events
 use Rattle.ow_decide.specs.declared.events.Told.{Told}
-use Rattle.ow_decide.specs.declared.events.Told.TheVariants as told
 use Rattle.ow_hall.specs.declared.posting.Posting.{Posting}
 use Rattle.ow_hall.specs.declared.posting.Posting.TheVariants.{Booked, Quiet, Denied, Unbooked}
 use Rattle.ow_tenant.specs.Table.{Table}
-use Rattle.ow_tenant.specs.Tenants.{pool_of}
 use Rattle.ow_decide.specs.Decisions.{decide, taken_told, wants_memory}
 use Rattle.ow_decide.specs.Sight.{Sight}
 use Rattle.ow_hall.proofs.Beginnings.{seen_sound}
 use Rattle.ow_hall.specs.Posting.{posting_by}
 use Rattle.ow_hall.specs.History.{History, counted, decision, event_bytes, is_idle, posting, seen, sight, told_bytes}
-use Rattle.ow_hall.specs.Ledger.{HasRoom, IsReady, Ledger, cost, no_entries, posted, posted_as}
+use Rattle.ow_hall.specs.Ledger.{HasRoom, IsReady, Ledger, cost, posted, posted_as}
 
 -- more room is room
 pub room_more : (t : Table) (L : Ledger) (old new : ℕ) → old ≤ new → HasRoom (seen t L.entries).trace L old → HasRoom (seen t L.entries).trace L new
@@ -60,12 +58,8 @@ vacant_owed (suc n) =
     let sum = sum_by-cons (λ (s : Slot). lives.owed_by s.state) vacant_slot (replicate n vacant_slot) in
     omega (arith, rest, sum)
 
-opened_owed : (pool : ℕ) (wants : List Prewarm) → owed (Opened pool wants ∷ []) ≡ 0
+pub opened_owed : (pool : ℕ) (wants : List Prewarm) → owed (Opened pool wants ∷ []) ≡ 0
 opened_owed pool wants = ap lives.owed (slots_opened pool wants) ∙ vacant_owed (slot_count pool)
-
--- nothing is owed behind an opening
-pub opened_room : (t : Table) (at room : ℕ) → HasRoom (seen t (posted no_entries at (events.Opened []) (told.Opened [])).entries).trace (posted no_entries at (events.Opened []) (told.Opened [])) room
-opened_room t at room = let none = opened_owed (pool_of t) t.wants in record { within = omega (arith, none); fits = omega (arith, none) }
 
 -- an entry that has room with others behind it has room
 pub ready_alone : (B : History) (room n bytes : ℕ) (event : Event) (t : Told) → IsReady B room n event t bytes → IsReady B room 0 event t bytes
@@ -109,6 +103,7 @@ owed_less idle S (events.Gone slot generation) sound free booked = gone_less idl
 owed_less idle S events.Sweep sound free booked = cc
 owed_less idle S (events.Collected id) sound free booked = cc
 owed_less idle S events.Drain sound free booked = cc
+owed_less idle S events.Reopened sound free booked = cc
 
 -- its entry counts no more than 64
 no_event_bytes : (event : Event) → wants_memory event ≡ false → event_bytes event ≡ 0
@@ -123,6 +118,7 @@ no_event_bytes (events.Gone slot generation) free = refl
 no_event_bytes events.Sweep free = refl
 no_event_bytes (events.Collected id) free = refl
 no_event_bytes events.Drain free = refl
+no_event_bytes events.Reopened free = refl
 
 no_told_bytes : (taken : Result (Unit {0}) FloorRefusal) → told_bytes (taken_told taken) ≡ 0
 no_told_bytes (Ok done) = refl

@@ -6,10 +6,15 @@ use Rattle.ow_traits.specs.Streams.{Rose}
 use Rattle.ow_traits.specs.declared.change_list.Change.{Change}
 use Rattle.ow_traits.specs.declared.replies.RunReply.{RunReply}
 use Rattle.ow_value.specs.declared.memory.NoMemory.{NoMemory as Want}
+use Rattle.ow_http.specs.Refused.{refusal_of}
+use Rattle.ow_http.specs.declared.reason.Reason.{Reason}
+use Rattle.ow_http.specs.declared.reason.Reason.TheVariants.{Service}
+use Rattle.ow_http.specs.declared.service_refusal.ServiceRefusal.TheVariants as services
 use Rattle.ow_floor.specs.declared.answers.Answered.{Answered}
 use Rattle.ow_floor.specs.declared.answers.AnswerRefusal.{AnswerRefusal}
-use Rattle.ow_floor.specs.declared.answers.AnswerRefusal.TheVariants.{NoRun, NoMemory}
+use Rattle.ow_floor.specs.declared.answers.AnswerRefusal.TheVariants.{NoRun, NoMemory, StoreFault}
 use Rattle.ow_floor.specs.declared.answers.Drain.{Drain}
+use Rattle.ow_floor.specs.declared.answers.Happening.{Happening}
 use Rattle.ow_floor.specs.declared.answers.FloorRefusal.{FloorRefusal}
 use Rattle.ow_floor.specs.declared.answers.Order.{Order}
 use Rattle.ow_floor.specs.declared.answers.Swept.{Swept}
@@ -17,15 +22,19 @@ use Rattle.ow_decide.specs.declared.events.Event.{Event}
 use Rattle.ow_decide.specs.declared.events.Told.{Told}
 use Rattle.ow_decide.specs.declared.events.Told.TheVariants as told
 use Rattle.ow_decide.specs.declared.replies.Called.{Called}
+use Rattle.ow_decide.specs.declared.replies.Called.TheVariants as called
 use Rattle.ow_decide.specs.declared.replies.HallCollected.{HallCollected}
 use Rattle.ow_decide.specs.declared.replies.Reply.{Reply}
 use Rattle.ow_decide.specs.declared.replies.Reply.TheVariants as replies
 use Rattle.ow_tenant.specs.Table.{Table}
 use Rattle.ow_decide.specs.Asking.{reply_in}
-use Rattle.ow_decide.specs.Decision.{Decision}
+use Rattle.ow_decide.specs.Decision.{commits, Decision}
 use Rattle.ow_decide.specs.Decisions.{taken_told}
-use Rattle.ow_hall.specs.History.{answer, decision, moment}
+use Rattle.ow_kept.specs.Kept.{kept}
+use Rattle.ow_hall.specs.History.{Seen, answer, decision, moment, seen}
 use Rattle.ow_hall.specs.Ledger.{Ledger, faulted, posted}
+use Rattle.ow_hall.specs.declared.refusals.SweepRefusal.{SweepRefusal}
+use Rattle.ow_hall.specs.declared.refusals.SweepRefusal.TheVariants as sweeps
 
 -- a hall: the office table, its ledger, and its store
 pub record HallView (P : Type 0) : Type 0 where
@@ -45,9 +54,17 @@ pub data Outcome : Type 0 where
 abbrev pub KeptRows : Type 0
 KeptRows = Option (List (List ℕ × List ℕ))
 
--- which changes a decision makes there: none is kept yet
-abbrev pub commits : Decision → List Change
-commits d = []
+-- what is kept of all that is seen
+abbrev pub kept_of : Seen → List (List ℕ × List ℕ)
+kept_of s = kept s.rows s.trace
+
+-- the store, where it tells its rows, holds these; those that are kept of a book
+abbrev pub HoldsRows : KeptRows → List (List ℕ × List ℕ) → Type 0
+HoldsRows None rows = Unit {0}
+HoldsRows (Some told) rows = told ≡ rows
+
+abbrev pub HoldsBook : KeptRows → Table → Ledger → Type 0
+HoldsBook told t L = HoldsRows told (kept_of (seen t L.entries))
 
 abbrev pub kept_after : List Change → KeptRows → KeptRows
 kept_after changes None = None
@@ -57,6 +74,11 @@ kept_after changes (Some rows) = Some (changed changes rows)
 abbrev pub Holds : {P : Type 0} → (P → KeptRows) → (P → ℕ) → List Change → P → P → Type 0
 Holds rows faults [] old new = new ≡ old
 Holds rows faults (c ∷ cs) old new = (rows new ≡ kept_after (c ∷ cs) (rows old)) × (faults old ≤ faults new)
+
+-- no change was made: where there is none to make the store isn't asked, else its rows stay
+abbrev pub Stays : {P : Type 0} → (P → KeptRows) → (P → ℕ) → List Change → P → P → Type 0
+Stays rows faults [] old new = new ≡ old
+Stays rows faults (c ∷ cs) old new = (rows new ≡ rows old) × (faults old ≤ faults new)
 
 -- ---- the relation
 
@@ -73,21 +95,22 @@ abbrev pub Comes : {P : Type 0} → (P → KeptRows) → (P → ℕ) → HallVie
 Comes rows faults old new at event (Answers t) = (t ≡ answer old.tenants old.ledger.entries (at_hall old at) event)
     × (new.ledger ≡ posted old.ledger (at_hall old at) event t) × (new.tenants ≡ old.tenants)
     × Holds rows faults (commits (decided old at event)) old.store new.store
-Comes rows faults old new at event Wants = (new.ledger ≡ old.ledger) × (new.tenants ≡ old.tenants) × (new.store ≡ old.store)
+Comes rows faults old new at event Wants = (new.ledger ≡ old.ledger) × (new.tenants ≡ old.tenants) × Stays rows faults (commits (decided old at event)) old.store new.store
 Comes rows faults old new at event Fails = (commits (decided old at event) ≢ []) × (new.ledger ≡ faulted old.ledger) × (new.tenants ≡ old.tenants)
-    × (rows new.store ≡ rows old.store) × Rose (faults old.store) (faults new.store)
+    × (rows new.store ≡ rows old.store) × (faults old.store ≤ faults new.store) × Rose (faults old.store) (faults new.store)
 
 -- ---- what the calls tell of it
 
--- an answer, or want of memory
-abbrev pub outcome : {E : Type 0} → Result Told E → Outcome
-outcome (Ok t) = Answers t
-outcome (Err e) = Wants
+-- the store failed
+abbrev pub store_failed : Reason
+store_failed = Service services.StoreFault
 
--- a call of the office
-abbrev pub call_outcome : Result Called Want → Outcome
-call_outcome (Ok c) = Answers (told.Called c)
-call_outcome (Err e) = Wants
+-- a call of the office. Where the store fails it is refused
+abbrev pub IsCalled : Result Called Want → Outcome → Type 0
+IsCalled (Ok c) (Answers t) = t ≡ told.Called c
+IsCalled (Ok c) Fails = c ≡ called.Refused store_failed
+IsCalled (Ok c) Wants = ⊥
+IsCalled (Err e) o = o ≡ Wants
 
 -- a runner that asks
 abbrev pub next_outcome : Result Order Want → Outcome
@@ -99,15 +122,23 @@ abbrev pub reply_outcome : Result Answered AnswerRefusal → Outcome
 reply_outcome (Ok answered) = Answers (told.Answered answered)
 reply_outcome (Err (NoRun run reply)) = Answers (told.NoRun run reply)
 reply_outcome (Err (NoMemory reply)) = Wants
+reply_outcome (Err (StoreFault reply)) = Fails
 
 -- a beginning, a loss or a going
 abbrev pub done_outcome : Result (Unit {0}) FloorRefusal → Outcome
 done_outcome taken = Answers (taken_told taken)
 
 -- a sweep
-abbrev pub swept_outcome : Result Swept Want → Outcome
+abbrev pub swept_outcome : Result Swept SweepRefusal → Outcome
 swept_outcome (Ok swept) = Answers (told.Swept swept)
-swept_outcome (Err e) = Wants
+swept_outcome (Err sweeps.NoMemory) = Wants
+swept_outcome (Err sweeps.StoreFault) = Fails
+
+-- a service that is opened anew
+abbrev pub reopened_outcome : Result (List Happening) SweepRefusal → Outcome
+reopened_outcome (Ok happened) = Answers (told.Reopened happened)
+reopened_outcome (Err sweeps.NoMemory) = Wants
+reopened_outcome (Err sweeps.StoreFault) = Fails
 
 -- the office that drains
 abbrev pub drain_outcome : Result Drain Want → Outcome
@@ -125,14 +156,20 @@ replied_in (told.Answered answered) = Some (Ok answered)
 replied_in (told.NoRun run reply) = Some (Err (NoRun run reply))
 replied_in t = None
 
+-- what a request is answered where the store fails
+abbrev pub store_reply : Reply
+store_reply = replies.Now (refusal_of store_failed)
+
 -- a request
 abbrev pub Replies : Result Reply Want → Outcome → Type 0
 Replies (Ok reply) (Answers t) = reply_in t ≡ Some reply
-Replies (Ok reply) other = ⊥
+Replies (Ok reply) Fails = reply ≡ store_reply
+Replies (Ok reply) Wants = ⊥
 Replies (Err e) o = o ≡ Wants
 
 -- a refusal hands the run's number and the reply back
 abbrev pub HandsBack : ℕ → RunReply → Result Answered AnswerRefusal → Type 0
 HandsBack run reply (Err (NoRun number back)) = (number ≡ run) × (back ≡ reply)
 HandsBack run reply (Err (NoMemory back)) = back ≡ reply
+HandsBack run reply (Err (StoreFault back)) = back ≡ reply
 HandsBack run reply (Ok answered) = Unit {0}

@@ -1,11 +1,9 @@
 -- The book: events with their moments and answers, the newest first. Every word about it is a recursion over that list.
-use Rattle.std.specs.Prelude.{◌≡◌, ◌+◌, ◌++◌, ◌≤◌, ℕ, Bool, true, false, List, [], ◌∷◌, length, map, sum, min, max}
+use Rattle.std.specs.Prelude.{◌≡◌, ◌+◌, ◌++◌, ◌≤◌, ℕ, Bool, true, false, List, [], ◌∷◌, length, map, sum, min, max, Result, Ok, Err}
 use Rattle.ow_traits.specs.declared.replies.RunReply.{RunReply}
 use Rattle.ow_traits.specs.declared.replies.RunReply.TheVariants as runs
 use Rattle.ow_entity.specs.declared.rows.Row.{Row}
 use Rattle.ow_tables.specs.Builtin.{builtin}
-use Rattle.ow_tables.specs.Contents.{Change}
-use Rattle.ow_tables.specs.Rows.{changed}
 use Rattle.ow_floor.specs.Trace.{Opened, Trace}
 use Rattle.ow_hall.specs.declared.entry.Entry.{Entry}
 use Rattle.ow_decide.specs.declared.events.Event.{Event}
@@ -24,7 +22,10 @@ use Rattle.ow_decide.specs.declared.waits.Wait.{Wait}
 use Rattle.ow_decide.specs.declared.waits.Waits.{Waits}
 use Rattle.ow_decide.specs.declared.waits.Waits.TheVariants.{Keep, Add, Clear}
 use Rattle.ow_decide.specs.Sight.{Sight}
-use Rattle.ow_decide.specs.Decision.{Decision}
+use Rattle.ow_items.specs.declared.item.Item.{Item}
+use Rattle.ow_keep.specs.Judged.{judged}
+use Rattle.ow_keep.specs.Moments.{greatest_kept_moment}
+use Rattle.ow_decide.specs.Decision.{Decision, all_changed}
 use Rattle.ow_decide.specs.Decisions.{decide}
 use Rattle.ow_hall.specs.Posting.{is_idle_answer, posting_by}
 
@@ -79,6 +80,16 @@ last_moment (e ∷ B) = e.at
 abbrev pub greatest_moment : ℕ
 greatest_moment = 253402300799999
 
+-- the greatest moment that kept rows have
+abbrev pub moment_in : Result (List Item) (List ℕ) → ℕ
+moment_in (Ok items) = greatest_kept_moment items
+moment_in (Err key) = 0
+
+-- an event comes no earlier than this: an opening than each moment of the kept rows
+abbrev pub least_moment : Event → ℕ
+least_moment (events.Opened rows) = moment_in (judged rows)
+least_moment event = 0
+
 -- the moment that is booked for a given one: at most the greatest, and never before the last one booked
 abbrev pub moment : History → ℕ → ℕ
 moment B at = max (last_moment B) (min at greatest_moment)
@@ -90,11 +101,6 @@ pub record Seen : Type 0 where
   pub rows : List Row
   pub trace : Trace
   pub waits : List Wait
-
--- the rows after these changes, of which the first is made first
-abbrev pub all_changed : List Change → List Row → List Row
-all_changed [] rs = rs
-all_changed (c ∷ cs) rs = all_changed cs (changed c rs)
 
 abbrev pub waits_after : Waits → List Wait → List Wait
 waits_after Keep ws = ws
@@ -135,19 +141,16 @@ posting B t = posting_by (is_idle B) t
 
 -- ---- legal books
 
--- each answer is the answer of the entries before it, and is booked behind them; the moments don't fall and are at most the greatest
+-- each answer is the answer of the entries before it, and is booked behind them; the moments don't fall and are at most the greatest,
+-- and that of an opening isn't before those of the kept rows
 abbrev pub AreAnswered : Table → History → Type 0
 AreAnswered t [] = Unit {0}
-AreAnswered t (e ∷ B) = (e.answer ≡ answer t B e.at e.event) × (posting B e.answer ≡ Booked) × (last_moment B ≤ e.at) × (e.at ≤ greatest_moment) × AreAnswered t B
+AreAnswered t (e ∷ B) = (e.answer ≡ answer t B e.at e.event) × (posting B e.answer ≡ Booked) × (last_moment B ≤ e.at) × (e.at ≤ greatest_moment) × (least_moment e.event ≤ e.at) × AreAnswered t B
 
 -- there is no entry
 abbrev pub is_empty : History → Bool
 is_empty [] = true
 is_empty (e ∷ B) = false
-
-abbrev pub is_opening : Event → Bool
-is_opening (events.Opened rows) = true
-is_opening event = false
 
 -- an opening stands behind no entry; at another event it is as before
 abbrev pub opens_here : Event → History → Bool → Bool

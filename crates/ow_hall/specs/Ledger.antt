@@ -1,5 +1,5 @@
 -- A book with its tallies of what isn't booked.
-use Rattle.std.specs.Prelude.{◌≡◌, ◌+◌, ◌-◌, ◌*◌, ◌^◌, ◌<◌, ◌≤◌, ◌==◌, ℕ, List, [], ◌∷◌, if◌then◌else◌}
+use Rattle.std.specs.Prelude.{◌≡◌, ◌+◌, ◌-◌, ◌*◌, ◌^◌, ◌<◌, ◌≤◌, ◌==◌, ℕ, List, [], ◌∷◌, max, if◌then◌else◌}
 use Rattle.ow_floor.specs.Trace.{Trace}
 use Rattle.ow_floor.specs.Owed.{owed}
 use Rattle.ow_hall.specs.declared.entry.Entry.{Entry}
@@ -9,7 +9,7 @@ use Rattle.ow_decide.specs.declared.events.Told.{Told}
 use Rattle.ow_hall.specs.declared.posting.Posting.{Posting}
 use Rattle.ow_hall.specs.declared.posting.Posting.TheVariants.{Booked, Quiet, Denied, Unbooked}
 use Rattle.ow_tenant.specs.Table.{Table}
-use Rattle.ow_hall.specs.History.{History, answer, counted, event_bytes, moment, posting, told_bytes}
+use Rattle.ow_hall.specs.History.{History, answer, counted, event_bytes, least_moment, moment, posting, told_bytes}
 
 -- the entries, the newest first; how many calls met a fault of the store; how many calls of `next` and how many events of
 -- runners weren't booked
@@ -43,9 +43,13 @@ cost other = 0
 abbrev pub posted : Ledger → ℕ → Event → Told → Ledger
 posted L at event t = posted_as (posting L.entries t) (record { at = at; event = event; answer = t }) L
 
--- the ledger of a service that was just opened, over no kept rows
-abbrev pub opened : Table → ℕ → Ledger
-opened t at = posted no_entries (moment [] at) (events.Opened []) (answer t [] (moment [] at) (events.Opened []))
+-- the moment of an opening over kept rows: none of theirs is later
+abbrev pub opening_moment : List (List ℕ × List ℕ) → ℕ → ℕ
+opening_moment rows at = max (least_moment (events.Opened rows)) (moment [] at)
+
+-- the ledger of a service that was just opened over kept rows
+abbrev pub opened : Table → List (List ℕ × List ℕ) → ℕ → Ledger
+opened t rows at = posted no_entries (opening_moment rows at) (events.Opened rows) (answer t [] (opening_moment rows at) (events.Opened rows))
 
 -- a call met a fault of the store
 abbrev pub faulted : Ledger → Ledger

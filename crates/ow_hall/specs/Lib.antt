@@ -2,5 +2,9 @@ pub mod Posting
 pub mod History
 pub mod Ledger
 pub mod Comes
+pub mod Commits
+pub mod Openings
+pub mod Performing
 pub mod State
 pub mod Beginnings
+pub mod Readied

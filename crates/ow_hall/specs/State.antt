@@ -1,21 +1,27 @@
 -- What stands behind the book, as the code has it.
-use Rattle.std.specs.Prelude.{◌≡◌, ◌≤◌, ◌++◌, ℕ, List, Option, Some, None}
+use Rattle.std.specs.Prelude.{◌≡◌, ◌≤◌, ◌++◌, ℕ, List, [], ◌∷◌, true, is_some, IfSome, Option, Some, None}
+use Rattle.std.specs.List.{flat_map}
 use Rattle.ow_records.specs.declared.record.Record.{Record}
 use Rattle.ow_entity.specs.declared.rows.Row.{Row}
-use Rattle.ow_floor.specs.Laws.{Stands}
+use Rattle.ow_floor.specs.Growth.{AreRight}
+use Rattle.ow_floor.specs.Laws.{IsSound, Stands}
+use Rattle.ow_floor.specs.Trace.{Trace, records, shown}
 use Rattle.ow_floor.specs.View.{FloorView, Shown}
 use Rattle.ow_decide.specs.declared.step.Now.{Now}
 use Rattle.ow_decide.specs.declared.step.Step.{Step}
 use Rattle.ow_tenant.specs.Notes as notes
 use Rattle.ow_tenant.specs.Table.{Table}
 use Rattle.ow_counts.specs.View.{CountsView, HasRoomFor, StandsFor, notes_of}
-use Rattle.ow_decide.specs.Noted.{MayAllEnd, noted_ends, noted_invoked}
+use Rattle.ow_decide.specs.Noted.{MayAllEnd, invoked_in, noted_ends, noted_invoked}
 use Rattle.ow_decide.specs.declared.waits.Wait.{Wait}
 use Rattle.ow_decide.specs.Sight.{Sight}
-use Rattle.ow_decide.specs.Decision.{Decision}
+use Rattle.ow_decide.specs.Decision.{Decision, all_changed, commits}
+use Rattle.ow_kept.specs.Commits.{end_changes}
+use Rattle.ow_kept.specs.Keeping.{AreLater, CommitView, KeepingView, StandsAfter, StandsForKept}
+use Rattle.ow_hall.specs.Commits.{changes_in}
 use Rattle.ow_hall.specs.History.{IsLegal, Seen, seen}
 use Rattle.ow_hall.specs.Ledger.{Ledger}
-use Rattle.ow_decide.specs.Making.{Carries, IsSeen}
+use Rattle.ow_decide.specs.Making.{Carries, IsSeen, changes_of}
 
 -- ---- floor, rows, waits and counts
 
@@ -27,6 +33,7 @@ pub record StateView : Type 0 where
   pub waits : List Wait
   pub wait_room : ℕ
   pub counts : CountsView
+  pub keeping : KeepingView
 
 -- they stand as was seen
 pub record IsAt (v : StateView) (s : Seen) : Type 0 where
@@ -34,6 +41,7 @@ pub record IsAt (v : StateView) (s : Seen) : Type 0 where
   pub rows : v.rows ≡ s.rows
   pub waits : v.waits ≡ s.waits
   pub counts : StandsFor v.counts (notes_of s.trace)
+  pub keeping : StandsForKept v.keeping s.rows s.trace
 
 -- the book is legal; floor, rows, waits and counts stand as it says; and the floor isn't held
 pub record Keeps (w : StateView) (t : Table) (L : Ledger) : Type 0 where
@@ -43,10 +51,58 @@ pub record Keeps (w : StateView) (t : Table) (L : Ledger) : Type 0 where
 
 -- ---- a step
 
--- over floor, rows and waits
+-- all that have ended, those of an earlier run first
+abbrev pub all_ended : Shown → List Record
+all_ended v = v.resumed ++ v.ended
+
+-- over floor, rows and waits: what is decided of what is seen is done on the floor, and made ready beside it, but for what is
+-- committed of ends
+abbrev pub Makes : StateView → Shown → Table → Now → (Sight → Decision) → Step → Type 0
+Makes old new t now decided step = (S : Sight) → IsSeen S t old.rows old.counts old.keeping old.floor.now now → S.waits ≡ old.waits
+    → Carries step (decided S) old.keeping S × Stands new ((decided S).items ++ S.trace)
+
+-- a step has what was decided
+pub record IsStep (step : Step) (d : Decision) : Type 0 where
+  pub told : step.told ≡ d.told
+  pub changes : changes_of step.change ≡ d.changes
+  pub waits : step.waits ≡ d.waits
+  pub invoked : step.invoked ≡ invoked_in d.items
+
+-- with what is committed, if anything, the size stands for these rows and this trace
+abbrev pub StandsWith : Option CommitView → KeepingView → List Row → Trace → Type 0
+StandsWith None v rs T = StandsForKept v rs T
+StandsWith (Some c) v rs T = StandsAfter c v rs T
+
+-- all that a decision changes of what is kept is committed
+pub record IsWhole (commit : Option CommitView) (d : Decision) (v : KeepingView) (S : Sight) : Type 0 where
+  pub changes : changes_in commit ≡ commits d
+  pub stands : StandsWith commit v (all_changed d.changes S.rows) (d.items ++ S.trace)
+
+-- the same with all that is committed
 abbrev pub Does : StateView → Shown → Table → Now → (Sight → Decision) → Step → Type 0
-Does old new t now decided step = (S : Sight) → IsSeen S t old.rows old.counts old.floor.now now → S.waits ≡ old.waits
-    → Carries step (decided S) × Stands new ((decided S).items ++ S.trace)
+Does old new t now decided step = (S : Sight) → IsSeen S t old.rows old.counts old.keeping old.floor.now now → S.waits ≡ old.waits
+    → IsStep step (decided S) × IsWhole step.commit (decided S) old.keeping S × Stands new ((decided S).items ++ S.trace)
+
+-- these ends are committed, and nothing else
+pub record IsEnding (c : CommitView) (v : KeepingView) (ends : List Record) : Type 0 where
+  pub changes : c.changes ≡ flat_map end_changes ends
+  pub stands : (rs : List Row) (T items : Trace) → StandsForKept v rs T → IsSound T → AreRight items (shown T) → AreLater items → ends ≡ records items
+      → StandsAfter c v rs (items ++ T)
+
+-- what is committed where activations have ended with these records: the ends alone, where there are any
+abbrev pub CommitsEnds : KeepingView → List Record → Option CommitView → Option CommitView → Type 0
+CommitsEnds v [] before commit = commit ≡ before
+CommitsEnds v (r ∷ rs) before commit = IfSome commit (λ c. IsEnding c v (r ∷ rs)) × (is_some commit ≡ true)
+
+-- ---- the size of what is kept
+
+-- it is what it was, with more room
+abbrev pub StaysKept : KeepingView → KeepingView → Type 0
+StaysKept old new = (new.bytes ≡ old.bytes) × (new.opens ≡ old.opens)
+
+-- what was committed, if anything, is kept
+abbrev pub KeepsCommit : Option CommitView → KeepingView → KeepingView → Type 0
+KeepsCommit commit old new = (rs : List Row) (T : Trace) → StandsWith commit old rs T → StandsForKept new rs T
 
 -- ---- notes
 

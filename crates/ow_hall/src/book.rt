@@ -2,7 +2,8 @@
 ghost use Rattle.std.specs.Prelude.{◌≡◌, ◌↔◌, ◌+◌, ◌*◌, ◌^◌, ◌<◌, ◌≤◌, ◌∷◌, length, reverse, IsTrue, IfOk, OnOk};
 ghost use Rattle.ow_decide.specs.Sight.{is_full};
 ghost use Rattle.ow_hall.specs.History.{counted, event_bytes, is_idle, moment, posting, told_bytes};
-ghost use Rattle.ow_hall.specs.Ledger.{IsReady, cost, no_entries, one_more, posted, posted_as};
+ghost use Rattle.ow_hall.specs.Commits.{is_fault, uncommitted};
+ghost use Rattle.ow_hall.specs.Ledger.{IsReady, cost, faulted, no_entries, one_more, posted, posted_as};
 
 use crate::bytes::entry_bytes;
 use crate::entries::Entries;
@@ -10,6 +11,7 @@ use crate::entry::Entry;
 use crate::posting::{Posting, posting_of};
 use ow_decide::{Event, Told, is_full};
 use ow_floor::Order;
+use ow_traits::KeeperError;
 use ow_value::NoMemory;
 use std::alloc::Global;
 use std::marker::Model;
@@ -188,6 +190,29 @@ impl Book {
     {
         self.total += 64 + bytes;
         self.entries.push(Entry { at, event, answer });
+    }
+
+    /// Tallies a commit that failed, where it met a fault of the store, and tells whether it did.
+    pub(crate) fn note_uncommitted(&mut self, error: KeeperError) -> bool
+        ensures ledger { self.new.ledger ≡ uncommitted error self.old.ledger }
+        ensures room { self.new.room ≡ self.old.room }
+        ensures failed { result ≡ is_fault error }
+    {
+        match error {
+            KeeperError::Failed => {
+                self.note_stored();
+                true
+            }
+            KeeperError::NoMemory => false,
+        }
+    }
+
+    #[tactic(auto, unfolding(crate::specs::Ledger::one_more))]
+    fn note_stored(&mut self)
+        ensures ledger { self.new.ledger ≡ faulted self.old.ledger }
+        ensures room { self.new.room ≡ self.old.room }
+    {
+        self.stored = self.stored.saturating_add(1);
     }
 
     #[tactic(auto, unfolding(crate::specs::Ledger::one_more))]

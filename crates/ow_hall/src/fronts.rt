@@ -1,11 +1,14 @@
 // What the calls answer, by what is told.
-ghost use Rattle.std.specs.Prelude.{◌≡◌, Some, IsSome, ℕ};
+ghost use Rattle.std.specs.Prelude.{◌≡◌, Some, IsSome, List, ℕ};
+ghost use Rattle.ow_floor.specs.declared.answers.Happening.{Happening};
 ghost use Rattle.ow_decide.specs.Asking.{reply_in};
-ghost use Rattle.ow_hall.specs.Comes.{Answers, replied_in, reply_outcome};
+ghost use Rattle.ow_hall.specs.Comes.{Answers, replied_in, reply_outcome, store_failed};
 ghost use Rattle.ow_traits.specs.declared.replies.RunReply.{RunReply};
+ghost use Rattle.ow_decide.specs.declared.replies.Called.TheVariants as called;
 
 use ow_decide::{Called, Event, HallCollected, Reply, Told};
-use ow_floor::{AnswerRefusal, Answered, Drain, Order, Swept};
+use ow_floor::{AnswerRefusal, Answered, Drain, Happened, Order, Swept};
+use ow_http::{Reason, ServiceRefusal};
 use ow_traits::RunReply;
 
 /// What a request is answered. An answer that the book is full looks as any other.
@@ -29,6 +32,13 @@ pub(crate) fn called_in(told: Told) -> Called
         Told::Called(called) => called,
         _ => unreachable!(),
     }
+}
+
+/// What a call of the office is answered where the store fails.
+pub(crate) fn store_called() -> Called
+    ensures { result ≡ called.Refused store_failed }
+{
+    Called::Refused(Reason::Service(ServiceRefusal::StoreFault))
 }
 
 /// What a runner is answered that asks.
@@ -61,6 +71,17 @@ pub(crate) fn swept_in(told: Told) -> Swept
 {
     match told {
         Told::Swept(swept) => swept,
+        _ => unreachable!(),
+    }
+}
+
+/// What is answered to a reopening.
+pub(crate) fn reopened_in(told: Told) -> Happened
+    requires { (hs : List Happening) × (told ≡ Told.Reopened hs) }
+    ensures { told ≡ Told.Reopened result }
+{
+    match told {
+        Told::Reopened(happened) => happened,
         _ => unreachable!(),
     }
 }

@@ -1,28 +1,33 @@
 // The hall and its calls: each answers, and is posted.
-ghost use Rattle.std.specs.Prelude.{◌≡◌, ◌≤◌, [], true, false, Ok, Err, IfOk, IfErr};
+ghost use Rattle.std.specs.Prelude.{◌≡◌, ◌≤◌, [], true, false, Ok, Err, IfOk, IfErr, OnErr};
 ghost use Rattle.ow_floor.specs.Laws.{Stands};
 ghost use Rattle.ow_floor.specs.Owed.{owed};
 ghost use Rattle.ow_floor.specs.Trace.{Trace};
-ghost use Rattle.ow_hall.specs.Comes.{Answers, Comes, HandsBack, Outcome, Replies, call_outcome, collect_outcome, done_outcome, drain_outcome, next_outcome, outcome, reply_outcome, swept_outcome};
-ghost use Rattle.ow_hall.specs.History.{IsLegal, is_opening, posting};
-ghost use Rattle.ow_hall.specs.Ledger.{IsReady, opened};
-ghost use Rattle.ow_decide.specs.Decisions.{wants_memory};
-ghost use Rattle.ow_pool.specs.Rules.{AreWantsSized};
+ghost use Rattle.ow_hall.specs.Comes.{Answers, Comes, HandsBack, HoldsBook, IsCalled, Outcome, Replies, collect_outcome, done_outcome, drain_outcome, next_outcome, reopened_outcome, reply_outcome, swept_outcome};
+ghost use Rattle.ow_hall.specs.Commits.{CommitsTo, changes_in};
+ghost use Rattle.ow_hall.specs.History.{IsLegal, posting};
+ghost use Rattle.ow_hall.specs.Ledger.{IsReady};
+ghost use Rattle.ow_hall.specs.Performing.{outcome, unanswered};
+ghost use Rattle.ow_decide.specs.Decisions.{is_opening, wants_memory};
 ghost use Rattle.ow_decide.specs.declared.events.Event.TheVariants as events;
 
 use crate::book::Book;
 use crate::fronts::{
-    answered_in, called_in, collected_in, drain_in, order_in, reply_in, reply_of, swept_in,
+    answered_in, called_in, collected_in, drain_in, order_in, reopened_in, reply_in, reply_of,
+    store_called, swept_in,
 };
 use crate::posting::Posting;
+use crate::refusals::SweepRefusal;
 use crate::state::HallState;
+use crate::store_answer::StoreAnswer;
 use ow_decide::{Called, Event, HallCollected, Now, Reply, Step, Told, taken_told};
 use ow_floor::{AnswerRefusal, Answered, Drain, FloorRefusal, Happened, Order, Swept};
 use ow_http::Request;
+use ow_kept::Commit;
 use ow_names::FullName;
 use ow_records::Id;
 use ow_tenant::Tenants;
-use ow_traits::{Keeper, Rows, RunReply};
+use ow_traits::{Keeper, KeeperError, RunReply};
 use ow_value::{NoMemory, Params, PlainData, Shared};
 use std::alloc::Global;
 use std::marker::Model;
@@ -30,14 +35,16 @@ use std::marker::Model;
 /// The service behind one book. Moments are milliseconds; one that is before the last booked one counts as that.
 #[derive(Drop)]
 pub struct Hall<P: Keeper + Drop> {
-    tenants: Tenants,
-    state: HallState,
-    book: Book,
-    store: P,
+    pub(crate) tenants: Tenants,
+    pub(crate) state: HallState,
+    pub(crate) book: Book,
+    pub(crate) store: P,
+    // What requests are answered where the store fails.
+    pub(crate) failed: StoreAnswer,
 }
 
 impl<P: Keeper + Drop> Model for Hall<P> {
-    ghost use Rattle.ow_hall.specs.Comes.{HallView};
+    ghost use Rattle.ow_hall.specs.Comes.{HallView, HoldsBook};
     ghost use Rattle.ow_hall.specs.History.{seen};
     ghost use Rattle.ow_hall.specs.Ledger.{HasRoom};
     ghost use Rattle.ow_hall.specs.State.{Keeps};
@@ -51,39 +58,18 @@ impl<P: Keeper + Drop> Model for Hall<P> {
     ghost view = { λ h. record { tenants = h.tenants; ledger = h.book.ledger; store = h.store } };
 
     ghost invariant = { λ h. Keeps h.state h.tenants h.book.ledger
-        × HasRoom (seen h.tenants h.book.ledger.entries).trace h.book.ledger h.book.room };
+        × HasRoom (seen h.tenants h.book.ledger.entries).trace h.book.ledger h.book.room
+        × HoldsBook (P.rows h.store) h.tenants h.book.ledger };
 }
 
-/// An event that came to nothing, since memory was wanted.
+/// An event that came to nothing, since the store failed or memory was wanted.
 #[derive(Drop)]
-struct Undone {
-    event: Event,
+pub(crate) struct Undone {
+    pub(crate) event: Event,
+    pub(crate) failed: bool,
 }
 
 impl<P: Keeper + Drop> Hall<P> {
-    /// Opens the service over a store, of which nothing is asked yet, and an office table, as `Tenants::read` gives one: its pool and
-    /// limits stay as they are. Without memory both are lost.
-    pub fn start(alloc: Global, store: P, tenants: Tenants, at: u64) -> Result<Hall<P>, NoMemory>
-        requires { AreWantsSized tenants.wants }
-        ensures tenants { IfOk result (λ h. h.tenants ≡ tenants) }
-        ensures ledger { IfOk result (λ h. h.ledger ≡ opened tenants at) }
-        ensures store { IfOk result (λ h. h.store ≡ store) }
-    {
-        let state = HallState::new(alloc, &tenants)?;
-        let mut book = Book::new(alloc);
-        let at = book.moment(at);
-        let event = Event::Opened(Rows::new(alloc));
-        let told = Told::Opened(Happened::none());
-        let bytes = book.reserve(0, &event, &told)?;
-        book.post(at, event, told, bytes);
-        Ok(Hall {
-            tenants,
-            state,
-            book,
-            store,
-        })
-    }
-
     /// The book so far.
     pub fn book(&self) -> &Book
         ensures ledger { result.now.ledger ≡ self.now.ledger }
@@ -97,6 +83,7 @@ impl<P: Keeper + Drop> Hall<P> {
         ensures store { result.0 ≡ self.store }
         ensures ledger { result.1.ledger ≡ self.ledger }
         ensures legal { IsLegal self.tenants self.ledger.entries }
+        ensures kept { HoldsBook (P.rows self.store) self.tenants self.ledger }
     {
         let Hall { book, store, .. } = self;
         (store, book)
@@ -106,9 +93,11 @@ impl<P: Keeper + Drop> Hall<P> {
     pub fn ask(&mut self, alloc: Global, at: u64, request: &Request) -> Result<Reply, NoMemory>
         ensures { (o : Outcome) × Replies result o × Comes P.rows P.faults self.old self.new at (events.Asked request.now) o }
     {
+        let failed = self.failed.reply(alloc)?;
         let request = Shared::new(alloc, request.copy(alloc)?)?;
         match self.perform(alloc, at, Event::Asked(request)) {
             Ok(told) => Ok(reply_in(told)),
+            Err(Undone { failed: true, .. }) => Ok(failed),
             Err(_) => Err(NoMemory),
         }
     }
@@ -121,7 +110,7 @@ impl<P: Keeper + Drop> Hall<P> {
         name: &FullName,
         params: Params,
     ) -> Result<Called, NoMemory>
-        ensures { Comes P.rows P.faults self.old self.new at (events.Called name.now params) (call_outcome result) }
+        ensures { (o : Outcome) × IsCalled result o × Comes P.rows P.faults self.old self.new at (events.Called name.now params) o }
     {
         let Ok(name) = name.copy(alloc) else {
             drop(params);
@@ -129,6 +118,7 @@ impl<P: Keeper + Drop> Hall<P> {
         };
         match self.perform(alloc, at, Event::Called { name, params }) {
             Ok(told) => Ok(called_in(told)),
+            Err(Undone { failed: true, .. }) => Ok(store_called()),
             Err(_) => Err(NoMemory),
         }
     }
@@ -168,12 +158,25 @@ impl<P: Keeper + Drop> Hall<P> {
     }
 
     /// Records the ends of what all late runs carry, by the runs' numbers. It is booked also where no run is late.
-    pub fn sweep(&mut self, alloc: Global, at: u64) -> Result<Swept, NoMemory>
+    pub fn sweep(&mut self, alloc: Global, at: u64) -> Result<Swept, SweepRefusal>
         ensures { Comes P.rows P.faults self.old self.new at events.Sweep (swept_outcome result) }
     {
         match self.perform(alloc, at, Event::Sweep) {
             Ok(told) => Ok(swept_in(told)),
-            Err(_) => Err(NoMemory),
+            Err(Undone { failed: true, .. }) => Err(SweepRefusal::StoreFault),
+            Err(_) => Err(SweepRefusal::NoMemory),
+        }
+    }
+
+    /// Opens the service anew: each activation that has not ended is recorded as abandoned, by id, all containers are gone, nobody waits,
+    /// and calls are taken again. It tells what was recorded. Where the store fails or memory is wanted it goes on as it was.
+    pub fn reopen_in_place(&mut self, alloc: Global, at: u64) -> Result<Happened, SweepRefusal>
+        ensures { Comes P.rows P.faults self.old self.new at events.Reopened (reopened_outcome result) }
+    {
+        match self.perform(alloc, at, Event::Reopened) {
+            Ok(told) => Ok(reopened_in(told)),
+            Err(Undone { failed: true, .. }) => Err(SweepRefusal::StoreFault),
+            Err(_) => Err(SweepRefusal::NoMemory),
         }
     }
 
@@ -190,7 +193,7 @@ impl<P: Keeper + Drop> Hall<P> {
     {
         match self.perform(alloc, at, Event::Answered { run, reply }) {
             Ok(told) => answered_in(told),
-            Err(Undone { event }) => Err(AnswerRefusal::NoMemory(reply_of(event))),
+            Err(Undone { event, failed }) => Err(unanswered(reply_of(event), failed)),
         }
     }
 
@@ -231,8 +234,9 @@ impl<P: Keeper + Drop> Hall<P> {
         taken
     }
 
-    // What comes of any other event: it is held until all memory that it takes is there.
-    fn perform(&mut self, alloc: Global, at: u64, event: Event) -> Result<Told, Undone>
+    // What comes of any other event: it is held until all memory that it takes is there, and what it changes of what is kept was
+    // committed.
+    pub(crate) fn perform(&mut self, alloc: Global, at: u64, event: Event) -> Result<Told, Undone>
         requires later { is_opening event ≡ false }
         requires memory { wants_memory event ≡ true }
         ensures comes { Comes P.rows P.faults self.old self.new at event (outcome result) }
@@ -244,25 +248,70 @@ impl<P: Keeper + Drop> Hall<P> {
         };
         let before = self.state.ended();
         let Ok(step) = self.state.attempt(alloc, &self.tenants, now, &event) else {
-            return Err(Undone { event });
+            return Err(Undone {
+                event,
+                failed: false,
+            });
         };
         let Ok((copied, bytes)) = prepare(alloc, &self.state, &mut self.book, &event, &step.told)
         else {
             drop(step);
             self.state.settle(false);
-            return Err(Undone { event });
+            return Err(Undone {
+                event,
+                failed: false,
+            });
         };
+        match commit(alloc, &mut self.store, &step.commit) {
+            Ok(()) => {}
+            Err(error) => {
+                drop((step, copied));
+                self.state.settle(false);
+                let failed = self.book.note_uncommitted(error);
+                return Err(Undone { event, failed });
+            }
+        }
         self.state.settle(true);
         let Step {
             told,
             change,
             waits,
             invoked,
+            commit,
         } = step;
         self.state.apply(change, waits);
         self.state.note(invoked, now.at, before);
+        self.state.keep(commit);
         self.book.post(now.at, event, copied, bytes);
         Ok(told)
+    }
+}
+
+// Commits what is to be committed, if anything. Where nothing changes of what is kept, the store isn't asked.
+fn commit<P: Keeper>(
+    alloc: Global,
+    store: &mut P,
+    commit: &Option<Commit>,
+) -> Result<(), KeeperError>
+    ensures { CommitsTo P.rows P.faults (changes_in commit.now) store.old store.new result }
+{
+    let Some(commit) = commit else {
+        return Ok(());
+    };
+    if commit.changes().is_empty() {
+        return Ok(());
+    }
+    store.commit(alloc, commit.changes())
+}
+
+// Why a runner's reply isn't taken, which is handed back.
+fn unanswered(reply: RunReply, failed: bool) -> AnswerRefusal
+    ensures { result ≡ unanswered reply failed }
+{
+    if failed {
+        AnswerRefusal::StoreFault(reply)
+    } else {
+        AnswerRefusal::NoMemory(reply)
     }
 }
 

@@ -8,11 +8,16 @@ mod entry;
 mod fronts;
 mod hall;
 mod laws;
+mod opening;
+mod openings;
 mod posting;
+mod refusals;
 mod state;
+mod store_answer;
 
 pub use book::{Book, GREATEST_MOMENT};
 pub use entries::Entries;
 pub use entry::Entry;
 pub use hall::Hall;
 pub use laws::{legal_books_keep_activations, legal_books_keep_limits};
+pub use refusals::{Reopened, StartFault, StartRefusal, SweepRefusal};

@@ -1,19 +1,21 @@
 // What stands behind the book: the floor, the rows, who waits, and what counts against the limits. What is done at an event is held
 // on the floor, and made ready beside it, until it is settled.
-ghost use Rattle.std.specs.Prelude.{◌≡◌, ◌≤◌, [], ◌∷◌, true, false, Some, None, length, drop, IfOk, IfSome, OnOk, OnErr};
+ghost use Rattle.std.specs.Prelude.{◌≡◌, ◌≤◌, [], ◌∷◌, true, false, Some, None, length, drop, min, IfOk, IfSome, OnOk, OnErr};
 ghost use Rattle.ow_floor.specs.Laws.{Stands};
 ghost use Rattle.ow_floor.specs.Owed.{owed};
 ghost use Rattle.ow_floor.specs.Trace.{Trace};
 ghost use Rattle.ow_pool.specs.Rules.{AreWantsSized};
-ghost use Rattle.ow_decide.specs.Decisions.{decide, taken_told, wants_memory};
-ghost use Rattle.ow_hall.specs.History.{all_changed, seen, waits_after};
+ghost use Rattle.ow_decide.specs.Decisions.{decide, is_opening, taken_told, wants_memory};
+ghost use Rattle.ow_decide.specs.Decision.{all_changed};
+ghost use Rattle.ow_hall.specs.History.{seen, waits_after};
 ghost use Rattle.ow_decide.specs.Making.{HasPlace, changes_of, telling};
-ghost use Rattle.ow_hall.specs.State.{Does, HasRoomOf, IsAt, KeepsNotes, Notes, NotesEnds, NotesInvoked};
+ghost use Rattle.ow_hall.specs.State.{CommitsEnds, Does, HasRoomOf, IsAt, KeepsCommit, KeepsNotes, Makes, Notes, NotesEnds, NotesInvoked, StaysKept, all_ended};
 ghost use Rattle.ow_tenant.specs.Table.{Table};
 
 use ow_counts::Counts;
 use ow_decide::{Event, Now, Step, Wait, Waits, step_for, take};
 use ow_floor::{Floor, FloorRefusal};
+use ow_kept::{Commit, Keeping};
 use ow_names::EntityName;
 use ow_records::Record;
 use ow_tables::{Ready, Tables};
@@ -22,13 +24,14 @@ use ow_value::{NoMemory, PlainData, Shared};
 use std::alloc::Global;
 use std::marker::Model;
 
-/// What waits, runs and has ended, the entities, who waits for an end, and what counts against the limits.
+/// What waits, runs and has ended, the entities, who waits for an end, what counts against the limits, and the size of what is kept.
 #[derive(Drop)]
 pub(crate) struct HallState {
     floor: Floor,
     tables: Tables,
     waits: Vec<Wait>,
     counts: Counts,
+    keeping: Keeping,
 }
 
 impl Model for HallState {
@@ -48,26 +51,32 @@ impl Model for HallState {
       waits = w.waits.items;
       wait_room = vec_capacity w.waits - vec_len w.waits;
       counts = w.counts;
+      keeping = w.keeping;
     } };
 }
 
 impl HallState {
-    /// Nothing has happened, and the built-in rows stand.
-    pub(crate) fn new(alloc: Global, tenants: &Tenants) -> Result<HallState, NoMemory>
-        requires { AreWantsSized tenants.now.wants }
-        ensures stands { IfOk result (λ w. IsAt w (seen tenants.now [])) }
-        ensures free { IfOk result (λ w. w.floor.before ≡ None) }
+    /// Nobody waits, and all else stands so.
+    pub(crate) fn of(
+        alloc: Global,
+        floor: Floor,
+        tables: Tables,
+        counts: Counts,
+        keeping: Keeping,
+    ) -> HallState
+        ensures floor { result.floor ≡ floor }
+        ensures rows { result.rows ≡ tables.rows }
+        ensures waits { result.waits ≡ [] }
+        ensures counts { result.counts ≡ counts }
+        ensures keeping { result.keeping ≡ keeping }
     {
-        let wants = tenants.wants().copy(alloc)?;
-        let floor = Floor::new(alloc, tenants.pool(), wants)?;
-        let counts = Counts::new(alloc)?;
-        let tables = Tables::new(alloc)?;
-        Ok(HallState {
+        HallState {
             floor,
             tables,
             waits: Vec::new(alloc),
             counts,
-        })
+            keeping,
+        }
     }
 
     /// How many entries are owed to the book.
@@ -77,9 +86,9 @@ impl HallState {
         self.floor.owed()
     }
 
-    /// How many activations have ended.
+    /// How many activations have ended, with those of an earlier run.
     pub(crate) fn ended(&self) -> usize
-        ensures { result ≡ length self.now.floor.now.ended }
+        ensures { result ≡ length (all_ended self.now.floor.now) }
     {
         self.floor.records().len()
     }
@@ -88,16 +97,17 @@ impl HallState {
     pub(crate) fn take(&mut self, now: Now, event: &Event) -> Result<(), FloorRefusal>
         requires event { wants_memory event.now ≡ false }
         requires free { self.old.floor.before ≡ None }
-        ensures ok { (t : Table) → Does self.old self.new.floor.now t now (λ S. decide S event.now) (telling (taken_told result)) }
+        ensures ok { (t : Table) → Makes self.old self.new.floor.now t now (λ S. decide S event.now) (telling (taken_told result)) }
         ensures free { self.new.floor.before ≡ None }
         ensures rest { (self.new.rows ≡ self.old.rows) × (self.new.waits ≡ self.old.waits) }
         ensures counts { self.new.counts ≡ self.old.counts }
+        ensures keeping { self.new.keeping ≡ self.old.keeping }
     {
         take(&mut self.floor, now, event)
     }
 
-    /// Does what is decided at an event, and holds it. There is room then for the note of an invocation. Without memory all is as
-    /// before.
+    /// Does what is decided at an event, and holds it, with all that is to be committed of it. There is room then for the note of an
+    /// invocation. Without memory all is as before.
     pub(crate) fn attempt(
         &mut self,
         alloc: Global,
@@ -105,20 +115,22 @@ impl HallState {
         now: Now,
         event: &Event,
     ) -> Result<Step, NoMemory>
-        requires { wants_memory event.now ≡ true }
+        requires memory { wants_memory event.now ≡ true }
+        requires later { is_opening event.now ≡ false }
         ensures ok { IfOk result (Does self.old self.new.floor.now tenants.now now (λ S. decide S event.now)) }
         ensures held { OnOk result (self.new.floor.before ≡ Some self.old.floor.now) }
         ensures place { IfOk result (λ s. HasPlace s.change self.new.row_room) }
-        ensures room { OnOk result (1 ≤ self.new.wait_room) }
+        ensures room { OnOk result ((1 ≤ self.new.wait_room) × (1 ≤ self.new.keeping.room)) }
         ensures counter { IfOk result (λ s. HasRoomOf s.invoked self.new.counts) }
         ensures rest { (self.new.rows ≡ self.old.rows) × (self.new.waits ≡ self.old.waits) }
         ensures counts { KeepsNotes self.old.counts self.new.counts }
+        ensures kept { StaysKept self.old.keeping self.new.keeping }
         ensures err { OnErr result (self.new.floor.now ≡ self.old.floor.now) }
         ensures free { OnErr result (self.old.floor.before ≡ None → self.new.floor.before ≡ None) }
     {
         self.reserve()?;
         self.hold();
-        match self.counted_step(alloc, tenants, now, event) {
+        match self.whole_step(alloc, tenants, now, event) {
             Ok(step) => Ok(step),
             Err(e) => {
                 self.settle(false);
@@ -135,6 +147,7 @@ impl HallState {
         ensures rest { (self.new.rows ≡ self.old.rows) × (self.new.waits ≡ self.old.waits) }
         ensures counts { self.new.counts ≡ self.old.counts }
         ensures room { (self.new.row_room ≡ self.old.row_room) × (self.new.wait_room ≡ self.old.wait_room) }
+        ensures keeping { self.new.keeping ≡ self.old.keeping }
     {
         self.floor.settle(keep);
     }
@@ -147,6 +160,7 @@ impl HallState {
         ensures rows { self.new.rows ≡ all_changed (changes_of change) self.old.rows }
         ensures waits { self.new.waits ≡ waits_after waits self.old.waits }
         ensures counts { self.new.counts ≡ self.old.counts }
+        ensures keeping { self.new.keeping ≡ self.old.keeping }
     {
         if let Some(ready) = change {
             self.tables.apply(ready);
@@ -162,10 +176,11 @@ impl HallState {
     /// ended behind the first so many. This takes no memory.
     pub(crate) fn note(&mut self, invoked: Option<EntityName>, at: u64, before: usize)
         requires room { HasRoomOf invoked self.old.counts }
-        requires ends { before ≤ length self.old.floor.now.ended }
-        ensures counts { Notes invoked at (drop before self.old.floor.now.ended) self.old.counts self.new.counts }
+        requires ends { before ≤ length (all_ended self.old.floor.now) }
+        ensures counts { Notes invoked at (drop before (all_ended self.old.floor.now)) self.old.counts self.new.counts }
         ensures floor { self.new.floor ≡ self.old.floor }
         ensures rest { (self.new.rows ≡ self.old.rows) × (self.new.waits ≡ self.old.waits) }
+        ensures keeping { self.new.keeping ≡ self.old.keeping }
     {
         note_invoked(&mut self.counts, invoked, at);
         note_ends(&mut self.counts, &self.floor.records().items()[before..]);
@@ -173,14 +188,28 @@ impl HallState {
 }
 
 impl HallState {
-    // Makes room for one who waits.
+    /// What was committed is kept. This takes no memory.
+    pub(crate) fn keep(&mut self, commit: Option<Commit>)
+        requires { 1 ≤ self.old.keeping.room }
+        ensures keeping { KeepsCommit commit self.old.keeping self.new.keeping }
+        ensures floor { self.new.floor ≡ self.old.floor }
+        ensures rest { (self.new.rows ≡ self.old.rows) × (self.new.waits ≡ self.old.waits) }
+        ensures counts { self.new.counts ≡ self.old.counts }
+    {
+        if let Some(commit) = commit {
+            self.keeping.keep(commit);
+        }
+    }
+
+    // Makes room for one who waits, and for one more activation.
     fn reserve(&mut self) -> Result<(), NoMemory>
         ensures same { (self.new.floor ≡ self.old.floor) × (self.new.rows ≡ self.old.rows) × (self.new.waits ≡ self.old.waits) }
         ensures counts { self.new.counts ≡ self.old.counts }
-        ensures room { OnOk result (1 ≤ self.new.wait_room) }
+        ensures kept { StaysKept self.old.keeping self.new.keeping }
+        ensures room { OnOk result ((1 ≤ self.new.wait_room) × (1 ≤ self.new.keeping.room)) }
     {
         self.waits.reserve(1)?;
-        Ok(())
+        self.keeping.reserve()
     }
 
     fn hold(&mut self)
@@ -188,8 +217,33 @@ impl HallState {
         ensures held { self.new.floor.before ≡ Some self.old.floor.now }
         ensures rest { (self.new.rows ≡ self.old.rows) × (self.new.waits ≡ self.old.waits) × (self.new.wait_room ≡ self.old.wait_room) }
         ensures counts { self.new.counts ≡ self.old.counts }
+        ensures keeping { self.new.keeping ≡ self.old.keeping }
     {
         self.floor.hold();
+    }
+
+    // A step, with what is committed of all that has ended in it.
+    fn whole_step(
+        &mut self,
+        alloc: Global,
+        tenants: &Tenants,
+        now: Now,
+        event: &Event,
+    ) -> Result<Step, NoMemory>
+        requires memory { wants_memory event.now ≡ true }
+        requires later { is_opening event.now ≡ false }
+        ensures ok { IfOk result (Does self.old self.new.floor.now tenants.now now (λ S. decide S event.now)) }
+        ensures place { IfOk result (λ s. HasPlace s.change self.new.row_room) }
+        ensures before { self.new.floor.before ≡ self.old.floor.before }
+        ensures rest { (self.new.rows ≡ self.old.rows) × (self.new.waits ≡ self.old.waits) × (self.new.wait_room ≡ self.old.wait_room) }
+        ensures counter { IfOk result (λ s. HasRoomOf s.invoked self.new.counts) }
+        ensures counts { KeepsNotes self.old.counts self.new.counts }
+        ensures keeping { self.new.keeping ≡ self.old.keeping }
+    {
+        let before = self.ended();
+        let step = self.counted_step(alloc, tenants, now, event)?;
+        let ends = behind(self.floor.records().items(), before);
+        with_ends(alloc, &self.keeping, ends, step)
     }
 
     // A step, with room for the note of an invocation.
@@ -200,13 +254,15 @@ impl HallState {
         now: Now,
         event: &Event,
     ) -> Result<Step, NoMemory>
-        requires { wants_memory event.now ≡ true }
-        ensures ok { IfOk result (Does self.old self.new.floor.now tenants.now now (λ S. decide S event.now)) }
+        requires memory { wants_memory event.now ≡ true }
+        requires later { is_opening event.now ≡ false }
+        ensures ok { IfOk result (Makes self.old self.new.floor.now tenants.now now (λ S. decide S event.now)) }
         ensures place { IfOk result (λ s. HasPlace s.change self.new.row_room) }
         ensures before { self.new.floor.before ≡ self.old.floor.before }
         ensures rest { (self.new.rows ≡ self.old.rows) × (self.new.waits ≡ self.old.waits) × (self.new.wait_room ≡ self.old.wait_room) }
         ensures counter { IfOk result (λ s. HasRoomOf s.invoked self.new.counts) }
         ensures counts { KeepsNotes self.old.counts self.new.counts }
+        ensures keeping { self.new.keeping ≡ self.old.keeping }
     {
         let step = self.step(alloc, tenants, now, event)?;
         let Ok(()) = reserve_for(&mut self.counts, alloc, &step.invoked) else {
@@ -223,17 +279,20 @@ impl HallState {
         now: Now,
         event: &Event,
     ) -> Result<Step, NoMemory>
-        requires { wants_memory event.now ≡ true }
-        ensures ok { IfOk result (Does self.old self.new.floor.now tenants.now now (λ S. decide S event.now)) }
+        requires memory { wants_memory event.now ≡ true }
+        requires later { is_opening event.now ≡ false }
+        ensures ok { IfOk result (Makes self.old self.new.floor.now tenants.now now (λ S. decide S event.now)) }
         ensures place { IfOk result (λ s. HasPlace s.change self.new.row_room) }
         ensures before { self.new.floor.before ≡ self.old.floor.before }
         ensures rest { (self.new.rows ≡ self.old.rows) × (self.new.waits ≡ self.old.waits) × (self.new.wait_room ≡ self.old.wait_room) }
         ensures counts { self.new.counts ≡ self.old.counts }
+        ensures keeping { self.new.keeping ≡ self.old.keeping }
     {
         step_for(
             alloc,
             tenants,
             &self.counts,
+            &self.keeping,
             &mut self.floor,
             &mut self.tables,
             &self.waits,
@@ -241,6 +300,47 @@ impl HallState {
             event,
         )
     }
+}
+
+// Those behind the first so many.
+fn behind(all: &[Shared<Record>], before: usize) -> &[Shared<Record>]
+    ensures { result.now ≡ drop (min before (length all.now)) all.now }
+{
+    &all[before.min(all.len())..]
+}
+
+// A step behind which these activations have ended: what is committed of that is committed with it. Where any has ended, nothing
+// else is to be committed.
+fn with_ends(
+    alloc: Global,
+    keeping: &Keeping,
+    ends: &[Shared<Record>],
+    step: Step,
+) -> Result<Step, NoMemory>
+    ensures same { IfOk result (λ s. (s.told ≡ step.told) × (s.change ≡ step.change) × (s.waits ≡ step.waits) × (s.invoked ≡ step.invoked)) }
+    ensures commit { IfOk result (λ s. CommitsEnds keeping.now ends.now step.commit s.commit) }
+{
+    if ends.is_empty() {
+        return Ok(step);
+    }
+    let Ok(commit) = keeping.ending(alloc, ends) else {
+        drop(step);
+        return Err(NoMemory);
+    };
+    let Step {
+        told,
+        change,
+        waits,
+        invoked,
+        ..
+    } = step;
+    Ok(Step {
+        told,
+        change,
+        waits,
+        invoked,
+        commit: Some(commit),
+    })
 }
 
 // Makes room for the note of an invocation that is charged to a namespace, if any.

@@ -288,7 +288,7 @@ fn settles(alloc: Global, floor: &mut Floor) -> Result<bool, NoMemory> {
     floor.settle(false);
     let again = runs(alloc, floor, 1);
     floor.hold();
-    let reopened = floor.reopen(alloc, 1002);
+    let reopened = floor.abandon(alloc, 1002);
     floor.settle(true);
     Ok(ran? && again? && tells(&reopened?, 3) && floor.busy() == 0)
 }

@@ -79,7 +79,10 @@ pub(crate) fn office(alloc: Global) -> Result<Office, Fail> {
 pub(crate) fn office_of(alloc: Global, rows: &str) -> Result<Office, Fail> {
     let mut source = MemorySource::new(rows.as_bytes().to_vec(alloc)?, Vec::new(alloc));
     let tenants = Tenants::read(alloc, &mut source)?;
-    Ok(Hall::start(alloc, MemoryKeeper::new(alloc), tenants, 0)?)
+    match Hall::start(alloc, MemoryKeeper::new(alloc), tenants, 0) {
+        Ok(hall) => Ok(hall),
+        Err(_) => Err("not opened")?,
+    }
 }
 
 // Whether an equal list is made of them.

@@ -1,4 +1,5 @@
 pub mod Equal
+pub mod Faults
 pub mod Filling
 pub mod Orders
 pub mod Parts

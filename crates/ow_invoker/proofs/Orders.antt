@@ -1,5 +1,5 @@
 -- Orders, carried out.
-use Rattle.std.proofs.Common.{◌≡◌, ℕ, List, [], ◌∷◌, ◌++◌, Option, Ok, Err, IfOk, Result, refl, sym, ap, inl, inr, append-nil, subst, ◌∙◌}
+use Rattle.std.proofs.Common.{◌≡◌, ℕ, List, [], ◌∷◌, ◌++◌, Option, Ok, Err, IfOk, Result, refl, sym, ap, inl, inr, ⊎_elim, append-nil, subst, ◌∙◌}
 use Rattle.ow_traits.specs.Runner.{Giving, RefusesStart}
 use Rattle.ow_traits.specs.declared.replies.RunReply.{RunReply}
 use Rattle.ow_value.specs.declared.memory.NoMemory.{NoMemory as Want}
@@ -10,10 +10,12 @@ use Rattle.ow_floor.specs.declared.answers.PrewarmOrder.{PrewarmOrder}
 use Rattle.ow_decide.specs.declared.events.Event.TheVariants as events
 use Rattle.ow_decide.specs.declared.events.Told.{Told}
 use Rattle.ow_decide.specs.declared.events.Told.TheVariants as told
-use Rattle.ow_hall.specs.Comes.{Answers, Comes, HallView, KeptRows, Wants}
+use Rattle.ow_decide.specs.Decision.{commits}
+use Rattle.ow_decide.specs.declared.events.Event.{Event}
+use Rattle.ow_hall.specs.Comes.{Answers, Comes, Fails, HallView, KeptRows, Outcome, Wants, decided}
 use Rattle.ow_invoker.specs.Parts.{Carries, Lists, Tells, TellsAll, TellsOf, TwoSteps, both, in_order, listed}
 use Rattle.ow_invoker.specs.Shelf.{IsLaid, without}
-use Rattle.ow_invoker.specs.Turns.{AreBoth, Chain, Exchange, Follows, Removes, Turns, exchange, gone_of, steps_in, steps_of}
+use Rattle.ow_invoker.specs.Turns.{AreBoth, Chain, ChainTo, Exchange, Follows, Offers, Removes, Turns, exchange, gone_of, steps_in, steps_of}
 use Rattle.ow_invoker.specs.declared.shelf.Laid.{Laid}
 use Rattle.ow_invoker.specs.declared.turn.TurnStep.{TurnStep}
 use Rattle.ow_invoker.specs.declared.turn.Turned.{Turned}
@@ -25,6 +27,12 @@ removes_more [] c shelf xs x left is h =
     subst (λ ys. Removes (c ∷ []) shelf (ys ++ x ∷ []) (without c.slot c.generation left)) (sym h.0) (is, (refl, ap (λ s. without c.slot c.generation s) h.1))
 removes_more (d ∷ cs) c shelf [] x left is h = absurd h
 removes_more (d ∷ cs) c shelf (y ∷ xs) x left is h = (h.0, removes_more cs c (without d.slot d.generation shelf) xs x left is h.1)
+
+-- an order came before
+behind_order : {P : Type 0} (rows : P → KeptRows) (faults : P → ℕ) (old : HallView P) (at : ℕ) (middle new : HallView P) (order : Order) (xs : List Exchange) (event : Event) (o : Outcome)
+    → Comes rows faults old middle at events.Next (Answers (told.Next order)) → ChainTo rows faults middle new at xs event o
+    → ChainTo rows faults old new at (exchange events.Next (told.Next order) ∷ xs) event o
+behind_order rows faults old at middle new order xs event o first (last, (chain, comes)) = (last, ((middle, (first, chain)), comes))
 
 module _ {P B : Type 0} (rows : P → KeptRows) (faults : P → ℕ) (old : HallView P) (at : ℕ) where
   -- the containers so far are removed, and this is told of them
@@ -52,14 +60,14 @@ module _ {P B : Type 0} (rows : P → KeptRows) (faults : P → ℕ) (old : Hall
     pub removed : (new : HallView P) (shelf left : List (Laid B)) (cs : List Container) (steps : List TurnStep) (result : Result (List TurnStep) Want)
         → Removed new shelf left cs steps → IfOk result (λ list. list ≡ steps)
         → Carries rows faults gives before now old new at shelf left (orders.Remove cs) result
-    removed new shelf left cs steps (Ok list) h made = (h.0, (h.1.0, (h.1.1.0, made ∙ h.1.1.1)))
-    removed new shelf left cs steps (Err e) h made = (h.0, (inr h.1.0, h.1.1.0))
+    removed new shelf left cs steps (Ok list) h made = inl (h.0, (h.1.0, (h.1.1.0, made ∙ h.1.1.1)))
+    removed new shelf left cs steps (Err e) h made = inl (h.0, (inr h.1.0, h.1.1.0))
 
     -- a container was laid down, and its prewarming has begun
     pub warmed : (new : HallView P) (shelf left : List (Laid B)) (order : PrewarmOrder) (answer : Told) → IsLaid order.slot order.generation shelf left
         → Comes rows faults old new at (events.Begun order.run) (Answers answer)
         → Carries rows faults gives before now old new at shelf left (orders.Prewarm order) (Ok [])
-    warmed new shelf left order answer laid comes = (
+    warmed new shelf left order answer laid comes = inl (
       exchange (events.Begun order.run) answer ∷ [],
       (inl ((answer, refl), laid), ((new, (comes, refl)), refl)),
     )
@@ -67,35 +75,56 @@ module _ {P B : Type 0} (rows : P → KeptRows) (faults : P → ℕ) (old : Hall
     pub unwarmed : (new : HallView P) (shelf left : List (Laid B)) (order : PrewarmOrder) (steps : TwoSteps) → (reply : RunReply) × RefusesStart gives before now order.kind reply → left ≡ shelf
         → (xs : List Exchange) × (AreBoth (events.Lost order.run) (events.Gone order.slot order.generation) xs × Chain rows faults old new at xs × (both steps ≡ steps_in xs))
         → Carries rows faults gives before now old new at shelf left (orders.Prewarm order) (Ok (both steps))
-    unwarmed new shelf left order steps down same k = (k.0, (inr (down, (k.1.0, same)), (k.1.1, k.1.2)))
+    unwarmed new shelf left order steps down same k = inl (k.0, (inr (down, (k.1.0, same)), (k.1.1, k.1.2)))
 
     pub unheld : (new : HallView P) (shelf left : List (Laid B)) (order : PrewarmOrder) (e : Want) (steps : TwoSteps) → left ≡ shelf
         → (xs : List Exchange) × (AreBoth (events.Lost order.run) (events.Gone order.slot order.generation) xs × Chain rows faults old new at xs × (both steps ≡ steps_in xs))
         → Carries rows faults gives before now old new at shelf left (orders.Prewarm order) (Err e)
-    unheld new shelf left order e steps same k = (k.0, (inl (k.1.0, same), k.1.1))
+    unheld new shelf left order e steps same k = inl (k.0, (inl (k.1.0, same), k.1.1))
 
     -- the steps are put into a list
     pub in_list : (new : HallView P) (shelf left : List (Laid B)) (order : Order) (steps : Result TwoSteps Want) (result : Result (List TurnStep) Want)
         → Carries rows faults gives before now old new at shelf left order (in_order steps) → Lists steps result → Carries rows faults gives before now old new at shelf left order result
-    in_list new shelf left order (Ok steps) (Ok list) h k = (h.0, (h.1.0, (h.1.1.0, k ∙ h.1.1.1)))
-    in_list new shelf left order (Ok steps) (Err e) h k = (h.0, (inr h.1.0, h.1.1.0))
+    in_list new shelf left order (Ok steps) (Ok list) (inl h) k = inl (h.0, (h.1.0, (h.1.1.0, k ∙ h.1.1.1)))
+    in_list new shelf left order (Ok steps) (Ok list) (inr h) k = inr (h.0, (h.1.0, (h.1.1.0, h.1.1.1, k ∙ h.1.1.2)))
+    in_list new shelf left order (Ok steps) (Err e) (inl h) k = inl (h.0, (inr h.1.0, h.1.1.0))
+    in_list new shelf left order (Ok steps) (Err e) (inr h) k = inr (h.0, (h.1.0, (h.1.1.0, inr h.1.1.1)))
     in_list new shelf left order (Err f) (Ok list) h k = absurd k
     in_list new shelf left order (Err f) (Err e) h k = h
 
     -- behind the order
     pub turned : (middle new : HallView P) (shelf left : List (Laid B)) (order : Order) → Comes rows faults old middle at events.Next (Answers (told.Next order))
         → (result : Result Turned Want) → TellsOf rows faults gives before now middle new at shelf left order result → Turns rows faults gives before now old new at shelf left result
-    turned middle new shelf left order first (Ok t) h = (
-      exchange events.Next (told.Next t.order) ∷ h.1.0,
+    turned middle new shelf left order first (Ok t) (same, inl h) = inl (
+      exchange events.Next (told.Next t.order) ∷ h.0,
       (
-        (refl, subst (λ o. Follows gives before now shelf o h.1.0 left) (sym h.0) h.1.1.0),
-        (middle, (subst (λ o. Comes rows faults old middle at events.Next (Answers (told.Next o))) (sym h.0) first, h.1.1.1.0)),
-        h.1.1.1.1,
+        (refl, subst (λ o. Follows gives before now shelf o h.0 left) (sym same) h.1.0),
+        (middle, (subst (λ o. Comes rows faults old middle at events.Next (Answers (told.Next o))) (sym same) first, h.1.1.0)),
+        h.1.1.1,
       ),
     )
-    turned middle new shelf left order first (Err e) h = (exchange events.Next (told.Next order) ∷ h.0, ((order, (refl, h.1.0)), (middle, (first, h.1.1))))
+    turned middle new shelf left order first (Ok t) (same, inr h) = inr (
+      exchange events.Next (told.Next t.order) ∷ h.0,
+      (
+        h.1.0,
+        (
+          (refl, subst (λ o. Offers gives before now shelf o h.0 h.1.0 left) (sym same) h.1.1.0),
+          behind_order rows faults old at middle new t.order h.0 h.1.0 Fails (subst (λ o. Comes rows faults old middle at events.Next (Answers (told.Next o))) (sym same) first) h.1.1.1,
+          h.1.1.2,
+        ),
+      ),
+    )
+    turned middle new shelf left order first (Err e) (inl h) =
+        inl (exchange events.Next (told.Next order) ∷ h.0, ((order, (refl, h.1.0)), (middle, (first, h.1.1))))
+    turned middle new shelf left order first (Err e) (inr h) = inr (
+      order,
+      (
+        exchange events.Next (told.Next order) ∷ h.0,
+        (h.1.0, ((refl, h.1.1.0), ⊎_elim (λ w. inl (behind_order rows faults old at middle new order h.0 h.1.0 Wants first w)) (λ f. inr (behind_order rows faults old at middle new order h.0 h.1.0 Fails first f)) h.1.1.1)),
+      ),
+    )
 
     -- there was no order for want of memory
-    pub unordered : (new : HallView P) (shelf left : List (Laid B)) (e : Want) → left ≡ shelf → Comes rows faults old new at events.Next Wants
+    pub unordered : (new : HallView P) (shelf left : List (Laid B)) (e : Want) → left ≡ shelf → commits (decided old at events.Next) ≡ [] → Comes rows faults old new at events.Next Wants
         → Turns rows faults gives before now old new at shelf left (Err e)
-    unordered new shelf left e same w = ([], (same, wants_same rows faults old new at events.Next w))
+    unordered new shelf left e same none w = inl ([], (same, wants_same rows faults old new at events.Next none w))

@@ -9,9 +9,9 @@ use Rattle.ow_floor.specs.declared.answers.RunOrder.{RunOrder}
 use Rattle.ow_decide.specs.declared.events.Event.TheVariants as events
 use Rattle.ow_decide.specs.declared.events.Told.{Told}
 use Rattle.ow_hall.specs.Comes.{Answers, Comes, HallView, KeptRows}
-use Rattle.ow_invoker.specs.Parts.{Books, Carries, EndsBy, Initialised, LiesBy, OpensBy, Performs, Settles, Tells, TellsAll, TwoSteps, both, in_order, listed}
+use Rattle.ow_invoker.specs.Parts.{Books, Carries, EndsBy, Initialised, OpensBy, Performs, Settles, Tells, TellsAll, TwoSteps, both, in_order, listed, reply_of}
 use Rattle.ow_invoker.specs.Shelf.{IsLaid, without}
-use Rattle.ow_invoker.specs.Turns.{AreBoth, Chain, Exchange, IsAlone, IsCarriedOut, IsGivenUp, IsUnbooked, Opens, Rests, RestsUnbooked, RunFollows, RunStops, exchange, gone, is_answer, is_late, is_missing, lost, shelf_at, steps_in, steps_of}
+use Rattle.ow_invoker.specs.Turns.{AreBoth, Chain, Exchange, IsAlone, IsCarriedOut, IsGivenUp, IsOffered, IsUnlaid, LiesBy, Opens, Rests, RunFollows, RunOffers, RunStops, exchange, gone, is_answer, is_late, is_missing, lost, shelf_at, steps_in, steps_of}
 use Rattle.ow_invoker.specs.declared.readying.Readiness.{Readiness}
 use Rattle.ow_invoker.specs.declared.readying.Readiness.TheVariants.{Early, Missing, NoMemory, Up}
 use Rattle.ow_invoker.specs.declared.shelf.Laid.{Laid}
@@ -37,11 +37,6 @@ module _ {B : Type 0} where
   rested true true order shelf laid xs left h k = (k.0, (laid, (h, k.1)))
   rested false late order shelf laid xs left h k = (k.0, k.1 ∙ h)
 
-  unbooked : (answers : Bool) (order : RunOrder) (reply : RunReply) (shelf laid left : List (Laid B)) → is_answer reply ≡ answers
-      → LiesBy answers order shelf laid → left ≡ laid → RestsUnbooked order reply shelf left
-  unbooked true order reply shelf laid left is h same = inr (is, subst (λ s. IsLaid order.slot order.generation shelf s) (sym same) h)
-  unbooked false order reply shelf laid left is h same = inl (same ∙ h)
-
   -- ---- windows of calls
 
   carried_from : (f g h : Giving) (a b c : ℕ) (order : RunOrder) (shelf : List (Laid B)) (xs : List Exchange) (left : List (Laid B)) → Steady f g a b → Steady g h b c
@@ -56,13 +51,21 @@ module _ {B : Type 0} where
     is = k.is;
   }
 
-  unbooked_from : (f g h : Giving) (a b c : ℕ) (order : RunOrder) (shelf : List (Laid B)) (xs : List Exchange) (left : List (Laid B)) → Steady f g a b → Steady g h b c
-      → IsUnbooked g b c order shelf xs left → IsUnbooked f a c order shelf xs left
-  unbooked_from f g h a b c order shelf xs left s t k = record {
+  unlaid_from : (f g h : Giving) (a b c : ℕ) (order : RunOrder) (shelf : List (Laid B)) (xs : List Exchange) (left : List (Laid B)) → Steady f g a b → Steady g h b c
+      → IsUnlaid g b c order shelf xs left → IsUnlaid f a c order shelf xs left
+  unlaid_from f g h a b c order shelf xs left s t k = record {
     reply = k.reply;
     replies = replied_from order.kind order.code order.params k.reply s t k.replies;
     opens = opens_from f g h a b c order k.reply xs s t k.opens;
-    rests = k.rests;
+    left_is = k.left_is;
+  }
+
+  offered_from : (f g h : Giving) (a b c : ℕ) (order : RunOrder) (reply : RunReply) (shelf : List (Laid B)) (xs : List Exchange) (left : List (Laid B)) → Steady f g a b → Steady g h b c
+      → IsOffered g b c order reply shelf xs left → IsOffered f a c order reply shelf xs left
+  offered_from f g h a b c order reply shelf xs left s t k = record {
+    replies = replied_from order.kind order.code order.params reply s t k.replies;
+    opens = opens_from f g h a b c order reply xs s t k.opens;
+    lies = k.lies;
   }
 
 module _ {P B : Type 0} (rows : P → KeptRows) (faults : P → ℕ) where
@@ -93,7 +96,7 @@ module _ {P B : Type 0} (rows : P → KeptRows) (faults : P → ℕ) where
       → Comes rows faults old middle at (events.Answered order.run reply) (Answers answer) → listed first ≡ steps_of (events.Answered order.run reply) answer
       → (xs : List Exchange) × (EndsBy answers (is_late answer) order laid xs left × TellsAll rows faults middle new at xs (listed second))
       → Books rows faults old new at order reply laid left (Ok (first, second))
-  booked old middle new at order reply answers laid left first answer second same comes told h = (
+  booked old middle new at order reply answers laid left first answer second same comes told h = inl (
     exchange (events.Answered order.run reply) answer ∷ h.0,
     (
       record { answer = answer; ending = h.0; is = refl; ends = subst (λ b. EndsBy b (is_late answer) order laid h.0 left) same h.1.0 },
@@ -103,7 +106,7 @@ module _ {P B : Type 0} (rows : P → KeptRows) (faults : P → ℕ) where
 
   pub settled : (old new : HallView P) (at : ℕ) (order : RunOrder) (reply : RunReply) (shelf laid left : List (Laid B)) (result : Result TwoSteps Want)
       → LiesBy (is_answer reply) order shelf laid → Books rows faults old new at order reply laid left result → Settles rows faults old new at order reply shelf left result
-  settled old new at order reply shelf laid left (Ok steps) h k = (
+  settled old new at order reply shelf laid left (Ok steps) h (inl k) = inl (
     k.0,
     (
       record {
@@ -115,7 +118,8 @@ module _ {P B : Type 0} (rows : P → KeptRows) (faults : P → ℕ) where
       k.1.1,
     ),
   )
-  settled old new at order reply shelf laid left (Err e) h k = (k.0, unbooked (is_answer reply) order reply shelf laid left refl h k.1)
+  settled old new at order reply shelf laid left (Ok steps) h (inr k) = inr (subst (λ s. LiesBy (is_answer reply) order shelf s) (sym k.0) h, k.1)
+  settled old new at order reply shelf laid left (Err e) h k = inr (subst (λ s. LiesBy (is_answer reply) order shelf s) (sym k.0) h, k.1)
 
   module _ (gives : Giving) (before now : ℕ) where
     -- the run began, and its reply is settled
@@ -123,7 +127,7 @@ module _ {P B : Type 0} (rows : P → KeptRows) (faults : P → ℕ) where
         → Replies gives before now order.kind order.code order.params reply
         → (xs : List Exchange) × (OpensBy (is_warm order.start) order xs × Chain rows faults old middle at xs)
         → Settles rows faults middle new at order reply shelf left result → Performs rows faults gives before now old new at order shelf left result
-    performed old middle new at order reply shelf left (Ok steps) replies b k = (
+    performed old middle new at order reply shelf left (Ok steps) replies b (inl k) = inl (
       b.0 ++ k.0,
       (
         record {
@@ -138,16 +142,39 @@ module _ {P B : Type 0} (rows : P → KeptRows) (faults : P → ℕ) where
         (chain_more rows faults old middle new at b.0 k.0 b.1.1 k.1.1.0, told_behind (is_warm order.start) order b.0 k.0 (both steps) b.1.0 k.1.1.1),
       ),
     )
-    performed old middle new at order reply shelf left (Err e) replies b k = (
+    performed old middle new at order reply shelf left (Ok steps) replies b (inr k) = inr (
+      (
+        b.0,
+        (
+          reply,
+          (
+            record { replies = replies; opens = opens_so gives before now order reply (is_warm order.start) b.0 refl b.1.0; lies = k.0 },
+            (middle, (b.1.1, k.1.0)),
+          ),
+        ),
+      ),
+      k.1.1,
+    )
+    performed old middle new at order reply shelf left (Err e) replies b (inl k) = inl (
       b.0,
       (
         inr (record {
           reply = reply;
           replies = replies;
           opens = opens_so gives before now order reply (is_warm order.start) b.0 refl b.1.0;
-          rests = k.1;
+          left_is = k.1;
         }),
         subst (λ v. Chain rows faults old v at b.0) (sym k.0) b.1.1,
+      ),
+    )
+    performed old middle new at order reply shelf left (Err e) replies b (inr k) = inr (
+      b.0,
+      (
+        reply,
+        (
+          record { replies = replies; opens = opens_so gives before now order reply (is_warm order.start) b.0 refl b.1.0; lies = k.0 },
+          (middle, (b.1.1, k.1)),
+        ),
       ),
     )
 
@@ -156,7 +183,7 @@ module _ {P B : Type 0} (rows : P → KeptRows) (faults : P → ℕ) where
         → (xs : List Exchange) × (OpensBy (is_warm order.start) order xs × Chain rows faults old middle at xs)
         → (xs : List Exchange) × (AreBoth (lost order) (gone order) xs × Chain rows faults middle new at xs × (both steps ≡ steps_in xs))
         → Performs rows faults gives before now old new at order shelf shelf (Err e)
-    given_up old middle new at order shelf e steps b k = (
+    given_up old middle new at order shelf e steps b k = inl (
       b.0 ++ k.0,
       (
         inl (record { opening = b.0; opens = begun_or_not (is_warm order.start) order b.0 refl b.1.0; ending = k.0; ends = k.1.0; is = refl; left_is = refl }),
@@ -170,35 +197,56 @@ module _ {P B : Type 0} (rows : P → KeptRows) (faults : P → ℕ) where
       had_carried : (xs : List Exchange) → IsCarriedOut gives before now order there xs left → RunFollows (is_missing order shelf) gives before now order shelf xs left
       had_carried xs h = subst (λ b. RunFollows b gives before now order shelf xs left) (sym had) (subst (λ s. IsCarriedOut gives before now order s xs left) took h)
 
-      had_stopped : (xs : List Exchange) → IsGivenUp order there xs left ⊎ IsUnbooked gives before now order there xs left → RunStops (is_missing order shelf) gives before now order shelf xs left
+      had_stopped : (xs : List Exchange) → IsGivenUp order there xs left ⊎ IsUnlaid gives before now order there xs left → RunStops (is_missing order shelf) gives before now order shelf xs left
       had_stopped xs h = subst (λ b. RunStops b gives before now order shelf xs left) (sym had)
-          (subst (λ s. IsGivenUp order s xs left ⊎ IsUnbooked gives before now order s xs left) took h)
+          (subst (λ s. IsGivenUp order s xs left ⊎ IsUnlaid gives before now order s xs left) took h)
+
+      had_offered : (xs : List Exchange) (reply : RunReply) → IsOffered gives before now order reply there xs left
+          → RunOffers (is_missing order shelf) gives before now order shelf xs (reply_of order reply) left
+      had_offered xs reply h = subst (λ b. RunOffers b gives before now order shelf xs (reply_of order reply) left) (sym had)
+          (reply, (refl, subst (λ s. IsOffered gives before now order reply s xs left) took h))
 
       pub carried : (result : Result TwoSteps Want) → Performs rows faults gives before now old new at order there left result
           → Carries rows faults gives before now old new at shelf left (orders.Run order) (in_order result)
-      carried (Ok steps) h = (h.0, (had_carried h.0 h.1.0, h.1.1))
-      carried (Err e) h = (h.0, (inl (had_stopped h.0 h.1.0), h.1.1))
+      carried (Ok steps) (inl h) = inl (h.0, (had_carried h.0 h.1.0, h.1.1))
+      carried (Ok steps) (inr h) = inr (h.0.0, (reply_of order h.0.1.0, (had_offered h.0.0 h.0.1.0 h.0.1.1.0, h.0.1.1.1, h.1)))
+      carried (Err e) (inl h) = inl (h.0, (inl (had_stopped h.0 h.1.0), h.1.1))
+      carried (Err e) (inr h) = inr (h.0, (reply_of order h.1.0, (had_offered h.0 h.1.0 h.1.1.0, inl h.1.1.1)))
 
       -- it replied before any parameters
       pub early : (reply : RunReply) (result : Result TwoSteps Want) → RepliesToAny gives before now order.kind order.code reply → Settles rows faults old new at order reply there left result
           → Carries rows faults gives before now old new at shelf left (orders.Run order) (in_order result)
-      early reply (Ok steps) any k = (
+      early reply (Ok steps) any (inl k) = inl (
         k.0,
         (
           had_carried k.0 (record { reply = reply; replies = any order.params; opening = []; opens = inr any; booking = k.0; settled = k.1.0; is = refl }),
           k.1.1,
         ),
       )
-      early reply (Err e) any k = (
+      early reply (Ok steps) any (inr k) = inr (
         [],
-        (inl (had_stopped [] (inr (record { reply = reply; replies = any order.params; opens = inr any; rests = k.1 }))), k.0),
+        (
+          reply_of order reply,
+          (had_offered [] reply (record { replies = any order.params; opens = inr any; lies = k.0 }), (old, (refl, k.1.0)), k.1.1),
+        ),
+      )
+      early reply (Err e) any (inl k) = inl (
+        [],
+        (inl (had_stopped [] (inr (record { reply = reply; replies = any order.params; opens = inr any; left_is = k.1 }))), k.0),
+      )
+      early reply (Err e) any (inr k) = inr (
+        [],
+        (
+          reply_of order reply,
+          (had_offered [] reply (record { replies = any order.params; opens = inr any; lies = k.0 }), inl (old, (refl, k.1))),
+        ),
       )
 
       -- memory was wanted for it
       pub unready : (e : Want) (steps : TwoSteps) → left ≡ there
           → (xs : List Exchange) × (AreBoth (lost order) (gone order) xs × Chain rows faults old new at xs × (both steps ≡ steps_in xs))
           → Carries rows faults gives before now old new at shelf left (orders.Run order) (Err e)
-      unready e steps same k = (
+      unready e steps same k = inl (
         k.0,
         (inl (had_stopped k.0 (inl (record { opening = []; opens = inl refl; ending = k.0; ends = k.1.0; is = refl; left_is = same }))), k.1.1),
       )
@@ -207,7 +255,7 @@ module _ {P B : Type 0} (rows : P → KeptRows) (faults : P → ℕ) where
     pub missed : (old new : HallView P) (at : ℕ) (order : RunOrder) (shelf left : List (Laid B)) (step : Option TurnStep) → is_missing order shelf ≡ true → left ≡ shelf
         → Tells rows faults old new at (lost order) step → Carries rows faults gives before now old new at shelf left (orders.Run order) (Ok (both (step, None)))
     missed old new at order shelf left step none same h =
-        let t = alone_told rows faults old new at (lost order) step h in (
+        let t = alone_told rows faults old new at (lost order) step h in inl (
           t.0,
           (subst (λ b. RunFollows b gives before now order shelf t.0 left) (sym none) (t.1.0, same), (t.1.1.0, append-nil (listed step) ∙ t.1.1.1)),
         )
@@ -215,9 +263,12 @@ module _ {P B : Type 0} (rows : P → KeptRows) (faults : P → ℕ) where
   -- the calls before count too
   pub performs_from : (f g h : Giving) (a b c : ℕ) (old new : HallView P) (at : ℕ) (order : RunOrder) (shelf left : List (Laid B)) (result : Result TwoSteps Want) → Steady f g a b → Steady g h b c
       → Performs rows faults g b c old new at order shelf left result → Performs rows faults f a c old new at order shelf left result
-  performs_from f g h a b c old new at order shelf left (Ok steps) s t k = (k.0, (carried_from f g h a b c order shelf k.0 left s t k.1.0, k.1.1))
-  performs_from f g h a b c old new at order shelf left (Err e) s t k =
-      (k.0, (⊎_elim (λ x. inl x) (λ x. inr (unbooked_from f g h a b c order shelf k.0 left s t x)) k.1.0, k.1.1))
+  performs_from f g h a b c old new at order shelf left (Ok steps) s t (inl k) = inl (k.0, (carried_from f g h a b c order shelf k.0 left s t k.1.0, k.1.1))
+  performs_from f g h a b c old new at order shelf left (Ok steps) s t (inr k) =
+      inr ((k.0.0, (k.0.1.0, (offered_from f g h a b c order k.0.1.0 shelf k.0.0 left s t k.0.1.1.0, k.0.1.1.1))), k.1)
+  performs_from f g h a b c old new at order shelf left (Err e) s t (inl k) =
+      inl (k.0, (⊎_elim (λ x. inl x) (λ x. inr (unlaid_from f g h a b c order shelf k.0 left s t x)) k.1.0, k.1.1))
+  performs_from f g h a b c old new at order shelf left (Err e) s t (inr k) = inr (k.0, (k.1.0, (offered_from f g h a b c order k.1.0 shelf k.0 left s t k.1.1.0, k.1.1.1)))
 
 -- a container that was started, and initialised by the next call
 pub initialised_from : {B : Type 0} (f g h : Giving) (a b c : ℕ) (order : RunOrder) (ready : Readiness B) → Steady f g a b → Steady g h b c → Initialised g b c order ready → Initialised f a c order ready

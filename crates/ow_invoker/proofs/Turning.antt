@@ -7,7 +7,10 @@ use Rattle.ow_floor.specs.declared.answers.RunOrder.{RunOrder}
 use Rattle.ow_decide.specs.declared.events.Event.{Event}
 use Rattle.ow_decide.specs.declared.events.Event.TheVariants as events
 use Rattle.ow_decide.specs.declared.events.Told.{Told}
-use Rattle.ow_hall.specs.Comes.{Answers, Comes, HallView, KeptRows, Wants}
+use Rattle.ow_decide.specs.Decision.{commits}
+use Rattle.ow_hall.specs.Comes.{Answers, Comes, HallView, KeptRows, Stays, Wants, at_hall, decided}
+use Rattle.ow_hall.specs.History.{counted, seen, sight}
+use Rattle.ow_hall.proofs.KeepLaws.{next_commits as orders_keep}
 use Rattle.ow_invoker.specs.Parts.{OpensBy, Tells, TellsAll, both, listed}
 use Rattle.ow_invoker.specs.Turns.{AreBoth, Chain, Exchange, IsAlone, Opens, exchange, steps_in, steps_of}
 use Rattle.ow_invoker.specs.declared.turn.TurnStep.{TurnStep}
@@ -17,9 +20,15 @@ steps_more [] ys = refl
 steps_more (x ∷ xs) ys = ap (λ s. steps_of x.event x.answer ++ s) (steps_more xs ys) ∙ sym (append_assoc (steps_of x.event x.answer) (steps_in xs) (steps_in ys))
 
 module _ {P : Type 0} (rows : P → KeptRows) (faults : P → ℕ) where
-  -- where memory is wanted the hall is what it was
-  pub wants_same : (old new : HallView P) (at : ℕ) (event : Event) → Comes rows faults old new at event Wants → new ≡ old
-  wants_same old new at event h = λ i. record { tenants = h.1 i; ledger = h.0 i; store = h.2 i }
+  -- where memory is wanted for what changes nothing of what is kept, the hall is what it was
+  pub wants_same : (old new : HallView P) (at : ℕ) (event : Event) → commits (decided old at event) ≡ [] → Comes rows faults old new at event Wants → new ≡ old
+  wants_same old new at event none h =
+      let stays : Stays rows faults [] old.store new.store = subst (λ cs. Stays rows faults cs old.store new.store) none h.2 in
+      λ i. record { tenants = h.1 i; ledger = h.0 i; store = stays i }
+
+  -- what is to be done changes nothing of what is kept
+  pub next_commits : (h : HallView P) (at : ℕ) → commits (decided h at events.Next) ≡ []
+  next_commits h at = orders_keep (sight h.tenants (seen h.tenants h.ledger.entries) (counted h.ledger.entries) (at_hall h at))
 
   pub chain_more : (old middle new : HallView P) (at : ℕ) (xs ys : List Exchange) → Chain rows faults old middle at xs → Chain rows faults middle new at ys → Chain rows faults old new at (xs ++ ys)
   chain_more old middle new at [] ys first then = subst (λ v. Chain rows faults v new at ys) first then
@@ -68,8 +77,3 @@ told_behind b order xs ys steps h e = e ∙ ap (λ s. s ++ steps_in ys) (sym (op
 pub opens_so : (gives : Giving) (before now : ℕ) (order : RunOrder) (reply : RunReply) (b : Bool) (xs : List Exchange) → is_warm order.start ≡ b → OpensBy b order xs → Opens gives before now order reply xs
 opens_so gives before now order reply true xs warm h = subst (λ ys. Opens gives before now order reply ys) (sym h) (inl warm)
 opens_so gives before now order reply false xs cold h = subst (λ ys. Opens gives before now order reply ys) (sym h.1) (cold, (refl, refl))
-
--- while no change is kept by the store, a chain leaves it
-pub chain_store : {P : Type 0} (rows : P → KeptRows) (faults : P → ℕ) (old new : HallView P) (at : ℕ) (xs : List Exchange) → Chain rows faults old new at xs → new.store ≡ old.store
-chain_store rows faults old new at [] h = ap (λ v. v.store) h
-chain_store rows faults old new at (x ∷ xs) h = chain_store rows faults h.0 new at xs h.1.1 ∙ h.1.0.3

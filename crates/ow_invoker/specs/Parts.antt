@@ -9,15 +9,16 @@ use Rattle.ow_floor.specs.declared.answers.RunOrder.{RunOrder}
 use Rattle.ow_decide.specs.declared.events.Event.{Event}
 use Rattle.ow_decide.specs.declared.events.Event.TheVariants as events
 use Rattle.ow_decide.specs.declared.events.Told.{Told}
-use Rattle.ow_hall.specs.Comes.{Answers, Comes, HallView, KeptRows}
+use Rattle.ow_hall.specs.Comes.{Answers, Comes, Fails, HallView, KeptRows, Outcome, Wants}
 use Rattle.ow_invoker.specs.Shelf.{IsLaid, without}
-use Rattle.ow_invoker.specs.Turns.{Chain, Exchange, Follows, IsCarriedOut, IsGivenUp, IsSettled, IsUnbooked, IsAlone, RestsUnbooked, Stops, exchange, gone, is_answer, is_late, is_missing, shelf_at, steps_in, steps_of}
+use Rattle.ow_invoker.specs.Turns.{Chain, ChainTo, ChainUndone, Exchange, Follows, IsAlone, IsCarriedOut, IsGivenUp, IsOffered, IsSettled, IsUnlaid, LiesBy, Offers, Stops, exchange, gone, is_answer, is_late, is_missing, shelf_at, steps_in, steps_of}
 use Rattle.ow_invoker.specs.declared.readying.Readiness.{Readiness}
 use Rattle.ow_invoker.specs.declared.readying.Readiness.TheVariants.{Early, Missing, NoMemory, Up}
 use Rattle.ow_invoker.specs.declared.shelf.Laid.{Laid}
 use Rattle.ow_invoker.specs.declared.warming.Warming.{Warming}
 use Rattle.ow_invoker.specs.declared.warming.Warming.TheVariants.{Down, Unheld, Warmed}
 use Rattle.ow_invoker.specs.declared.turn.TurnStep.{TurnStep}
+use Rattle.ow_invoker.specs.declared.turn.TurnStep.TheVariants.{StoreFault}
 use Rattle.ow_invoker.specs.declared.turn.Turned.{Turned}
 
 -- ---- what is told of an order
@@ -61,11 +62,7 @@ abbrev pub OpensBy : Bool → RunOrder → List Exchange → Type 0
 OpensBy true order xs = xs ≡ []
 OpensBy false order xs = IsAlone (events.Begun order.run) xs
 
--- the container lies on the shelf where the reply is an answer
-abbrev pub LiesBy : {B : Type 0} → Bool → RunOrder → List (Laid B) → List (Laid B) → Type 0
-LiesBy true order shelf laid = IsLaid order.slot order.generation shelf laid
-LiesBy false order shelf laid = laid ≡ shelf
-
+-- the container lies on the shelf where the reply is an answer, unless there is no room
 abbrev pub LaysDown : {B : Type 0} → RunOrder → RunReply → List (Laid B) → List (Laid B) → Result (Unit {0}) Want → Type 0
 LaysDown order reply shelf laid (Ok done) = LiesBy (is_answer reply) order shelf laid
 LaysDown order reply shelf laid (Err e) = laid ≡ shelf
@@ -83,21 +80,40 @@ pub record IsBooked {B : Type 0} (order : RunOrder) (reply : RunReply) (laid : L
   pub is : xs ≡ exchange (events.Answered order.run reply) answer ∷ ending
   pub ends : EndsBy (is_answer reply) (is_late answer) order laid ending left
 
+abbrev pub reply_of : RunOrder → RunReply → Event
+reply_of order reply = events.Answered order.run reply
+
+-- or the store fails, and that alone is told
+abbrev pub FailsBy : {P : Type 0} → (P → KeptRows) → (P → ℕ) → HallView P → HallView P → ℕ → Event → TwoSteps → Type 0
+FailsBy rows faults old new at event steps = Comes rows faults old new at event Fails × (both steps ≡ StoreFault ∷ [])
+
 abbrev pub Books : {P B : Type 0} → (P → KeptRows) → (P → ℕ) → HallView P → HallView P → ℕ → RunOrder → RunReply → List (Laid B) → List (Laid B) → Result TwoSteps Want → Type 0
-Books rows faults old new at order reply laid left (Ok steps) = (xs : List Exchange) × (IsBooked order reply laid xs left × TellsAll rows faults old new at xs (both steps))
-Books rows faults old new at order reply laid left (Err e) = (new ≡ old) × (left ≡ laid)
+Books rows faults old new at order reply laid left (Ok steps) =
+    ((xs : List Exchange) × (IsBooked order reply laid xs left × TellsAll rows faults old new at xs (both steps)))
+    ⊎ ((left ≡ laid) × FailsBy rows faults old new at (reply_of order reply) steps)
+Books rows faults old new at order reply laid left (Err e) = (left ≡ laid) × Comes rows faults old new at (reply_of order reply) Wants
 
--- and the container laid down before
+-- and the container laid down before, or there is no room for it
 abbrev pub Settles : {P B : Type 0} → (P → KeptRows) → (P → ℕ) → HallView P → HallView P → ℕ → RunOrder → RunReply → List (Laid B) → List (Laid B) → Result TwoSteps Want → Type 0
-Settles rows faults old new at order reply shelf left (Ok steps) = (xs : List Exchange) × (IsSettled order reply shelf xs left × TellsAll rows faults old new at xs (both steps))
-Settles rows faults old new at order reply shelf left (Err e) = (new ≡ old) × RestsUnbooked order reply shelf left
+Settles rows faults old new at order reply shelf left (Ok steps) =
+    ((xs : List Exchange) × (IsSettled order reply shelf xs left × TellsAll rows faults old new at xs (both steps)))
+    ⊎ (LiesBy (is_answer reply) order shelf left × FailsBy rows faults old new at (reply_of order reply) steps)
+Settles rows faults old new at order reply shelf left (Err e) =
+    ((new ≡ old) × (left ≡ shelf)) ⊎ (LiesBy (is_answer reply) order shelf left × Comes rows faults old new at (reply_of order reply) Wants)
 
--- a run takes place in its container
+-- a run takes place in its container, up to the booking of its reply, of which this comes
+abbrev pub OffersTo : {P B : Type 0} → (P → KeptRows) → (P → ℕ) → Giving → ℕ → ℕ → HallView P → HallView P → ℕ → RunOrder → List (Laid B) → List (Laid B) → Outcome → Type 0
+OffersTo rows faults gives before now old new at order shelf left outcome = (xs : List Exchange)
+    × ((reply : RunReply) × (IsOffered gives before now order reply shelf xs left × ChainTo rows faults old new at xs (reply_of order reply) outcome))
+
+-- or to its end
 abbrev pub Performs : {P B : Type 0} → (P → KeptRows) → (P → ℕ) → Giving → ℕ → ℕ → HallView P → HallView P → ℕ → RunOrder → List (Laid B) → List (Laid B) → Result TwoSteps Want → Type 0
 Performs rows faults gives before now old new at order shelf left (Ok steps) =
-    (xs : List Exchange) × (IsCarriedOut gives before now order shelf xs left × TellsAll rows faults old new at xs (both steps))
+    ((xs : List Exchange) × (IsCarriedOut gives before now order shelf xs left × TellsAll rows faults old new at xs (both steps)))
+    ⊎ (OffersTo rows faults gives before now old new at order shelf left Fails × (both steps ≡ StoreFault ∷ []))
 Performs rows faults gives before now old new at order shelf left (Err e) =
-    (xs : List Exchange) × ((IsGivenUp order shelf xs left ⊎ IsUnbooked gives before now order shelf xs left) × Chain rows faults old new at xs)
+    ((xs : List Exchange) × ((IsGivenUp order shelf xs left ⊎ IsUnlaid gives before now order shelf xs left) × Chain rows faults old new at xs))
+    ⊎ OffersTo rows faults gives before now old new at order shelf left Wants
 
 -- ---- getting a container up and initialised
 
@@ -124,11 +140,30 @@ Warms gives before now order shelf left Down = ((reply : RunReply) × RefusesSta
 Warms gives before now order shelf left Unheld = left ≡ shelf
 
 -- an order is carried out
+abbrev pub CarriesOn : {P B : Type 0} → (P → KeptRows) → (P → ℕ) → Giving → ℕ → ℕ → HallView P → HallView P → ℕ → List (Laid B) → List (Laid B) → Order → List TurnStep → Type 0
+CarriesOn rows faults gives before now old new at shelf left order steps =
+    (xs : List Exchange) × (Follows gives before now shelf order xs left × TellsAll rows faults old new at xs steps)
+
+-- or up to its runner's reply, at which the store fails
+abbrev pub FailsOn : {P B : Type 0} → (P → KeptRows) → (P → ℕ) → Giving → ℕ → ℕ → HallView P → HallView P → ℕ → List (Laid B) → List (Laid B) → Order → List TurnStep → Type 0
+FailsOn rows faults gives before now old new at shelf left order steps =
+    (xs : List Exchange) × ((event : Event) × (Offers gives before now shelf order xs event left × ChainTo rows faults old new at xs event Fails × (steps ≡ StoreFault ∷ [])))
+
+-- memory is wanted for it
+abbrev pub StopsOn : {P B : Type 0} → (P → KeptRows) → (P → ℕ) → Giving → ℕ → ℕ → HallView P → HallView P → ℕ → List (Laid B) → List (Laid B) → Order → Type 0
+StopsOn rows faults gives before now old new at shelf left order =
+    (xs : List Exchange) × ((Stops gives before now shelf order xs left ⊎ Follows gives before now shelf order xs left) × Chain rows faults old new at xs)
+
+-- or for its runner's reply
+abbrev pub StopsLate : {P B : Type 0} → (P → KeptRows) → (P → ℕ) → Giving → ℕ → ℕ → HallView P → HallView P → ℕ → List (Laid B) → List (Laid B) → Order → Type 0
+StopsLate rows faults gives before now old new at shelf left order =
+    (xs : List Exchange) × ((event : Event) × (Offers gives before now shelf order xs event left × ChainUndone rows faults old new at xs event))
+
 abbrev pub Carries : {P B : Type 0} → (P → KeptRows) → (P → ℕ) → Giving → ℕ → ℕ → HallView P → HallView P → ℕ → List (Laid B) → List (Laid B) → Order → Result (List TurnStep) Want → Type 0
 Carries rows faults gives before now old new at shelf left order (Ok steps) =
-    (xs : List Exchange) × (Follows gives before now shelf order xs left × TellsAll rows faults old new at xs steps)
+    CarriesOn rows faults gives before now old new at shelf left order steps ⊎ FailsOn rows faults gives before now old new at shelf left order steps
 Carries rows faults gives before now old new at shelf left order (Err e) =
-    (xs : List Exchange) × ((Stops gives before now shelf order xs left ⊎ Follows gives before now shelf order xs left) × Chain rows faults old new at xs)
+    StopsOn rows faults gives before now old new at shelf left order ⊎ StopsLate rows faults gives before now old new at shelf left order
 
 -- and told
 abbrev pub TellsOf : {P B : Type 0} → (P → KeptRows) → (P → ℕ) → Giving → ℕ → ℕ → HallView P → HallView P → ℕ → List (Laid B) → List (Laid B) → Order → Result Turned Want → Type 0

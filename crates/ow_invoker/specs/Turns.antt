@@ -15,11 +15,11 @@ use Rattle.ow_decide.specs.declared.events.Event.{Event}
 use Rattle.ow_decide.specs.declared.events.Event.TheVariants as events
 use Rattle.ow_decide.specs.declared.events.Told.{Told}
 use Rattle.ow_decide.specs.declared.events.Told.TheVariants as told
-use Rattle.ow_hall.specs.Comes.{Answers, Comes, HallView, KeptRows}
+use Rattle.ow_hall.specs.Comes.{Answers, Comes, Fails, HallView, KeptRows, Outcome, Wants}
 use Rattle.ow_invoker.specs.Shelf.{IsLaid, lies, without}
 use Rattle.ow_invoker.specs.declared.shelf.Laid.{Laid}
 use Rattle.ow_invoker.specs.declared.turn.TurnStep.{TurnStep}
-use Rattle.ow_invoker.specs.declared.turn.TurnStep.TheVariants.{Gone, Happened, Lost}
+use Rattle.ow_invoker.specs.declared.turn.TurnStep.TheVariants.{Gone, Happened, Lost, StoreFault}
 use Rattle.ow_invoker.specs.declared.turn.Turned.{Turned}
 
 -- ---- chains
@@ -36,6 +36,14 @@ exchange e t = record { event = e; answer = t }
 abbrev pub Chain : {P : Type 0} → (P → KeptRows) → (P → ℕ) → HallView P → HallView P → ℕ → List Exchange → Type 0
 Chain rows faults old new at [] = new ≡ old
 Chain {P} rows faults old new at (x ∷ xs) = (middle : HallView P) × (Comes rows faults old middle at x.event (Answers x.answer) × Chain rows faults middle new at xs)
+
+-- behind such events comes one more, of which this comes
+abbrev pub ChainTo : {P : Type 0} → (P → KeptRows) → (P → ℕ) → HallView P → HallView P → ℕ → List Exchange → Event → Outcome → Type 0
+ChainTo {P} rows faults old new at xs event outcome = (middle : HallView P) × (Chain rows faults old middle at xs × Comes rows faults middle new at event outcome)
+
+-- of which nothing comes: memory is wanted, or the store fails
+abbrev pub ChainUndone : {P : Type 0} → (P → KeptRows) → (P → ℕ) → HallView P → HallView P → ℕ → List Exchange → Event → Type 0
+ChainUndone rows faults old new at xs event = ChainTo rows faults old new at xs event Wants ⊎ ChainTo rows faults old new at xs event Fails
 
 -- ---- what a turn tells
 
@@ -166,7 +174,7 @@ Follows gives before now shelf (orders.Prewarm order) xs left = PrewarmFollows g
 Follows gives before now shelf (orders.Remove containers) xs left = Removes containers shelf xs left
 Follows gives before now shelf (orders.Nothing why) xs left = (xs ≡ []) × (left ≡ shelf)
 
--- ---- want of memory
+-- ---- want of memory, and faults of the store
 
 -- before there is a reply: the container is stopped, and the run is lost; that it began may have been told
 pub record IsGivenUp {B : Type 0} (order : RunOrder) (shelf : List (Laid B)) (xs : List Exchange) (left : List (Laid B)) : Type 0 where
@@ -177,20 +185,28 @@ pub record IsGivenUp {B : Type 0} (order : RunOrder) (shelf : List (Laid B)) (xs
   pub is : xs ≡ opening ++ ending
   pub left_is : left ≡ shelf
 
--- the reply isn't booked: the container was stopped, or lies on the shelf where the reply is an answer
-abbrev pub RestsUnbooked : {B : Type 0} → RunOrder → RunReply → List (Laid B) → List (Laid B) → Type 0
-RestsUnbooked order reply shelf left = (left ≡ shelf) ⊎ ((is_answer reply ≡ true) × IsLaid order.slot order.generation shelf left)
-
--- where there is a reply, what was booked before it stands
-pub record IsUnbooked {B : Type 0} (gives : Giving) (before now : ℕ) (order : RunOrder) (shelf : List (Laid B)) (xs : List Exchange) (left : List (Laid B)) : Type 0 where
+-- there is no room for the container of an answer: it is stopped, and the reply isn't booked. What was booked before stands
+pub record IsUnlaid {B : Type 0} (gives : Giving) (before now : ℕ) (order : RunOrder) (shelf : List (Laid B)) (xs : List Exchange) (left : List (Laid B)) : Type 0 where
   pub reply : RunReply
   pub replies : Replies gives before now order.kind order.code order.params reply
   pub opens : Opens gives before now order reply xs
-  pub rests : RestsUnbooked order reply shelf left
+  pub left_is : left ≡ shelf
+
+-- the container of an answer lies on the shelf, and any other was stopped
+abbrev pub LiesBy : {B : Type 0} → Bool → RunOrder → List (Laid B) → List (Laid B) → Type 0
+LiesBy true order shelf left = IsLaid order.slot order.generation shelf left
+LiesBy false order shelf left = left ≡ shelf
+
+-- a reply is to be booked: its container lies there already. What was booked before stands
+pub record IsOffered {B : Type 0} (gives : Giving) (before now : ℕ) (order : RunOrder) (reply : RunReply) (shelf : List (Laid B)) (xs : List Exchange) (left : List (Laid B)) : Type 0 where
+  pub replies : Replies gives before now order.kind order.code order.params reply
+  pub opens : Opens gives before now order reply xs
+  pub lies : LiesBy (is_answer reply) order shelf left
 
 abbrev pub RunStops : {B : Type 0} → Bool → Giving → ℕ → ℕ → RunOrder → List (Laid B) → List Exchange → List (Laid B) → Type 0
 RunStops true gives before now order shelf xs left = ⊥
-RunStops false gives before now order shelf xs left = IsGivenUp order (shelf_at order shelf) xs left ⊎ IsUnbooked gives before now order (shelf_at order shelf) xs left
+RunStops false gives before now order shelf xs left =
+    IsGivenUp order (shelf_at order shelf) xs left ⊎ IsUnlaid gives before now order (shelf_at order shelf) xs left
 
 -- what follows an order that isn't carried out to its end
 abbrev pub Stops : {B : Type 0} → Giving → ℕ → ℕ → List (Laid B) → Order → List Exchange → List (Laid B) → Type 0
@@ -198,6 +214,16 @@ Stops gives before now shelf (orders.Run order) xs left = RunStops (is_missing o
 Stops gives before now shelf (orders.Prewarm order) xs left = IsUnwarmed order shelf xs left
 Stops gives before now shelf (orders.Remove containers) xs left = (xs ≡ []) × (left ≡ shelf)
 Stops gives before now shelf (orders.Nothing why) xs left = ⊥
+
+abbrev pub RunOffers : {B : Type 0} → Bool → Giving → ℕ → ℕ → RunOrder → List (Laid B) → List Exchange → Event → List (Laid B) → Type 0
+RunOffers true gives before now order shelf xs event left = ⊥
+RunOffers false gives before now order shelf xs event left =
+    (reply : RunReply) × ((event ≡ events.Answered order.run reply) × IsOffered gives before now order reply (shelf_at order shelf) xs left)
+
+-- what follows an order up to its runner's reply, which is the next event
+abbrev pub Offers : {B : Type 0} → Giving → ℕ → ℕ → List (Laid B) → Order → List Exchange → Event → List (Laid B) → Type 0
+Offers gives before now shelf (orders.Run order) xs event left = RunOffers (is_missing order shelf) gives before now order shelf xs event left
+Offers gives before now shelf other xs event left = ⊥
 
 -- ---- turns
 
@@ -212,8 +238,33 @@ BeginsTurn gives before now shelf [] left = left ≡ shelf
 BeginsTurn gives before now shelf (x ∷ xs) left =
     (order : Order) × ((x ≡ exchange events.Next (told.Next order)) × (Stops gives before now shelf order xs left ⊎ Follows gives before now shelf order xs left))
 
--- the turn is made, and told. For want of memory it stops, and what was booked stands
+-- the order, and what follows it up to its runner's reply
+abbrev pub OffersTurn : {B : Type 0} → Giving → ℕ → ℕ → List (Laid B) → Order → List Exchange → Event → List (Laid B) → Type 0
+OffersTurn gives before now shelf order [] event left = ⊥
+OffersTurn gives before now shelf order (x ∷ xs) event left = (x ≡ exchange events.Next (told.Next order)) × Offers gives before now shelf order xs event left
+
+-- the turn is made, and told
+abbrev pub IsMade : {P B : Type 0} → (P → KeptRows) → (P → ℕ) → Giving → ℕ → ℕ → HallView P → HallView P → ℕ → List (Laid B) → List (Laid B) → Turned → Type 0
+IsMade rows faults gives before now old new at shelf left turned =
+    (xs : List Exchange) × (IsTurn gives before now shelf turned.order xs left × Chain rows faults old new at xs × (turned.steps ≡ steps_in xs))
+
+-- the store fails at the runner's reply: that is told behind the order, and nothing else; the run stays live
+abbrev pub HasFailed : {P B : Type 0} → (P → KeptRows) → (P → ℕ) → Giving → ℕ → ℕ → HallView P → HallView P → ℕ → List (Laid B) → List (Laid B) → Turned → Type 0
+HasFailed rows faults gives before now old new at shelf left turned =
+    (xs : List Exchange) × ((event : Event) × (OffersTurn gives before now shelf turned.order xs event left × ChainTo rows faults old new at xs event Fails × (turned.steps ≡ StoreFault ∷ [])))
+
+-- memory is wanted: what was booked stands
+abbrev pub HasStopped : {P B : Type 0} → (P → KeptRows) → (P → ℕ) → Giving → ℕ → ℕ → HallView P → HallView P → ℕ → List (Laid B) → List (Laid B) → Type 0
+HasStopped rows faults gives before now old new at shelf left = (xs : List Exchange) × (BeginsTurn gives before now shelf xs left × Chain rows faults old new at xs)
+
+-- or is wanted for the reply, or behind a fault of the store at it
+abbrev pub HasStoppedLate : {P B : Type 0} → (P → KeptRows) → (P → ℕ) → Giving → ℕ → ℕ → HallView P → HallView P → ℕ → List (Laid B) → List (Laid B) → Type 0
+HasStoppedLate rows faults gives before now old new at shelf left =
+    (order : Order) × ((xs : List Exchange) × ((event : Event) × (OffersTurn gives before now shelf order xs event left × ChainUndone rows faults old new at xs event)))
+
+-- what comes of a turn
 abbrev pub Turns : {P B : Type 0} → (P → KeptRows) → (P → ℕ) → Giving → ℕ → ℕ → HallView P → HallView P → ℕ → List (Laid B) → List (Laid B) → Result Turned Want → Type 0
 Turns rows faults gives before now old new at shelf left (Ok turned) =
-    (xs : List Exchange) × (IsTurn gives before now shelf turned.order xs left × Chain rows faults old new at xs × (turned.steps ≡ steps_in xs))
-Turns rows faults gives before now old new at shelf left (Err e) = (xs : List Exchange) × (BeginsTurn gives before now shelf xs left × Chain rows faults old new at xs)
+    IsMade rows faults gives before now old new at shelf left turned ⊎ HasFailed rows faults gives before now old new at shelf left turned
+Turns rows faults gives before now old new at shelf left (Err e) =
+    HasStopped rows faults gives before now old new at shelf left ⊎ HasStoppedLate rows faults gives before now old new at shelf left

@@ -135,6 +135,7 @@ fn book<P: Keeper + Drop, R: Runner>(
         Err(AnswerRefusal::NoRun { .. }) => {
             Ok((None, end(hall, shelf, runner, at, order, answers, false)))
         }
+        Err(AnswerRefusal::StoreFault(_)) => Ok((Some(TurnStep::StoreFault), None)),
         Err(AnswerRefusal::NoMemory(_)) => Err(NoMemory),
     }
 }

@@ -23,7 +23,7 @@ pub enum TurnStep {
     Gone { slot: u32, generation: u32 },
     /// This happened.
     Happened(Happened),
-    /// The store failed.
+    /// The store failed at the runner's reply. Nothing else is told behind the order, and the run stays live.
     StoreFault,
 }
 
@@ -40,7 +40,8 @@ pub struct Turned {
 }
 
 /// Asks the hall what to do, and carries it out at once: containers that live lie on the shelf behind it, under their slot and its
-/// generation. After want of memory what was booked stands, and the shelf is as what was booked left it.
+/// generation. Where the store fails at the runner's reply, what was booked before stands. So it does after want of memory, and the
+/// shelf is as what was booked left it, with the container of an answer that was to be booked.
 pub fn day_turn<P: Keeper + Drop, R: Runner>(
     alloc: Global,
     hall: &mut Hall<P>,

@@ -1,2 +1,7 @@
+pub mod Alike
+pub mod Confirmed
+pub mod IdLaws
+pub mod PathBack
+pub mod ReadBack
 pub mod Regions
 pub mod Sorting

@@ -1,7 +1,7 @@
 // The id of an activation.
 ghost use Rattle.std.specs.Prelude.{◌≡◌, ◌++◌, IfOk, OnOk};
 
-use crate::digits::hex_16;
+use crate::digits::{hex_16, hex_number};
 use ow_value::{NoMemory, Str};
 use std::alloc::Global;
 
@@ -15,7 +15,21 @@ pub struct Id {
 }
 
 impl Id {
-    ghost use Rattle.ow_records.specs.Id.{id_text};
+    ghost use Rattle.ow_records.specs.Id.{id_of, id_text};
+
+    /// The id that thirty-two hexadecimal digits are, of either case.
+    #[tactic(auto, unfolding(crate::specs::Id::id_of))]
+    pub fn of_text(text: &str) -> Option<Id>
+        ensures { result ≡ id_of text.now }
+    {
+        let digits = text.as_bytes();
+        if digits.len() < 16 {
+            return None;
+        }
+        let namespace = hex_number(&digits[..16])?;
+        let count = hex_number(&digits[16..])?;
+        Some(Id { namespace, count })
+    }
 
     /// Puts thirty-two hexadecimal digits behind the bytes. After an error a part of it may stand there.
     #[tactic(auto, unfolding(crate::specs::Id::id_text))]

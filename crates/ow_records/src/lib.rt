@@ -1,31 +1,48 @@
 #![tactic(auto)]
 
 //! Activations and their ids, what ends an activation, the response that follows from it, and what is kept of it.
+mod abandonment;
 mod activations;
 mod digits;
+mod fields_in;
 mod ids;
+mod known;
+mod laws;
 mod listing;
 mod logs;
 mod notes;
+mod notes_in;
 mod order;
 mod outcomes;
 mod ready;
 mod record;
+mod record_in;
 mod record_refusal;
 mod records;
 mod responses;
 mod span;
+mod unrecorded;
 mod written;
 mod written_notes;
 
+pub use abandonment::abandoned;
 pub use activations::Activation;
+pub use fields_in::{cause_in, id_in, lines_in, name_in, number_in, path_in, text_in, version_in};
 pub use ids::Id;
+pub use known::{known_id, known_record, known_unrecorded};
+pub use laws::{
+    abandoned_is_recorded, fields_read_back, id_texts_differ, ids_read_back, read_is_written,
+    written_is_read,
+};
 pub use notes::{ExecKind, Notes};
+pub use notes_in::{kind_in, limits_in};
 pub use outcomes::{Ending, outcome, outcome_in};
 pub use ready::ReadyRecord;
 pub use record::{Record, record_of};
+pub use record_in::{read_fields, read_record};
 pub use record_refusal::RecordRefusal;
 pub use records::Records;
 pub use responses::Response;
 pub use span::Span;
+pub use unrecorded::Unrecorded;
 pub use written::{write_logs, write_record, write_response, write_summary};

@@ -1,5 +1,5 @@
 -- Of the rows of a kind in a namespace, those in a package.
-use Rattle.std.proofs.Common.{◌≡◌, ◌&&◌, ◌||◌, Bool, true, false, cond, List, [], ◌∷◌, filter, refl, ap, ◌∙◌}
+use Rattle.std.proofs.Common.{◌≡◌, ◌&&◌, ◌||◌, Bool, true, false, cond, List, [], ◌∷◌, filter, refl, ap}
 use Rattle.std.specs.List.{list_any}
 
 -- what passes both tests passes one after the other

@@ -3,3 +3,4 @@ pub mod RegionLaws
 pub mod Found
 pub mod InsideLaws
 pub mod PutLaws
+pub mod BuiltinLaws

@@ -52,6 +52,11 @@ abbrev pub with_row : Row → List Row → List Row
 with_row r [] = r ∷ []
 with_row r (x ∷ xs) = match_ordering (text_cmp (key_of r) (key_of x)) (r ∷ x ∷ xs) (r ∷ xs) (x ∷ with_row r xs)
 
+-- the rows with each of these in its place, of which the first is put first
+abbrev pub resumed : List Row → List Row → List Row
+resumed [] rows = rows
+resumed (r ∷ rs) rows = resumed rs (with_row r rows)
+
 -- the rows but the one of the kind and the name
 abbrev pub without : EntityKind → FullName → List Row → List Row
 without kind name rows = filter (λ r. not (is_row kind name r)) rows

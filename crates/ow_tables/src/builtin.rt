@@ -1,11 +1,24 @@
 // The rows that are there from the start.
-ghost use Rattle.std.specs.Prelude.{◌≡◌, IfOk};
-ghost use Rattle.ow_tables.specs.Builtin.{echo, utils};
+ghost use Rattle.std.specs.Prelude.{◌≡◌, ◌&&◌, IfOk};
+ghost use Rattle.std.specs.Str.{bytes_eq};
+ghost use Rattle.ow_names.specs.FullName.{full_text};
+ghost use Rattle.ow_tables.specs.Builtin.{echo, is_builtin, utils};
 
-use ow_entity::{Action, EntityParams, Exec, FIRST_VERSION, Limits, Package, PlainCode};
+use ow_entity::{Action, EntityParams, Exec, FIRST_VERSION, Limits, Package, PlainCode, Row};
 use ow_names::{EntityName, FullName, read_name};
 use ow_value::NoMemory;
 use std::alloc::Global;
+
+/// Whether the row has the kind and the name of one that is there from the start.
+pub fn is_builtin(row: &Row) -> bool
+    ensures { result ≡ is_builtin row.now }
+{
+    let name = row.name();
+    match row {
+        Row::Action(_) => is_echo(name),
+        Row::Package(_) => is_utils(name),
+    }
+}
 
 /// The action that answers what it is given.
 pub(crate) fn echo(alloc: Global) -> Result<Action, NoMemory>
@@ -52,6 +65,45 @@ pub(crate) fn utils(alloc: Global) -> Result<Package, NoMemory>
         notes: EntityParams::new(),
         binding: None,
     })
+}
+
+// Whether the name is that of the action.
+fn is_echo(name: &FullName) -> bool
+    ensures { result ≡ bytes_eq (full_text name.now) (full_text echo.name) }
+{
+    let namespace = name.namespace.as_str();
+    let local = name.name.as_str();
+    match &name.package {
+        Some(bundle) => is_echo_in(namespace, bundle.as_str(), local),
+        None => false,
+    }
+}
+
+fn is_echo_in(namespace: &str, bundle: &str, local: &str) -> bool
+    ensures { result ≡ (bytes_eq namespace.now echo.name.namespace && (bytes_eq bundle.now utils.name.name && bytes_eq local.now echo.name.name)) }
+{
+    namespace == "whisk.system" && bundle == "utils" && local == "echo"
+}
+
+// Whether the name is that of the package.
+fn is_utils(name: &FullName) -> bool
+    ensures { result ≡ bytes_eq (full_text name.now) (full_text utils.name) }
+{
+    let namespace = name.namespace.as_str();
+    let local = name.name.as_str();
+    match &name.package {
+        Some(bundle) => {
+            let _name = bundle.as_str();
+            false
+        }
+        None => is_utils_in(namespace, local),
+    }
+}
+
+fn is_utils_in(namespace: &str, local: &str) -> bool
+    ensures { result ≡ (bytes_eq namespace.now utils.name.namespace && bytes_eq local.now utils.name.name) }
+{
+    namespace == "whisk.system" && local == "utils"
 }
 
 // The text is a name, so only memory can be wanting.

@@ -10,6 +10,7 @@ mod refusal;
 mod row_order;
 mod tables;
 
+pub use builtin::is_builtin;
 pub use ready::Ready;
 pub use refusal::TableRefusal;
 pub use tables::Tables;

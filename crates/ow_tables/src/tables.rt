@@ -1,5 +1,5 @@
 // The rows of the entities that stand.
-ghost use Rattle.std.specs.Prelude.{◌≡◌, ◌≢◌, ◌≤◌, is_some, map, Option, List, [], ◌∷◌, true, false, Some, None, Ok, IfOk, OnOk, IfErr, OnErr, MatchResult};
+ghost use Rattle.std.specs.Prelude.{◌≡◌, ◌≢◌, ◌≤◌, ◌+◌, is_some, length, map, Option, List, [], ◌∷◌, true, false, Some, None, Ok, IfOk, OnOk, IfErr, OnErr, MatchResult};
 ghost use Rattle.std.specs.Result.{result_err};
 ghost use Rattle.std.specs.Option.{option_copied};
 ghost use Rattle.ow_names.specs.declared.full.FullName.{FullName};
@@ -12,7 +12,7 @@ ghost use Rattle.ow_entity.specs.Written.{package_entry};
 ghost use Rattle.ow_packages.specs.Access.{package_at, package_of, reached_package};
 ghost use Rattle.ow_tables.specs.declared.refusal.TableRefusal.{TableRefusal};
 ghost use Rattle.ow_tables.specs.Builtin.{builtin};
-ghost use Rattle.ow_tables.specs.Rows.{AreRows, standing, found, found_after, with_row, changed, listing};
+ghost use Rattle.ow_tables.specs.Rows.{AreRows, standing, found, found_after, with_row, resumed, changed, listing};
 ghost use Rattle.ow_tables.specs.Inside.{actions_behind, shown_actions};
 ghost use Rattle.ow_tables.specs.Refusal.{package_refusal, target_of, target_refusal, exists_refusal, finish_refusal, bound_refusal, holding_refusal, old_row, put_refusal, remove_refusal};
 
@@ -80,7 +80,7 @@ impl Tables {
         ensures unchanged { OnErr result (self.new ≡ self.old) }
     {
         let row = self.made(alloc, draft, overwrite)?;
-        self.make_room()?;
+        self.make_room(1)?;
         Ok(Ready {
             row,
             removes: false,
@@ -112,6 +112,17 @@ impl Tables {
             → found kind name self.new.rows ≡ found_after ready kind name (found kind name self.old.rows) }
     {
         self.make(ready);
+    }
+
+    /// Puts rows as they stood in an earlier run, each in its place by kind and full text, or in that of the row of its
+    /// kind and name. Where they come in this order, each moves no more rows than stood before.
+    pub fn resume(&mut self, rows: Vec<Row>) -> Result<(), NoMemory>
+        ensures rows { OnOk result (self.new.rows ≡ resumed rows.items self.old.rows) }
+        ensures unchanged { OnErr result (self.new ≡ self.old) }
+    {
+        self.make_room(rows.len())?;
+        self.put_all(rows);
+        Ok(())
     }
 
     /// The row of the kind and the name.
@@ -202,13 +213,13 @@ impl Tables {
         order.is_eq() || reached
     }
 
-    // Memory for one more row.
-    fn make_room(&mut self) -> Result<(), NoMemory>
+    // Memory for so many more rows.
+    fn make_room(&mut self, count: usize) -> Result<(), NoMemory>
         ensures rows { self.new.rows ≡ self.old.rows }
-        ensures room { OnOk result (1 ≤ self.new.room) }
+        ensures room { OnOk result (count ≤ self.new.room) }
         ensures unchanged { OnErr result (self.new ≡ self.old) }
     {
-        self.rows.reserve(1)?;
+        self.rows.reserve(count)?;
         Ok(())
     }
 
@@ -347,9 +358,20 @@ impl Tables {
         }
     }
 
+    // Puts the rows one after the other. There is room for each.
+    fn put_all(&mut self, rows: Vec<Row>)
+        requires { length rows.items ≤ self.old.room }
+        ensures { self.new.rows ≡ resumed rows.items self.old.rows }
+    {
+        for row in rows {
+            self.put_in(row);
+        }
+    }
+
     fn put_in(&mut self, row: Row)
         requires { 1 ≤ self.old.room }
-        ensures { self.new.rows ≡ with_row row self.old.rows }
+        ensures rows { self.new.rows ≡ with_row row self.old.rows }
+        ensures room { self.old.room ≤ self.new.room + 1 }
     {
         let namespace = &row.name().namespace;
         namespace.compare_as_part(namespace);

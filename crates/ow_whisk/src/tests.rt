@@ -65,7 +65,7 @@ fn told_over(
     }
 }
 
-fn words_of(alloc: Global, given: &[&str]) -> Result<Vec<String>, Fail> {
+pub fn words_of(alloc: Global, given: &[&str]) -> Result<Vec<String>, Fail> {
     let mut words = Vec::new(alloc);
     for word in given {
         words.push(String::from_str(alloc, word)?)?;
@@ -73,7 +73,7 @@ fn words_of(alloc: Global, given: &[&str]) -> Result<Vec<String>, Fail> {
     Ok(words)
 }
 
-fn source_of(alloc: Global, bytes: &[u8], failing: &[u64]) -> Result<MemorySource, Fail> {
+pub fn source_of(alloc: Global, bytes: &[u8], failing: &[u64]) -> Result<MemorySource, Fail> {
     let bytes = bytes.to_vec(alloc)?;
     Ok(MemorySource::new(bytes, failing.to_vec(alloc)?))
 }
@@ -87,22 +87,22 @@ pub fn office_over(alloc: Global, given: Given<'_>) -> Result<Told, Fail> {
     Ok(told_over(alloc, &words, table, day, out))
 }
 
-// Whether the day is answered by this text, and ends so.
-pub fn is_answered(alloc: Global, day: &[u8], text: &[u8], status: Status) -> Result<bool, Fail> {
+// Whether the day is answered by this text, and this line tells how it ends: none where all of it is carried out.
+pub fn is_answered(alloc: Global, day: &[u8], text: &[u8], line: &[u8]) -> Result<bool, Fail> {
     let told = office_over(alloc, over_table(day))?;
-    Ok(told.status == status && told.out.bytes() == text)
+    Ok(told.out.bytes() == text && told.err.bytes() == line)
 }
 
 // Whether all of the day is carried out, and its answers end in this text.
 fn ends_in(alloc: Global, day: &[u8], text: &[u8]) -> Result<bool, Fail> {
     let told = office_over(alloc, over_table(day))?;
-    Ok(told.status == Status::Ok && told.out.bytes().ends_with(text))
+    Ok(told.status.number() == 0 && told.out.bytes().ends_with(text))
 }
 
-// Whether so many bytes are left of a day that ends so.
-fn leaves(alloc: Global, day: &[u8], status: Status, left: usize) -> Result<bool, Fail> {
+// Whether so many bytes are left of a day that ends with this line.
+fn leaves(alloc: Global, day: &[u8], line: &[u8], left: usize) -> Result<bool, Fail> {
     let told = office_over(alloc, over_table(day))?;
-    Ok(told.status == status && told.left == left)
+    Ok(told.err.bytes() == line && told.left == left)
 }
 
 // A day of this text, so many bytes behind it, and this end.
@@ -116,9 +116,9 @@ fn long_day(alloc: Global, head: &[u8], size: usize, end: &[u8]) -> Result<Vec<u
 }
 
 // The name of the built-in action is written out in each day, as a user writes it.
-const CASES: [(&[u8], &[u8], Status); 17] = [
-    (b"end\n", b"", Status::Ok),
-    (b"", b"", Status::Ok),
+const CASES: [(&[u8], &[u8], &[u8]); 17] = [
+    (b"end\n", b"", b""),
+    (b"", b"", b""),
     (
         b"call /whisk.system/utils/echo {\"a\":1}\nnext\nanswer 1 {\"a\":1}\ndrain\nend\n",
         b"accepted 00000000000000000000000000000001
@@ -126,7 +126,7 @@ run 1 00000000000000000000000000000001 slot 0 gen 1 cold
 recorded 00000000000000000000000000000001 0
 drained 1
 ",
-        Status::Ok,
+        b"",
     ),
     (
         b"call /whisk.system/utils/echo {}\nnext\ndrain",
@@ -134,7 +134,7 @@ drained 1
 run 1 00000000000000000000000000000001 slot 0 gen 1 cold
 open 1
 ",
-        Status::Ok,
+        b"",
     ),
     (
         b"call /whisk.system/utils/no {}
@@ -148,7 +148,7 @@ nothing empty
 refused 29 No run 1.
 refused 1 The text is no JSON.
 ",
-        Status::Ok,
+        b"",
     ),
     (
         b"call /whisk.system/utils/echo {}
@@ -169,7 +169,7 @@ refused 29 No run 2.
 recorded 00000000000000000000000000000001 2
 drained 2
 ",
-        Status::Ok,
+        b"",
     ),
     (
         b"call /whisk.system/utils/no x
@@ -182,40 +182,24 @@ refused 10 The field body has a wrong type.
 refused 2 A number is not a whole number of 64 bits.
 refused 1 The text is no JSON.
 ",
-        Status::Ok,
-    ),
-    (b"next\nend\nnonsense\n", b"nothing empty\n", Status::Ok),
-    (
-        b"at 253402300799999\nat 0\nnext\n",
-        b"nothing empty\n",
-        Status::Ok,
-    ),
-    (
-        b"next\n\nnext\n",
-        b"nothing empty\n",
-        Status::BadDay { statement: 2 },
-    ),
-    (b"next\r\n", b"", Status::BadDay { statement: 1 }),
-    (b"next \n", b"", Status::BadDay { statement: 1 }),
-    (
-        b"at 253402300800000\n",
         b"",
-        Status::BadDay { statement: 1 },
     ),
-    (b"at 00\n", b"", Status::BadDay { statement: 1 }),
-    (b"call  {}\n", b"", Status::BadDay { statement: 1 }),
-    (b"answer 1\n", b"", Status::BadDay { statement: 1 }),
-    (
-        b"answer 18446744073709551616 {}\n",
-        b"",
-        Status::BadDay { statement: 1 },
-    ),
+    (b"next\nend\nnonsense\n", b"nothing empty\n", b""),
+    (b"at 253402300799999\nat 0\nnext\n", b"nothing empty\n", b""),
+    (b"next\n\nnext\n", b"nothing empty\n", b"bad day at 2\n"),
+    (b"next\r\n", b"", b"bad day at 1\n"),
+    (b"next \n", b"", b"bad day at 1\n"),
+    (b"at 253402300800000\n", b"", b"bad day at 1\n"),
+    (b"at 00\n", b"", b"bad day at 1\n"),
+    (b"call  {}\n", b"", b"bad day at 1\n"),
+    (b"answer 1\n", b"", b"bad day at 1\n"),
+    (b"answer 18446744073709551616 {}\n", b"", b"bad day at 1\n"),
 ];
 
 const MALFORMED: &[u8] = b"{\"code\":35,\"error\":\"The request head is malformed.\"}\n";
 
 // Requests among other statements, and refusals of calls.
-const ASKS: [(&[u8], &[u8], Status); 15] = [
+const ASKS: [(&[u8], &[u8], &[u8]); 15] = [
     (
         b"call /whisk.system/utils/echo {}\nnext\ndrain\ncall /whisk.system/utils/echo {}\n",
         b"accepted 00000000000000000000000000000001
@@ -223,7 +207,7 @@ run 1 00000000000000000000000000000001 slot 0 gen 1 cold
 open 1
 refused 32 The office is draining.
 ",
-        Status::Ok,
+        b"",
     ),
     (
         b"ask 68
@@ -250,7 +234,7 @@ Content-Length: 53\r
 \r
 {\"code\":39,\"error\":\"The query value limit is wrong.\"}
 ",
-        Status::Ok,
+        b"",
     ),
     (
         b"ask 272
@@ -354,7 +338,7 @@ Content-Length: 50\r
 \r
 {\"code\":14,\"error\":\"The resource does not exist.\"}
 ",
-        Status::Ok,
+        b"",
     ),
     (
         b"ask 272
@@ -413,7 +397,7 @@ Content-Length: 89\r
 \r
 [{\"annotations\":[],\"name\":\"hello\",\"namespace\":\"guest\",\"publish\":false,\"version\":\"0.0.1\"}]
 ",
-        Status::Ok,
+        b"",
     ),
     (
         b"call x x
@@ -447,7 +431,7 @@ refused 10 The field body has a wrong type.
 refused 14 The resource does not exist.
 accepted 00000000000000000000000000000001
 ",
-        Status::Ok,
+        b"",
     ),
     (
         b"ask 0",
@@ -458,7 +442,7 @@ Content-Length: 47\r
 \r
 {\"code\":40,\"error\":\"The request is cut short.\"}
 ",
-        Status::Ok,
+        b"",
     ),
     (
         b"ask 0\n\nnext\n",
@@ -470,7 +454,7 @@ Content-Length: 47\r
 {\"code\":40,\"error\":\"The request is cut short.\"}
 nothing empty
 ",
-        Status::Ok,
+        b"",
     ),
     (
         b"ask 3\nabc",
@@ -481,27 +465,23 @@ Content-Length: 47\r
 \r
 {\"code\":40,\"error\":\"The request is cut short.\"}
 ",
-        Status::Ok,
+        b"",
     ),
     (
         b"ask 40\nxxxxxxxxxxxxxxxxxxxxxxxxxxxxxxxxxxxxxxx",
         b"",
-        Status::BadDay { statement: 1 },
+        b"bad day at 1\n",
     ),
-    (b"ask 3\nabcd\n", b"", Status::BadDay { statement: 1 }),
-    (b"ask 3\nabcd", b"", Status::BadDay { statement: 1 }),
-    (
-        b"next\nask 1",
-        b"nothing empty\n",
-        Status::BadDay { statement: 2 },
-    ),
-    (b"ask 8388609\n", b"", Status::BadDay { statement: 1 }),
-    (b"ask 00\n\n", b"", Status::BadDay { statement: 1 }),
-    (b"ask\n", b"", Status::BadDay { statement: 1 }),
+    (b"ask 3\nabcd\n", b"", b"bad day at 1\n"),
+    (b"ask 3\nabcd", b"", b"bad day at 1\n"),
+    (b"next\nask 1", b"nothing empty\n", b"bad day at 2\n"),
+    (b"ask 8388609\n", b"", b"bad day at 1\n"),
+    (b"ask 00\n\n", b"", b"bad day at 1\n"),
+    (b"ask\n", b"", b"bad day at 1\n"),
 ];
 
 // The replies of runners to the runs of one day, and bad ones.
-const RUNS: [(&[u8], &[u8], Status); 14] = [
+const RUNS: [(&[u8], &[u8], &[u8]); 14] = [
     (
         b"call /whisk.system/utils/echo {}
 call /whisk.system/utils/echo {}
@@ -535,7 +515,7 @@ recorded 00000000000000000000000000000001 3
 refused 29 No run 1.
 drained 4
 ",
-        Status::Ok,
+        b"",
     ),
     (
         b"logged 7 1 {}\nend\nexit 8 255\nnostart 9 \nfault 10\nlogged 11 0 x",
@@ -545,63 +525,50 @@ refused 29 No run 9.
 refused 29 No run 10.
 refused 29 No run 11.
 ",
-        Status::Ok,
+        b"",
     ),
-    (b"logged 1 2 {}\n\nx", b"refused 29 No run 1.\n", Status::Ok),
+    (b"logged 1 2 {}\n\nx", b"refused 29 No run 1.\n", b""),
     (
         b"next\nlogged 1 1 {}",
         b"nothing empty\n",
-        Status::BadDay { statement: 2 },
+        b"bad day at 2\n",
     ),
-    (b"logged 1 1 {}\n", b"", Status::BadDay { statement: 1 }),
-    (b"logged 1 2 {}\nx\n", b"", Status::BadDay { statement: 1 }),
+    (b"logged 1 1 {}\n", b"", b"bad day at 1\n"),
+    (b"logged 1 2 {}\nx\n", b"", b"bad day at 1\n"),
     (
         b"logged 1 18446744073709551615 {}\nx\n",
         b"",
-        Status::BadDay { statement: 1 },
+        b"bad day at 1\n",
     ),
-    (
-        b"logged 1 1 {}\n\xff\n",
-        b"",
-        Status::BadDay { statement: 1 },
-    ),
-    (b"logged 1 1\nx\n", b"", Status::BadDay { statement: 1 }),
-    (b"logged 1 01 {}\nx\n", b"", Status::BadDay { statement: 1 }),
-    (b"exit 1 256\n", b"", Status::BadDay { statement: 1 }),
-    (b"exit 1\n", b"", Status::BadDay { statement: 1 }),
-    (b"nostart 1\n", b"", Status::BadDay { statement: 1 }),
-    (b"fault 1 \n", b"", Status::BadDay { statement: 1 }),
+    (b"logged 1 1 {}\n\xff\n", b"", b"bad day at 1\n"),
+    (b"logged 1 1\nx\n", b"", b"bad day at 1\n"),
+    (b"logged 1 01 {}\nx\n", b"", b"bad day at 1\n"),
+    (b"exit 1 256\n", b"", b"bad day at 1\n"),
+    (b"exit 1\n", b"", b"bad day at 1\n"),
+    (b"nostart 1\n", b"", b"bad day at 1\n"),
+    (b"fault 1 \n", b"", b"bad day at 1\n"),
 ];
 
 #[test]
 fn days_are_answered(rt: HostRuntime) -> Result<(), Fail> {
-    for (number, (day, text, status)) in CASES.iter().enumerate() {
-        assert!(rt;
-            is_answered(rt.alloc(), day, text, *status)?,
-            "day {number}"
-        );
+    for (number, (day, text, line)) in CASES.iter().enumerate() {
+        assert!(rt; is_answered(rt.alloc(), day, text, line)?, "day {number}");
     }
     Ok(())
 }
 
 #[test]
 fn requests_are_answered(rt: HostRuntime) -> Result<(), Fail> {
-    for (number, (day, text, status)) in ASKS.iter().enumerate() {
-        assert!(rt;
-            is_answered(rt.alloc(), day, text, *status)?,
-            "day {number}"
-        );
+    for (number, (day, text, line)) in ASKS.iter().enumerate() {
+        assert!(rt; is_answered(rt.alloc(), day, text, line)?, "day {number}");
     }
     Ok(())
 }
 
 #[test]
 fn runs_are_replied_to(rt: HostRuntime) -> Result<(), Fail> {
-    for (number, (day, text, status)) in RUNS.iter().enumerate() {
-        assert!(rt;
-            is_answered(rt.alloc(), day, text, *status)?,
-            "day {number}"
-        );
+    for (number, (day, text, line)) in RUNS.iter().enumerate() {
+        assert!(rt; is_answered(rt.alloc(), day, text, line)?, "day {number}");
     }
     Ok(())
 }
@@ -618,7 +585,7 @@ fn many_lines_of_logs_are_read_in_pieces(rt: HostRuntime) -> Result<(), Fail> {
             rt.alloc(),
             &day,
             b"refused 29 No run 1.\nnothing empty\n",
-            Status::Ok
+            b""
         )?
     );
     Ok(())
@@ -660,7 +627,7 @@ fn a_megabyte_of_answers_is_written_before_the_piece_ends(rt: HostRuntime) -> Re
     let mut given = over_table(&day);
     given.failing_writes = &[1];
     let told = office_over(rt.alloc(), given)?;
-    assert!(rt; told.status == Status::WriteFault);
+    assert!(rt; told.status.number() == 4);
     assert!(rt; told.out.bytes().len() == 7_599 * 138);
     Ok(())
 }
@@ -668,13 +635,13 @@ fn a_megabyte_of_answers_is_written_before_the_piece_ends(rt: HostRuntime) -> Re
 #[test]
 fn what_follows_the_end_is_left(rt: HostRuntime) -> Result<(), Fail> {
     let day = long_day(rt.alloc(), b"end\n", 70_000, b"")?;
-    assert!(rt; leaves(rt.alloc(), &day, Status::Ok, 4_468)?);
+    assert!(rt; leaves(rt.alloc(), &day, b"", 4_468)?);
     Ok(())
 }
 
 #[test]
 fn what_follows_a_bad_statement_is_left(rt: HostRuntime) -> Result<(), Fail> {
     let day = long_day(rt.alloc(), b"x\n", 70_000, b"")?;
-    assert!(rt; leaves(rt.alloc(), &day, Status::BadDay { statement: 1 }, 4_466)?);
+    assert!(rt; leaves(rt.alloc(), &day, b"bad day at 1\n", 4_466)?);
     Ok(())
 }

@@ -1,9 +1,8 @@
 // Days whose requests wait, whose runs take a turn, and whose answers are collected.
 use crate::tests::is_answered;
-use ow_day::Status;
 use std::test::Fail;
 
-const WAITS: [(&[u8], &[u8], Status); 5] = [
+const WAITS: [(&[u8], &[u8], &[u8]); 5] = [
     // The result of an action that a turn runs, and the list of what was recorded.
     (
         b"ask 186
@@ -47,7 +46,7 @@ Content-Length: 152\r
 \r
 [{\"activationId\":\"00000000000000010000000000000001\",\"duration\":0,\"end\":0,\"name\":\"hello\",\"namespace\":\"guest\",\"start\":0,\"statusCode\":0,\"version\":\"0.0.1\"}]
 ",
-        Status::Ok,
+        b"",
     ),
     // A request that waits at most 100 milliseconds.
     (
@@ -92,7 +91,7 @@ Content-Length: 442\r
 \r
 {\"activationId\":\"00000000000000010000000000000001\",\"annotations\":[{\"key\":\"initTime\",\"value\":0},{\"key\":\"kind\",\"value\":\"plain:1\"},{\"key\":\"limits\",\"value\":{\"logs\":10,\"memory\":256,\"timeout\":100}},{\"key\":\"path\",\"value\":\"guest/a\"},{\"key\":\"waitTime\",\"value\":100}],\"duration\":0,\"end\":100,\"logs\":[],\"name\":\"a\",\"namespace\":\"guest\",\"response\":{\"result\":{},\"status\":\"success\",\"statusCode\":0,\"success\":true},\"start\":100,\"subject\":\"anna\",\"version\":\"0.0.1\"}
 ",
-        Status::Ok,
+        b"",
     ),
     // An action whose logs may have no byte.
     (
@@ -128,7 +127,7 @@ Content-Length: 33\r
 \r
 {\"logs\":[\"Logs were truncated.\"]}
 ",
-        Status::Ok,
+        b"",
     ),
     // A program that ended without an answer.
     (
@@ -163,7 +162,7 @@ Content-Length: 120\r
 \r
 {\"result\":{\"error\":\"The program ended with status 3.\"},\"status\":\"action developer error\",\"statusCode\":2,\"success\":false}
 ",
-        Status::Ok,
+        b"",
     ),
     // No request waits for these.
     (
@@ -180,17 +179,14 @@ run 1 00000000000000000000000000000001 slot 0 gen 1 cold
 recorded 00000000000000000000000000000001 0
 nothing empty
 ",
-        Status::Ok,
+        b"",
     ),
 ];
 
 #[test]
 fn requests_wait_and_are_collected(rt: HostRuntime) -> Result<(), Fail> {
-    for (number, (day, text, status)) in WAITS.iter().enumerate() {
-        assert!(rt;
-            is_answered(rt.alloc(), day, text, *status)?,
-            "day {number}"
-        );
+    for (number, (day, text, line)) in WAITS.iter().enumerate() {
+        assert!(rt; is_answered(rt.alloc(), day, text, line)?, "day {number}");
     }
     Ok(())
 }

@@ -3,10 +3,10 @@ use Rattle.ow_day.proofs.Tables.{unread_answers, unread_tells}
 use Rattle.ow_day.proofs.commands.day_over.Goals as goal
 
 pub returns-in-Err-clause-told : goal.returns-in-Err-clause-told
-returns-in-Err-clause-told g c = rw c.unread.ensures (unread_tells _ _ _ c.in-Err.refusal c.in-Err.ensures.told)
+returns-in-Err-clause-told g c = rw c.unread.ensures (unread_tells _ _ _ _ c.in-Err.refusal c.in-Err.ensures.told)
 
 pub returns-in-Err-clause-reads : goal.returns-in-Err-clause-reads
 returns-in-Err-clause-reads g c = leaves_unread _
 
 pub returns-in-Err-clause-answered : goal.returns-in-Err-clause-answered
-returns-in-Err-clause-answered g c = λ fault. unread_answers _ _ _
+returns-in-Err-clause-answered g c = λ fault. unread_answers _ _ _ _

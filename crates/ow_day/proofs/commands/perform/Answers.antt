@@ -1,5 +1,69 @@
+use Rattle.std.proofs.Common.{ℕ, List, Err, ap, map, string_bytes, sym, ◌∙◌}
+use Rattle.std.proofs.lemmas.Bool.{false≢true}
+use Rattle.ow_day.specs.declared.words.TheConstants.{HELP, VERSION}
+use Rattle.ow_day.specs.Office.{rows_named, store_of}
+use Rattle.ow_day.specs.Words.{asked_by, is_day, names_table}
+use Rattle.ow_day.proofs.Asking.{asks_none, unread_bad, unread_refused, unread_told}
 use Rattle.ow_day.proofs.SoFar.{leaves_unread}
 use Rattle.ow_day.proofs.commands.perform.Goals as goal
 
-pub returns-in-Some-Help-clause-reads : goal.returns-in-Some-Help-clause-reads
-returns-in-Some-Help-clause-reads g c = leaves_unread _
+pub returns-in-Ok-Day-clause-told : goal.returns-in-Ok-Day-clause-told
+returns-in-Ok-Day-clause-told g c = let asked = rw c.in-Ok-Day.field-0-is at c.in-Ok-Day.ensures.asked in rw asked c.day_over.ensures.told
+
+pub returns-in-Ok-Day-clause-answered : goal.returns-in-Ok-Day-clause-answered
+returns-in-Ok-Day-clause-answered g c = let asked = rw c.in-Ok-Day.field-0-is at c.in-Ok-Day.ensures.asked in rw asked c.day_over.ensures.answered
+
+pub returns-in-Ok-Day-clause-unnamed : goal.returns-in-Ok-Day-clause-unnamed
+returns-in-Ok-Day-clause-unnamed g c = let asked = rw c.in-Ok-Day.field-0-is at c.in-Ok-Day.ensures.asked in rw asked c.day_over.ensures.unnamed
+
+pub returns-in-Ok-Day-clause-untouched : goal.returns-in-Ok-Day-clause-untouched
+returns-in-Ok-Day-clause-untouched g c = let asked = rw c.in-Ok-Day.field-0-is at c.in-Ok-Day.ensures.asked in λ not_day. absurd (false≢true (sym not_day ∙ ap is_day asked))
+
+pub returns-in-Ok-Day-clause-idle : goal.returns-in-Ok-Day-clause-idle
+returns-in-Ok-Day-clause-idle g c = let asked = rw c.in-Ok-Day.field-0-is at c.in-Ok-Day.ensures.asked in λ not_day. absurd (false≢true (sym not_day ∙ ap is_day asked))
+
+pub returns-in-Ok-Day-clause-refused : goal.returns-in-Ok-Day-clause-refused
+returns-in-Ok-Day-clause-refused g c = let asked = rw c.in-Ok-Day.field-0-is at c.in-Ok-Day.ensures.asked in λ none. absurd (asks_none _ _ asked none)
+
+pub returns-in-Ok-Day-clause-silent : goal.returns-in-Ok-Day-clause-silent
+returns-in-Ok-Day-clause-silent g c = let asked = rw c.in-Ok-Day.field-0-is at c.in-Ok-Day.ensures.asked in λ none. absurd (asks_none _ _ asked none)
+
+pub returns-in-Ok-Help-clause-told : goal.returns-in-Ok-Help-clause-told
+returns-in-Ok-Help-clause-told g c = let asked = rw c.in-Ok-Help.field-0-is at c.in-Ok-Help.ensures.asked in rw asked c.write_text.ensures.told
+
+pub returns-in-Ok-Help-clause-reads : goal.returns-in-Ok-Help-clause-reads
+returns-in-Ok-Help-clause-reads g c = leaves_unread _
+
+pub returns-in-Ok-Help-clause-refused : goal.returns-in-Ok-Help-clause-refused
+returns-in-Ok-Help-clause-refused g c = let asked = rw c.in-Ok-Help.field-0-is at c.in-Ok-Help.ensures.asked in λ none. absurd (asks_none _ _ asked none)
+
+pub returns-in-Ok-Help-clause-silent : goal.returns-in-Ok-Help-clause-silent
+returns-in-Ok-Help-clause-silent g c = let asked = rw c.in-Ok-Help.field-0-is at c.in-Ok-Help.ensures.asked in λ none. absurd (asks_none _ _ asked none)
+
+pub returns-in-Ok-Version-clause-told : goal.returns-in-Ok-Version-clause-told
+returns-in-Ok-Version-clause-told g c = let asked = rw c.in-Ok-Version.field-0-is at c.in-Ok-Version.ensures.asked in rw asked c.write_text-in-Ok-Version.ensures.told
+
+pub returns-in-Ok-Version-clause-reads : goal.returns-in-Ok-Version-clause-reads
+returns-in-Ok-Version-clause-reads g c = leaves_unread _
+
+pub returns-in-Ok-Version-clause-refused : goal.returns-in-Ok-Version-clause-refused
+returns-in-Ok-Version-clause-refused g c = let asked = rw c.in-Ok-Version.field-0-is at c.in-Ok-Version.ensures.asked in λ none. absurd (asks_none _ _ asked none)
+
+pub returns-in-Ok-Version-clause-silent : goal.returns-in-Ok-Version-clause-silent
+returns-in-Ok-Version-clause-silent g c = let asked = rw c.in-Ok-Version.field-0-is at c.in-Ok-Version.ensures.asked in λ none. absurd (asks_none _ _ asked none)
+
+pub returns-in-Err-clause-told : goal.returns-in-Err-clause-told
+returns-in-Err-clause-told g c =
+    let ws : List (List ℕ) = map string_bytes c.args.words.now in
+    rw c.unread_words.ensures
+    (unread_told HELP.now VERSION.now ws (rows_named (names_table (asked_by ws)) (g.T.Source.left c.args.table.now)) (store_of g.P.Keeper.rows g.P.Keeper.faults c.args.store) (g.S.Source.left c.args.day.now)
+    (g.O.Sink.taken c.args.out.now) c.in-Err.refusal c.in-Err.ensures.asked (λ e. c.in-Err.ensures.memory (ap Err e)))
+
+pub returns-in-Err-clause-reads : goal.returns-in-Err-clause-reads
+returns-in-Err-clause-reads g c = leaves_unread _
+
+pub returns-in-Err-clause-words : goal.returns-in-Err-clause-words
+returns-in-Err-clause-words g c = λ bad. c.in-Err.ensures.asked (unread_bad c.in-Err.refusal (sym c.unread_words.ensures ∙ bad))
+
+pub returns-in-Err-clause-refused : goal.returns-in-Err-clause-refused
+returns-in-Err-clause-refused g c = λ none. rw c.unread_words.ensures (unread_refused (map string_bytes c.args.words.now) c.in-Err.refusal (λ e. c.in-Err.ensures.memory (ap Err e)))

@@ -1,25 +1,38 @@
-use Rattle.std.proofs.Common.{◌≡◌, [], arith, ap, ◌∙◌}
+use Rattle.std.proofs.Common.{◌≡◌, [], arith, ap, inl, refl, ◌∙◌}
 use Rattle.ow_day.specs.Input.{InputView}
-use Rattle.ow_day.specs.Machine.{start}
-use Rattle.ow_day.specs.Session.{machine_of}
-use Rattle.ow_day.proofs.Runs.{begins, begins_bounded, if_some, unbegun}
+use Rattle.ow_day.proofs.Opened.{begun, begun_on, day_answers, day_leaves, day_told, no_opening, over_table}
+use Rattle.ow_day.proofs.Runs.{begins_bounded, if_some}
 use Rattle.ow_day.proofs.SoFar.{leaves_all}
+use Rattle.ow_day.proofs.Tables.{untouched}
 use Rattle.ow_day.proofs.run.run_day.Goals as goal
 
 pub returns-in_default-clause-told : goal.returns-in_default-clause-told
-returns-in_default-clause-told g c = if_some _ _ (λ bytes told. unbegun _ _)
-
-pub returns-in_default-new-clause-told : goal.returns-in_default-new-clause-told
-returns-in_default-new-clause-told g c = if_some _ _ (λ bytes told. unbegun _ _)
+returns-in_default-clause-told g c = inl (untouched _ _)
 
 pub returns-in_default-clause-reads : goal.returns-in_default-clause-reads
 returns-in_default-clause-reads g c = if_some _ _ (λ bytes told. leaves_all bytes _ told)
 
-pub returns-in_default-new-clause-reads : goal.returns-in_default-new-clause-reads
-returns-in_default-new-clause-reads g c = if_some _ _ (λ bytes told. leaves_all bytes _ told)
+pub returns-in-Err-clause-reads : goal.returns-in-Err-clause-reads
+returns-in-Err-clause-reads g c = if_some _ _ (λ bytes told. leaves_all bytes _ told)
+
+pub returns-in-Some-clause-told : goal.returns-in-Some-clause-told
+returns-in-Some-clause-told g c =
+    day_told g.P.Keeper.rows g.P.Keeper.faults c.args.tenants c.args.store _ _ _ _ _ _ c.turns.run c.turn.new.self c.in-Some.status c.finish.result c.finish.ensures.store c.in-Some.ensures.own c.turn.ensures.store c.in-Some.ensures.told
+    c.finish.ensures.legal c.finish.ensures.kept c.turns.invariant.begun
 
 pub returns-in-Some-clause-reads : goal.returns-in-Some-clause-reads
-returns-in-Some-clause-reads g c = if_some _ _ (λ bytes told. (c.in-Some.ensures.told _ bytes _ (c.turns.invariant.under_way bytes told)).leaves)
+returns-in-Some-clause-reads g c =
+    day_leaves g.P.Keeper.rows g.P.Keeper.faults c.args.tenants c.args.store _ _ _ _ _ _ c.turns.run c.turn.new.self c.in-Some.status c.in-Some.ensures.told c.turns.invariant.begun
+
+pub returns-in-Some-clause-answered : goal.returns-in-Some-clause-answered
+returns-in-Some-clause-answered g c = λ fault.
+    day_answers g.P.Keeper.rows g.P.Keeper.faults c.args.tenants c.args.store _ _ _ _ _ _ c.turns.run c.turn.new.self c.in-Some.status fault c.in-Some.ensures.told c.turns.invariant.begun
+
+pub returns-in-Some-clause-own : goal.returns-in-Some-clause-own
+returns-in-Some-clause-own g c = over_table c.in-Some.status c.in-Some.ensures.own
+
+pub returns-in-Some-clause-unbegun : goal.returns-in-Some-clause-unbegun
+returns-in-Some-clause-unbegun g c = λ fault. absurd (no_opening c.in-Some.status c.in-Some.ensures.own fault)
 
 pub turns-init : goal.turns-init
 turns-init g c =
@@ -27,11 +40,17 @@ turns-init g c =
     let input : run.input ≡ record { pending = []; taken = 0 } = c.new-run.ensures.input ∙ c.in-Ok.ensures.value in
     let pending = ap (λ (i : InputView). i.pending) input in
     let taken = ap (λ (i : InputView). i.taken) input in
-    let machine : machine_of run.session ≡ start c.args.tenants = rw c.new-run.ensures.session c.in-Ok-new.ensures.machine in
     record {
-      under_way = λ bytes told. begins bytes _ _ run told machine pending taken c.new-run.ensures.answers c.new-run.ensures.number c.new-run.ensures.ended;
+      begun = begun g.P.Keeper.rows g.P.Keeper.faults c.args.tenants c.args.store _ _ _ run c.in-Ok-new.ensures.begins c.new-run.ensures.session pending taken c.new-run.ensures.answers c.new-run.ensures.number c.new-run.ensures.ended;
       bounded = begins_bounded run pending taken c.new-run.ensures.number;
-      store = rw c.new-run.ensures.session c.in-Ok-new.ensures.store;
       day_later = omega arith;
       out_later = omega arith;
     }
+
+pub turns-preserved : goal.turns-preserved
+turns-preserved g c = record {
+  begun = begun_on g.P.Keeper.rows g.P.Keeper.faults c.args.tenants c.args.store _ _ _ _ _ _ c.turns.run c.turn.new.self c.turn.ensures.store c.in_default-turn.ensures.told c.turns.invariant.begun;
+  bounded = c.in_default-turn.ensures.bounded;
+  day_later = omega arith;
+  out_later = omega arith;
+}

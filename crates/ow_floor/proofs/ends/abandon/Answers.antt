@@ -1,18 +1,29 @@
-use Rattle.std.proofs.Common.{◌≡◌, ◌∙◌, ap, refl, length, arith}
-use Rattle.ow_floor.proofs.Making.{abandoning_end, abandons_at}
+use Rattle.std.proofs.Common.{◌∙◌, arith, refl, subst}
+use Rattle.ow_floor.specs.declared.by_id.OpenPlace.{OpenPlace}
+use Rattle.ow_floor.specs.Ends.{IsAbandonedAt, IsByIds}
+use Rattle.ow_floor.proofs.Making.{abandoning_end, abandoning_start, abandons_at, place_within}
 use Rattle.ow_floor.proofs.ends.abandon.Goals as goal
 
-pub returns-clause-made : goal.returns-clause-made
-returns-clause-made c =
-    let count : length c.tasks-count.result.now ≡ length c.args.lists.now.now.tasks = ap (λ ts. length ts) c.tasks-count.ensures in
-    abandoning_end c.args.at c.args.lists.now.now c.loop-i.lists.now c.loop-i.i c.loop-i.happened.items (omega (arith, count, c.loop-i-test.false, c.loop-i.auto.i-end)) c.loop-i.invariant.made
+pub loop-i-init : goal.loop-i-init
+loop-i-init c = record {
+  made = rw c.new-happened.ensures.items (abandoning_start c.args.at c.args.lists.now.now c.in_ok-places.places.items c.requires (rw (← c.tasks.ensures) c.in_ok-places.ensures));
+  past = refl;
+}
+
+pub abandon_at-requires-clause-within : goal.abandon_at-requires-clause-within
+abandon_at-requires-clause-within c =
+    let sorted : IsByIds c.args.lists.now.now.tasks c.in_ok-places.places.items = rw (← c.tasks.ensures) c.in_ok-places.ensures in
+    rw (c.loop-i.invariant.made.size, c.index.ensures) (place_within c.args.lists.now.now.tasks c.in_ok-places.places.items c.loop-i.i c.index.result.now sorted (omega arith))
 
 pub loop-i-preserved : goal.loop-i-preserved
 loop-i-preserved c =
-    let count : length c.tasks-count.result.now ≡ length c.args.lists.now.now.tasks = ap (λ ts. length ts) c.tasks-count.ensures in
-    let paired = c.loop-i.invariant.made.good.paired in
+    let one = subst (λ (p : OpenPlace). IsAbandonedAt c.args.at p.place c.loop-i.lists.now c.abandon_at.new.lists.now c.loop-i.happened.items c.abandon_at.new.happened.items) c.index.ensures c.in_ok-abandon_at.ensures.made in
     record {
-      made = abandons_at c.args.at c.args.lists.now.now c.loop-i.lists.now c.abandon_at.new.lists.now c.loop-i.i _ c.loop-i.happened.items c.abandon_at.new.happened.items
-          (omega (arith, count, c.loop-i-test.true, c.loop-i.invariant.made.size, paired)) refl c.in_ok-abandon_at.ensures.made c.loop-i.invariant.made;
+      made = abandons_at c.args.at c.args.lists.now.now c.loop-i.lists.now c.abandon_at.new.lists.now c.in_ok-places.places.items c.loop-i.i c.index.result.now c.loop-i.happened.items c.abandon_at.new.happened.items
+          (omega arith) c.abandon_at.ensures.good one c.loop-i.invariant.made;
       past = c.abandon_at.ensures.past ∙ c.loop-i.invariant.past;
     }
+
+pub returns-clause-made : goal.returns-clause-made
+returns-clause-made c =
+    abandoning_end c.args.at c.args.lists.now.now c.loop-i.lists.now c.in_ok-places.places.items c.loop-i.i c.loop-i.happened.items (omega arith) c.loop-i.invariant.made

@@ -1,9 +1,8 @@
-use Rattle.std.proofs.Common.{◌≡◌, Some, true, false, sym, ◌∙◌, ap, subst, get_or}
+use Rattle.std.proofs.Common.{◌≡◌, Some, true, sym, ◌∙◌, ap, subst, get_or}
 use Rattle.ow_records.specs.declared.activations.Activation.{Activation}
 use Rattle.ow_floor.specs.View.{is_of}
 use Rattle.ow_floor.specs.Calls.{is_late}
 use Rattle.ow_floor.specs.Store.{IsSpot}
-use Rattle.ow_floor.proofs.Lateness.{not_late_closed, not_late_yet}
 use Rattle.ow_floor.proofs.ends.late_spot.Goals as goal
 
 pub returns-then-is_late : goal.returns-then-is_late

@@ -1,4 +1,4 @@
-use Rattle.std.proofs.Common.{◌≤◌, sym, arith, length}
+use Rattle.std.proofs.Common.{◌≤◌, sym, length}
 use Rattle.ow_floor.proofs.Restoring.{none_back}
 use Rattle.ow_floor.proofs.kept_slots.put_back.Goals as goal
 

@@ -1,7 +1,6 @@
-use Rattle.std.proofs.Common.{◌≡◌, ◌+◌, ◌<◌, ℕ, List, [], ◌∷◌, suc, refl, sym, ◌∙◌, ap, subst, arith, drop, drop-cons, get_or, length}
+use Rattle.std.proofs.Common.{◌≡◌, ◌+◌, ℕ, List, [], ◌∷◌, suc, refl, sym, ◌∙◌, ap, subst, arith, drop, drop-cons, get_or}
 use Rattle.ow_slots.specs.State.{removed_state, with_state}
 use Rattle.ow_pool.specs.Keeping.{CanAllGo, removed}
-use Rattle.ow_floor.specs.Kept.{past, restored}
 use Rattle.ow_floor.proofs.Restoring.{past_noted}
 use Rattle.ow_pool.proofs.OrderLaws.{removed_keeps}
 use Rattle.ow_floor.proofs.kept_slots.remove_all.Goals as goal

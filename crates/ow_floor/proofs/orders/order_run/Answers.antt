@@ -1,9 +1,6 @@
 use Rattle.std.proofs.Common.{◌≡◌, Some, sym, ◌∙◌, ap, get_or}
-use Rattle.std.specs.Prelude.{None}
 use Rattle.ow_pool.specs.declared.answers.Head.{Head}
-use Rattle.ow_floor.specs.declared.runs.Run.{Run}
 use Rattle.ow_floor.specs.View.{key_of}
-use Rattle.ow_floor.specs.Store.{ordered_in}
 use Rattle.ow_floor.proofs.Ordering.{good_run, run_ordered}
 use Rattle.ow_floor.proofs.Results.{sure}
 use Rattle.ow_floor.proofs.orders.order_run.Goals as goal

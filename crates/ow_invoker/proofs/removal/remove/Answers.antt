@@ -6,7 +6,7 @@ use Rattle.ow_invoker.proofs.Running.{steady_trans}
 use Rattle.ow_invoker.proofs.removal.remove.Goals as goal
 
 pub returns-in_default-clause-turns : goal.returns-in_default-clause-turns
-returns-in_default-clause-turns g c = ([], (inl (refl, refl), refl))
+returns-in_default-clause-turns g c = inl ([], (inl (refl, refl), refl))
 
 pub loop-container-preserved : goal.loop-container-preserved
 loop-container-preserved g c =

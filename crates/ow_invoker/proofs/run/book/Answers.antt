@@ -1,4 +1,4 @@
-use Rattle.std.proofs.Common.{None, Some, refl}
+use Rattle.std.proofs.Common.{None, Some, inr, refl}
 use Rattle.ow_floor.specs.declared.answers.Answered.TheVariants.{Late, Recorded}
 use Rattle.ow_decide.specs.declared.events.Told.TheVariants as told
 use Rattle.ow_invoker.specs.declared.turn.TurnStep.TheVariants.{Happened}
@@ -22,3 +22,6 @@ returns-in-Err-NoRun-clause-books g c =
     booked g.P.Keeper.rows g.P.Keeper.faults c.args.hall.now c.answered.new.self c.end-in-Err-NoRun.new.hall c.args.at c.args.order.now c.args.reply c.is_answer-answers.result c.args.shelf.now c.end-in-Err-NoRun.new.shelf
     None (told.NoRun c.in-Err-NoRun.field-0-0 c.in-Err-NoRun.field-0-1) c.end-in-Err-NoRun.result
     c.is_answer-answers.ensures (rw c.in-Err-NoRun.field-0-is at c.in-Err-NoRun.ensures.comes) refl c.end-in-Err-NoRun.ensures.ends
+
+pub returns-in-Err-StoreFault-clause-books : goal.returns-in-Err-StoreFault-clause-books
+returns-in-Err-StoreFault-clause-books g c = inr (refl, (rw c.in-Err-StoreFault.field-0-is at c.in-Err-StoreFault.ensures.comes, refl))

@@ -1,6 +1,7 @@
 use Rattle.std.proofs.Common.{subst}
 use Rattle.ow_invoker.specs.Turns.{Turns}
 use Rattle.ow_invoker.proofs.Orders.{turned, unordered}
+use Rattle.ow_invoker.proofs.Turning.{next_commits}
 use Rattle.ow_invoker.proofs.turn.day_turn.Goals as goal
 
 pub returns-in-Ok-next-clause-turns : goal.returns-in-Ok-next-clause-turns
@@ -13,4 +14,4 @@ returns-in-Ok-next-clause-turns g c =
 pub returns-in-Err-clause-turns : goal.returns-in-Err-clause-turns
 returns-in-Err-clause-turns g c =
     unordered g.P.Keeper.rows g.P.Keeper.faults c.args.hall.now c.args.at (g.R.Runner.gives c.args.runner.now) (g.R.Runner.faults c.args.runner.now) (g.R.Runner.faults c.args.runner.now) c.next.new.self
-    c.args.shelf.now c.make_room.new.self _ c.make_room.ensures c.in-Err.ensures
+    c.args.shelf.now c.make_room.new.self _ c.make_room.ensures (next_commits g.P.Keeper.rows g.P.Keeper.faults c.args.hall.now c.args.at) c.in-Err.ensures

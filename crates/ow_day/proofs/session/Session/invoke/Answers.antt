@@ -1,13 +1,10 @@
 use Rattle.ow_decide.specs.declared.events.Event.TheVariants as events
-use Rattle.ow_decide.specs.declared.events.Told.TheVariants as told
-use Rattle.ow_day.proofs.Meeting.{met}
+use Rattle.ow_day.proofs.Meeting.{called, wanted_so}
 use Rattle.ow_day.proofs.session.Session.invoke.Goals as goal
 
-pub returns-clause-meets : goal.returns-clause-meets
-returns-clause-meets g c = met g.P.Keeper.rows g.P.Keeper.faults c.args.self.now c.call.new.self (events.Called c.args.name.now c.args.params) (told.Called c.in_ok-called.called) c.in_ok-called.ensures
+pub returns : goal.returns
+returns g c = called g.P.Keeper.rows g.P.Keeper.faults c.args.self.now c.call.new.self c.args.name.now c.args.params c.in_ok-called.called c.in_ok-called.ensures
 
-pub returns-clause-store : goal.returns-clause-store
-returns-clause-store g c = c.in_ok-called.ensures.3
-
-pub returns-in_err-called-clause-store : goal.returns-in_err-called-clause-store
-returns-in_err-called-clause-store g c = c.in_err-called.ensures.2
+pub returns-in_err-called : goal.returns-in_err-called
+returns-in_err-called g c =
+    wanted_so g.P.Keeper.rows g.P.Keeper.faults c.args.self.now c.call.new.self (events.Called c.args.name.now c.args.params) c.call.ensures.0 c.from_residual.result c.from_residual.ensures.0 c.call.ensures.2

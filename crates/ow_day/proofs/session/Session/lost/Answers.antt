@@ -1,10 +1,6 @@
-use Rattle.std.proofs.Common.{subst}
 use Rattle.ow_decide.specs.declared.events.Event.TheVariants as events
-use Rattle.ow_day.proofs.Meeting.{taken, taken_stays}
+use Rattle.ow_day.proofs.Meeting.{taken}
 use Rattle.ow_day.proofs.session.Session.lost.Goals as goal
 
-pub returns-clause-meets : goal.returns-clause-meets
-returns-clause-meets g c = rw c.told_of.ensures (taken g.P.Keeper.rows g.P.Keeper.faults c.args.self.now c.lost.new.self (events.Lost c.args.run) c.lost.result c.lost.ensures)
-
-pub returns-clause-store : goal.returns-clause-store
-returns-clause-store g c = taken_stays g.P.Keeper.rows g.P.Keeper.faults c.args.self.now.hall c.lost.new.self c.args.self.now.given (events.Lost c.args.run) c.lost.result c.lost.ensures
+pub returns : goal.returns
+returns g c = rw c.told_of.ensures (taken g.P.Keeper.rows g.P.Keeper.faults c.args.self.now c.lost.new.self (events.Lost c.args.run) c.lost.result c.lost.ensures)

@@ -1,12 +1,12 @@
-use Rattle.std.proofs.Common.{◌≡◌, refl, subst, IfOk}
+use Rattle.std.proofs.Common.{◌≡◌, refl, subst}
 use Rattle.ow_traits.specs.declared.replies.RunReply.{RunReply}
 use Rattle.ow_traits.specs.declared.replies.RunReply.TheVariants as runs
 use Rattle.ow_decide.specs.declared.events.Event.TheVariants as events
 use Rattle.ow_day.specs.Machine.{Meets}
-use Rattle.ow_day.specs.Session.{machine_of}
+use Rattle.ow_day.specs.Session.{ComesTo, machine_of}
 use Rattle.ow_day.proofs.session.Session.no_start.Goals as goal
 
-pub returns-clause-does : goal.returns-clause-does
-returns-clause-does g c =
+pub returns : goal.returns
+returns g c =
     let same : runs.NoStart c.in_ok-text.text ≡ runs.NoStart c.args.text.now = rw c.in_ok-text.ensures refl in
-    subst (λ (r : RunReply). IfOk c.reply.result (λ done. Meets (machine_of c.args.self.now) (events.Answered c.args.run r) done (machine_of c.reply.new.self))) same c.reply.ensures.meets
+    subst (λ (r : RunReply). ComesTo g.P.Keeper.faults c.args.self.now c.reply.new.self (Meets (machine_of c.args.self.now) (events.Answered c.args.run r)) c.reply.result) same c.reply.ensures

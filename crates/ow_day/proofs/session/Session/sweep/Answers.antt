@@ -1,13 +1,13 @@
 use Rattle.ow_decide.specs.declared.events.Event.TheVariants as events
 use Rattle.ow_decide.specs.declared.events.Told.TheVariants as told
-use Rattle.ow_day.proofs.Meeting.{met}
+use Rattle.ow_day.proofs.Meeting.{failed, met, wanted}
 use Rattle.ow_day.proofs.session.Session.sweep.Goals as goal
 
-pub returns-clause-meets : goal.returns-clause-meets
-returns-clause-meets g c = met g.P.Keeper.rows g.P.Keeper.faults c.args.self.now c.sweep.new.self events.Sweep (told.Swept c.in_ok-swept.swept) c.in_ok-swept.ensures
+pub returns-in-Ok : goal.returns-in-Ok
+returns-in-Ok g c = met g.P.Keeper.rows g.P.Keeper.faults c.args.self.now c.sweep.new.self events.Sweep (told.Swept c.in-Ok.swept) c.in-Ok.ensures
 
-pub returns-clause-store : goal.returns-clause-store
-returns-clause-store g c = c.in_ok-swept.ensures.3
+pub returns-in-Err-StoreFault : goal.returns-in-Err-StoreFault
+returns-in-Err-StoreFault g c = failed g.P.Keeper.rows g.P.Keeper.faults c.args.self.now c.sweep.new.self events.Sweep (rw c.in-Err-StoreFault.field-0-is at c.in-Err-StoreFault.ensures)
 
-pub returns-in_err-swept-clause-store : goal.returns-in_err-swept-clause-store
-returns-in_err-swept-clause-store g c = c.in_err-swept.ensures.2
+pub returns-in-Err-NoMemory : goal.returns-in-Err-NoMemory
+returns-in-Err-NoMemory g c = wanted g.P.Keeper.rows g.P.Keeper.faults c.args.self.now c.sweep.new.self events.Sweep (rw c.in-Err-NoMemory.field-0-is at c.in-Err-NoMemory.ensures)

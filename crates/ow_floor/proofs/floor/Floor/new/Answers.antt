@@ -1,4 +1,3 @@
-use Rattle.ow_floor.specs.View.{FloorView}
 use Rattle.ow_floor.proofs.Showing.{good_opened, stands_opened}
 use Rattle.ow_floor.proofs.floor.Floor.new.Goals as goal
 

@@ -1,4 +1,4 @@
-use Rattle.std.proofs.Common.{◌≡◌, Option, Some, None, sym, ◌∙◌, ap, subst, get_or}
+use Rattle.std.proofs.Common.{◌≡◌, Some, None, ◌∙◌, ap, subst, get_or}
 use Rattle.ow_slots.specs.declared.states.Slot.{Slot}
 use Rattle.ow_slots.specs.Slots.{first_with}
 use Rattle.ow_slots.specs.State.{recorded_of, runs}
@@ -6,7 +6,6 @@ use Rattle.ow_floor.specs.View.{FloorView, is_number}
 use Rattle.ow_floor.specs.Trace.{Trace}
 use Rattle.ow_floor.specs.Laws.{Grows, Stands}
 use Rattle.ow_floor.specs.Calls.{answer_to, answered_by, answered_items}
-use Rattle.ow_floor.specs.Places.{recorded_there}
 use Rattle.ow_floor.specs.Store.{IsCell, answered_in, run_in, show}
 use Rattle.ow_floor.proofs.Growing.{Makes, made_replied, past_good, recorded_slot}
 use Rattle.ow_floor.proofs.Results.{sure}

@@ -1,4 +1,4 @@
-use Rattle.std.proofs.Common.{ap, ◌∙◌, sym}
+use Rattle.std.proofs.Common.{ap, ◌∙◌}
 use Rattle.ow_floor.specs.Kept.{past}
 use Rattle.ow_floor.proofs.Restoring.{past_all}
 use Rattle.ow_floor.proofs.kept_slots.KeptSlots.empty.Goals as goal

@@ -1,4 +1,4 @@
-use Rattle.std.proofs.Common.{ap, ◌∙◌, sym}
+use Rattle.std.proofs.Common.{ap, ◌∙◌}
 use Rattle.ow_floor.specs.Kept.{past}
 use Rattle.ow_slots.specs.State.{opened}
 use Rattle.ow_floor.proofs.Restoring.{past_noted}

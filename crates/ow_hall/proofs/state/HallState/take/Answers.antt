@@ -6,5 +6,6 @@ use Rattle.ow_hall.proofs.state.HallState.take.Goals as goal
 
 pub returns-clause-ok : goal.returns-clause-ok
 returns-clause-ok c t S seen waits =
-    let same = ap (λ (w : StateView). w.floor.now) c.self.view_is in
-    c.take.ensures.ok t c.args.self.now.rows c.args.self.now.counts S (subst (λ (v : Shown). IsSeen S t c.args.self.now.rows c.args.self.now.counts v c.args.now) (sym same) seen)
+    let w = c.args.self.now in
+    let same = ap (λ (x : StateView). x.floor.now) c.self.view_is in
+    c.take.ensures.ok t w.rows w.counts w.keeping S (subst (λ (v : Shown). IsSeen S t w.rows w.counts w.keeping v c.args.now) (sym same) seen)

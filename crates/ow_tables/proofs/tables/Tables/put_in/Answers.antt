@@ -18,12 +18,12 @@ invariant_of-self-in-Ok-insert c =
     (same_key c.args.row _ _ c.kind.ensures c.name-2.ensures) c.in-Ok-insert.ensures.items c.in-Err.ensures.err.1 refl in
     subst AreKept (sym same) (AreKept-with_row c.args.row _ (named c.args.row _ c.name.ensures c.compare_as_part.ensures.whole) c.self.invariant)
 
-pub returns-in-Ok : goal.returns-in-Ok
-returns-in-Ok c =
+pub returns-in-Ok-clause-rows : goal.returns-in-Ok-clause-rows
+returns-in-Ok-clause-rows c =
     ap (set c.self.inside.rows.items c.in-Ok.i) c.replace.ensures.after ∙ replaced (key c.kind.result c.name-2.result.now) c.self.inside.rows.items c.deref.result.now c.args.row c.in-Ok.i _ c.deref.ensures.value
     (same_key c.args.row _ _ c.kind.ensures c.name-2.ensures) c.self.invariant.rise c.in-Ok.ensures.ok (ap (λ (t : Contents). t.rows) c.self.view_is)
 
-pub returns-in-Ok-insert : goal.returns-in-Ok-insert
-returns-in-Ok-insert c =
+pub returns-in-Ok-insert-clause-rows : goal.returns-in-Ok-insert-clause-rows
+returns-in-Ok-insert-clause-rows c =
     put_between (key c.kind.result c.name-2.result.now) c.self.inside.rows.items c.deref.result.now c.insert.new.self.items c.args.row c.in-Err.i _ c.deref.ensures.value
     (same_key c.args.row _ _ c.kind.ensures c.name-2.ensures) c.in-Ok-insert.ensures.items c.in-Err.ensures.err.1 (ap (λ (t : Contents). t.rows) c.self.view_is)

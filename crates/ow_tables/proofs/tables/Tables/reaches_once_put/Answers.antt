@@ -1,6 +1,4 @@
-use Rattle.std.proofs.Common.{◌≡◌, ◌||◌, is_some, sym, ap, ◌∙◌, arith}
-use Rattle.ow_packages.specs.Access.{reached_package}
-use Rattle.ow_tables.specs.Rows.{standing}
+use Rattle.std.proofs.Common.{arith}
 use Rattle.ow_tables.proofs.PutLaws.{reached_once_put}
 use Rattle.ow_tables.proofs.tables.Tables.reaches_once_put.Goals as goal
 

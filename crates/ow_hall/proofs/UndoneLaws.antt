@@ -1,0 +1,49 @@
+-- What a commit that failed leaves.
+use Rattle.std.proofs.Common.{◌≡◌, ◌∙◌, ℕ, Bool, true, false, [], Option, Err, refl}
+use Rattle.ow_traits.specs.declared.keepers.KeeperError.{KeeperError}
+use Rattle.ow_traits.specs.declared.keepers.KeeperError.TheVariants.{Failed, NoMemory}
+use Rattle.ow_floor.specs.Trace.{Trace}
+use Rattle.ow_kept.specs.Keeping.{CommitView}
+use Rattle.ow_decide.specs.Decision.{commits}
+use Rattle.ow_decide.specs.declared.events.Event.{Event}
+use Rattle.ow_tenant.specs.Table.{Table}
+use Rattle.ow_hall.specs.Comes.{Comes, HallView, HoldsBook, KeptRows, Wants, decided}
+use Rattle.ow_hall.specs.Commits.{CommitsTo, changes_in, is_fault, uncommitted}
+use Rattle.ow_hall.specs.Ledger.{HasRoom, Ledger}
+use Rattle.ow_hall.specs.Performing.{undone}
+use Rattle.ow_hall.specs.State.{Keeps, StateView}
+use Rattle.ow_hall.proofs.KeepLaws.{stays_so}
+
+-- ---- a commit that failed
+
+-- what comes of it
+pub undone_comes : {P : Type 0} (rows : P → KeptRows) (faults : P → ℕ) (old new : HallView P) (at : ℕ) (event : Event) (commit : Option CommitView) (e : KeeperError)
+    → changes_in commit ≡ commits (decided old at event) → CommitsTo rows faults (changes_in commit) old.store new.store (Err e) → new.ledger ≡ uncommitted e old.ledger → new.tenants ≡ old.tenants
+    → Comes rows faults old new at event (undone (is_fault e))
+undone_comes rows faults old new at event commit Failed is none ledger tenants =
+    (λ empty. none.0 (is ∙ empty), ledger, tenants, none.1, none.2.later, none.2.rose refl)
+undone_comes rows faults old new at event commit NoMemory is none ledger tenants =
+    (ledger, tenants, stays_so rows faults (commits (decided old at event)) old.store new.store none.1 none.2.later (λ empty. none.0 (is ∙ empty)))
+
+-- the book is what it was, but for the tally
+pub undone_keeps : (e : KeeperError) (w : StateView) (t : Table) (L : Ledger) → Keeps w t L → Keeps w t (uncommitted e L)
+undone_keeps Failed w t L keeps = record { stands = keeps.stands; legal = keeps.legal; free = keeps.free }
+undone_keeps NoMemory w t L keeps = keeps
+
+pub undone_room : (e : KeeperError) (T : Trace) (L : Ledger) (room : ℕ) → HasRoom T L room → HasRoom T (uncommitted e L) room
+undone_room Failed T L room has = record { within = has.within; fits = has.fits }
+undone_room NoMemory T L room has = has
+
+pub undone_entries : (e : KeeperError) (L : Ledger) → (uncommitted e L).entries ≡ L.entries
+undone_entries Failed L = refl
+undone_entries NoMemory L = refl
+
+pub undone_holds : (e : KeeperError) (told : KeptRows) (t : Table) (L : Ledger) → HoldsBook told t L → HoldsBook told t (uncommitted e L)
+undone_holds Failed told t L holds = holds
+undone_holds NoMemory told t L holds = holds
+
+-- where nothing is to be committed, memory was wanted
+pub only_wants : {P : Type 0} (rows : P → KeptRows) (faults : P → ℕ) (old new : HallView P) (at : ℕ) (event : Event) (failed : Bool) → commits (decided old at event) ≡ []
+    → Comes rows faults old new at event (undone failed) → Comes rows faults old new at event Wants
+only_wants rows faults old new at event true none comes = absurd (comes.0 none)
+only_wants rows faults old new at event false none comes = comes

@@ -1,0 +1,17 @@
+use Rattle.std.proofs.Common.{List, Ok, subst}
+use Rattle.ow_traits.specs.Keeper.{Commits}
+use Rattle.ow_traits.specs.declared.change_list.Change.{Change}
+use Rattle.ow_hall.proofs.OpenLaws.{opening_stands}
+use Rattle.ow_hall.proofs.opening.open_over.Goals as goal
+
+pub keep-requires : goal.keep-requires
+keep-requires g c = c.in-Ok.ensures.ready.over.room
+
+pub returns-in-Ok-commit-clause-opened : goal.returns-in-Ok-commit-clause-opened
+returns-in-Ok-commit-clause-opened g c =
+    let rows = g.P.Keeper.rows in
+    let mid = c.load.new.store in
+    let new = c.commit.new.self in
+    let made = subst (λ (cs : List Change). Commits {T = Unit {0}} (rows mid) (rows new) cs (Ok tt)) c.changes.ensures c.in-Ok-commit.ensures.told in
+    opening_stands rows g.P.Keeper.faults c.args.store.now mid new c.args.tenants.now c.in_ok-rows.rows c.args.at c.in-Ok.ready c.keep.result
+    c.in_ok-rows.ensures.loaded c.in-Ok.ensures.ready made c.in-Ok-commit.ensures.cause.later c.keep.ensures

@@ -1,0 +1,22 @@
+-- What comes of an event, for private clauses.
+use Rattle.std.specs.Prelude.{Bool, true, false, Result, Ok, Err}
+use Rattle.ow_traits.specs.declared.replies.RunReply.{RunReply}
+use Rattle.ow_floor.specs.declared.answers.AnswerRefusal.{AnswerRefusal}
+use Rattle.ow_floor.specs.declared.answers.AnswerRefusal.TheVariants.{NoMemory, StoreFault}
+use Rattle.ow_decide.specs.declared.events.Told.{Told}
+use Rattle.ow_hall.specs.Comes.{Answers, Fails, Outcome, Wants}
+use Rattle.ow_hall.specs.declared.hall.Undone.{Undone}
+
+abbrev pub undone : Bool → Outcome
+undone true = Fails
+undone false = Wants
+
+-- it is told, or it is undone
+abbrev pub outcome : Result Told Undone → Outcome
+outcome (Ok t) = Answers t
+outcome (Err u) = undone u.failed
+
+-- why a runner's reply isn't taken
+abbrev pub unanswered : RunReply → Bool → AnswerRefusal
+unanswered reply true = StoreFault reply
+unanswered reply false = NoMemory reply

@@ -1,0 +1,5 @@
+pub mod Extent
+pub mod Parts
+pub mod Lists
+pub mod Bytes
+pub mod Stated

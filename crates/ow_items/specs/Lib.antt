@@ -1,0 +1,5 @@
+pub mod Sorted
+pub mod Bytes
+pub mod Lists
+pub mod Item
+pub mod Laws

@@ -1,0 +1,90 @@
+-- What is written of an item reads as the item.
+use Rattle.std.proofs.Common.{◌≡◌, ℕ, ◌≤◌, true, nat_le, not, IfSome, Option, Some, None, option_map, option_and_then, refl, ap, ◌∙◌, arith}
+use Rattle.ow_value.specs.Value.{V, depth}
+use Rattle.ow_value.specs.Json.{IsValue}
+use Rattle.ow_value.specs.Read.{reading}
+use Rattle.ow_value.specs.Text.{compact}
+use Rattle.ow_value.proofs.Back.{reading-compact}
+use Rattle.ow_names.specs.FullName.{full_text, IsFullName}
+use Rattle.ow_names.specs.declared.full.FullName.{FullName}
+use Rattle.ow_entity.specs.Written.{action_value, package_value, row_value}
+use Rattle.ow_entity.specs.declared.actions.Action.{Action}
+use Rattle.ow_entity.specs.declared.kinds.EntityKind.TheVariants as kinds
+use Rattle.ow_entity.specs.declared.packages.Package.{Package}
+use Rattle.ow_entity.specs.declared.rows.Row.TheVariants as rows
+use Rattle.ow_entity.proofs.BackLaws.{reads_back}
+use Rattle.ow_records.specs.FieldsIn.{name_read}
+use Rattle.ow_records.specs.Known.{IsId, IsKnownUnrecorded}
+use Rattle.ow_records.specs.RecordIn.{record_from}
+use Rattle.ow_records.specs.Written.{record_value}
+use Rattle.ow_records.specs.declared.ids.Id.{Id}
+use Rattle.ow_records.specs.declared.unrecorded.Unrecorded.{Unrecorded}
+use Rattle.ow_records.proofs.IdLaws.{digits_of-decimal, hex_number-hex_16, id_back}
+use Rattle.ow_records.proofs.PathBack.{full_back, path_back}
+use Rattle.ow_records.proofs.ReadBack.{fields_back, kind_back, limits_back, name_back, version_back}
+use Rattle.ow_tables.specs.Builtin.{is_builtin}
+use Rattle.ow_items.specs.Item.{item_key, item_text, open_value}
+use Rattle.ow_items.specs.declared.item.Item.{Item}
+use Rattle.ow_items.specs.declared.item.Item.TheVariants.{Version, Count, Row, Open, Done}
+use Rattle.ow_keep.specs.Allowed.{is_entity}
+use Rattle.ow_keep.specs.EntityIn.{entity_from, entity_with as entity_made}
+use Rattle.ow_keep.specs.ItemIn.{count_with, entity_with, item_from, value_read}
+use Rattle.ow_keep.specs.Kept.{MayStand}
+use Rattle.ow_keep.specs.Known.{IsItem, IsKnownAction, IsKnownPackage}
+use Rattle.ow_keep.specs.OpenIn.{full_name_of, open_from, open_with}
+use Rattle.ow_items.specs.Sorted.{Entries}
+use Rattle.ow_keep.proofs.Packages.{ands, package_back}
+use Rattle.ow_keep.proofs.Values.{action_is, open_is, package_is, record_is}
+
+-- ---- an activation that has not ended
+
+full_name_back : (n : FullName) → IsFullName n → full_name_of (full_text n) ≡ Some n
+full_name_back n h = ap name_read (full_back n h)
+
+-- what is read where the binding and the cause are known
+abbrev open_but : Unrecorded → Option Id → Option (Option FullName) → Option (Option Id) → Option Unrecorded
+open_but u id bound cause = open_with id (Some u.at) bound cause (Some u.kind) (Some u.limits) (Some u.namespace) (Some u.path) (Some u.subject) (Some u.version)
+
+open_by : (u : Unrecorded) (b : Option FullName) (c : Option Id) → IfSome b IsFullName → IfSome c IsId → IsKnownUnrecorded u
+    → open_from (open_value (record u { binding = b; cause = c })) ≡ Some (record u { binding = b; cause = c })
+unfolding open_from
+open_by u None None hb hc h = λ i. open_with (id_back u.id h.id i) (Some u.at) (Some None) (Some None) (kind_back u.kind i) (limits_back u.limits h.limits i) (name_back u.namespace h.namespace i) (path_back u.path h.path i) (Some u.subject) (version_back u.version h.version i)
+open_by u None (Some c) hb hc h = λ i. open_with (id_back u.id h.id i) (Some u.at) (Some None) (ap (option_map Some) (id_back c hc) i) (kind_back u.kind i) (limits_back u.limits h.limits i) (name_back u.namespace h.namespace i) (path_back u.path h.path i) (Some u.subject) (version_back u.version h.version i)
+open_by u (Some b) None hb hc h = λ i. open_with (id_back u.id h.id i) (Some u.at) (ap (option_map Some) (full_name_back b hb) i) (Some None) (kind_back u.kind i) (limits_back u.limits h.limits i) (name_back u.namespace h.namespace i) (path_back u.path h.path i) (Some u.subject) (version_back u.version h.version i)
+open_by u (Some b) (Some c) hb hc h = λ i. open_with (id_back u.id h.id i) (Some u.at) (ap (option_map Some) (full_name_back b hb) i) (ap (option_map Some) (id_back c hc) i) (kind_back u.kind i) (limits_back u.limits h.limits i) (name_back u.namespace h.namespace i) (path_back u.path h.path i) (Some u.subject) (version_back u.version h.version i)
+
+pub open_back : (u : Unrecorded) → IsKnownUnrecorded u → open_from (open_value u) ≡ Some u
+open_back u h = open_by u u.binding u.cause h.binding h.cause h
+
+-- ---- an entity
+
+action_back : (a : Action) → IsKnownAction a → entity_from kinds.Action a.name (action_value a) ≡ Some (rows.Action a)
+action_back a h = λ i. entity_made (version_back a.version h.version i) (reads_back a h.notes.rises h.params.rises h.fits i)
+
+entity_back : (p : Package) → IsKnownPackage p → is_entity (rows.Package p) ≡ true → entity_from kinds.Package p.name (package_value p) ≡ Some (rows.Package p)
+entity_back p h e = λ i. entity_made (version_back p.version h.version i) (package_back p h.notes.rises h.params.rises h.fit_notes h.fit_params h.binding e i)
+
+-- ---- an item
+
+shallow_at : (d limit : ℕ) → nat_le d limit ≡ true → d ≤ limit
+shallow_at d limit h = grind arith
+
+value_back : (v : V) (limit : ℕ) → IsValue v → nat_le (depth v) limit ≡ true → limit ≤ 127 → value_read (reading limit (compact v)) ≡ Some v
+value_back v limit h d m = ap value_read (reading-compact v limit h (shallow_at (depth v) limit d) m)
+
+pub item_back : (all : Entries) (i : Item) → IsItem i → MayStand all i → item_from (item_key i) (item_text i) ≡ Some i
+unfolding item_text row_value
+item_back all Version h s = refl
+item_back all (Count namespace count) h s = λ i. count_with (hex_number-hex_16 namespace h.0 i) (digits_of-decimal count h.1 i)
+item_back all (Row (rows.Action a)) h s =
+    (λ i. entity_with kinds.Action (full_name_back a.name h.name i) (value_back (action_value a) 100 (action_is a h) s.shallow (omega arith) i))
+    ∙ ap (option_map Row) (action_back a h)
+item_back all (Row (rows.Package p)) h s =
+    (λ i. entity_with kinds.Package (full_name_back p.name h.name i) (value_back (package_value p) 100 (package_is p h) s.shallow (omega arith) i))
+    ∙ ap (option_map Row) (entity_back p h (ands (is_entity (rows.Package p)) (not (is_builtin (rows.Package p))) s.allowed).0)
+item_back all (Open u) h s =
+    ap (λ o. option_map Open (option_and_then open_from o)) (value_back (open_value u) 100 (open_is u h) s.shallow (omega arith))
+    ∙ ap (option_map Open) (open_back u h)
+item_back all (Done r) h s =
+    ap (λ o. option_map Done (option_and_then record_from o)) (value_back (record_value r) 102 (record_is r h) s.shallow (omega arith))
+    ∙ ap (option_map Done) (fields_back r h)

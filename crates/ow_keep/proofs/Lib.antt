@@ -1,0 +1,10 @@
+pub mod Deep
+pub mod Goods
+pub mod Values
+pub mod Packages
+pub mod Back
+pub mod Whole
+pub mod Exact
+pub mod Splits
+pub mod MomentLaws
+pub mod BuiltinLaws

@@ -1,0 +1,79 @@
+-- Which items are allowed beside which rows, and the item of a row that is allowed.
+use Rattle.std.specs.Prelude.{ℕ, ◌&&◌, List, Bool, true, false, nat_le, is_some, not, if◌then◌else◌, option_and_then, Option, Some, None}
+use Rattle.std.specs.Str.{bytes_eq}
+use Rattle.ow_value.specs.Value.{depth}
+use Rattle.ow_value.specs.Decimal.{digits_of}
+use Rattle.ow_value.specs.Nesting.{most_nested, most_nested_record}
+use Rattle.ow_names.specs.Path.{home}
+use Rattle.ow_names.specs.declared.full.FullName.{FullName}
+use Rattle.ow_entity.specs.Written.{row_value}
+use Rattle.ow_entity.specs.declared.rows.Row.{Row as EntityRow}
+use Rattle.ow_entity.specs.declared.rows.Row.TheVariants as rows
+use Rattle.ow_records.specs.Written.{record_value}
+use Rattle.ow_records.specs.declared.ids.Id.{Id}
+use Rattle.ow_traits.specs.Rows.{text_of}
+use Rattle.ow_tables.specs.Builtin.{is_builtin}
+use Rattle.ow_items.specs.Item.{count_key, done_key, item_key, item_text, open_value}
+use Rattle.ow_items.specs.Sorted.{Entries}
+use Rattle.ow_items.specs.declared.item.Item.{Item}
+use Rattle.ow_items.specs.declared.item.Item.TheVariants.{Version, Count, Row, Open, Done}
+use Rattle.ow_keep.specs.ItemIn.{item_from}
+use Rattle.ow_keep.specs.declared.allowed.TheConstants.{GREATEST_MOMENT, GREATEST_COUNT}
+
+-- no text of the item nests deeper than texts are read
+abbrev pub is_shallow : Item → Bool
+is_shallow Version = true
+is_shallow (Count namespace count) = true
+is_shallow (Row r) = nat_le (depth (row_value r)) most_nested
+is_shallow (Open u) = nat_le (depth (open_value u)) most_nested
+is_shallow (Done r) = nat_le (depth (record_value r)) most_nested_record
+
+abbrev pub is_counted : Id → Option ℕ → Bool
+is_counted id None = false
+is_counted id (Some last) = nat_le 1 id.count && nat_le id.count last
+
+-- the id was drawn: the row of its namespace's last count stands, and the id doesn't pass it
+abbrev pub is_drawn : Entries → Id → Bool
+is_drawn all id = is_counted id (option_and_then digits_of (text_of (count_key id.namespace) all))
+
+-- the activation has a record
+abbrev pub has_record : Entries → Id → Bool
+has_record all id = is_some (text_of (done_key id) all)
+
+-- counts begin with 1
+abbrev pub is_cause : Option Id → Bool
+is_cause None = true
+is_cause (Some id) = nat_le 1 id.count
+
+abbrev pub is_moment : ℕ → Bool
+is_moment moment = nat_le moment GREATEST_MOMENT
+
+-- the binding names a package, by what is written of it: its name, and its namespace, which `_` doesn't stand for
+abbrev pub is_binding : List ℕ → Option FullName → Bool
+is_binding here None = true
+is_binding here (Some bound) = not (is_some bound.package) && bytes_eq (home here bound.namespace) bound.namespace
+
+abbrev pub is_entity : EntityRow → Bool
+is_entity (rows.Action a) = true
+is_entity (rows.Package p) = is_binding p.name.namespace p.binding
+
+abbrev pub is_allowed : Entries → Item → Bool
+is_allowed all Version = true
+is_allowed all (Count namespace count) = nat_le 1 count && nat_le count GREATEST_COUNT
+is_allowed all (Row r) = is_entity r && not (is_builtin r)
+is_allowed all (Open u) = (is_drawn all u.id && not (has_record all u.id)) && (is_moment u.at && is_cause u.cause)
+is_allowed all (Done r) = is_drawn all r.id && (is_moment r.span.end && is_cause r.cause)
+
+-- the item is written as this row, whose text nests no deeper than such texts are read
+abbrev pub is_row_of : Item → List ℕ × List ℕ → Bool
+is_row_of i r = bytes_eq (item_key i) r.0 && (bytes_eq (item_text i) r.1 && is_shallow i)
+
+abbrev pub is_confirmed : Entries → List ℕ × List ℕ → Item → Bool
+is_confirmed all r i = is_row_of i r && is_allowed all i
+
+abbrev pub confirmed : Entries → List ℕ × List ℕ → Item → Option Item
+confirmed all r i = if is_confirmed all r i then Some i else None
+
+-- the item of a row that is allowed among the rows
+unfoldable pub item_at : Entries → List ℕ × List ℕ → Option Item
+item_at all r = option_and_then (confirmed all r) (item_from r.0 r.1)

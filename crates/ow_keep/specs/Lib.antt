@@ -1,0 +1,11 @@
+pub mod Refusal
+pub mod OpenIn
+pub mod EntityIn
+pub mod ItemIn
+pub mod Allowed
+pub mod Known
+pub mod Judged
+pub mod Kept
+pub mod Split
+pub mod Moments
+pub mod Laws

@@ -1,0 +1,220 @@
+// Which items are allowed beside which rows.
+ghost use Rattle.std.specs.Prelude.{◌≡◌, ◌≤◌, ◌&&◌, nat_le, IfOk};
+ghost use Rattle.std.specs.Str.{bytes_eq};
+ghost use Rattle.ow_value.specs.Value.{depth};
+ghost use Rattle.ow_value.specs.Text.{compact};
+ghost use Rattle.ow_value.specs.View.{view};
+ghost use Rattle.ow_names.specs.Path.{home};
+ghost use Rattle.ow_items.specs.declared.item.Item.TheVariants as items;
+ghost use Rattle.ow_keep.specs.Allowed.{has_record, is_allowed, is_binding, is_cause, is_confirmed, is_drawn, is_entity, is_moment, is_row_of};
+
+use ow_entity::{Row, write_entity};
+use ow_items::{Item, count_key, count_row, done_key, entity_key, open_key, write_open};
+use ow_names::{EntityName, FullName};
+use ow_records::{Id, Record, Unrecorded, write_record};
+use ow_tables::is_builtin;
+use ow_traits::Rows;
+use ow_value::{MOST_NESTED, MOST_NESTED_RECORD, NoMemory, Str, Val, depth, digits_of, write_val};
+use std::alloc::Global;
+
+/// The greatest moment, in milliseconds: the last of the year 9999.
+pub const GREATEST_MOMENT: u64 = 253_402_300_799_999;
+
+/// The greatest last count of a namespace.
+pub const GREATEST_COUNT: u64 = 9_223_372_036_854_775_807;
+
+/// Whether the item is written as the row, and is allowed among all rows.
+pub(crate) fn is_confirmed(
+    alloc: Global,
+    all: &Rows,
+    row: &(Str, Str),
+    item: &Item,
+) -> Result<bool, NoMemory>
+    ensures { IfOk result (λ b. b ≡ is_confirmed all.now row.now item.now) }
+{
+    let written = is_row_of(alloc, row, item)?;
+    if !written {
+        return Ok(false);
+    }
+    is_allowed(alloc, all, item)
+}
+
+// ---- the row of an item
+
+#[tactic(auto, unfolding(ow_items::specs::Item::item_text))]
+fn is_row_of(alloc: Global, row: &(Str, Str), item: &Item) -> Result<bool, NoMemory>
+    ensures { IfOk result (λ b. b ≡ is_row_of item.now row.now) }
+{
+    match item {
+        Item::Version => Ok(row.0.as_str() == "version" && row.1.as_str() == "1"),
+        Item::Count { namespace, count } => is_count_row(alloc, row, *namespace, *count),
+        Item::Row(entity) => is_entity_row(alloc, row, entity),
+        Item::Open(activation) => is_open_row(alloc, row, activation),
+        Item::Done(ended) => is_done_row(alloc, row, ended),
+    }
+}
+
+#[tactic(auto, unfolding(ow_items::specs::Item::item_text))]
+fn is_count_row(
+    alloc: Global,
+    row: &(Str, Str),
+    namespace: u64,
+    count: u64,
+) -> Result<bool, NoMemory>
+    ensures { IfOk result (λ b. b ≡ is_row_of (items.Count namespace count) row.now) }
+{
+    let (key, text) = count_row(alloc, namespace, count)?;
+    Ok(key.as_str() == row.0.as_str() && text.as_str() == row.1.as_str())
+}
+
+#[tactic(auto, unfolding(ow_items::specs::Item::item_text))]
+fn is_entity_row(alloc: Global, row: &(Str, Str), entity: &Row) -> Result<bool, NoMemory>
+    ensures { IfOk result (λ b. b ≡ is_row_of (items.Row entity.now) row.now) }
+{
+    let key = entity_key(alloc, entity)?;
+    let value = write_entity(alloc, entity)?;
+    is_row(alloc, row, &key, &value, MOST_NESTED)
+}
+
+#[tactic(auto, unfolding(ow_items::specs::Item::item_text))]
+fn is_open_row(alloc: Global, row: &(Str, Str), activation: &Unrecorded) -> Result<bool, NoMemory>
+    ensures { IfOk result (λ b. b ≡ is_row_of (items.Open activation.now) row.now) }
+{
+    let key = open_key(alloc, activation.id)?;
+    let value = write_open(alloc, activation)?;
+    is_row(alloc, row, &key, &value, MOST_NESTED)
+}
+
+#[tactic(auto, unfolding(ow_items::specs::Item::item_text))]
+fn is_done_row(alloc: Global, row: &(Str, Str), ended: &Record) -> Result<bool, NoMemory>
+    ensures { IfOk result (λ b. b ≡ is_row_of (items.Done ended.now) row.now) }
+{
+    let key = done_key(alloc, ended.id)?;
+    let value = write_record(alloc, ended)?;
+    is_row(alloc, row, &key, &value, MOST_NESTED_RECORD)
+}
+
+// Whether the row has this key and the text of this value, which nests no deeper than the limit.
+fn is_row(
+    alloc: Global,
+    row: &(Str, Str),
+    key: &Str,
+    value: &Val,
+    limit: u32,
+) -> Result<bool, NoMemory>
+    requires { limit ≤ 127 }
+    ensures { IfOk result (λ b. b ≡ bytes_eq key.now row.now.0 && (bytes_eq (compact (view value.now)) row.now.1 && nat_le (depth (view value.now)) limit)) }
+{
+    let same_key = key.as_str() == row.0.as_str();
+    let shallow = is_shallow(value, limit);
+    let same_text = is_text(alloc, row.1.as_str(), value)?;
+    Ok(same_key && same_text && shallow)
+}
+
+fn is_shallow(value: &Val, limit: u32) -> bool
+    requires { limit ≤ 127 }
+    ensures { result ≡ nat_le (depth (view value.now)) limit }
+{
+    depth(value) <= limit
+}
+
+fn is_text(alloc: Global, text: &str, value: &Val) -> Result<bool, NoMemory>
+    ensures { IfOk result (λ b. b ≡ bytes_eq (compact (view value.now)) text.now) }
+{
+    let written = write_val(alloc, value)?;
+    Ok(written.as_slice() == text.as_bytes())
+}
+
+// ---- beside other rows
+
+fn is_allowed(alloc: Global, all: &Rows, item: &Item) -> Result<bool, NoMemory>
+    ensures { IfOk result (λ b. b ≡ is_allowed all.now item.now) }
+{
+    match item {
+        Item::Version => Ok(true),
+        Item::Count { count, .. } => Ok(1 <= *count && *count <= GREATEST_COUNT),
+        Item::Row(entity) => Ok(is_entity(entity) && !is_builtin(entity)),
+        Item::Open(activation) => is_allowed_open(alloc, all, activation),
+        Item::Done(ended) => is_allowed_done(alloc, all, ended),
+    }
+}
+
+fn is_allowed_open(alloc: Global, all: &Rows, activation: &Unrecorded) -> Result<bool, NoMemory>
+    ensures { IfOk result (λ b. b ≡ is_allowed all.now (items.Open activation.now)) }
+{
+    let drawn = is_drawn(alloc, all, activation.id)?;
+    let ended = has_record(alloc, all, activation.id)?;
+    let moment = is_moment(activation.at);
+    let cause = is_cause(activation.cause);
+    Ok((drawn && !ended) && (moment && cause))
+}
+
+fn is_allowed_done(alloc: Global, all: &Rows, ended: &Record) -> Result<bool, NoMemory>
+    ensures { IfOk result (λ b. b ≡ is_allowed all.now (items.Done ended.now)) }
+{
+    let drawn = is_drawn(alloc, all, ended.id)?;
+    let moment = is_moment(ended.span.end());
+    let cause = is_cause(ended.cause);
+    Ok(drawn && (moment && cause))
+}
+
+fn is_drawn(alloc: Global, all: &Rows, id: Id) -> Result<bool, NoMemory>
+    ensures { IfOk result (λ b. b ≡ is_drawn all.now id) }
+{
+    let key = count_key(alloc, id.namespace)?;
+    let Some(text) = all.find(key.as_str()) else {
+        return Ok(false);
+    };
+    match digits_of(text.as_str().as_bytes()) {
+        Some(last) => Ok(1 <= id.count && id.count <= last),
+        None => Ok(false),
+    }
+}
+
+fn has_record(alloc: Global, all: &Rows, id: Id) -> Result<bool, NoMemory>
+    ensures { IfOk result (λ b. b ≡ has_record all.now id) }
+{
+    let key = done_key(alloc, id)?;
+    Ok(all.find(key.as_str()).is_some())
+}
+
+fn is_moment(moment: u64) -> bool
+    ensures { result ≡ is_moment moment }
+{
+    moment <= GREATEST_MOMENT
+}
+
+fn is_cause(cause: Option<Id>) -> bool
+    ensures { result ≡ is_cause cause }
+{
+    match cause {
+        None => true,
+        Some(id) => 1 <= id.count,
+    }
+}
+
+fn is_entity(entity: &Row) -> bool
+    ensures { result ≡ is_entity entity.now }
+{
+    match entity {
+        Row::Action(_) => true,
+        Row::Package(bundle) => is_binding(&bundle.get().name.namespace, &bundle.get().binding),
+    }
+}
+
+fn is_binding(here: &EntityName, binding: &Option<FullName>) -> bool
+    ensures { result ≡ is_binding here.now binding.now }
+{
+    match binding {
+        None => true,
+        Some(bound) => bound.package.is_none() && stands_for_itself(here, &bound.namespace),
+    }
+}
+
+// Whether the namespace is what its text is for one who stands in `here`.
+fn stands_for_itself(here: &EntityName, namespace: &EntityName) -> bool
+    ensures { result ≡ bytes_eq (home here.now namespace.now) namespace.now }
+{
+    let text = namespace.as_str();
+    text != "_" || here.as_str() == text
+}

@@ -1,0 +1,66 @@
+// The entity that a value is. What is read here may be written otherwise.
+ghost use Rattle.std.specs.Prelude.{◌≡◌, ◌≢◌, Ok, Err, MatchResult, IfOk};
+ghost use Rattle.ow_value.specs.View.{view};
+ghost use Rattle.ow_entity.specs.Finish.{row_of_body};
+ghost use Rattle.ow_entity.specs.declared.rows.Row.TheVariants as rows;
+ghost use Rattle.ow_keep.specs.EntityIn.{at_version, entity_from};
+
+use ow_entity::{EntityKind, EntityRefusal, Row, finish, read_entity};
+use ow_names::FullName;
+use ow_records::version_in;
+use ow_value::{NoMemory, PlainData, Shared, Val};
+use std::alloc::Global;
+
+/// The entity that the value makes as a body, at the version that the value tells.
+pub(crate) fn entity_from(
+    alloc: Global,
+    kind: EntityKind,
+    name: &FullName,
+    value: &Val,
+) -> Result<Option<Row>, NoMemory>
+    ensures { IfOk result (λ r. r ≡ entity_from kind name.now (view value.now)) }
+{
+    let Val::Object(fields) = value else {
+        return Ok(None);
+    };
+    let Some(version) = version_in(fields, "version") else {
+        return Ok(None);
+    };
+    match row_of_body(alloc, kind, name, value) {
+        Ok(row) => Ok(Some(at_version(alloc, version, &row)?)),
+        Err(EntityRefusal::NoMemory) => Err(NoMemory),
+        Err(_) => Ok(None),
+    }
+}
+
+#[tactic(auto, unfolding(ow_entity::specs::Finish::row_of_body))]
+fn row_of_body(
+    alloc: Global,
+    kind: EntityKind,
+    name: &FullName,
+    body: &Val,
+) -> Result<Row, EntityRefusal>
+    ensures { MatchResult result (λ r. row_of_body kind name.now (view body.now) ≡ Ok r)
+        (λ e. e ≢ EntityRefusal.NoMemory → row_of_body kind name.now (view body.now) ≡ Err e) }
+{
+    let draft = read_entity(alloc, kind, name, body)?;
+    finish(alloc, draft, None)
+}
+
+// The same entity at another version.
+fn at_version(alloc: Global, version: u32, row: &Row) -> Result<Row, NoMemory>
+    ensures { IfOk result (λ r. r ≡ at_version version row.now) }
+{
+    match row {
+        Row::Action(action) => {
+            let mut copied = action.get().copy(alloc)?;
+            copied.version = version;
+            Ok(Row::Action(Shared::new(alloc, copied)?))
+        }
+        Row::Package(bundle) => {
+            let mut copied = bundle.get().copy(alloc)?;
+            copied.version = version;
+            Ok(Row::Package(Shared::new(alloc, copied)?))
+        }
+    }
+}

@@ -1,0 +1,66 @@
+// What kept rows hold.
+ghost use Rattle.std.specs.Prelude.{◌≡◌, IfOk, OnOk, IfErr};
+ghost use Rattle.ow_keep.specs.Split.{behind_parts, no_parts, parts_of, split};
+
+use crate::refusal::KeepRefusal;
+use ow_entity::Row;
+use ow_items::Item;
+use ow_records::{Id, Record, Unrecorded};
+use std::alloc::Global;
+
+/// What kept rows hold, each kind in the order of its keys.
+#[derive(Drop)]
+pub struct Kept {
+    /// Whether there is any row, so that of the version too.
+    pub versioned: bool,
+    /// The last id of each namespace.
+    pub counts: Vec<Id>,
+    /// The activations that have not ended.
+    pub unrecorded: Vec<Unrecorded>,
+    /// The records of those that have.
+    pub records: Vec<Record>,
+    /// The entities.
+    pub entities: Vec<Row>,
+}
+
+impl Kept {
+    /// Nothing. This takes no memory.
+    pub(crate) fn new(alloc: Global) -> Kept
+        ensures { parts_of result ≡ no_parts }
+    {
+        Kept {
+            versioned: false,
+            counts: Vec::new(alloc),
+            unrecorded: Vec::new(alloc),
+            records: Vec::new(alloc),
+            entities: Vec::new(alloc),
+        }
+    }
+
+    /// Puts the item behind those of its kind.
+    pub(crate) fn push(&mut self, item: Item) -> Result<(), KeepRefusal>
+        ensures ok { OnOk result (parts_of self.new ≡ behind_parts (parts_of self.old) item) }
+        ensures err { IfErr result (λ e. e ≡ KeepRefusal.NoMemory) }
+    {
+        match item {
+            Item::Version => self.versioned = true,
+            Item::Count { namespace, count } => self.counts.push(Id { namespace, count })?,
+            Item::Row(row) => self.entities.push(row)?,
+            Item::Open(activation) => self.unrecorded.push(activation)?,
+            Item::Done(ended) => self.records.push(ended)?,
+        }
+        Ok(())
+    }
+}
+
+/// The items, each kind by itself.
+pub(crate) fn split(alloc: Global, items: Vec<Item>) -> Result<Kept, KeepRefusal>
+    ensures ok { IfOk result (λ k. parts_of k ≡ split items.items) }
+    ensures err { IfErr result (λ e. e ≡ KeepRefusal.NoMemory) }
+{
+    let mut kept = Kept::new(alloc);
+    for item in items {
+        kept.push(item)?;
+    }
+    Ok(kept)
+}

@@ -1,0 +1,130 @@
+-- What is known of the kept rows beside floor and rows: how many bytes they have, and which of these are of each activation that has not ended.
+use Rattle.std.specs.Prelude.{◌≡◌, ◌==◌, ◌≤◌, ◌+◌, ◌++◌, ◌∷◌, [], ℕ, Bool, List, length, map, if◌then◌else◌, Option, Some, None}
+use Rattle.std.specs.List.{AllByRecursion}
+use Rattle.ow_entity.specs.declared.rows.Row.{Row}
+use Rattle.ow_floor.specs.Trace.{Accepted, Item as FloorItem, Resumed, Trace, all_records, drawn}
+use Rattle.ow_floor.specs.View.{remove_first}
+use Rattle.ow_items.specs.declared.item.Item.{Item}
+use Rattle.ow_items.specs.declared.item.Item.TheVariants as items
+use Rattle.ow_items.specs.Bytes.{bytes_of}
+use Rattle.ow_items.specs.Item.{item_key, item_text}
+use Rattle.ow_kept.specs.declared.commit.OpenBytes.{OpenBytes}
+use Rattle.ow_kept.specs.Kept.{kept, unrecorded}
+use Rattle.ow_records.specs.declared.ids.Id.{Id}
+use Rattle.ow_records.specs.declared.record.Record.{Record}
+use Rattle.ow_records.specs.declared.unrecorded.Unrecorded.{Unrecorded}
+use Rattle.ow_records.specs.Id.{same_id}
+use Rattle.ow_records.specs.Known.{IsId}
+use Rattle.ow_tables.specs.Builtin.{is_builtin}
+use Rattle.ow_tables.specs.Contents.{Change as TableChange}
+use Rattle.ow_traits.specs.declared.change_list.Change.{Change}
+
+-- how many bytes all kept rows have; of each activation that has not ended its id and those of its row, by acceptance; for how many more
+-- of these there is room
+pub record KeepingView : Type 0 where
+  pub bytes : ℕ
+  pub opens : List OpenBytes
+  pub room : ℕ
+
+-- changes that are to be committed; how many bytes all kept rows have then; which activation has not ended then, that was accepted, and
+-- the ids of those that have ended
+pub record CommitView : Type 0 where
+  pub changes : List Change
+  pub bytes : ℕ
+  pub opened : Option OpenBytes
+  pub ended : List Id
+
+-- those of the key and of the text
+abbrev pub row_bytes : Item → ℕ
+row_bytes i = length (item_key i) + length (item_text i)
+
+abbrev pub open_bytes : Unrecorded → OpenBytes
+open_bytes u = record { id = u.id; bytes = row_bytes (items.Open u) }
+
+abbrev pub is_of : Id → OpenBytes → Bool
+is_of id o = same_id o.id id
+
+-- those of the row of the last count of a namespace, which is there once one was drawn
+abbrev pub last_bytes : ℕ → ℕ → ℕ
+last_bytes namespace last = if last == 0 then 0 else row_bytes (items.Count namespace last)
+
+-- those of the row of an entity, where there is one
+abbrev pub old_bytes : Option Row → ℕ
+old_bytes None = 0
+old_bytes (Some r) = row_bytes (items.Row r)
+
+-- how many bytes go with the row that stood, and come with a change of the rows
+abbrev pub bytes_less : TableChange → Option Row → ℕ
+bytes_less c old = if is_builtin c.row then 0 else old_bytes old
+
+abbrev pub bytes_more : TableChange → ℕ
+bytes_more c = if is_builtin c.row then 0 else if c.removes then 0 else row_bytes (items.Row c.row)
+
+-- those of an activation that has not ended
+abbrev pub bytes_at : Id → List OpenBytes → ℕ
+bytes_at id [] = 0
+bytes_at id (o ∷ os) = if is_of id o then o.bytes else bytes_at id os
+
+-- those of all that ended with these records
+abbrev pub ended_bytes : List Record → List OpenBytes → ℕ
+ended_bytes [] os = 0
+ended_bytes (r ∷ rs) os = bytes_at r.id os + ended_bytes rs os
+
+-- those of the rows of records
+abbrev pub done_bytes : List Record → ℕ
+done_bytes [] = 0
+done_bytes (r ∷ rs) = row_bytes (items.Done r) + done_bytes rs
+
+-- a last count was drawn
+pub record IsDrawn (id : Id) : Type 0 where
+  pub is : IsId id
+  pub drawn : 1 ≤ id.count
+
+-- the ids of a trace are those of activations
+pub record AreIds (T : Trace) : Type 0 where
+  pub drawn : AllByRecursion IsDrawn (drawn T)
+  pub opened : AllByRecursion (λ u. IsId u.id) (unrecorded T)
+  pub ended : AllByRecursion (λ r. IsId r.id) (all_records T)
+
+-- it stands as what is kept of these rows and this trace
+pub record StandsForKept (v : KeepingView) (rs : List Row) (T : Trace) : Type 0 where
+  pub bytes : v.bytes ≡ bytes_of (kept rs T)
+  pub opens : v.opens ≡ map open_bytes (unrecorded T)
+  pub ids : AreIds T
+
+-- ---- once a commit is kept
+
+abbrev pub with_opened : Option OpenBytes → List OpenBytes → List OpenBytes
+with_opened None os = os
+with_opened (Some o) os = os ++ o ∷ []
+
+abbrev pub without_ended : List Id → List OpenBytes → List OpenBytes
+without_ended [] os = os
+without_ended (id ∷ ids) os = without_ended ids (remove_first (is_of id) os)
+
+-- it is kept
+abbrev pub keeping_after : CommitView → KeepingView → KeepingView
+keeping_after c v = record { bytes = c.bytes; opens = without_ended c.ended (with_opened c.opened v.opens); room = v.room }
+
+-- with the commit it stands as what is kept of these rows and this trace
+abbrev pub StandsAfter : CommitView → KeepingView → List Row → Trace → Type 0
+StandsAfter c v rs T = StandsForKept (keeping_after c v) rs T
+
+abbrev pub HasRoomIn : ℕ → Option OpenBytes → Type 0
+HasRoomIn room None = Unit {0}
+HasRoomIn room (Some o) = 1 ≤ room
+
+-- there is room for what has not ended then
+abbrev pub HasRoomFor : CommitView → KeepingView → Type 0
+HasRoomFor c v = HasRoomIn v.room c.opened
+
+-- ---- what comes later than an acceptance
+
+-- the item accepts no activation, and takes over nothing of an earlier run
+abbrev pub IsLater : FloorItem → Type 0
+IsLater (Accepted a) = ⊥
+IsLater (Resumed counts rs) = ⊥
+IsLater item = Unit {0}
+
+abbrev pub AreLater : Trace → Type 0
+AreLater items = AllByRecursion IsLater items

@@ -1,0 +1,5 @@
+pub mod Kept
+pub mod Commits
+pub mod Keeping
+pub mod Opening
+pub mod Laws

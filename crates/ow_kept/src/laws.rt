@@ -1,0 +1,39 @@
+// What is true of what is kept. The functions do nothing: their contracts are the laws.
+ghost use Rattle.ow_kept.specs.Laws.{AcceptancesAreKept, ChangesOfRowsAreKept, EndsAreKept, QuietItemsAreKept};
+ghost use Rattle.ow_kept.specs.Opening.{HeldRowsAreNotBuiltin, MayBeResumed, OpeningsAreKept, ResumedIdsAreKnown};
+
+/// What is committed of an acceptance makes what is kept behind it.
+#[tactic(auto, using(crate::proofs::Accepting::acceptances_kept))]
+pub fn acceptances_are_kept()
+    ensures { AcceptancesAreKept }
+{}
+
+/// What is committed of a change of the rows makes what is kept of the rows behind it.
+#[tactic(auto, using(crate::proofs::RowLaws::rows_kept))]
+pub fn changes_of_rows_are_kept()
+    ensures { ChangesOfRowsAreKept }
+{}
+
+/// What is committed of ends makes what is kept behind them, whatever else happened but acceptances.
+#[tactic(auto, using(crate::proofs::Endings::ends_kept))]
+pub fn ends_are_kept()
+    ensures { EndsAreKept }
+{}
+
+/// Where nothing is accepted and nothing ends, what is known of the kept rows stands for what is kept behind it.
+pub fn quiet_items_are_kept()
+    ensures { QuietItemsAreKept }
+{}
+
+/// What an opening commits makes what is kept of what it takes over.
+pub fn openings_are_kept()
+    ensures { OpeningsAreKept }
+{}
+
+/// A floor may take over what rows hold, and its ids are those of activations then. No entity that is taken over is
+/// there from the start.
+pub fn kept_rows_may_be_resumed()
+    ensures resumed { MayBeResumed }
+    ensures ids { ResumedIdsAreKnown }
+    ensures entities { HeldRowsAreNotBuiltin }
+{}

@@ -1,0 +1,18 @@
+#![tactic(auto)]
+
+//! What of a floor and of rows is kept, and what each change of them commits.
+mod acceptance;
+mod commit;
+mod ends;
+mod gathered;
+mod keeping;
+mod laws;
+mod openings;
+mod table_rows;
+
+pub use commit::{Commit, OpenBytes};
+pub use keeping::Keeping;
+pub use laws::{
+    acceptances_are_kept, changes_of_rows_are_kept, ends_are_kept, kept_rows_may_be_resumed,
+    openings_are_kept, quiet_items_are_kept,
+};

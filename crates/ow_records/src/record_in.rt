@@ -1,0 +1,201 @@
+// The record that a value is.
+ghost use Rattle.std.specs.Prelude.{◌≡◌, ◌≢◌, codes, Some, None, IfOk, MatchResult, option_and_then};
+ghost use Rattle.ow_value.specs.Value.{members_of, object};
+ghost use Rattle.ow_value.specs.Field.{field};
+ghost use Rattle.ow_value.specs.View.{view};
+ghost use Rattle.ow_records.specs.RecordIn.{as_response, confirmed, head_in, joined, record_from, record_in, record_with, span_in, texts_in, told_in};
+ghost use Rattle.ow_records.specs.SameValue.{same_value};
+ghost use Rattle.ow_records.specs.Written.{record_value};
+
+use crate::fields_in::{cause_in, id_in, lines_in, name_in, number_in, text_in, version_in};
+use crate::notes_in::notes_in;
+use crate::{Id, Notes, Record, RecordRefusal, Response, Span, write_record};
+use ow_names::EntityName;
+use ow_value::{Lines, NoMemory, Params, PlainData, Str, Val};
+use std::alloc::Global;
+
+// The fields that own no memory.
+#[derive(Clone, Copy, Drop)]
+struct Head {
+    id: Id,
+    cause: Option<Id>,
+    span: Span,
+    version: u32,
+}
+
+#[derive(Drop)]
+struct Texts {
+    name: EntityName,
+    namespace: EntityName,
+    subject: Str,
+}
+
+// What the activation left.
+#[derive(Drop)]
+struct Told {
+    notes: Notes,
+    logs: Lines,
+    response: Response,
+}
+
+/// The record that `write_record` writes as this value. There is at most one.
+#[tactic(auto, unfolding(crate::specs::RecordIn::record_in))]
+pub fn read_record(alloc: Global, value: &Val) -> Result<Record, RecordRefusal>
+    ensures answer { MatchResult result (λ r. record_in (view value.now) ≡ Some r)
+        (λ e. e ≢ RecordRefusal.NoMemory → (e ≡ RecordRefusal.BadRecord) × (record_in (view value.now) ≡ None)) }
+{
+    match read_fields(alloc, value)? {
+        Some(found) => confirmed(alloc, found, value),
+        None => Err(RecordRefusal::BadRecord),
+    }
+}
+
+fn confirmed(alloc: Global, found: Record, value: &Val) -> Result<Record, RecordRefusal>
+    ensures { MatchResult result (λ r. confirmed (view value.now) found ≡ Some r)
+        (λ e. e ≢ RecordRefusal.NoMemory → (e ≡ RecordRefusal.BadRecord) × (confirmed (view value.now) found ≡ None)) }
+{
+    match is_written(alloc, &found, value) {
+        Ok(true) => Ok(found),
+        Ok(false) => Err(RecordRefusal::BadRecord),
+        Err(NoMemory) => Err(RecordRefusal::NoMemory),
+    }
+}
+
+fn is_written(alloc: Global, found: &Record, value: &Val) -> Result<bool, NoMemory>
+    ensures { IfOk result (λ b. b ≡ same_value (record_value found.now) (view value.now)) }
+{
+    let written = write_record(alloc, found)?;
+    Ok(written.same(value))
+}
+
+/// The record that the fields of the value tell, which may be written otherwise.
+#[tactic(auto, unfolding(crate::specs::RecordIn::record_from))]
+pub fn read_fields(alloc: Global, value: &Val) -> Result<Option<Record>, NoMemory>
+    ensures { IfOk result (λ r. r ≡ record_from (view value.now)) }
+{
+    let Val::Object(fields) = value else {
+        return Ok(None);
+    };
+    let texts = texts_in(alloc, fields)?;
+    let told = told_in(alloc, fields)?;
+    Ok(record_with(head_in(fields), texts, told))
+}
+
+fn record_with(head: Option<Head>, texts: Option<Texts>, told: Option<Told>) -> Option<Record>
+    ensures { result ≡ record_with head texts told }
+{
+    let head = head?;
+    let texts = texts?;
+    Some(joined(head, texts, told?))
+}
+
+fn joined(head: Head, texts: Texts, told: Told) -> Record
+    ensures { result ≡ joined head texts told }
+{
+    Record {
+        id: head.id,
+        name: texts.name,
+        namespace: texts.namespace,
+        subject: texts.subject,
+        version: head.version,
+        cause: head.cause,
+        span: head.span,
+        notes: told.notes,
+        logs: told.logs,
+        response: told.response,
+    }
+}
+
+fn head_in(fields: &Params) -> Option<Head>
+    ensures { result ≡ head_in (object (members_of fields.now)) }
+{
+    let id = id_in(fields, "activationId")?;
+    let cause = cause_in(fields)?;
+    let span = span_in(fields)?;
+    let version = version_in(fields, "version")?;
+    Some(Head {
+        id,
+        cause,
+        span,
+        version,
+    })
+}
+
+fn texts_in(alloc: Global, fields: &Params) -> Result<Option<Texts>, NoMemory>
+    ensures { IfOk result (λ t. t ≡ texts_in (object (members_of fields.now))) }
+{
+    let Some(name) = name_in(alloc, fields, "name")? else {
+        return Ok(None);
+    };
+    let Some(namespace) = name_in(alloc, fields, "namespace")? else {
+        return Ok(None);
+    };
+    let Some(subject) = text_in(fields, "subject") else {
+        return Ok(None);
+    };
+    let subject = subject.copy(alloc)?;
+    Ok(Some(Texts {
+        name,
+        namespace,
+        subject,
+    }))
+}
+
+fn told_in(alloc: Global, fields: &Params) -> Result<Option<Told>, NoMemory>
+    ensures { IfOk result (λ t. t ≡ told_in (object (members_of fields.now))) }
+{
+    let Some(notes) = notes_in(alloc, fields, "annotations")? else {
+        return Ok(None);
+    };
+    let Some(logs) = lines_in(alloc, fields, "logs")? else {
+        return Ok(None);
+    };
+    match response_in(alloc, fields)? {
+        Some(response) => Ok(Some(Told {
+            notes,
+            logs,
+            response,
+        })),
+        None => Ok(None),
+    }
+}
+
+fn span_in(fields: &Params) -> Option<Span>
+    ensures { result ≡ span_in (object (members_of fields.now)) }
+{
+    let start = number_in(fields, "start")?;
+    let end = number_in(fields, "end")?;
+    if start <= end {
+        Some(Span::new(start, end))
+    } else {
+        None
+    }
+}
+
+fn response_in(alloc: Global, fields: &Params) -> Result<Option<Response>, NoMemory>
+    ensures { IfOk result (λ r. r ≡ option_and_then as_response (field (codes "response") (object (members_of fields.now)))) }
+{
+    match fields.find("response") {
+        Some(value) => as_response(alloc, value),
+        None => Ok(None),
+    }
+}
+
+#[tactic(auto, using(crate::proofs::Confirmed::object_back))]
+fn as_response(alloc: Global, value: &Val) -> Result<Option<Response>, NoMemory>
+    ensures { IfOk result (λ r. r ≡ as_response (view value.now)) }
+{
+    let Val::Object(fields) = value else {
+        return Ok(None);
+    };
+    let Some(Val::Object(object)) = fields.find("result") else {
+        return Ok(None);
+    };
+    let Some(code) = number_in(fields, "statusCode") else {
+        return Ok(None);
+    };
+    if code > 3 {
+        return Ok(None);
+    }
+    Ok(Some(Response::new(code as u8, object.copy(alloc)?)))
+}

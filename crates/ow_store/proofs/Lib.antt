@@ -1,0 +1,4 @@
+pub mod Counting
+pub mod Loading
+pub mod Making
+pub mod Stopping

@@ -1,0 +1,4 @@
+pub mod Laws
+pub mod Parse
+pub mod Plain
+pub mod Words

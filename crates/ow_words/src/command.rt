@@ -1,0 +1,40 @@
+// What the words ask for, and why they ask for nothing.
+ghost use Rattle.std.specs.Prelude.{◌≡◌};
+
+use ow_value::{NoMemory, Str};
+
+/// What the words ask for.
+#[derive(Drop)]
+pub enum Command {
+    /// Carry out the statements of a day.
+    Day {
+        /// The file with the office table.
+        table: Option<Str>,
+        /// The file that the rows and records are kept in.
+        store: Option<Str>,
+    },
+    /// Tell how the program is used.
+    Help,
+    /// Tell the program's version.
+    Version,
+}
+
+/// Why there is no command.
+#[derive(Clone, Copy, Debug, PartialEq, Eq, Drop)]
+pub enum WordsRefusal {
+    /// The words aren't in the command set.
+    BadWords,
+    /// No memory was left to read them.
+    NoMemory,
+}
+
+impl From<NoMemory> for WordsRefusal {
+    ghost use Rattle.std.specs.Prelude.{◌≡◌};
+    ghost use Rattle.ow_words.specs.declared.command.WordsRefusal.TheVariants.{NoMemory};
+
+    ghost from_gives = { λ _ e. e ≡ NoMemory };
+
+    fn from(_none: NoMemory) -> WordsRefusal {
+        WordsRefusal::NoMemory
+    }
+}
