@@ -93,14 +93,8 @@ fn boxed<T: Drop, E: Debug + Drop>(alloc: Global, made: Result<T, E>) -> Result<
 fn office(alloc: Global) -> Result<Box<Office>, Fail> {
     let mut source = MemorySource::new(TABLE.as_bytes().to_vec(alloc)?, Vec::new(alloc));
     let tenants = Tenants::read(alloc, &mut source)?;
-    let hall = match Hall::start(alloc, MemoryKeeper::new(alloc), tenants, 0) {
-        Ok(hall) => hall,
-        Err(_) => Err("not opened")?,
-    };
-    match Box::new(alloc, hall) {
-        Ok(held) => Ok(held),
-        Err(_) => Err("no memory")?,
-    }
+    let opened = Hall::start(alloc, MemoryKeeper::new(alloc), tenants, 0);
+    boxed(alloc, opened.ok().ok_or("not opened"))
 }
 
 fn name_of(alloc: Global, path: &str) -> Result<Box<FullName>, Fail> {
