@@ -21,10 +21,10 @@ use Rattle.ow_decide.specs.declared.events.Told.TheVariants as tells
 use Rattle.ow_decide.specs.declared.replies.Called.{Called}
 use Rattle.ow_decide.specs.declared.replies.Reply.{Reply}
 use Rattle.ow_hall.specs.Comes.{Answers, Comes, Fails, HallView, Holds, IsCalled, KeptRows, Outcome, Replies, Wants, decided, done_outcome, reply_outcome}
-use Rattle.ow_invoker.specs.Plain.{PlainGives}
+use Rattle.ow_runners.specs.Plain.{PlainGives}
 use Rattle.ow_invoker.specs.Turns.{Chain, Exchange, Turns as TurnsTo}
-use Rattle.ow_invoker.specs.declared.plain_runner.PlainContainer.{PlainContainer}
-use Rattle.ow_invoker.specs.declared.plain_runner.PlainRunner.{PlainRunner}
+use Rattle.ow_runners.specs.declared.plain_runner.PlainContainer.{PlainContainer}
+use Rattle.ow_runners.specs.declared.plain_runner.PlainRunner.{PlainRunner}
 use Rattle.ow_invoker.specs.declared.shelf.Laid.{Laid}
 use Rattle.ow_invoker.specs.declared.turn.Turned.{Turned}
 use Rattle.ow_invoker.proofs.Faults.{chain_later, chain_to_later, comes_later, undone_later}

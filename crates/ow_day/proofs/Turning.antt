@@ -8,9 +8,9 @@ use Rattle.ow_floor.specs.declared.answers.PrewarmOrder.{PrewarmOrder}
 use Rattle.ow_floor.specs.declared.answers.RunOrder.{RunOrder}
 use Rattle.ow_decide.specs.declared.events.Event.{Event}
 use Rattle.ow_decide.specs.Decisions.{is_opening}
-use Rattle.ow_invoker.specs.Plain.{PlainGives}
+use Rattle.ow_runners.specs.Plain.{PlainGives}
 use Rattle.ow_invoker.specs.Turns.{AreBoth, Exchange, Follows, IsAlone, IsCarriedOut, IsTurn, Offers, OffersTurn, Opens, PrewarmFollows, Removes, Rests, RunFollows, RunOffers, exchange, is_answer, is_late, is_missing}
-use Rattle.ow_invoker.specs.declared.plain_runner.PlainContainer.{PlainContainer}
+use Rattle.ow_runners.specs.declared.plain_runner.PlainContainer.{PlainContainer}
 use Rattle.ow_invoker.specs.declared.shelf.Laid.{Laid}
 
 abbrev Shelved : Type 0

@@ -18,9 +18,9 @@ use Rattle.ow_decide.specs.declared.replies.Called.TheVariants as called_replies
 use Rattle.ow_decide.specs.declared.replies.Reply.TheVariants as replies
 use Rattle.ow_items.specs.Sorted.{Entries}
 use Rattle.ow_tenant.specs.Table.{Table}
-use Rattle.ow_invoker.specs.Plain.{PlainGives}
+use Rattle.ow_runners.specs.Plain.{PlainGives}
 use Rattle.ow_invoker.specs.Turns.{Exchange, IsTurn, OffersTurn, steps_in}
-use Rattle.ow_invoker.specs.declared.plain_runner.PlainContainer.{PlainContainer}
+use Rattle.ow_runners.specs.declared.plain_runner.PlainContainer.{PlainContainer}
 use Rattle.ow_invoker.specs.declared.shelf.Laid.{Laid}
 use Rattle.ow_invoker.specs.declared.turn.TurnStep.TheVariants as turn_steps
 use Rattle.ow_invoker.specs.declared.turn.Turned.{Turned}

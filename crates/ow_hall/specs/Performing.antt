@@ -1,4 +1,4 @@
--- What comes of an event, for private clauses.
+-- What comes of an event, by what is told of it.
 use Rattle.std.specs.Prelude.{Bool, true, false, Result, Ok, Err}
 use Rattle.ow_traits.specs.declared.replies.RunReply.{RunReply}
 use Rattle.ow_floor.specs.declared.answers.AnswerRefusal.{AnswerRefusal}
@@ -15,6 +15,11 @@ undone false = Wants
 abbrev pub outcome : Result Told Undone → Outcome
 outcome (Ok t) = Answers t
 outcome (Err u) = undone u.failed
+
+-- the same where it is told twice
+abbrev pub outcome_twice : Result (Told × Told) Undone → Outcome
+outcome_twice (Ok both) = Answers both.0
+outcome_twice (Err u) = undone u.failed
 
 -- why a runner's reply isn't taken
 abbrev pub unanswered : RunReply → Bool → AnswerRefusal

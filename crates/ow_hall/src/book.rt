@@ -111,7 +111,7 @@ impl Book {
     }
 
     /// The moment that is booked for a given one.
-    pub(crate) fn moment(&self, at: u64) -> u64
+    pub fn moment(&self, at: u64) -> u64
         ensures { result ≡ moment self.now.ledger.entries at }
     {
         let last = match self.entries.as_slice().last() {
@@ -119,6 +119,16 @@ impl Book {
             None => 0,
         };
         last.max(at.min(GREATEST_MOMENT))
+    }
+
+    /// Whether the last entry is a `next` that ordered nothing.
+    pub fn is_idle(&self) -> bool
+        ensures { result ≡ is_idle self.now.ledger.entries }
+    {
+        match self.entries.as_slice().last() {
+            Some(entry) => matches!(entry.answer, Told::Next(Order::Nothing(_))),
+            None => false,
+        }
     }
 
     /// Makes room for an answer, where it is booked, and for so many entries that are owed behind it. It tells how many bytes the
@@ -160,16 +170,6 @@ impl Book {
 }
 
 impl Book {
-    // Whether the last entry is a `next` that ordered nothing.
-    fn is_idle(&self) -> bool
-        ensures { result ≡ is_idle self.now.ledger.entries }
-    {
-        match self.entries.as_slice().last() {
-            Some(entry) => matches!(entry.answer, Told::Next(Order::Nothing(_))),
-            None => false,
-        }
-    }
-
     fn post_as(&mut self, posting: Posting, at: u64, event: Event, told: Told, bytes: u64)
         requires { posting ≡ Posting.Booked → IsReady self.old.ledger.entries self.old.room 0 event told bytes }
         ensures ledger { self.new.ledger ≡ posted_as posting (record { at = at; event = event; answer = told }) self.old.ledger }

@@ -12,7 +12,7 @@ use ow_http::{Reason, ServiceRefusal};
 use ow_traits::RunReply;
 
 /// What a request is answered. An answer that the book is full looks as any other.
-pub(crate) fn reply_in(told: Told) -> Reply
+pub fn reply_in(told: Told) -> Reply
     requires { IsSome (reply_in told) }
     ensures { reply_in told ≡ Some result }
 {
@@ -42,7 +42,7 @@ pub(crate) fn store_called() -> Called
 }
 
 /// What a runner is answered that asks.
-pub(crate) fn order_in(told: Told) -> Order
+pub fn order_in(told: Told) -> Order
     requires { (o : Order) × (told ≡ Told.Next o) }
     ensures { told ≡ Told.Next result }
 {
@@ -53,7 +53,7 @@ pub(crate) fn order_in(told: Told) -> Order
 }
 
 /// What a runner is answered that replies.
-pub(crate) fn answered_in(told: Told) -> Result<Answered, AnswerRefusal>
+pub fn answered_in(told: Told) -> Result<Answered, AnswerRefusal>
     requires { IsSome (replied_in told) }
     ensures { Answers told ≡ reply_outcome result }
 {
@@ -65,7 +65,7 @@ pub(crate) fn answered_in(told: Told) -> Result<Answered, AnswerRefusal>
 }
 
 /// What is answered to a sweep.
-pub(crate) fn swept_in(told: Told) -> Swept
+pub fn swept_in(told: Told) -> Swept
     requires { (s : Swept) × (told ≡ Told.Swept s) }
     ensures { told ≡ Told.Swept result }
 {
@@ -87,7 +87,7 @@ pub(crate) fn reopened_in(told: Told) -> Happened
 }
 
 /// What is answered of an activation that is collected.
-pub(crate) fn collected_in(told: Told) -> HallCollected
+pub fn collected_in(told: Told) -> HallCollected
     requires { (c : HallCollected) × (told ≡ Told.Collected c) }
     ensures { told ≡ Told.Collected result }
 {
@@ -98,7 +98,7 @@ pub(crate) fn collected_in(told: Told) -> HallCollected
 }
 
 /// What the office is answered that drains.
-pub(crate) fn drain_in(told: Told) -> Drain
+pub fn drain_in(told: Told) -> Drain
     requires { (d : Drain) × (told ≡ Told.Drain d) }
     ensures { told ≡ Told.Drain result }
 {
@@ -109,7 +109,7 @@ pub(crate) fn drain_in(told: Told) -> Drain
 }
 
 /// The reply of a runner, to be handed back.
-pub(crate) fn reply_of(event: Event) -> RunReply
+pub fn reply_of(event: Event) -> RunReply
     requires { (run : ℕ) × ((reply : RunReply) × (event ≡ Event.Answered run reply)) }
     ensures { (run : ℕ) × (event ≡ Event.Answered run result) }
 {

@@ -3,11 +3,11 @@ ghost use Rattle.std.specs.Prelude.{◌≡◌, ◌≤◌, [], true, false, Ok, E
 ghost use Rattle.ow_floor.specs.Laws.{Stands};
 ghost use Rattle.ow_floor.specs.Owed.{owed};
 ghost use Rattle.ow_floor.specs.Trace.{Trace};
-ghost use Rattle.ow_hall.specs.Comes.{Answers, Comes, HandsBack, HoldsBook, IsCalled, Outcome, Replies, collect_outcome, done_outcome, drain_outcome, next_outcome, reopened_outcome, reply_outcome, swept_outcome};
+ghost use Rattle.ow_hall.specs.Comes.{Answers, Comes, HandsBack, HoldsBook, IsCalled, Outcome, Replies, collect_outcome, done_outcome, drain_outcome, next_outcome, reopened_outcome, reply_outcome, store_reply, swept_outcome};
 ghost use Rattle.ow_hall.specs.Commits.{CommitsTo, changes_in};
 ghost use Rattle.ow_hall.specs.History.{IsLegal, posting};
 ghost use Rattle.ow_hall.specs.Ledger.{IsReady};
-ghost use Rattle.ow_hall.specs.Performing.{outcome, unanswered};
+ghost use Rattle.ow_hall.specs.Performing.{outcome, outcome_twice, unanswered};
 ghost use Rattle.ow_decide.specs.Decisions.{is_opening, wants_memory};
 ghost use Rattle.ow_decide.specs.declared.events.Event.TheVariants as events;
 
@@ -64,9 +64,11 @@ impl<P: Keeper + Drop> Model for Hall<P> {
 
 /// An event that came to nothing, since the store failed or memory was wanted.
 #[derive(Drop)]
-pub(crate) struct Undone {
-    pub(crate) event: Event,
-    pub(crate) failed: bool,
+pub struct Undone {
+    /// The event, which is handed back.
+    pub event: Event,
+    /// Whether the store failed.
+    pub failed: bool,
 }
 
 impl<P: Keeper + Drop> Hall<P> {
@@ -95,7 +97,7 @@ impl<P: Keeper + Drop> Hall<P> {
     {
         let failed = self.failed.reply(alloc)?;
         let request = Shared::new(alloc, request.copy(alloc)?)?;
-        match self.perform(alloc, at, Event::Asked(request)) {
+        match self.tell(alloc, at, Event::Asked(request)) {
             Ok(told) => Ok(reply_in(told)),
             Err(Undone { failed: true, .. }) => Ok(failed),
             Err(_) => Err(NoMemory),
@@ -116,7 +118,7 @@ impl<P: Keeper + Drop> Hall<P> {
             drop(params);
             return Err(NoMemory);
         };
-        match self.perform(alloc, at, Event::Called { name, params }) {
+        match self.tell(alloc, at, Event::Called { name, params }) {
             Ok(told) => Ok(called_in(told)),
             Err(Undone { failed: true, .. }) => Ok(store_called()),
             Err(_) => Err(NoMemory),
@@ -127,7 +129,7 @@ impl<P: Keeper + Drop> Hall<P> {
     pub fn next(&mut self, alloc: Global, at: u64) -> Result<Order, NoMemory>
         ensures { Comes P.rows P.faults self.old self.new at events.Next (next_outcome result) }
     {
-        match self.perform(alloc, at, Event::Next) {
+        match self.tell(alloc, at, Event::Next) {
             Ok(told) => Ok(order_in(told)),
             Err(_) => Err(NoMemory),
         }
@@ -161,7 +163,7 @@ impl<P: Keeper + Drop> Hall<P> {
     pub fn sweep(&mut self, alloc: Global, at: u64) -> Result<Swept, SweepRefusal>
         ensures { Comes P.rows P.faults self.old self.new at events.Sweep (swept_outcome result) }
     {
-        match self.perform(alloc, at, Event::Sweep) {
+        match self.tell(alloc, at, Event::Sweep) {
             Ok(told) => Ok(swept_in(told)),
             Err(Undone { failed: true, .. }) => Err(SweepRefusal::StoreFault),
             Err(_) => Err(SweepRefusal::NoMemory),
@@ -173,7 +175,7 @@ impl<P: Keeper + Drop> Hall<P> {
     pub fn reopen_in_place(&mut self, alloc: Global, at: u64) -> Result<Happened, SweepRefusal>
         ensures { Comes P.rows P.faults self.old self.new at events.Reopened (reopened_outcome result) }
     {
-        match self.perform(alloc, at, Event::Reopened) {
+        match self.tell(alloc, at, Event::Reopened) {
             Ok(told) => Ok(reopened_in(told)),
             Err(Undone { failed: true, .. }) => Err(SweepRefusal::StoreFault),
             Err(_) => Err(SweepRefusal::NoMemory),
@@ -191,7 +193,7 @@ impl<P: Keeper + Drop> Hall<P> {
         ensures comes { Comes P.rows P.faults self.old self.new at (events.Answered run reply) (reply_outcome result) }
         ensures back { HandsBack run reply result }
     {
-        match self.perform(alloc, at, Event::Answered { run, reply }) {
+        match self.tell(alloc, at, Event::Answered { run, reply }) {
             Ok(told) => answered_in(told),
             Err(Undone { event, failed }) => Err(unanswered(reply_of(event), failed)),
         }
@@ -202,7 +204,7 @@ impl<P: Keeper + Drop> Hall<P> {
     pub fn collect(&mut self, alloc: Global, at: u64, id: &Id) -> Result<HallCollected, NoMemory>
         ensures { Comes P.rows P.faults self.old self.new at (events.Collected id.now) (collect_outcome result) }
     {
-        match self.perform(alloc, at, Event::Collected(*id)) {
+        match self.tell(alloc, at, Event::Collected(*id)) {
             Ok(told) => Ok(collected_in(told)),
             Err(_) => Err(NoMemory),
         }
@@ -212,7 +214,7 @@ impl<P: Keeper + Drop> Hall<P> {
     pub fn drain(&mut self, alloc: Global, at: u64) -> Result<Drain, NoMemory>
         ensures { Comes P.rows P.faults self.old self.new at events.Drain (drain_outcome result) }
     {
-        match self.perform(alloc, at, Event::Drain) {
+        match self.tell(alloc, at, Event::Drain) {
             Ok(told) => Ok(drain_in(told)),
             Err(_) => Err(NoMemory),
         }
@@ -234,12 +236,32 @@ impl<P: Keeper + Drop> Hall<P> {
         taken
     }
 
-    // What comes of any other event: it is held until all memory that it takes is there, and what it changes of what is kept was
-    // committed.
-    pub(crate) fn perform(&mut self, alloc: Global, at: u64, event: Event) -> Result<Told, Undone>
+    // What comes of any other event.
+    fn tell(&mut self, alloc: Global, at: u64, event: Event) -> Result<Told, Undone>
         requires later { is_opening event ≡ false }
         requires memory { wants_memory event ≡ true }
         ensures comes { Comes P.rows P.faults self.old self.new at event (outcome result) }
+        ensures back { IfErr result (λ undone. undone.event ≡ event) }
+    {
+        match self.perform(alloc, at, event) {
+            Ok((told, kept)) => {
+                drop(kept);
+                Ok(told)
+            }
+            Err(undone) => Err(undone),
+        }
+    }
+}
+
+impl<P: Keeper + Drop> Hall<P> {
+    /// What comes of an event that may want memory, as the calls above make it of what they are handed. What is told of it is given
+    /// twice, so that one of the two can be kept beside the book. The event is held until all memory that it takes is there, and
+    /// what it changes of what is kept was committed.
+    pub fn perform(&mut self, alloc: Global, at: u64, event: Event) -> Result<(Told, Told), Undone>
+        requires later { is_opening event ≡ false }
+        requires memory { wants_memory event ≡ true }
+        ensures comes { Comes P.rows P.faults self.old self.new at event (outcome_twice result) }
+        ensures same { IfOk result (λ r. r.1 ≡ r.0) }
         ensures back { IfErr result (λ undone. undone.event ≡ event) }
     {
         let now = Now {
@@ -253,8 +275,13 @@ impl<P: Keeper + Drop> Hall<P> {
                 failed: false,
             });
         };
-        let Ok((copied, bytes)) = prepare(alloc, &self.state, &mut self.book, &event, &step.told)
-        else {
+        let Ok((copied, kept, bytes)) = prepare(
+            alloc,
+            &self.state,
+            &mut self.book,
+            &event,
+            &step.told,
+        ) else {
             drop(step);
             self.state.settle(false);
             return Err(Undone {
@@ -265,7 +292,7 @@ impl<P: Keeper + Drop> Hall<P> {
         match commit(alloc, &mut self.store, &step.commit) {
             Ok(()) => {}
             Err(error) => {
-                drop((step, copied));
+                drop((step, copied, kept));
                 self.state.settle(false);
                 let failed = self.book.note_uncommitted(error);
                 return Err(Undone { event, failed });
@@ -283,7 +310,21 @@ impl<P: Keeper + Drop> Hall<P> {
         self.state.note(invoked, now.at, before);
         self.state.keep(commit);
         self.book.post(now.at, event, copied, bytes);
-        Ok(told)
+        Ok((told, kept))
+    }
+
+    /// What a request is answered where the store fails.
+    pub fn store_reply(&self, alloc: Global) -> Result<Reply, NoMemory>
+        ensures { IfOk result (λ r. r ≡ store_reply) }
+    {
+        self.failed.reply(alloc)
+    }
+
+    /// How many calls of the store have failed.
+    pub fn faults(&self) -> u64
+        ensures { result ≡ P.faults self.now.store }
+    {
+        self.store.faults()
     }
 }
 
@@ -304,8 +345,8 @@ fn commit<P: Keeper>(
     store.commit(alloc, commit.changes())
 }
 
-// Why a runner's reply isn't taken, which is handed back.
-fn unanswered(reply: RunReply, failed: bool) -> AnswerRefusal
+/// Why a runner's reply isn't taken, which is handed back.
+pub fn unanswered(reply: RunReply, failed: bool) -> AnswerRefusal
     ensures { result ≡ unanswered reply failed }
 {
     if failed {
@@ -315,7 +356,7 @@ fn unanswered(reply: RunReply, failed: bool) -> AnswerRefusal
     }
 }
 
-// Makes room in the book for what is told, where it is booked, and for what is owed behind it. It gives what is told once more, and
+// Makes room in the book for what is told, where it is booked, and for what is owed behind it. It gives what is told twice more, and
 // how many bytes the entry counts beside its 64.
 fn prepare(
     alloc: Global,
@@ -323,13 +364,15 @@ fn prepare(
     book: &mut Book,
     event: &Event,
     told: &Told,
-) -> Result<(Told, u64), NoMemory>
+) -> Result<(Told, Told, u64), NoMemory>
     ensures ledger { book.new.ledger ≡ book.old.ledger }
     ensures keeps { book.old.room ≤ book.new.room }
     ensures told { IfOk result (λ r. r.0 ≡ told.now) }
+    ensures kept { IfOk result (λ r. r.1 ≡ told.now) }
     ensures ready { IfOk result (λ r. (T : Trace) → Stands state.now.floor.now T → posting book.old.ledger.entries told.now ≡ Posting.Booked
-        → IsReady book.old.ledger.entries book.new.room (owed T) event.now told.now r.1) }
+        → IsReady book.old.ledger.entries book.new.room (owed T) event.now told.now r.2) }
 {
     let bytes = book.reserve(state.owed(), event, told)?;
-    Ok((told.copy(alloc)?, bytes))
+    let copied = told.copy(alloc)?;
+    Ok((copied, told.copy(alloc)?, bytes))
 }

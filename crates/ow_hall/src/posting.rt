@@ -7,7 +7,7 @@ use ow_floor::Order;
 
 /// What becomes of an answer in the book.
 #[derive(Clone, Copy, Debug, PartialEq, Eq)]
-pub(crate) enum Posting {
+pub enum Posting {
     /// It is an entry.
     Booked,
     /// It is tallied as a `next` that ordered nothing again.
@@ -19,7 +19,7 @@ pub(crate) enum Posting {
 }
 
 /// How an answer is posted behind an entry that ordered nothing, or behind another.
-pub(crate) fn posting_of(idle: bool, told: &Told) -> Posting
+pub fn posting_of(idle: bool, told: &Told) -> Posting
     ensures { result ≡ posting_by idle told.now }
 {
     match told {

@@ -1,10 +1,6 @@
-pub mod Equal
 pub mod Faults
-pub mod Filling
 pub mod Orders
 pub mod Parts
-pub mod Reading
 pub mod Running
 pub mod Shelving
 pub mod Turning
-pub mod Utf8

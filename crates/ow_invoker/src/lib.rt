@@ -1,10 +1,7 @@
 #![tactic(auto)]
 
-//! What runs actions: the runner of plain code, and the turns of a day.
-mod fill;
+//! The turns of a day: orders carried out over a runner. The runners themselves are re-exported.
 mod living;
-mod plain_cases;
-mod plain_runner;
 mod readying;
 mod removal;
 mod reports;
@@ -13,6 +10,6 @@ mod shelf;
 mod turn;
 mod warming;
 
-pub use plain_runner::{PlainContainer, PlainRunner};
+pub use ow_runners::{PlainContainer, PlainRunner, ProgramRunner};
 pub use shelf::{Laid, Shelf};
 pub use turn::{TurnStep, TurnSteps, Turned, day_turn};

@@ -1,4 +1,4 @@
--- What a table wants ahead has memory that an action may have.
+-- What a table wants ahead has memory that an action may have, and its pool is within its bounds.
 use Rattle.std.proofs.Common.{◌≡◌, ◌+◌, ◌≤◌, ◌++◌, ℕ, Bool, true, false, cond, List, [], ◌∷◌, Option, Some, None, Result, Ok, refl, subst}
 use Rattle.std.specs.Prelude.{◌&&◌, ◌||◌, IfSome, codes, is_some, not, option_and_then, option_map, nat_le}
 use Rattle.std.specs.List.{list_any}
@@ -7,7 +7,7 @@ use Rattle.std.proofs.lemmas.Bool.{leb-true}
 use Rattle.ow_value.specs.Decimal.{decimal_of}
 use Rattle.ow_traits.specs.declared.prewarms.Prewarm.{Prewarm}
 use Rattle.ow_tenant.specs.Row.{grant_row, if_within, is_empty, kind_of, limits_of_fields, may_be_listed, namespace_row, number_within, prewarm_of, right_of, row_by, row_of}
-use Rattle.ow_tenant.specs.Table.{AreWantsSized, Table, granted, has_number, is_called, is_key_of, is_listed, no_rows, wants_same, or_bad, rows_of, with_line, with_row, with_rows, csv_rows}
+use Rattle.ow_tenant.specs.Table.{AreWantsSized, IsPoolSized, Table, granted, has_number, is_called, is_key_of, is_listed, no_rows, wants_same, or_bad, rows_of, with_line, with_row, with_rows, csv_rows}
 use Rattle.ow_tenant.specs.ByText.{value_at, with_value}
 use Rattle.ow_tenant.specs.Rights.{all_rights}
 use Rattle.ow_tenant.specs.declared.entries.Holder.{Holder}
@@ -22,7 +22,7 @@ IsSizedLine (Prewarming w) = IsSized w
 IsSizedLine (Namespace number name limits) = Unit {0}
 IsSizedLine (Key key subject home) = Unit {0}
 IsSizedLine (Grant key namespace right) = Unit {0}
-IsSizedLine (Pool memory) = Unit {0}
+IsSizedLine (Pool memory) = (512 ≤ memory) × (memory ≤ 65536)
 IsSizedLine (Program name path) = Unit {0}
 
 -- ---- options
@@ -83,7 +83,7 @@ by_word word a b c d e =
     (if_cond IsSizedLine (not (is_empty c)) None _ tt
     (if_cond IsSizedLine (bytes_eq word (codes "program")) _ _ (if_cond IsSizedLine _ (Some (Program a b)) None tt tt)
     (if_cond IsSizedLine (not (is_empty b)) None _ tt
-    (if_cond IsSizedLine (bytes_eq word (codes "pool")) _ None (if_map (λ x. Unit {0}) IsSizedLine Pool (number_within 512 65536 a) (if_any (number_within 512 65536 a)) (λ m any. tt)) tt))))))))
+    (if_cond IsSizedLine (bytes_eq word (codes "pool")) _ None (if_map (λ (m : ℕ). (512 ≤ m) × (m ≤ 65536)) IsSizedLine Pool (number_within 512 65536 a) (number_sized 512 65536 a) (λ m within. within)) tt))))))))
 
 row_sized : (row : List (List ℕ)) → IfSome (row_of row) IsSizedLine
 unfolding row_of
@@ -99,7 +99,7 @@ row_sized (word ∷ a ∷ b ∷ c ∷ d ∷ e ∷ f ∷ rest) = tt
 -- ---- tables
 
 abbrev IsSizedTable : Table → Type 0
-IsSizedTable t = AreWantsSized t.wants
+IsSizedTable t = AreWantsSized t.wants × IsPoolSized t.pool
 
 all_push : (ws : List Prewarm) (w : Prewarm) → AreWantsSized ws → IsSized w → AreWantsSized (ws ++ w ∷ [])
 all_push [] w all sized = (sized, tt)
@@ -116,9 +116,9 @@ line_sized t (Grant key namespace right) all sized =
     let put : Holder → Table = λ h. record t { keys = with_value t.keys key (granted namespace right h) } in
     if_cond IsSizedTable (is_listed namespace t) (option_map put (value_at key t.keys)) None
     (if_map (λ (h : Holder). Unit {0}) IsSizedTable put (value_at key t.keys) (if_any (value_at key t.keys)) (λ h any. all)) tt
-line_sized t (Pool memory) all sized = if_cond IsSizedTable (is_some t.pool) None (Some (record t { pool = Some memory })) tt all
+line_sized t (Pool memory) all sized = if_cond IsSizedTable (is_some t.pool) None (Some (record t { pool = Some memory })) tt (all.0, sized)
 line_sized t (Prewarming wanted) all sized =
-    if_cond IsSizedTable (list_any (wants_same wanted) t.wants) None (Some (record t { wants = t.wants ++ wanted ∷ [] })) tt (all_push t.wants wanted all sized)
+    if_cond IsSizedTable (list_any (wants_same wanted) t.wants) None (Some (record t { wants = t.wants ++ wanted ∷ [] })) tt (all_push t.wants wanted all.0 sized, all.1)
 line_sized t (Program name path) all sized =
     if_cond IsSizedTable (list_any (is_called name) t.programs) None (Some (record t { programs = t.programs ++ (name, path) ∷ [] })) tt all
 
@@ -137,6 +137,6 @@ all_sized number t (row ∷ rows) u all is =
     next_sized number (λ v. with_rows (number + 1) v rows) (with_row t row) u (one_sized t row all) (λ v sized go. all_sized (number + 1) v rows u sized go) is
 
 -- the table of a text is sized
-pub rows_sized : (text : List ℕ) (u : Table) → rows_of text ≡ Ok u → AreWantsSized u.wants
+pub rows_sized : (text : List ℕ) (u : Table) → rows_of text ≡ Ok u → AreWantsSized u.wants × IsPoolSized u.pool
 unfolding rows_of
-rows_sized text u is = all_sized 1 no_rows (csv_rows text) u tt is
+rows_sized text u is = all_sized 1 no_rows (csv_rows text) u (tt, tt) is

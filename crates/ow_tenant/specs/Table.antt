@@ -1,5 +1,5 @@
 -- The office table: what its rows make, one after another, and which is the first that is bad.
-use Rattle.std.specs.Prelude.{◌+◌, ◌≤◌, ◌==◌, ◌&&◌, ◌||◌, ℕ, List, [], ◌∷◌, ◌++◌, Bool, not, length, nat_lt, if◌then◌else◌, Option, Some, None, option_map, option_and_then, is_some, Result, Ok, Err}
+use Rattle.std.specs.Prelude.{◌+◌, ◌≤◌, ◌==◌, ◌&&◌, ◌||◌, ℕ, List, [], ◌∷◌, ◌++◌, Bool, not, IfSome, length, nat_lt, if◌then◌else◌, Option, Some, None, option_map, option_and_then, is_some, Result, Ok, Err}
 use Rattle.std.specs.List.{AllByRecursion, list_any}
 use Rattle.std.specs.Str.{bytes_eq}
 use Rattle.csv.specs.Reading.{default_config, records_from, strip_bom}
@@ -29,6 +29,10 @@ pub record Table : Type 0 where
 -- the memory of each container that is wanted ahead is one that an action may have
 abbrev pub AreWantsSized : List Prewarm → Type 0
 AreWantsSized wants = AllByRecursion (λ w. (128 ≤ w.memory) × (w.memory ≤ 512)) wants
+
+-- the memory of all containers is within its bounds, where a row tells it
+abbrev pub IsPoolSized : Option ℕ → Type 0
+IsPoolSized pool = IfSome pool (λ m. (512 ≤ m) × (m ≤ 65536))
 
 -- before the first row
 abbrev pub no_rows : Table

@@ -3,7 +3,7 @@ ghost use Rattle.std.specs.Prelude.{◌≡◌, ◌<◌, ◌≤◌, length, map, 
 ghost use Rattle.std.specs.Option.{option_copied};
 ghost use Rattle.ow_traits.specs.Streams.{Rose};
 ghost use Rattle.ow_tenant.specs.Reading.{TellsTable};
-ghost use Rattle.ow_tenant.specs.Table.{AreWantsSized, no_rows};
+ghost use Rattle.ow_tenant.specs.Table.{AreWantsSized, IsPoolSized, no_rows};
 ghost use Rattle.ow_tenant.specs.Tenants.{Knows, granted_names, holder_at, holder_of, limits_of, may, name_value, number_of, pool_of};
 
 use crate::by_text::ByText;
@@ -55,6 +55,7 @@ impl Tenants {
     pub fn read<S: Source>(alloc: Global, source: &mut S) -> Result<Tenants, TenantRefusal>
         ensures told { TellsTable (S.left source.old) (S.left source.new) result }
         ensures sized { IfOk result (λ t. AreWantsSized t.wants) }
+        ensures pool { IfOk result (λ t. IsPoolSized t.pool) }
         ensures later { S.faults source.old ≤ S.faults source.new }
         ensures cause { result ≡ Err TenantRefusal.ReadFault → Rose (S.faults source.old) (S.faults source.new) }
     {

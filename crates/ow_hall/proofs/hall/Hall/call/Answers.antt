@@ -21,4 +21,4 @@ pub called_in-requires : goal.called_in-requires
 called_in-requires g c =
     let h = c.args.self.now in
     let S = sight h.tenants (seen h.tenants h.ledger.entries) (counted h.ledger.entries) (at_hall h c.args.at) in
-    subst (λ (t : Told). (x : Called) × (t ≡ told.Called x)) (sym c.in-Ok-perform.ensures.comes.0) (call_told S _)
+    subst (λ (t : Told). (x : Called) × (t ≡ told.Called x)) (sym c.in-Ok-tell.ensures.comes.0) (call_told S _)

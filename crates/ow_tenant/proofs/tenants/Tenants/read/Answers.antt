@@ -1,6 +1,6 @@
 use Rattle.std.proofs.Common.{arith, sym, ap, subst, ◌∙◌, Ok, Err, List, ℕ, Result}
 use Rattle.ow_tenant.specs.Reading.{Tells, TellsTable}
-use Rattle.ow_tenant.specs.Table.{AreWantsSized, Table, rows_of}
+use Rattle.ow_tenant.specs.Table.{AreWantsSized, IsPoolSized, Table, rows_of}
 use Rattle.ow_tenant.specs.declared.refusal.TenantRefusal.{TenantRefusal}
 use Rattle.ow_tenant.proofs.RowsLaws.{tells-fault, tells-long, tells-made, tells-rows}
 use Rattle.ow_tenant.proofs.SizedLaws.{rows_sized}
@@ -31,4 +31,7 @@ returns-clause-told g c =
     tells-rows _ _ c.in_ok-text.text.items (Ok c.in_ok-from_draft.field-0) c.in_ok-text.ensures.told (omega arith) (sym same ∙ (c.in_ok-draft.ensures.told ∙ ap Ok (sym c.in_ok-from_draft.ensures))) (λ e. cc e)
 
 pub returns-clause-sized : goal.returns-clause-sized
-returns-clause-sized g c = subst (λ (t : Table). AreWantsSized t.wants) (sym c.in_ok-from_draft.ensures) (rows_sized c.deref.result.now c.in_ok-draft.draft c.in_ok-draft.ensures.told)
+returns-clause-sized g c = subst (λ (t : Table). AreWantsSized t.wants) (sym c.in_ok-from_draft.ensures) (rows_sized c.deref.result.now c.in_ok-draft.draft c.in_ok-draft.ensures.told).0
+
+pub returns-clause-pool : goal.returns-clause-pool
+returns-clause-pool g c = subst (λ (t : Table). IsPoolSized t.pool) (sym c.in_ok-from_draft.ensures) (rows_sized c.deref.result.now c.in_ok-draft.draft c.in_ok-draft.ensures.told).1

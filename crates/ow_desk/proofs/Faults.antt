@@ -1,0 +1,64 @@
+-- The book tallies no more faults of the store than calls of it have failed.
+use Rattle.std.proofs.Common.{arith, ◌≡◌, ◌+◌, ◌==◌, ◌<◌, ◌≤◌, ℕ, Bool, true, false, cond, List, [], ◌∷◌, ap, refl}
+use Rattle.ow_traits.specs.declared.change_list.Change.{Change}
+use Rattle.ow_decide.specs.Decision.{commits}
+use Rattle.ow_decide.specs.declared.events.Event.{Event}
+use Rattle.ow_hall.specs.declared.entry.Entry.{Entry}
+use Rattle.ow_hall.specs.declared.posting.Posting.{Posting}
+use Rattle.ow_hall.specs.declared.posting.Posting.TheVariants.{Booked, Quiet, Denied, Unbooked}
+use Rattle.ow_hall.specs.Comes.{Answers, Comes, Fails, HallView, Holds, KeptRows, Outcome, Stays, Wants, at_hall, decided}
+use Rattle.ow_hall.specs.History.{posting}
+use Rattle.ow_hall.specs.Ledger.{Ledger, one_more, posted_as}
+use Rattle.ow_desk.specs.Desks.{IsWithinFaults}
+
+one_by : (b : Bool) (n : ℕ) → cond b n (n + 1) ≤ n + 1
+one_by true n = omega arith
+one_by false n = omega arith
+
+one_at_most : (n : ℕ) → one_more n ≤ n + 1
+unfolding one_more
+one_at_most n = one_by (n == 18446744073709551615) n
+
+stored_stays : (p : Posting) (e : Entry) (L : Ledger) → (posted_as p e L).stored ≡ L.stored
+stored_stays Booked e L = refl
+stored_stays Quiet e L = refl
+stored_stays Denied e L = refl
+stored_stays Unbooked e L = refl
+
+module _ {P : Type 0} (rows : P → KeptRows) (faults : P → ℕ) where
+  holds_later : (changes : List Change) (old new : P) → Holds rows faults changes old new → faults old ≤ faults new
+  holds_later [] old new same = let e : faults new ≡ faults old = ap faults same in omega arith
+  holds_later (c ∷ cs) old new holds = holds.1
+
+  stays_later : (changes : List Change) (old new : P) → Stays rows faults changes old new → faults old ≤ faults new
+  stays_later [] old new same = let e : faults new ≡ faults old = ap faults same in omega arith
+  stays_later (c ∷ cs) old new stays = stays.1
+
+  -- whatever comes of an event
+  pub still_within : (old new : HallView P) (at since before : ℕ) (event : Event) (o : Outcome) → Comes rows faults old new at event o
+      → IsWithinFaults (faults old.store) since old.ledger.stored before → IsWithinFaults (faults new.store) since new.ledger.stored before
+  still_within old new at since before event (Answers t) comes within less =
+      let later = holds_later (commits (decided old at event)) old.store new.store comes.3 in
+      let same = ap (λ (l : Ledger). l.stored) comes.1 in
+      let stays = stored_stays (posting old.ledger.entries t) (record { at = at_hall old at; event = event; answer = t }) old.ledger in
+      let so = within (omega (arith, later, less)) in
+      omega (arith, later, same, stays, so)
+  still_within old new at since before event Wants comes within less =
+      let later = stays_later (commits (decided old at event)) old.store new.store comes.2 in
+      let same = ap (λ (l : Ledger). l.stored) comes.0 in
+      let so = within (omega (arith, later, less)) in
+      omega (arith, later, same, so)
+  still_within old new at since before event Fails comes within less =
+      let later = comes.4 in
+      let same = ap (λ (l : Ledger). l.stored) comes.1 in
+      let most = one_at_most old.ledger.stored in
+      let before_less : faults old.store < 18446744073709551615 = omega (arith, later, less) in
+      let rose = comes.5 before_less in
+      let so = within before_less in
+      omega (arith, rose, same, most, so)
+
+  -- the office table stays
+  pub same_tenants : (old new : HallView P) (at : ℕ) (event : Event) (o : Outcome) → Comes rows faults old new at event o → new.tenants ≡ old.tenants
+  same_tenants old new at event (Answers t) comes = comes.2
+  same_tenants old new at event Wants comes = comes.1
+  same_tenants old new at event Fails comes = comes.2

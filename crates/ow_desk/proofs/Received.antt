@@ -1,0 +1,74 @@
+-- What a call of the hall leaves in the receipts.
+use Rattle.std.proofs.Common.{◌≡◌, ◌∙◌, ℕ, Bool, true, false, [], Err, refl, subst, sym, ap}
+use Rattle.ow_traits.specs.declared.replies.RunReply.{RunReply}
+use Rattle.ow_floor.specs.declared.answers.AnswerRefusal.{AnswerRefusal}
+use Rattle.ow_decide.specs.Decision.{commits}
+use Rattle.ow_decide.specs.declared.events.Event.{Event}
+use Rattle.ow_decide.specs.declared.events.Told.{Told}
+use Rattle.ow_hall.specs.Comes.{Answers, Comes, Fails, HallView, KeptRows, Outcome, Wants, at_hall, decided, reply_outcome}
+use Rattle.ow_hall.specs.History.{History}
+use Rattle.ow_hall.specs.Performing.{unanswered, undone}
+use Rattle.ow_hall.proofs.KeepLaws.{stays_same}
+use Rattle.ow_desk.specs.declared.standing.Standing.{Standing}
+use Rattle.ow_desk.specs.Desks.{DeskView, IsReceived}
+use Rattle.ow_desk.specs.Notes.{HasNoted, IsStanding, Notes, noted}
+
+-- ---- one call
+
+-- what was told is noted, by copies of the event and of what was told
+noted_same : (B : History) (a b : ℕ) (x y : Event) (s t : Told) (n r m : Notes) → a ≡ b → x ≡ y → s ≡ t → r ≡ n
+    → m ≡ noted B a x (Answers s) r → m ≡ noted B b y (Answers t) n
+noted_same B a b x y s t n r m at event told notes is =
+    is ∙ (ap (λ (k : ℕ). noted B k x (Answers s) r) at ∙ (ap (λ (e : Event). noted B b e (Answers s) r) event
+    ∙ (ap (λ (u : Told). noted B b y (Answers u) r) told ∙ ap (noted B b y (Answers t)) notes)))
+
+module _ {P : Type 0} (rows : P → KeptRows) (faults : P → ℕ) where
+  pub told_received : (d : DeskView P) (h : HallView P) (at : ℕ) (event copied : Event) (t kept : Told) (n r m : Notes) (before : Standing)
+      → Comes rows faults d.hall h at event (Answers t) → copied ≡ event → kept ≡ t → r ≡ n → IsStanding d.hall.ledger.entries at before
+      → m ≡ noted d.hall.ledger.entries before.at copied (Answers kept) r
+      → IsReceived rows faults d (record { hall = h; since = d.since; before = d.before }) at event (Answers t) n m
+  told_received d h at event copied t kept n r m before comes same_event same_told same_notes standing is = record {
+    comes = comes;
+    notes = noted_same d.hall.ledger.entries before.at (at_hall d.hall at) copied event kept t n r m standing.moment_is same_event same_told same_notes is;
+    since = refl;
+    before = refl;
+  }
+
+  -- nothing has come of it
+  pub nothing_received : (d : DeskView P) (at : ℕ) (event : Event) (n m : Notes) → m ≡ n → IsReceived rows faults d d at event Wants n m
+  nothing_received d at event n m same = record {
+    comes = (refl, refl, stays_same rows faults (commits (decided d.hall at event)) d.hall.store);
+    notes = same;
+    since = refl;
+    before = refl;
+  }
+
+  -- where nothing is to be committed, memory was wanted
+  pub only_wanted : (d e : DeskView P) (at : ℕ) (event : Event) (failed : Bool) (n m : Notes) → commits (decided d.hall at event) ≡ []
+      → IsReceived rows faults d e at event (undone failed) n m → IsReceived rows faults d e at event Wants n m
+  only_wanted d e at event true n m none is = absurd (is.comes.0 none)
+  only_wanted d e at event false n m none is = is
+
+  -- one who knows nothing of the hall knows this
+  pub has_noted : (d e : DeskView P) (at : ℕ) (event : Event) (o : Outcome) (n m : Notes) → IsReceived rows faults d e at event o n m → HasNoted event o n m
+  has_noted d e at event o n m is = (d.hall.ledger.entries, at_hall d.hall at, is.notes)
+
+  pub only_noted : (d e : DeskView P) (at : ℕ) (event : Event) (failed : Bool) (n m : Notes) → commits (decided d.hall at event) ≡ []
+      → IsReceived rows faults d e at event (undone failed) n m → HasNoted event Wants n m
+  only_noted d e at event failed n m none is = has_noted d e at event Wants n m (only_wanted d e at event failed n m none is)
+
+  pub fault_noted : (d e : DeskView P) (at : ℕ) (event : Event) (failed : Bool) (n m : Notes) → failed ≡ true
+      → IsReceived rows faults d e at event (undone failed) n m → HasNoted event Fails n m
+  fault_noted d e at event true n m failed is = has_noted d e at event Fails n m is
+  fault_noted d e at event false n m failed is = cc failed
+
+-- a reply that isn't taken hands back what is undone
+same_outcome : (reply : RunReply) (failed : Bool) → reply_outcome (Err (unanswered reply failed)) ≡ undone failed
+same_outcome reply true = refl
+same_outcome reply false = refl
+
+pub reply_noted : {P : Type 0} (rows : P → KeptRows) (faults : P → ℕ) (d e : DeskView P) (at : ℕ) (event : Event) (reply : RunReply) (failed : Bool) (refusal : AnswerRefusal) (n m : Notes)
+    → refusal ≡ unanswered reply failed → IsReceived rows faults d e at event (undone failed) n m → HasNoted event (reply_outcome (Err refusal)) n m
+reply_noted rows faults d e at event reply failed refusal n m same is =
+    subst (λ (o : Outcome). HasNoted event o n m) (sym (ap (λ (r : AnswerRefusal). reply_outcome (Err r)) same ∙ same_outcome reply failed))
+    (has_noted rows faults d e at event (undone failed) n m is)

@@ -1,0 +1,85 @@
+-- What receipts hold of the calls that were made through them.
+use Rattle.std.specs.Prelude.{◌≡◌, ◌++◌, ℕ, List, [], ◌∷◌, Option, Some, None, length}
+use Rattle.ow_decide.specs.declared.events.Event.{Event}
+use Rattle.ow_decide.specs.declared.events.Event.TheVariants as events
+use Rattle.ow_decide.specs.declared.events.Told.{Told}
+use Rattle.ow_decide.specs.declared.events.Told.TheVariants as told
+use Rattle.ow_hall.specs.declared.entry.Entry.{Entry}
+use Rattle.ow_hall.specs.declared.posting.Posting.{Posting}
+use Rattle.ow_hall.specs.declared.posting.Posting.TheVariants.{Booked, Quiet, Denied, Unbooked}
+use Rattle.ow_hall.specs.Comes.{Answers, Fails, Outcome, Wants}
+use Rattle.ow_hall.specs.History.{History, counted, is_idle, moment, posting}
+use Rattle.ow_hall.specs.Ledger.{one_more}
+use Rattle.ow_desk.specs.declared.marks.Denial.{Denial}
+use Rattle.ow_desk.specs.declared.marks.Denial.TheVariants as denials
+use Rattle.ow_desk.specs.declared.marks.Mark.{Mark}
+use Rattle.ow_desk.specs.declared.marks.Mark.TheVariants as marks
+use Rattle.ow_desk.specs.declared.placed.Placed.{Placed}
+use Rattle.ow_desk.specs.declared.standing.Standing.{Standing}
+
+-- a list of the code, the oldest first, and for how many more there is room
+pub record ListedView (T : Type 0) : Type 0 where
+  pub items : List T
+  pub room : ℕ
+
+-- the entries with their places, the marks, and how many calls of `next` and how many events of runners weren't booked
+pub record Notes : Type 0 where
+  pub entries : List Placed
+  pub marks : List Mark
+  pub quiet : ℕ
+  pub denied : ℕ
+
+abbrev pub no_notes : Notes
+no_notes = record { entries = []; marks = []; quiet = 0; denied = 0 }
+
+-- receipts: their notes, and for how many more entries or marks there is room
+pub record ReceiptsView : Type 0 where
+  pub notes : Notes
+  pub room : ℕ
+
+-- ---- one call
+
+-- the mark of a runner's event that was refused
+abbrev pub denials_of : Event → List Mark
+denials_of (events.Begun run) = marks.Denied (denials.Begun run) ∷ []
+denials_of (events.Answered run reply) = marks.Denied (denials.Answered run) ∷ []
+denials_of (events.Lost run) = marks.Denied (denials.Lost run) ∷ []
+denials_of (events.Gone slot generation) = marks.Denied (denials.Gone slot generation) ∷ []
+denials_of event = []
+
+-- the mark of a denial, where there is one
+abbrev pub denied_marks : Option Denial → List Mark
+denied_marks None = []
+denied_marks (Some d) = marks.Denied d ∷ []
+
+-- the mark of a request that finds the book full
+abbrev pub refused_full : ℕ → Told → Event → List Mark
+refused_full counted (told.Full answer) (events.Asked r) = marks.Full counted r.size ∷ []
+refused_full counted t event = []
+
+-- an answer that is posted so behind these entries
+abbrev pub noted_as : Posting → History → Entry → Notes → Notes
+noted_as Booked B e n = record n { entries = n.entries ++ record { place = length B; entry = e } ∷ [] }
+noted_as Quiet B e n = record n { quiet = one_more n.quiet }
+noted_as Denied B e n = record n { marks = n.marks ++ denials_of e.event; denied = one_more n.denied }
+noted_as Unbooked B e n = record n { marks = n.marks ++ refused_full (counted B) e.answer e.event }
+
+-- a call behind these entries: its entry with its place where it is booked, a mark or a tally where it is not; a mark where the store
+-- failed
+abbrev pub noted : History → ℕ → Event → Outcome → Notes → Notes
+noted B at event (Answers t) n = noted_as (posting B t) B (record { at = at; event = event; answer = t }) n
+noted B at event Wants n = n
+noted B at event Fails n = record n { marks = n.marks ++ marks.Stored ∷ [] }
+
+-- behind some entries, at some moment: all that is known of a call to one who locks the hall for that call alone
+abbrev pub HasNoted : Event → Outcome → Notes → Notes → Type 0
+HasNoted event o n m = (B : History) × (at : ℕ) × (m ≡ noted B at event o n)
+
+-- ---- where a book stands
+
+-- behind these entries, for a call at a moment
+pub record IsStanding (B : History) (at : ℕ) (s : Standing) : Type 0 where
+  pub place : s.place ≡ length B
+  pub moment_is : s.at ≡ moment B at
+  pub counted_is : s.counted ≡ counted B
+  pub idle : s.idle ≡ is_idle B

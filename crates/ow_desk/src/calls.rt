@@ -1,0 +1,189 @@
+// The calls of a hall, through receipts.
+ghost use Rattle.std.specs.Prelude.{◌≡◌, ◌+◌, ◌≤◌, IfOk};
+ghost use Rattle.ow_decide.specs.declared.events.Event.TheVariants as events;
+ghost use Rattle.ow_hall.specs.Comes.{HandsBack, Outcome, Replies, collect_outcome, done_outcome, drain_outcome, next_outcome, reply_outcome, swept_outcome};
+ghost use Rattle.ow_desk.specs.Desks.{IsReceived};
+ghost use Rattle.ow_desk.specs.Fitting.{Fits};
+ghost use Rattle.ow_desk.specs.Notes.{HasNoted};
+
+use crate::desk::Desk;
+use crate::receipts::Receipts;
+use crate::standing::Standing;
+use ow_decide::{Event, HallCollected, Reply, taken_told};
+use ow_floor::{AnswerRefusal, Answered, Drain, FloorRefusal, Order, Swept};
+use ow_hall::{
+    SweepRefusal, Undone, answered_in, collected_in, drain_in, order_in, reply_in, reply_of,
+    swept_in, unanswered,
+};
+use ow_http::Request;
+use ow_records::Id;
+use ow_traits::{Keeper, RunReply};
+use ow_value::{NoMemory, PlainData, Shared};
+use std::alloc::Global;
+
+impl<P: Keeper + Drop> Receipts<P> {
+    /// Answers a request, as `Hall::ask` does.
+    pub fn ask(
+        &mut self,
+        alloc: Global,
+        desk: &mut Desk<P>,
+        at: u64,
+        request: &Request,
+    ) -> Result<Reply, NoMemory>
+        ensures { (o : Outcome) × Replies result o × IsReceived P.rows P.faults desk.old desk.new at (events.Asked request.now) o self.old.notes self.new.notes }
+    {
+        let failed = desk.hall.store_reply(alloc)?;
+        let request = Shared::new(alloc, request.copy(alloc)?)?;
+        match self.perform(alloc, desk, at, Event::Asked(request)) {
+            Ok(told) => Ok(reply_in(told)),
+            Err(undone) => {
+                let store_failed = undone.failed;
+                drop(undone);
+                if store_failed {
+                    Ok(failed)
+                } else {
+                    drop(failed);
+                    Err(NoMemory)
+                }
+            }
+        }
+    }
+
+    /// What became of an activation, as `Hall::collect` tells it.
+    pub fn collect(
+        &mut self,
+        alloc: Global,
+        desk: &mut Desk<P>,
+        at: u64,
+        id: &Id,
+    ) -> Result<HallCollected, NoMemory>
+        ensures { IsReceived P.rows P.faults desk.old desk.new at (events.Collected id.now) (collect_outcome result) self.old.notes self.new.notes }
+    {
+        match self.perform(alloc, desk, at, Event::Collected(*id)) {
+            Ok(told) => Ok(collected_in(told)),
+            Err(undone) => {
+                drop(undone);
+                Err(NoMemory)
+            }
+        }
+    }
+
+    /// What is to be done next, as `Hall::next` answers it. Slots and generations are those that a board of 512 slots takes.
+    pub fn next(&mut self, alloc: Global, desk: &mut Desk<P>, at: u64) -> Result<Order, NoMemory>
+        ensures received { IsReceived P.rows P.faults desk.old desk.new at events.Next (next_outcome result) self.old.notes self.new.notes }
+        ensures noted { HasNoted events.Next (next_outcome result) self.old.notes self.new.notes }
+        ensures fits { IfOk result Fits }
+        ensures room { self.old.room ≤ self.new.room + 1 }
+    {
+        match self.perform(alloc, desk, at, Event::Next) {
+            Ok(told) => Ok(order_in(told)),
+            Err(undone) => {
+                drop(undone);
+                Err(NoMemory)
+            }
+        }
+    }
+
+    /// The container of the run is up, as `Hall::begun` takes it. This takes no memory.
+    pub fn begun(&mut self, desk: &mut Desk<P>, at: u64, run: u64) -> Result<(), FloorRefusal>
+        requires { 1 ≤ self.old.room }
+        ensures received { IsReceived P.rows P.faults desk.old desk.new at (events.Begun run) (done_outcome result) self.old.notes self.new.notes }
+        ensures noted { HasNoted (events.Begun run) (done_outcome result) self.old.notes self.new.notes }
+        ensures room { self.old.room ≤ self.new.room + 1 }
+    {
+        let before = Standing::of(desk.hall.book(), at);
+        let taken = desk.hall.begun(at, run);
+        self.note(before, Event::Begun { run }, taken_told(taken));
+        taken
+    }
+
+    /// The run is lost, as `Hall::lost` takes it. This takes no memory.
+    pub fn lost(&mut self, desk: &mut Desk<P>, at: u64, run: u64) -> Result<(), FloorRefusal>
+        requires { 1 ≤ self.old.room }
+        ensures received { IsReceived P.rows P.faults desk.old desk.new at (events.Lost run) (done_outcome result) self.old.notes self.new.notes }
+        ensures noted { HasNoted (events.Lost run) (done_outcome result) self.old.notes self.new.notes }
+        ensures room { self.old.room ≤ self.new.room + 1 }
+    {
+        let before = Standing::of(desk.hall.book(), at);
+        let taken = desk.hall.lost(at, run);
+        self.note(before, Event::Lost { run }, taken_told(taken));
+        taken
+    }
+
+    /// The container of the slot is gone, as `Hall::gone` takes it. This takes no memory.
+    pub fn gone(
+        &mut self,
+        desk: &mut Desk<P>,
+        at: u64,
+        slot: u32,
+        generation: u32,
+    ) -> Result<(), FloorRefusal>
+        requires { 1 ≤ self.old.room }
+        ensures received { IsReceived P.rows P.faults desk.old desk.new at (events.Gone slot generation) (done_outcome result) self.old.notes self.new.notes }
+        ensures noted { HasNoted (events.Gone slot generation) (done_outcome result) self.old.notes self.new.notes }
+        ensures room { self.old.room ≤ self.new.room + 1 }
+    {
+        let before = Standing::of(desk.hall.book(), at);
+        let taken = desk.hall.gone(at, slot, generation);
+        self.note(before, Event::Gone { slot, generation }, taken_told(taken));
+        taken
+    }
+
+    /// Records the end of what the run carries, as `Hall::answered` does. A refusal hands the reply back.
+    pub fn answered(
+        &mut self,
+        alloc: Global,
+        desk: &mut Desk<P>,
+        at: u64,
+        run: u64,
+        reply: RunReply,
+    ) -> Result<Answered, AnswerRefusal>
+        ensures received { IsReceived P.rows P.faults desk.old desk.new at (events.Answered run reply) (reply_outcome result) self.old.notes self.new.notes }
+        ensures noted { HasNoted (events.Answered run reply) (reply_outcome result) self.old.notes self.new.notes }
+        ensures back { HandsBack run reply result }
+        ensures room { self.old.room ≤ self.new.room + 1 }
+    {
+        match self.perform(alloc, desk, at, Event::Answered { run, reply }) {
+            Ok(told) => answered_in(told),
+            Err(Undone { event, failed }) => Err(unanswered(reply_of(event), failed)),
+        }
+    }
+
+    /// Records the ends of what all late runs carry, as `Hall::sweep` does.
+    pub fn sweep(
+        &mut self,
+        alloc: Global,
+        desk: &mut Desk<P>,
+        at: u64,
+    ) -> Result<Swept, SweepRefusal>
+        ensures received { IsReceived P.rows P.faults desk.old desk.new at events.Sweep (swept_outcome result) self.old.notes self.new.notes }
+        ensures noted { HasNoted events.Sweep (swept_outcome result) self.old.notes self.new.notes }
+    {
+        match self.perform(alloc, desk, at, Event::Sweep) {
+            Ok(told) => Ok(swept_in(told)),
+            Err(undone) => {
+                let failed = undone.failed;
+                drop(undone);
+                if failed {
+                    Err(SweepRefusal::StoreFault)
+                } else {
+                    Err(SweepRefusal::NoMemory)
+                }
+            }
+        }
+    }
+
+    /// Takes no more calls from now on, as `Hall::drain` does.
+    pub fn drain(&mut self, alloc: Global, desk: &mut Desk<P>, at: u64) -> Result<Drain, NoMemory>
+        ensures received { IsReceived P.rows P.faults desk.old desk.new at events.Drain (drain_outcome result) self.old.notes self.new.notes }
+        ensures noted { HasNoted events.Drain (drain_outcome result) self.old.notes self.new.notes }
+    {
+        match self.perform(alloc, desk, at, Event::Drain) {
+            Ok(told) => Ok(drain_in(told)),
+            Err(undone) => {
+                drop(undone);
+                Err(NoMemory)
+            }
+        }
+    }
+}

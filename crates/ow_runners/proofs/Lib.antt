@@ -1,0 +1,5 @@
+pub mod Equal
+pub mod Filling
+pub mod Lines
+pub mod Reading
+pub mod Utf8

@@ -1,0 +1,4 @@
+pub mod Equality
+pub mod Plain
+pub mod PlainReply
+pub mod Program

@@ -1,0 +1,35 @@
+// Gates at which a worker may be held, so that the order of several workers can be chosen.
+
+/// Where a worker stands.
+#[derive(Clone, Copy, Debug, PartialEq, Eq)]
+pub enum Stage {
+    /// It is about to carry out the run of this number.
+    BeforeRun(u64),
+    /// It has carried out the run of this number, whose end is not recorded yet.
+    AfterRun(u64),
+    /// It is about to take the container out of the slot of this number.
+    BeforeTake(u32),
+    /// It is about to remove the container in the slot of this number.
+    BeforeReap(u32),
+}
+
+/// Holds workers back.
+pub trait Gate {
+    /// Lets a worker pass that stands at this stage. It may wait first, for as long as it likes.
+    fn pass(&self, stage: Stage);
+}
+
+/// A gate that holds nobody.
+#[derive(Clone, Copy, Debug)]
+pub struct OpenGate {}
+
+impl OpenGate {
+    /// An open gate.
+    pub fn new() -> OpenGate {
+        OpenGate {}
+    }
+}
+
+impl Gate for OpenGate {
+    fn pass(&self, _stage: Stage) {}
+}

@@ -1,0 +1,12 @@
+#![tactic(auto)]
+
+//! What a service of many threads needs of the outside: a clock, gates at which a worker may be held, and tasks with who begins them.
+mod clock;
+mod gate;
+mod refusing_spawner;
+mod tasks;
+
+pub use clock::{Clock, FixedClock};
+pub use gate::{Gate, OpenGate, Stage};
+pub use refusing_spawner::RefusingSpawner;
+pub use tasks::{Begun, Spawner, Task};

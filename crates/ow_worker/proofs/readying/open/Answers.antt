@@ -1,0 +1,7 @@
+use Rattle.ow_worker.proofs.Carried.{initialised_from}
+use Rattle.ow_worker.proofs.readying.open.Goals as goal
+
+pub returns-in-Ok-Up-clause-ready : goal.returns-in-Ok-Up-clause-ready
+returns-in-Ok-Up-clause-ready g c =
+    initialised_from (g.R.Runner.gives c.args.runner.now) (g.R.Runner.gives c.start.new.self) (g.R.Runner.gives c.initialise.new.runner) (g.R.Runner.faults c.args.runner.now) (g.R.Runner.faults c.start.new.self)
+    (g.R.Runner.faults c.initialise.new.runner) c.args.order.now c.initialise.result c.start.ensures.steady c.initialise.ensures.runner c.initialise.ensures.ready

@@ -1,0 +1,87 @@
+-- The parts of a run, each with the notes before and after it.
+use Rattle.std.specs.Prelude.{◌≡◌, ◌⊎◌, ℕ, Bool, true, false, Some, None}
+use Rattle.ow_traits.specs.Runner.{Giving, RepliesToAny}
+use Rattle.ow_traits.specs.declared.replies.RunReply.{RunReply}
+use Rattle.ow_slots.specs.State.{is_cold, is_warm}
+use Rattle.ow_floor.specs.declared.answers.RunOrder.{RunOrder}
+use Rattle.ow_decide.specs.declared.events.Told.{Told}
+use Rattle.ow_invoker.specs.Turns.{is_answer, is_late}
+use Rattle.ow_board.specs.declared.view.View.{View}
+use Rattle.ow_desk.specs.Notes.{Notes}
+use Rattle.ow_worker.specs.declared.outcome.Laid.{Laid}
+use Rattle.ow_worker.specs.declared.outcome.Laid.TheVariants.{Put, Taken, Stopped}
+use Rattle.ow_worker.specs.declared.outcome.Job.{Job}
+use Rattle.ow_worker.specs.declared.outcome.Turn.{Turn}
+use Rattle.ow_worker.specs.declared.outcome.Turn.TheVariants as turns
+use Rattle.ow_worker.specs.declared.outcome.Readiness.{Readiness}
+use Rattle.ow_worker.specs.declared.outcome.Readiness.TheVariants.{Up, Early, NotHad, Unready}
+use Rattle.ow_worker.specs.Shown.{WasNotHad, WasPut, WasTaken, WordTaken}
+use Rattle.ow_worker.specs.Noted.{FaultNoted, GoneNoted, ReplyNoted}
+
+-- ---- getting a container up and initialised
+
+module _ (gives : Giving) (before now : ℕ) where
+  -- of a started container, or one in hand: it is up, or there is a reply to the code whatever the parameters. Without a container that
+  -- is no answer
+  abbrev pub Initialised : {B : Type 0} → RunOrder → Readiness B → Type 0
+  Initialised order (Up living) = Unit {0}
+  Initialised order (Early held reply) = RepliesToAny gives before now order.kind order.code reply × (held ≡ None → is_answer reply ≡ false)
+  Initialised order (NotHad seen) = ⊥
+  Initialised order Unready = Unit {0}
+
+  abbrev pub Readied : {B : Type 0} → RunOrder → ℕ → View → Readiness B → Type 0
+  Readied order start w (Up living) = Unit {0}
+  Readied order start w (Early held reply) = (is_warm order.start ≡ false) × RepliesToAny gives before now order.kind order.code reply × (held ≡ None → is_answer reply ≡ false)
+  Readied order start w (NotHad seen) = (is_cold order.start ≡ false) × WasNotHad order.slot order.generation seen start w
+  Readied order start w Unready = is_warm order.start ≡ false
+
+-- ---- what becomes of it
+
+-- where there is a reply: a container that answered was put on the board at a second of its put, or its slot's word was taken and it is
+-- gone; any other was stopped
+abbrev pub LaidDown : (ℕ → Type 0) → RunOrder → RunReply → Notes → Notes → ℕ → View → Laid → Type 0
+LaidDown is_second order reply n m start w Put = (is_answer reply ≡ true) × (m ≡ n) × ((second : ℕ) × is_second second × WasPut order.slot order.generation second start w)
+LaidDown is_second order reply n m start w Taken = (is_answer reply ≡ true) × WordTaken order.slot start w × GoneNoted order.slot order.generation n m
+LaidDown is_second order reply n m start w Stopped = (is_answer reply ≡ false) × (m ≡ n)
+
+-- a container that still lay on the board was taken, and is gone
+abbrev pub TakenBack : ℕ → ℕ → Notes → Notes → ℕ → View → Type 0
+TakenBack slot generation n m start w =
+    (GoneNoted slot generation n m × WasTaken slot generation start w) ⊎ ((m ≡ n) × ((seen : ℕ) × WasNotHad slot generation seen start w))
+
+-- behind the booked reply, by what became of the container, and whether the reply came late
+abbrev pub Ended : RunOrder → Notes → Notes → ℕ → View → View → Laid → Bool → Type 0
+Ended order n m start v w Stopped late = GoneNoted order.slot order.generation n m × (w ≡ v)
+Ended order n m start v w Taken late = (m ≡ n) × (w ≡ v)
+Ended order n m start v w Put false = (m ≡ n) × (w ≡ v)
+Ended order n m start v w Put true = TakenBack order.slot order.generation n m start w
+
+-- ---- booking
+
+-- the reply is booked, or refused since its run isn't live
+pub record Replied (order : RunOrder) (reply : RunReply) (laid : Laid) (n m : Notes) (start : ℕ) (v w : View) : Type 0 where
+  pub told : Told
+  pub after : Notes
+  pub noted : ReplyNoted order.run reply told n after
+  pub ended : Ended order after m start v w laid (is_late told)
+
+-- what is still to be booked
+pub record IsJob (order : RunOrder) (reply : RunReply) (laid : Laid) (job : Job) : Type 0 where
+  pub order_is : job.order ≡ order
+  pub reply_is : job.reply ≡ reply
+  pub laid_is : job.laid ≡ laid
+
+-- the reply is booked, or the store failed at it, or memory was wanted for it
+abbrev pub Booked : RunOrder → RunReply → Laid → Notes → Notes → ℕ → View → View → Turn → Type 0
+Booked order reply laid n m start v w turns.Ran = Replied order reply laid n m start v w
+Booked order reply laid n m start v w (turns.StoreFault job) = FaultNoted order.run reply n m × IsJob order reply laid job × (w ≡ v)
+Booked order reply laid n m start v w (turns.NoMemory (Some job)) = (m ≡ n) × IsJob order reply laid job × (w ≡ v)
+Booked order reply laid n m start v w turn = ⊥
+
+-- a container is laid down, and then the reply is booked
+pub record Settled (is_second : ℕ → Type 0) (order : RunOrder) (reply : RunReply) (n m : Notes) (start : ℕ) (w : View) (turn : Turn) : Type 0 where
+  pub laid : Laid
+  pub down : Notes
+  pub middle : View
+  pub lays : LaidDown is_second order reply n down start middle laid
+  pub books : Booked order reply laid down m start middle w turn

@@ -1,0 +1,104 @@
+-- What a turn of a worker adds to its receipts, and what its pass shows of the board.
+use Rattle.std.specs.Prelude.{◌≡◌, ◌⊎◌, ℕ, true, false, List, [], ◌∷◌, None}
+use Rattle.ow_traits.specs.Runner.{Giving, RefusesStart, Replies, RepliesToAny}
+use Rattle.ow_traits.specs.declared.replies.RunReply.{RunReply}
+use Rattle.ow_slots.specs.State.{is_cold, is_warm}
+use Rattle.ow_floor.specs.declared.answers.Container.{Container}
+use Rattle.ow_floor.specs.declared.answers.Order.{Order}
+use Rattle.ow_floor.specs.declared.answers.Order.TheVariants as orders
+use Rattle.ow_floor.specs.declared.answers.PrewarmOrder.{PrewarmOrder}
+use Rattle.ow_floor.specs.declared.answers.RunOrder.{RunOrder}
+use Rattle.ow_board.specs.declared.view.View.{View}
+use Rattle.ow_board.specs.View.{KeepsOthers}
+use Rattle.ow_desk.specs.Notes.{Notes}
+use Rattle.ow_worker.specs.declared.outcome.Turn.{Turn}
+use Rattle.ow_worker.specs.declared.outcome.Turn.TheVariants as turns
+use Rattle.ow_worker.specs.declared.outcome.Warming.{Warming}
+use Rattle.ow_worker.specs.declared.outcome.Warming.TheVariants as warmings
+use Rattle.ow_worker.specs.Shown.{WasNotHad, WasPut, WordTaken, prewarmed}
+use Rattle.ow_worker.specs.Noted.{BegunNoted, GivenUp, LostNoted, NextNoted}
+use Rattle.ow_worker.specs.Parts.{Settled, TakenBack}
+
+-- ---- runs
+
+-- that the run began is told where its start isn't warm
+abbrev pub ToldBegun : RunOrder → Notes → Notes → Type 0
+ToldBegun order n m = (BegunNoted order.run n m × (is_warm order.start ≡ false)) ⊎ ((m ≡ n) × (is_warm order.start ≡ true))
+
+-- memory was wanted before there was a reply: the run is lost and its container gone; that it began may have been told
+pub record Abandoned (order : RunOrder) (n m : Notes) : Type 0 where
+  pub opened : Notes
+  pub opens : (BegunNoted order.run n opened × (is_warm order.start ≡ false)) ⊎ (opened ≡ n)
+  pub gives_up : GivenUp order.run order.slot order.generation opened m
+
+-- the container of a warm or a prewarmed start isn't had
+pub record NotCarried (order : RunOrder) (seen : ℕ) (n m : Notes) (start : ℕ) (w : View) : Type 0 where
+  pub start_is : is_cold order.start ≡ false
+  pub shown : WasNotHad order.slot order.generation seen start w
+  pub lost : LostNoted order.run n m
+
+module _ (gives : Giving) (before now : ℕ) where
+  -- that the run began is left out only where the reply is one to the code whatever the parameters
+  abbrev pub Opens : RunOrder → RunReply → Notes → Notes → Type 0
+  Opens order reply n m = ToldBegun order n m ⊎ ((m ≡ n) × RepliesToAny gives before now order.kind order.code reply)
+
+  module _ (is_second : ℕ → Type 0) where
+    -- a run with a reply: one that the runner gives, or a fault where its count rose
+    pub record Carried (order : RunOrder) (n m : Notes) (start : ℕ) (w : View) (turn : Turn) : Type 0 where
+      pub reply : RunReply
+      pub replies : Replies gives before now order.kind order.code order.params reply
+      pub opened : Notes
+      pub opens : Opens order reply n opened
+      pub settles : Settled is_second order reply opened m start w turn
+
+    abbrev pub RunTurn : RunOrder → Notes → Notes → ℕ → View → Turn → Type 0
+    RunTurn order n m start w (turns.Lost seen) = NotCarried order seen n m start w
+    RunTurn order n m start w (turns.NoMemory None) = Abandoned order n m
+    RunTurn order n m start w turn = Carried order n m start w turn
+
+  -- ---- containers ahead
+
+  -- a container doesn't come up only where the runner refuses its start
+  abbrev pub IsDown : PrewarmOrder → Type 0
+  IsDown order = (reply : RunReply) × RefusesStart gives before now order.kind reply
+
+  abbrev pub Warms : PrewarmOrder → ℕ → View → Warming → Type 0
+  Warms order start w warmings.Up = WasPut order.slot order.generation prewarmed start w
+  Warms order start w warmings.Down = IsDown order
+  Warms order start w warmings.Taken = WordTaken order.slot start w
+  Warms order start w warmings.Wanting = Unit {0}
+
+  -- it lies on the board before its prewarming has begun
+  abbrev pub WarmTurn : PrewarmOrder → Notes → Notes → ℕ → View → Turn → Type 0
+  WarmTurn order n m start w turns.Warmed = (BegunNoted order.run n m × WasPut order.slot order.generation prewarmed start w)
+      ⊎ (GivenUp order.run order.slot order.generation n m × (IsDown order ⊎ WordTaken order.slot start w))
+  WarmTurn order n m start w (turns.NoMemory None) = GivenUp order.run order.slot order.generation n m
+  WarmTurn order n m start w turn = ⊥
+
+-- ---- removals
+
+-- each container is taken back, where it lies there
+abbrev pub Removes : List Container → Notes → Notes → View → View → Type 0
+Removes [] n m v w = (m ≡ n) × (w ≡ v)
+Removes (c ∷ cs) n m v w = (between : View) × (middle : Notes) × TakenBack c.slot c.generation n middle v.steps between × KeepsOthers c.slot v between
+    × Removes cs middle m between w
+
+-- ---- turns
+
+module _ (gives : Giving) (before now : ℕ) (is_second : ℕ → Type 0) where
+  -- what follows an order
+  abbrev pub Follows : Order → Notes → Notes → View → View → Turn → Type 0
+  Follows (orders.Run order) n m v w turn = RunTurn gives before now is_second order n m v.steps w turn
+  Follows (orders.Prewarm order) n m v w turn = WarmTurn gives before now order n m v.steps w turn
+  Follows (orders.Remove containers) n m v w turn = (turn ≡ turns.Removed) × Removes containers n m v w
+  Follows (orders.Nothing why) n m v w turn = (turn ≡ turns.Idle) × (m ≡ n) × (w ≡ v)
+
+  pub record CarriesOut (n m : Notes) (v w : View) (turn : Turn) : Type 0 where
+    pub order : Order
+    pub taken : Notes
+    pub next : NextNoted n taken order
+    pub follows : Follows order taken m v w turn
+
+  -- no order for want of memory; or an order, and what follows it
+  abbrev pub Turned : Notes → Notes → View → View → Turn → Type 0
+  Turned n m v w turn = ((m ≡ n) × (w ≡ v) × (turn ≡ turns.NoMemory None)) ⊎ CarriesOut n m v w turn

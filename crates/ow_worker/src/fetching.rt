@@ -1,0 +1,66 @@
+// How a container is taken from the board.
+ghost use Rattle.std.specs.Prelude.{◌≡◌, ◌<◌, ◌≤◌, ◌+◌, IfErr, OnOk};
+ghost use Rattle.ow_traits.specs.Runner.{Steady};
+ghost use Rattle.ow_board.specs.Board.{size, view_of, IsPassOf, StaysPassOf};
+ghost use Rattle.ow_board.specs.View.{KeepsOthers};
+ghost use Rattle.ow_worker.specs.Shown.{GoesOn, WasNotHad, WasTaken};
+ghost use Rattle.ow_worker.specs.Parts.{TakenBack};
+
+use crate::living::{Living, stop};
+use crate::telling::tell_gone;
+use ow_board::{Board, Pass, generation_of, is_full};
+use ow_desk::{Desk, Receipts};
+use ow_threads::Clock;
+use ow_traits::{Keeper, Runner};
+use std::sync::{Mutex, Wait};
+
+/// The container of this generation, or the word that was seen in its place.
+pub(crate) fn fetch<B: Drop>(
+    board: &Board<B>,
+    pass: &mut Pass<B>,
+    slot: u32,
+    generation: u32,
+) -> Result<Living<B>, u64>
+    requires { IsPassOf board.now pass.old × (slot < size board.now) }
+    ensures pass { StaysPassOf board.now pass.old pass.new }
+    ensures on { GoesOn (view_of pass.old) (view_of pass.new) }
+    ensures taken { OnOk result (WasTaken slot generation (view_of pass.old).steps (view_of pass.new)) }
+    ensures not_had { IfErr result (λ seen. WasNotHad slot generation seen (view_of pass.old).steps (view_of pass.new)) }
+    ensures others { KeepsOthers slot (view_of pass.old) (view_of pass.new) }
+{
+    let seen = board.look(pass, slot);
+    if !is_full(seen) || generation_of(seen) != generation {
+        return Err(seen);
+    }
+    match Living::take(board, pass, slot, seen) {
+        Ok(living) => Ok(living),
+        Err(gone) => Err(gone.word),
+    }
+}
+
+/// Stops the container of this generation where it still lies on the board, and tells that it is gone.
+pub(crate) fn take_back<H: Wait, P: Keeper + Drop, R: Runner, C: Clock>(
+    rt: &H,
+    desk: &Mutex<Desk<P>>,
+    board: &Board<R::Container>,
+    pass: &mut Pass<R::Container>,
+    runner: &mut R,
+    clock: &C,
+    notes: &mut Receipts<P>,
+    slot: u32,
+    generation: u32,
+)
+    requires pass { IsPassOf board.now pass.old × (slot < size board.now) }
+    requires room { 1 ≤ notes.old.room }
+    ensures pass { StaysPassOf board.now pass.old pass.new }
+    ensures on { GoesOn (view_of pass.old) (view_of pass.new) }
+    ensures others { KeepsOthers slot (view_of pass.old) (view_of pass.new) }
+    ensures runner { Steady (R.gives runner.old) (R.gives runner.new) (R.faults runner.old) (R.faults runner.new) }
+    ensures room { notes.old.room ≤ notes.new.room + 1 }
+    ensures back { TakenBack slot generation notes.old.notes notes.new.notes (view_of pass.old).steps (view_of pass.new) }
+{
+    if let Ok(living) = fetch(board, pass, slot, generation) {
+        stop(runner, living);
+        tell_gone(rt, desk, clock, notes, slot, generation);
+    }
+}

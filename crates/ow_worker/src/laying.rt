@@ -1,0 +1,74 @@
+// What becomes of a container whose run has a reply.
+ghost use Rattle.std.specs.Prelude.{◌≡◌, ◌≤◌, ◌+◌, false, None};
+ghost use Rattle.ow_traits.specs.Runner.{Steady};
+ghost use Rattle.ow_invoker.specs.Turns.{is_answer};
+ghost use Rattle.ow_board.specs.Board.{size, view_of, IsPassOf, StaysPassOf};
+ghost use Rattle.ow_desk.specs.Fitting.{IsSlot};
+ghost use Rattle.ow_worker.specs.Shown.{GoesOn, IsSecond, put_second};
+ghost use Rattle.ow_worker.specs.Parts.{LaidDown};
+
+use crate::living::{Living, stop};
+use crate::outcome::Laid;
+use crate::telling::tell_gone;
+use ow_board::{Board, Pass};
+use ow_desk::{Desk, Receipts};
+use ow_floor::RunOrder;
+use ow_threads::Clock;
+use ow_traits::{Keeper, RunReply, Runner};
+use std::sync::{Mutex, Wait};
+
+/// Puts a container that answered on the board, and stops any other.
+pub(crate) fn lay_down<H: Wait, P: Keeper + Drop, R: Runner, C: Clock>(
+    rt: &H,
+    desk: &Mutex<Desk<P>>,
+    board: &Board<R::Container>,
+    pass: &mut Pass<R::Container>,
+    runner: &mut R,
+    clock: &C,
+    opened: u64,
+    notes: &mut Receipts<P>,
+    order: &RunOrder,
+    reply: &RunReply,
+    held: Option<Living<R::Container>>,
+) -> Laid
+    requires pass { IsPassOf board.now pass.old × (512 ≤ size board.now) }
+    requires slot { IsSlot order.now.slot order.now.generation }
+    requires room { 1 ≤ notes.old.room }
+    requires none { held ≡ None → is_answer reply.now ≡ false }
+    ensures pass { StaysPassOf board.now pass.old pass.new }
+    ensures on { GoesOn (view_of pass.old) (view_of pass.new) }
+    ensures runner { Steady (R.gives runner.old) (R.gives runner.new) (R.faults runner.old) (R.faults runner.new) }
+    ensures room { notes.old.room ≤ notes.new.room + 1 }
+    ensures laid { LaidDown (IsSecond (C.tells clock.now) opened) order.now reply.now notes.old.notes notes.new.notes (view_of pass.old).steps (view_of pass.new) result }
+{
+    let Some(living) = held else {
+        return Laid::Stopped;
+    };
+    if !is_answer(reply) {
+        stop(runner, living);
+        return Laid::Stopped;
+    }
+    let second = put_second(clock.now(), opened);
+    match living.put(board, pass, order.slot, order.generation, second) {
+        Ok(()) => Laid::Put,
+        Err(living) => {
+            stop(runner, living);
+            tell_gone(rt, desk, clock, notes, order.slot, order.generation);
+            Laid::Taken
+        }
+    }
+}
+
+fn is_answer(reply: &RunReply) -> bool
+    ensures { result ≡ is_answer reply.now }
+{
+    matches!(reply, RunReply::Answer { .. })
+}
+
+// The second of what is put at a moment, since the opening.
+fn put_second(now: u64, opened: u64) -> u32
+    ensures { result ≡ put_second now opened }
+{
+    let seconds = now.saturating_sub(opened) / 1000;
+    seconds.min(4_294_967_294) as u32
+}

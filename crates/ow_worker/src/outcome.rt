@@ -1,0 +1,104 @@
+// What became of a turn.
+ghost use Rattle.std.specs.Prelude.{◌≡◌, ◌<◌, true};
+ghost use Rattle.ow_invoker.specs.Turns.{is_answer};
+ghost use Rattle.ow_desk.specs.Fitting.{IsSlot};
+
+use crate::living::Living;
+use ow_floor::RunOrder;
+use ow_traits::RunReply;
+
+/// What became of the container of a run that has a reply.
+#[derive(Clone, Copy, Debug, PartialEq, Eq)]
+pub enum Laid {
+    /// It lies on the board.
+    Put,
+    /// The word of its slot was taken. It was stopped, and is told to be gone.
+    Taken,
+    /// It was stopped, or never came up. It isn't told yet to be gone.
+    Stopped,
+}
+
+/// A reply that is still to be booked. It can't be let go: `again` spends it.
+pub struct Job {
+    pub(crate) order: RunOrder,
+    pub(crate) reply: RunReply,
+    pub(crate) laid: Laid,
+    ghost fits: { IsSlot order.slot order.generation },
+}
+
+impl Job {
+    /// The order of the run.
+    pub fn order(&self) -> &RunOrder
+        ensures { result.now ≡ self.now.order }
+    {
+        &self.order
+    }
+
+    /// What the runner replied to it.
+    pub fn reply(&self) -> &RunReply
+        ensures { result.now ≡ self.now.reply }
+    {
+        &self.reply
+    }
+
+    /// What became of its container.
+    pub fn laid(&self) -> Laid
+        ensures { result ≡ self.now.laid }
+    {
+        self.laid
+    }
+}
+
+/// What a turn came to.
+pub enum Turn {
+    /// A run has its reply, which the hall has.
+    Ran,
+    /// Containers that were to make room were looked for, and what lay there is gone.
+    Removed,
+    /// A container was started ahead, or did not come up.
+    Warmed,
+    /// The container of a run wasn't had: this word was seen in its place. The run is lost.
+    Lost { seen: u64 },
+    /// Nothing is to be done.
+    Idle,
+    /// The store failed at a reply, which is still to be booked.
+    StoreFault(Job),
+    /// Memory was wanted: for a reply, which is still to be booked, or before there was one.
+    NoMemory(Option<Job>),
+}
+
+/// What a sweep came to.
+#[derive(Clone, Copy, Debug, PartialEq, Eq)]
+pub enum Watch {
+    /// What late runs carry has ended.
+    Swept,
+    /// The store failed. Nothing has ended.
+    StoreFault,
+    /// No memory was left.
+    NoMemory,
+}
+
+/// How a run came to its container.
+pub(crate) enum Readiness<B: Drop> {
+    // It is up and initialised.
+    Up(Living<B>),
+    // It replied before any parameters, and may live.
+    Early(Option<Living<B>>, RunReply),
+    // It isn't had. This word was seen in its place.
+    NotHad(u64),
+    // Memory was wanted, and the container in hand is stopped.
+    Unready,
+}
+
+/// What came of a prewarming.
+#[derive(Clone, Copy, Debug, PartialEq, Eq)]
+pub(crate) enum Warming {
+    // The container is up, and lies on the board.
+    Up,
+    // The runner refused its start.
+    Down,
+    // The word of its slot was taken, and the container is stopped.
+    Taken,
+    // Memory was wanted.
+    Wanting,
+}

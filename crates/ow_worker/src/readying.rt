@@ -1,0 +1,76 @@
+// How the container of a run comes up.
+ghost use Rattle.std.specs.Prelude.{◌≡◌, ◌≤◌};
+ghost use Rattle.ow_traits.specs.Runner.{Steady};
+ghost use Rattle.ow_board.specs.Board.{size, view_of, IsPassOf, StaysPassOf};
+ghost use Rattle.ow_desk.specs.Fitting.{IsSlot};
+ghost use Rattle.ow_worker.specs.Shown.{GoesOn};
+ghost use Rattle.ow_worker.specs.Parts.{Initialised, Readied};
+
+use crate::fetching::fetch;
+use crate::living::{Living, init, stop};
+use crate::outcome::Readiness;
+use ow_board::{Board, Pass};
+use ow_floor::RunOrder;
+use ow_slots::Start;
+use ow_threads::{Gate, Stage};
+use ow_traits::{Runner, Started};
+use std::alloc::Global;
+
+/// Starts the container of a run, or takes it from the board, and initialises it where that is due.
+pub(crate) fn make_ready<R: Runner, G: Gate>(
+    alloc: Global,
+    board: &Board<R::Container>,
+    pass: &mut Pass<R::Container>,
+    runner: &mut R,
+    gate: &G,
+    order: &RunOrder,
+) -> Readiness<R::Container>
+    requires pass { IsPassOf board.now pass.old × (512 ≤ size board.now) }
+    requires slot { IsSlot order.now.slot order.now.generation }
+    ensures pass { StaysPassOf board.now pass.old pass.new }
+    ensures on { GoesOn (view_of pass.old) (view_of pass.new) }
+    ensures runner { Steady (R.gives runner.old) (R.gives runner.new) (R.faults runner.old) (R.faults runner.new) }
+    ensures ready { Readied (R.gives runner.old) (R.faults runner.old) (R.faults runner.new) order.now (view_of pass.old).steps (view_of pass.new) result }
+{
+    if order.start == Start::Cold {
+        return open(alloc, runner, order);
+    }
+    gate.pass(Stage::BeforeTake(order.slot));
+    match fetch(board, pass, order.slot, order.generation) {
+        Ok(living) => match order.start {
+            Start::Warm => Readiness::Up(living),
+            _ => initialise(alloc, runner, living, order),
+        },
+        Err(seen) => Readiness::NotHad(seen),
+    }
+}
+
+fn open<R: Runner>(alloc: Global, runner: &mut R, order: &RunOrder) -> Readiness<R::Container>
+    ensures runner { Steady (R.gives runner.old) (R.gives runner.new) (R.faults runner.old) (R.faults runner.new) }
+    ensures ready { Initialised (R.gives runner.old) (R.faults runner.old) (R.faults runner.new) order.now result }
+{
+    match runner.start(alloc, order.kind, order.memory) {
+        Ok(Started::Up(container)) => initialise(alloc, runner, Living::of(container), order),
+        Ok(Started::Down(reply)) => Readiness::Early(None, reply),
+        Err(_) => Readiness::Unready,
+    }
+}
+
+fn initialise<R: Runner>(
+    alloc: Global,
+    runner: &mut R,
+    mut living: Living<R::Container>,
+    order: &RunOrder,
+) -> Readiness<R::Container>
+    ensures runner { Steady (R.gives runner.old) (R.gives runner.new) (R.faults runner.old) (R.faults runner.new) }
+    ensures ready { Initialised (R.gives runner.old) (R.faults runner.old) (R.faults runner.new) order.now result }
+{
+    match init(alloc, runner, &mut living, order) {
+        Ok(None) => Readiness::Up(living),
+        Ok(Some(reply)) => Readiness::Early(Some(living), reply),
+        Err(_) => {
+            stop(runner, living);
+            Readiness::Unready
+        }
+    }
+}

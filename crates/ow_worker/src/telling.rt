@@ -1,0 +1,100 @@
+// What the hall is asked and told of an order.
+ghost use Rattle.std.specs.Prelude.{◌≡◌, ◌≤◌, ◌+◌, IfOk, OnOk, OnErr};
+ghost use Rattle.ow_slots.specs.State.{is_warm};
+ghost use Rattle.ow_desk.specs.Fitting.{Fits};
+ghost use Rattle.ow_worker.specs.Noted.{GivenUp, GoneNoted, LostNoted, NextNoted};
+ghost use Rattle.ow_worker.specs.Turned.{ToldBegun};
+
+use ow_desk::{Desk, Receipts};
+use ow_floor::{Order, RunOrder};
+use ow_slots::Start;
+use ow_threads::Clock;
+use ow_traits::Keeper;
+use ow_value::NoMemory;
+use std::alloc::Global;
+use std::sync::{Mutex, Wait};
+
+/// The receipts that a turn may need: that of its order, and one for each slot of the greatest pool.
+const MOST_RECEIPTS: u32 = 513;
+
+/// What is to be done. The memory for the receipts of all that may follow is taken first.
+pub(crate) fn take_order<H: Wait, P: Keeper + Drop, C: Clock>(
+    rt: &H,
+    alloc: Global,
+    desk: &Mutex<Desk<P>>,
+    clock: &C,
+    notes: &mut Receipts<P>,
+) -> Result<Order, NoMemory>
+    ensures order { IfOk result (λ order. NextNoted notes.old.notes notes.new.notes order) }
+    ensures fits { IfOk result Fits }
+    ensures room { OnOk result (512 ≤ notes.new.room) }
+    ensures wants { OnErr result (notes.new.notes ≡ notes.old.notes) }
+{
+    notes.reserve(alloc, MOST_RECEIPTS)?;
+    notes.next(alloc, &mut *desk.lock(rt), clock.now())
+}
+
+/// The container of a start that isn't warm is up and initialised.
+pub(crate) fn tell_begun<H: Wait, P: Keeper + Drop, C: Clock>(
+    rt: &H,
+    desk: &Mutex<Desk<P>>,
+    clock: &C,
+    notes: &mut Receipts<P>,
+    order: &RunOrder,
+)
+    requires { 1 ≤ notes.old.room }
+    ensures begun { ToldBegun order.now notes.old.notes notes.new.notes }
+    ensures room { notes.old.room ≤ notes.new.room + 1 }
+{
+    if order.start != Start::Warm {
+        let _ = notes.begun(&mut *desk.lock(rt), clock.now(), order.run);
+    }
+}
+
+/// The run is lost.
+pub(crate) fn tell_lost<H: Wait, P: Keeper + Drop, C: Clock>(
+    rt: &H,
+    desk: &Mutex<Desk<P>>,
+    clock: &C,
+    notes: &mut Receipts<P>,
+    run: u64,
+)
+    requires { 1 ≤ notes.old.room }
+    ensures lost { LostNoted run notes.old.notes notes.new.notes }
+    ensures room { notes.old.room ≤ notes.new.room + 1 }
+{
+    let _ = notes.lost(&mut *desk.lock(rt), clock.now(), run);
+}
+
+/// The container of the slot is gone.
+pub(crate) fn tell_gone<H: Wait, P: Keeper + Drop, C: Clock>(
+    rt: &H,
+    desk: &Mutex<Desk<P>>,
+    clock: &C,
+    notes: &mut Receipts<P>,
+    slot: u32,
+    generation: u32,
+)
+    requires { 1 ≤ notes.old.room }
+    ensures gone { GoneNoted slot generation notes.old.notes notes.new.notes }
+    ensures room { notes.old.room ≤ notes.new.room + 1 }
+{
+    let _ = notes.gone(&mut *desk.lock(rt), clock.now(), slot, generation);
+}
+
+/// The run is lost, and so is its container.
+pub(crate) fn give_up<H: Wait, P: Keeper + Drop, C: Clock>(
+    rt: &H,
+    desk: &Mutex<Desk<P>>,
+    clock: &C,
+    notes: &mut Receipts<P>,
+    run: u64,
+    slot: u32,
+    generation: u32,
+)
+    requires { 2 ≤ notes.old.room }
+    ensures { GivenUp run slot generation notes.old.notes notes.new.notes }
+{
+    tell_lost(rt, desk, clock, notes, run);
+    tell_gone(rt, desk, clock, notes, slot, generation);
+}
