@@ -8,7 +8,7 @@ ghost use Rattle.ow_worker.specs.Parts.{Booked, Ended};
 
 use crate::fetching::take_back;
 use crate::outcome::{Job, Laid, Turn};
-use crate::telling::tell_gone;
+use crate::telling::{tell_gone, tell_reply};
 use ow_board::{Board, Pass};
 use ow_desk::{Desk, Receipts};
 use ow_floor::{AnswerRefusal, Answered, RunOrder};
@@ -37,7 +37,7 @@ pub(crate) fn book<H: Wait, P: Keeper + Drop, R: Runner, C: Clock>(
     ensures booked { Booked job.order job.reply job.laid notes.old.notes notes.new.notes (view_of pass.old).steps (view_of pass.old) (view_of pass.new) result }
 {
     let Job { order, reply, laid } = job;
-    match notes.answered(alloc, &mut *desk.lock(rt), clock.now(), order.run, reply) {
+    match tell_reply(rt, alloc, desk, clock, notes, order.run, reply) {
         Ok(Answered::Recorded(_)) => {
             end(
                 rt, desk, board, pass, runner, clock, notes, &order, laid, false,

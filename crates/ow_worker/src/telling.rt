@@ -1,15 +1,18 @@
 // What the hall is asked and told of an order.
 ghost use Rattle.std.specs.Prelude.{◌≡◌, ◌≤◌, ◌+◌, IfOk, OnOk, OnErr};
 ghost use Rattle.ow_slots.specs.State.{is_warm};
+ghost use Rattle.ow_decide.specs.declared.events.Event.TheVariants as events;
+ghost use Rattle.ow_hall.specs.Comes.{HandsBack, reply_outcome};
 ghost use Rattle.ow_desk.specs.Fitting.{Fits};
+ghost use Rattle.ow_desk.specs.Notes.{HasNoted};
 ghost use Rattle.ow_worker.specs.Noted.{GivenUp, GoneNoted, LostNoted, NextNoted};
 ghost use Rattle.ow_worker.specs.Turned.{ToldBegun};
 
 use ow_desk::{Desk, Receipts};
-use ow_floor::{Order, RunOrder};
+use ow_floor::{AnswerRefusal, Answered, Order, RunOrder};
 use ow_slots::Start;
 use ow_threads::Clock;
-use ow_traits::Keeper;
+use ow_traits::{Keeper, RunReply};
 use ow_value::NoMemory;
 use std::alloc::Global;
 use std::sync::{Mutex, Wait};
@@ -80,6 +83,23 @@ pub(crate) fn tell_gone<H: Wait, P: Keeper + Drop, C: Clock>(
     ensures room { notes.old.room ≤ notes.new.room + 1 }
 {
     let _ = notes.gone(&mut *desk.lock(rt), clock.now(), slot, generation);
+}
+
+/// The runner's reply. Where it isn't taken it is handed back. The lock is free again behind this call.
+pub(crate) fn tell_reply<H: Wait, P: Keeper + Drop, C: Clock>(
+    rt: &H,
+    alloc: Global,
+    desk: &Mutex<Desk<P>>,
+    clock: &C,
+    notes: &mut Receipts<P>,
+    run: u64,
+    reply: RunReply,
+) -> Result<Answered, AnswerRefusal>
+    ensures noted { HasNoted (events.Answered run reply) (reply_outcome result) notes.old.notes notes.new.notes }
+    ensures back { HandsBack run reply result }
+    ensures room { notes.old.room ≤ notes.new.room + 1 }
+{
+    notes.answered(alloc, &mut *desk.lock(rt), clock.now(), run, reply)
 }
 
 /// The run is lost, and so is its container.
