@@ -1,5 +1,6 @@
 -- No event of a turn opens the service.
 use Rattle.std.proofs.Common.{◌≡◌, ◌⊎◌, ◌++◌, Bool, true, false, List, [], ◌∷◌, inl, inr, refl, ap}
+use Rattle.ow_traits.specs.Runner.{is_answer}
 use Rattle.ow_traits.specs.declared.replies.RunReply.{RunReply}
 use Rattle.ow_floor.specs.declared.answers.Container.{Container}
 use Rattle.ow_floor.specs.declared.answers.Order.{Order}
@@ -9,7 +10,7 @@ use Rattle.ow_floor.specs.declared.answers.RunOrder.{RunOrder}
 use Rattle.ow_decide.specs.declared.events.Event.{Event}
 use Rattle.ow_decide.specs.Decisions.{is_opening}
 use Rattle.ow_runners.specs.Plain.{PlainGives}
-use Rattle.ow_invoker.specs.Turns.{AreBoth, Exchange, Follows, IsAlone, IsCarriedOut, IsTurn, Offers, OffersTurn, Opens, PrewarmFollows, Removes, Rests, RunFollows, RunOffers, exchange, is_answer, is_late, is_missing}
+use Rattle.ow_invoker.specs.Turns.{AreBoth, Exchange, Follows, IsAlone, IsCarriedOut, IsTurn, Offers, OffersTurn, Opens, PrewarmFollows, Removes, Rests, RunFollows, RunOffers, exchange, is_late, is_missing}
 use Rattle.ow_runners.specs.declared.plain_runner.PlainContainer.{PlainContainer}
 use Rattle.ow_invoker.specs.declared.shelf.Laid.{Laid}
 

@@ -1,7 +1,7 @@
 -- A run, from the parts that it has.
 use Rattle.std.proofs.Common.{◌≡◌, ◌⊎◌, ℕ, Bool, true, false, List, [], ◌∷◌, ◌++◌, Option, None, Ok, Err, Result, refl, sym, ap, inl, inr, ⊎_elim, append-nil, subst, ◌∙◌}
 use Rattle.ow_slots.specs.State.{is_warm}
-use Rattle.ow_traits.specs.Runner.{Giving, Replies, RepliesToAny, Steady}
+use Rattle.ow_traits.specs.Runner.{Giving, RefusesCode, Replies, Steady, is_answer}
 use Rattle.ow_traits.specs.declared.replies.RunReply.{RunReply}
 use Rattle.ow_value.specs.declared.memory.NoMemory.{NoMemory as Want}
 use Rattle.ow_floor.specs.declared.answers.Order.TheVariants as orders
@@ -11,18 +11,18 @@ use Rattle.ow_decide.specs.declared.events.Told.{Told}
 use Rattle.ow_hall.specs.Comes.{Answers, Comes, HallView, KeptRows}
 use Rattle.ow_invoker.specs.Parts.{Books, Carries, EndsBy, Initialised, OpensBy, Performs, Settles, Tells, TellsAll, TwoSteps, both, in_order, listed, reply_of}
 use Rattle.ow_invoker.specs.Shelf.{IsLaid, without}
-use Rattle.ow_invoker.specs.Turns.{AreBoth, Chain, Exchange, IsAlone, IsCarriedOut, IsGivenUp, IsOffered, IsUnlaid, LiesBy, Opens, Rests, RunFollows, RunOffers, RunStops, exchange, gone, is_answer, is_late, is_missing, lost, shelf_at, steps_in, steps_of}
+use Rattle.ow_invoker.specs.Turns.{AreBoth, Chain, Exchange, IsAlone, IsCarriedOut, IsGivenUp, IsOffered, IsUnlaid, LiesBy, Opens, Rests, RunFollows, RunOffers, RunStops, exchange, gone, is_late, is_missing, lost, shelf_at, steps_in, steps_of}
 use Rattle.ow_invoker.specs.declared.readying.Readiness.{Readiness}
 use Rattle.ow_invoker.specs.declared.readying.Readiness.TheVariants.{Early, Missing, NoMemory, Up}
 use Rattle.ow_invoker.specs.declared.shelf.Laid.{Laid}
 use Rattle.ow_invoker.specs.declared.turn.TurnStep.{TurnStep}
-use Rattle.ow_invoker.proofs.Running.{replied_from}
+use Rattle.ow_invoker.proofs.Running.{refused_from, replied_from}
 use Rattle.ow_invoker.proofs.Turning.{alone_told, chain_more, opens_so, told_behind}
 
 opens_from : (f g h : Giving) (a b c : ℕ) (order : RunOrder) (reply : RunReply) (xs : List Exchange) → Steady f g a b → Steady g h b c
     → Opens g b c order reply xs → Opens f a c order reply xs
 opens_from f g h a b c order reply [] s t x =
-    ⊎_elim (λ w. inl w) (λ any. inr (λ params. replied_from order.kind order.code params reply s t (any params))) x
+    ⊎_elim (λ w. inl w) (λ refused. inr (refused_from order.kind order.code reply s t refused)) x
 opens_from f g h a b c order reply (x ∷ xs) s t k = k
 
 begun_or_not : (b : Bool) (order : RunOrder) (xs : List Exchange) → is_warm order.start ≡ b → OpensBy b order xs
@@ -214,31 +214,31 @@ module _ {P B : Type 0} (rows : P → KeptRows) (faults : P → ℕ) where
       carried (Err e) (inr h) = inr (h.0, (reply_of order h.1.0, (had_offered h.0 h.1.0 h.1.1.0, inl h.1.1.1)))
 
       -- it replied before any parameters
-      pub early : (reply : RunReply) (result : Result TwoSteps Want) → RepliesToAny gives before now order.kind order.code reply → Settles rows faults old new at order reply there left result
+      pub early : (reply : RunReply) (result : Result TwoSteps Want) → RefusesCode gives before now order.kind order.code reply → Settles rows faults old new at order reply there left result
           → Carries rows faults gives before now old new at shelf left (orders.Run order) (in_order result)
-      early reply (Ok steps) any (inl k) = inl (
+      early reply (Ok steps) refused (inl k) = inl (
         k.0,
         (
-          had_carried k.0 (record { reply = reply; replies = any order.params; opening = []; opens = inr any; booking = k.0; settled = k.1.0; is = refl }),
+          had_carried k.0 (record { reply = reply; replies = refused.1 order.params; opening = []; opens = inr refused; booking = k.0; settled = k.1.0; is = refl }),
           k.1.1,
         ),
       )
-      early reply (Ok steps) any (inr k) = inr (
+      early reply (Ok steps) refused (inr k) = inr (
         [],
         (
           reply_of order reply,
-          (had_offered [] reply (record { replies = any order.params; opens = inr any; lies = k.0 }), (old, (refl, k.1.0)), k.1.1),
+          (had_offered [] reply (record { replies = refused.1 order.params; opens = inr refused; lies = k.0 }), (old, (refl, k.1.0)), k.1.1),
         ),
       )
-      early reply (Err e) any (inl k) = inl (
+      early reply (Err e) refused (inl k) = inl (
         [],
-        (inl (had_stopped [] (inr (record { reply = reply; replies = any order.params; opens = inr any; left_is = k.1 }))), k.0),
+        (inl (had_stopped [] (inr (record { reply = reply; replies = refused.1 order.params; opens = inr refused; left_is = k.1 }))), k.0),
       )
-      early reply (Err e) any (inr k) = inr (
+      early reply (Err e) refused (inr k) = inr (
         [],
         (
           reply_of order reply,
-          (had_offered [] reply (record { replies = any order.params; opens = inr any; lies = k.0 }), inl (old, (refl, k.1))),
+          (had_offered [] reply (record { replies = refused.1 order.params; opens = inr refused; lies = k.0 }), inl (old, (refl, k.1))),
         ),
       )
 
@@ -273,6 +273,6 @@ module _ {P B : Type 0} (rows : P → KeptRows) (faults : P → ℕ) where
 -- a container that was started, and initialised by the next call
 pub initialised_from : {B : Type 0} (f g h : Giving) (a b c : ℕ) (order : RunOrder) (ready : Readiness B) → Steady f g a b → Steady g h b c → Initialised g b c order ready → Initialised f a c order ready
 initialised_from f g h a b c order (Up living) s t k = tt
-initialised_from f g h a b c order (Early held reply) s t k = (λ params. replied_from order.kind order.code params reply s t (k.0 params), k.1)
+initialised_from f g h a b c order (Early held reply) s t k = refused_from order.kind order.code reply s t k
 initialised_from f g h a b c order Missing s t k = k
 initialised_from f g h a b c order NoMemory s t k = tt

@@ -3,7 +3,7 @@ use Rattle.std.proofs.Common.{◌≤◌, ℕ, List, Result, Ok, Err, IfOk, ⊎_e
 use Rattle.std.proofs.lemmas.Bool.{cases_lt}
 use Rattle.ow_value.specs.Value.{Pairs}
 use Rattle.ow_value.specs.declared.memory.NoMemory.{NoMemory as Want}
-use Rattle.ow_traits.specs.Runner.{Giving, RefusesStart, Replies, Steady}
+use Rattle.ow_traits.specs.Runner.{Giving, RefusesCode, RefusesStart, Replies, Steady}
 use Rattle.ow_traits.specs.Streams.{Rose}
 use Rattle.ow_traits.specs.declared.replies.Kind.{Kind}
 use Rattle.ow_traits.specs.declared.replies.RunReply.{RunReply}
@@ -52,3 +52,12 @@ replied_on {g = g} {a = a} kind code params reply s le x = replied_within kind c
 pub replied_from : {f g h : Giving} {a b c : ℕ} (kind : Kind) (code : List ℕ) (params : Pairs) (reply : RunReply)
     → Steady f g a b → Steady g h b c → Replies g b c kind code params reply → Replies f a c kind code params reply
 replied_from {c = c} kind code params reply s t x = replied_within kind code params reply s t (omega arith) x
+
+-- so too where the code is refused
+pub refused_on : {g h : Giving} {a b c : ℕ} (kind : Kind) (code : List ℕ) (reply : RunReply)
+    → Steady g h a b → b ≤ c → RefusesCode g a b kind code reply → RefusesCode g a c kind code reply
+refused_on kind code reply s le x = (x.0, λ params. replied_on kind code params reply s le (x.1 params))
+
+pub refused_from : {f g h : Giving} {a b c : ℕ} (kind : Kind) (code : List ℕ) (reply : RunReply)
+    → Steady f g a b → Steady g h b c → RefusesCode g b c kind code reply → RefusesCode f a c kind code reply
+refused_from kind code reply s t x = (x.0, λ params. replied_from kind code params reply s t (x.1 params))

@@ -1,6 +1,6 @@
 -- The parts of a turn, for private clauses.
 use Rattle.std.specs.Prelude.{◌≡◌, ◌⊎◌, ◌++◌, ℕ, Bool, true, false, List, [], ◌∷◌, Option, Some, None, Result, Ok, Err}
-use Rattle.ow_traits.specs.Runner.{Giving, RefusesStart, RepliesToAny}
+use Rattle.ow_traits.specs.Runner.{Giving, RefusesCode, RefusesStart, is_answer}
 use Rattle.ow_traits.specs.declared.replies.RunReply.{RunReply}
 use Rattle.ow_value.specs.declared.memory.NoMemory.{NoMemory as Want}
 use Rattle.ow_floor.specs.declared.answers.Order.{Order}
@@ -11,7 +11,7 @@ use Rattle.ow_decide.specs.declared.events.Event.TheVariants as events
 use Rattle.ow_decide.specs.declared.events.Told.{Told}
 use Rattle.ow_hall.specs.Comes.{Answers, Comes, Fails, HallView, KeptRows, Outcome, Wants}
 use Rattle.ow_invoker.specs.Shelf.{IsLaid, without}
-use Rattle.ow_invoker.specs.Turns.{Chain, ChainTo, ChainUndone, Exchange, Follows, IsAlone, IsCarriedOut, IsGivenUp, IsOffered, IsSettled, IsUnlaid, LiesBy, Offers, Stops, exchange, gone, is_answer, is_late, is_missing, shelf_at, steps_in, steps_of}
+use Rattle.ow_invoker.specs.Turns.{Chain, ChainTo, ChainUndone, Exchange, Follows, IsAlone, IsCarriedOut, IsGivenUp, IsOffered, IsSettled, IsUnlaid, LiesBy, Offers, Stops, exchange, gone, is_late, is_missing, shelf_at, steps_in, steps_of}
 use Rattle.ow_invoker.specs.declared.readying.Readiness.{Readiness}
 use Rattle.ow_invoker.specs.declared.readying.Readiness.TheVariants.{Early, Missing, NoMemory, Up}
 use Rattle.ow_invoker.specs.declared.shelf.Laid.{Laid}
@@ -120,7 +120,7 @@ Performs rows faults gives before now old new at order shelf left (Err e) =
 -- a started container, or one in hand
 abbrev pub Initialised : {B : Type 0} → Giving → ℕ → ℕ → RunOrder → Readiness B → Type 0
 Initialised gives before now order (Up living) = Unit {0}
-Initialised gives before now order (Early held reply) = RepliesToAny gives before now order.kind order.code reply × (held ≡ None → is_answer reply ≡ false)
+Initialised gives before now order (Early held reply) = RefusesCode gives before now order.kind order.code reply
 Initialised gives before now order Missing = ⊥
 Initialised gives before now order NoMemory = Unit {0}
 

@@ -1,8 +1,7 @@
 -- What one turn comes to: a chain of calls of the hall, what the turn tells of them, and what lies on the shelf afterwards.
 use Rattle.std.specs.Prelude.{◌≡◌, ◌⊎◌, ◌&&◌, ◌++◌, ℕ, Bool, true, false, not, List, [], ◌∷◌, Result, Ok, Err, if◌then◌else◌}
-use Rattle.ow_traits.specs.Runner.{Giving, RefusesStart, Replies, RepliesToAny}
+use Rattle.ow_traits.specs.Runner.{Giving, RefusesCode, RefusesStart, Replies, is_answer}
 use Rattle.ow_traits.specs.declared.replies.RunReply.{RunReply}
-use Rattle.ow_traits.specs.declared.replies.RunReply.TheVariants as replies
 use Rattle.ow_value.specs.declared.memory.NoMemory.{NoMemory as Want}
 use Rattle.ow_slots.specs.State.{is_cold, is_warm}
 use Rattle.ow_floor.specs.declared.answers.Answered.TheVariants.{Late, Recorded}
@@ -80,12 +79,6 @@ AreBoth first second xs = (answer : Told) × (later : Told) × (xs ≡ exchange 
 
 -- ---- runs
 
-abbrev pub is_answer : RunReply → Bool
-is_answer (replies.Answer text logs) = true
-is_answer (replies.Exit code logs) = false
-is_answer (replies.NoStart text) = false
-is_answer replies.Fault = false
-
 -- whether a sweep had ended what the run carried
 abbrev pub is_late : Told → Bool
 is_late (told.Answered (Late run at)) = true
@@ -99,10 +92,9 @@ is_missing order shelf = not (is_cold order.start) && not (lies order.slot order
 abbrev pub shelf_at : {B : Type 0} → RunOrder → List (Laid B) → List (Laid B)
 shelf_at order shelf = if is_cold order.start then shelf else without order.slot order.generation shelf
 
--- that the run began is told where its start isn't warm, and left out only where the reply is one to the code whatever the
--- parameters
+-- that the run began is told where its start isn't warm, and left out only where the code is refused
 abbrev pub Opens : Giving → ℕ → ℕ → RunOrder → RunReply → List Exchange → Type 0
-Opens gives before now order reply [] = (is_warm order.start ≡ true) ⊎ RepliesToAny gives before now order.kind order.code reply
+Opens gives before now order reply [] = (is_warm order.start ≡ true) ⊎ RefusesCode gives before now order.kind order.code reply
 Opens gives before now order reply (x ∷ xs) = (is_warm order.start ≡ false) × ((x.event ≡ events.Begun order.run) × (xs ≡ []))
 
 -- behind an answer in time the container lies on the shelf

@@ -1,9 +1,9 @@
 // A run, from its container to its end.
 ghost use Rattle.std.specs.Prelude.{◌≡◌, List, None, false};
-ghost use Rattle.ow_traits.specs.Runner.{Replies, Steady};
+ghost use Rattle.ow_traits.specs.Runner.{Replies, Steady, is_answer};
 ghost use Rattle.ow_floor.specs.declared.answers.Order.TheVariants as orders;
 ghost use Rattle.ow_invoker.specs.Parts.{Books, Carries, EndsBy, LaysDown, Performs, Settles, TellsAll, in_order, listed};
-ghost use Rattle.ow_invoker.specs.Turns.{Exchange, is_answer};
+ghost use Rattle.ow_invoker.specs.Turns.{Exchange};
 
 use crate::living::{self, Living, stop};
 use crate::readying::{Readiness, make_ready};
@@ -99,7 +99,7 @@ fn lay_down<R: Runner>(
     let Some(living) = held else {
         return Ok(());
     };
-    if !is_answer(reply) {
+    if !reply.is_answer() {
         stop(runner, living);
         return Ok(());
     }
@@ -125,7 +125,7 @@ fn book<P: Keeper + Drop, R: Runner>(
     ensures books { Books P.rows P.faults hall.old hall.new at order.now reply shelf.old shelf.new result }
     ensures runner { Steady (R.gives runner.old) (R.gives runner.new) (R.faults runner.old) (R.faults runner.new) }
 {
-    let answers = is_answer(&reply);
+    let answers = reply.is_answer();
     match hall.answered(alloc, at, order.run, reply) {
         Ok(Answered::Recorded(happened)) => {
             let gone = end(hall, shelf, runner, at, order, answers, false);
@@ -161,10 +161,4 @@ fn end<P: Keeper + Drop, R: Runner>(
         return None;
     }
     report_gone(hall, at, order.slot, order.generation)
-}
-
-fn is_answer(reply: &RunReply) -> bool
-    ensures { result ≡ is_answer reply.now }
-{
-    matches!(reply, RunReply::Answer { .. })
 }

@@ -1,5 +1,5 @@
 -- What runners reply, and when they may fail.
-use Rattle.std.specs.Prelude.{◌≤◌, ℕ, List, Option, Some, None}
+use Rattle.std.specs.Prelude.{◌≡◌, ◌≤◌, ℕ, Bool, true, false, List, Option, Some, None}
 use Rattle.ow_value.specs.Value.{Pairs}
 use Rattle.ow_traits.specs.Streams.{Rose}
 use Rattle.ow_traits.specs.declared.replies.Kind.{Kind}
@@ -23,14 +23,20 @@ abbrev pub Replies : Giving → ℕ → ℕ → Kind → List ℕ → Pairs → 
 Replies gives before now kind code params Fault = Rose before now
 Replies gives before now kind code params reply = gives kind code params reply
 
--- one to that code whatever the parameters
-abbrev pub RepliesToAny : Giving → ℕ → ℕ → Kind → List ℕ → RunReply → Type 0
-RepliesToAny gives before now kind code reply = (params : Pairs) → Replies gives before now kind code params reply
+abbrev pub is_answer : RunReply → Bool
+is_answer (Answer text logs) = true
+is_answer (Exit code logs) = false
+is_answer (NoStart text) = false
+is_answer Fault = false
 
--- an initialisation that succeeds, or a reply to that code whatever the parameters
+-- no answer, and one to that code whatever the parameters
+abbrev pub RefusesCode : Giving → ℕ → ℕ → Kind → List ℕ → RunReply → Type 0
+RefusesCode gives before now kind code reply = (is_answer reply ≡ false) × ((params : Pairs) → Replies gives before now kind code params reply)
+
+-- an initialisation that succeeds, or a reply in its place, which is no answer
 abbrev pub Initialises : Giving → ℕ → ℕ → Kind → List ℕ → Option RunReply → Type 0
 Initialises gives before now kind code None = Unit {0}
-Initialises gives before now kind code (Some reply) = RepliesToAny gives before now kind code reply
+Initialises gives before now kind code (Some reply) = RefusesCode gives before now kind code reply
 
 -- a reply in place of a start: that nothing starts, to each code of that kind whatever the parameters, or a fault
 abbrev pub RefusesStart : Giving → ℕ → ℕ → Kind → RunReply → Type 0

@@ -4,15 +4,18 @@ ghost use Rattle.ow_traits.specs.Streams.{Rose};
 
 /// A counter of calls, the numbers of those that are to fail, and a count of faults. The first call has the number 0.
 #[derive(Drop)]
-pub(crate) struct Calls {
-    pub(crate) made: u64,
-    pub(crate) failing: Vec<u64>,
-    pub(crate) faults: u64,
+pub struct Calls {
+    /// How many there were. The count stands still at the greatest u64.
+    pub made: u64,
+    /// The numbers of those that are to fail.
+    pub failing: Vec<u64>,
+    /// How many failed. The count stands still at the greatest u64.
+    pub faults: u64,
 }
 
 impl Calls {
     /// No call yet, and no fault.
-    pub(crate) fn new(failing: Vec<u64>) -> Self
+    pub fn new(failing: Vec<u64>) -> Self
         ensures made { result.made ≡ 0 }
         ensures failing { result.failing ≡ failing }
         ensures faults { result.faults ≡ 0 }
@@ -25,7 +28,7 @@ impl Calls {
     }
 
     /// Counts a call, and answers whether it is to fail.
-    pub(crate) fn fails_next(&mut self) -> bool
+    pub fn fails_next(&mut self) -> bool
         ensures listed { IsTrue result ↔ Contains self.old.failing.items self.old.made }
         ensures rose { IsTrue result → Rose self.old.faults self.new.faults }
         ensures later { self.old.faults ≤ self.new.faults }
@@ -42,7 +45,7 @@ impl Calls {
     }
 
     /// Counts a fault. The count stands still at the greatest u64.
-    pub(crate) fn count_fault(&mut self)
+    pub fn count_fault(&mut self)
         ensures faults { self.new.faults ≡ min (self.old.faults + 1) (2 ^ 64 - 1) }
         ensures rose { Rose self.old.faults self.new.faults }
         ensures later { self.old.faults ≤ self.new.faults }

@@ -16,6 +16,7 @@ mod script_runner;
 mod streams;
 
 pub use adapters::{ReaderSource, WriterSink};
+pub use calls::Calls;
 pub use change_list::{Change, Changes};
 pub use keepers::{Keeper, KeeperError};
 pub use memory::{MemorySink, MemorySource};

@@ -1,4 +1,7 @@
 // How a run of an action ends.
+ghost use Rattle.std.specs.Prelude.{◌≡◌};
+ghost use Rattle.ow_traits.specs.Runner.{is_answer};
+
 use ow_value::{Lines, NoMemory, PlainData, Str};
 use std::alloc::Global;
 
@@ -22,6 +25,15 @@ pub enum RunReply {
     NoStart { text: Str },
     /// The runner failed.
     Fault,
+}
+
+impl RunReply {
+    /// Whether the action answered.
+    pub fn is_answer(&self) -> bool
+        ensures { result ≡ is_answer self.now }
+    {
+        matches!(self, RunReply::Answer { .. })
+    }
 }
 
 impl PlainData for RunReply {

@@ -45,7 +45,7 @@ pub trait Runner {
         ensures steady { Steady (gives self.old) (gives self.new) (faults self.old) (faults self.new) }
         ensures started { IfOk result (Starts (gives self.old) (faults self.old) (faults self.new) kind) };
 
-    /// Makes a container ready for the code. Where it can't be, the reply is that of each run of the code.
+    /// Makes a container ready for the code. Where it can't be, the reply, which is no answer, is that of each run of the code.
     fn init(
         &mut self,
         alloc: Global,

@@ -3,7 +3,7 @@ use Rattle.std.proofs.Common.{ℕ, ◌≤◌, inl, inr, ⊎_elim}
 use Rattle.std.specs.Prelude.{Some, None}
 use Rattle.ow_traits.specs.Runner.{Giving, Steady}
 use Rattle.ow_floor.specs.declared.answers.RunOrder.{RunOrder}
-use Rattle.ow_invoker.proofs.Running.{replied_from}
+use Rattle.ow_invoker.proofs.Running.{refused_from, replied_from}
 use Rattle.ow_board.specs.declared.view.View.{View}
 use Rattle.ow_desk.specs.Notes.{Notes}
 use Rattle.ow_worker.specs.declared.outcome.Turn.{Turn}
@@ -52,6 +52,6 @@ run_turn_within is_second order n m v k w (turns.NoMemory (Some job)) s t le x =
 pub initialised_from : {B : Type 0} (f g h : Giving) (a b c : ℕ) (order : RunOrder) (ready : Readiness B) → Steady f g a b → Steady g h b c
     → Initialised g b c order ready → Initialised f a c order ready
 initialised_from f g h a b c order (Up living) s t x = tt
-initialised_from f g h a b c order (Early held reply) s t x = (λ params. replied_from order.kind order.code params reply s t (x.0 params), x.1)
+initialised_from f g h a b c order (Early held reply) s t x = refused_from order.kind order.code reply s t x
 initialised_from f g h a b c order (NotHad seen) s t x = x
 initialised_from f g h a b c order Unready s t x = tt

@@ -1,11 +1,11 @@
 -- The parts of a run, each with the notes before and after it.
 use Rattle.std.specs.Prelude.{◌≡◌, ◌⊎◌, ℕ, Bool, true, false, Some, None}
-use Rattle.ow_traits.specs.Runner.{Giving, RepliesToAny}
+use Rattle.ow_traits.specs.Runner.{Giving, RefusesCode, is_answer}
 use Rattle.ow_traits.specs.declared.replies.RunReply.{RunReply}
 use Rattle.ow_slots.specs.State.{is_cold, is_warm}
 use Rattle.ow_floor.specs.declared.answers.RunOrder.{RunOrder}
 use Rattle.ow_decide.specs.declared.events.Told.{Told}
-use Rattle.ow_invoker.specs.Turns.{is_answer, is_late}
+use Rattle.ow_invoker.specs.Turns.{is_late}
 use Rattle.ow_board.specs.declared.view.View.{View}
 use Rattle.ow_desk.specs.Notes.{Notes}
 use Rattle.ow_worker.specs.declared.outcome.Laid.{Laid}
@@ -21,17 +21,16 @@ use Rattle.ow_worker.specs.Noted.{FaultNoted, GoneNoted, ReplyNoted}
 -- ---- getting a container up and initialised
 
 module _ (gives : Giving) (before now : ℕ) where
-  -- of a started container, or one in hand: it is up, or there is a reply to the code whatever the parameters. Without a container that
-  -- is no answer
+  -- of a started container, or one in hand: it is up, or the code is refused
   abbrev pub Initialised : {B : Type 0} → RunOrder → Readiness B → Type 0
   Initialised order (Up living) = Unit {0}
-  Initialised order (Early held reply) = RepliesToAny gives before now order.kind order.code reply × (held ≡ None → is_answer reply ≡ false)
+  Initialised order (Early held reply) = RefusesCode gives before now order.kind order.code reply
   Initialised order (NotHad seen) = ⊥
   Initialised order Unready = Unit {0}
 
   abbrev pub Readied : {B : Type 0} → RunOrder → ℕ → View → Readiness B → Type 0
   Readied order start w (Up living) = Unit {0}
-  Readied order start w (Early held reply) = (is_warm order.start ≡ false) × RepliesToAny gives before now order.kind order.code reply × (held ≡ None → is_answer reply ≡ false)
+  Readied order start w (Early held reply) = (is_warm order.start ≡ false) × RefusesCode gives before now order.kind order.code reply
   Readied order start w (NotHad seen) = (is_cold order.start ≡ false) × WasNotHad order.slot order.generation seen start w
   Readied order start w Unready = is_warm order.start ≡ false
 

@@ -1,6 +1,6 @@
 -- What a turn of a worker adds to its receipts, and what its pass shows of the board.
 use Rattle.std.specs.Prelude.{◌≡◌, ◌⊎◌, ℕ, true, false, List, [], ◌∷◌, None}
-use Rattle.ow_traits.specs.Runner.{Giving, RefusesStart, Replies, RepliesToAny}
+use Rattle.ow_traits.specs.Runner.{Giving, RefusesCode, RefusesStart, Replies}
 use Rattle.ow_traits.specs.declared.replies.RunReply.{RunReply}
 use Rattle.ow_slots.specs.State.{is_cold, is_warm}
 use Rattle.ow_floor.specs.declared.answers.Container.{Container}
@@ -38,9 +38,9 @@ pub record NotCarried (order : RunOrder) (seen : ℕ) (n m : Notes) (start : ℕ
   pub lost : LostNoted order.run n m
 
 module _ (gives : Giving) (before now : ℕ) where
-  -- that the run began is left out only where the reply is one to the code whatever the parameters
+  -- that the run began is left out only where the code is refused
   abbrev pub Opens : RunOrder → RunReply → Notes → Notes → Type 0
-  Opens order reply n m = ToldBegun order n m ⊎ ((m ≡ n) × RepliesToAny gives before now order.kind order.code reply)
+  Opens order reply n m = ToldBegun order n m ⊎ ((m ≡ n) × RefusesCode gives before now order.kind order.code reply)
 
   module _ (is_second : ℕ → Type 0) where
     -- a run with a reply: one that the runner gives, or a fault where its count rose

@@ -1,7 +1,6 @@
 // What becomes of a container whose run has a reply.
 ghost use Rattle.std.specs.Prelude.{◌≡◌, ◌≤◌, ◌+◌, false, None};
-ghost use Rattle.ow_traits.specs.Runner.{Steady};
-ghost use Rattle.ow_invoker.specs.Turns.{is_answer};
+ghost use Rattle.ow_traits.specs.Runner.{Steady, is_answer};
 ghost use Rattle.ow_board.specs.Board.{size, view_of, IsPassOf, StaysPassOf};
 ghost use Rattle.ow_desk.specs.Fitting.{IsSlot};
 ghost use Rattle.ow_worker.specs.Shown.{GoesOn, IsSecond, put_second};
@@ -44,7 +43,7 @@ pub(crate) fn lay_down<H: Wait, P: Keeper + Drop, R: Runner, C: Clock>(
     let Some(living) = held else {
         return Laid::Stopped;
     };
-    if !is_answer(reply) {
+    if !reply.is_answer() {
         stop(runner, living);
         return Laid::Stopped;
     }
@@ -57,12 +56,6 @@ pub(crate) fn lay_down<H: Wait, P: Keeper + Drop, R: Runner, C: Clock>(
             Laid::Taken
         }
     }
-}
-
-fn is_answer(reply: &RunReply) -> bool
-    ensures { result ≡ is_answer reply.now }
-{
-    matches!(reply, RunReply::Answer { .. })
 }
 
 // The second of what is put at a moment, since the opening.

@@ -1,6 +1,5 @@
 // What became of a turn.
 ghost use Rattle.std.specs.Prelude.{◌≡◌, ◌<◌, true};
-ghost use Rattle.ow_invoker.specs.Turns.{is_answer};
 ghost use Rattle.ow_desk.specs.Fitting.{IsSlot};
 
 use crate::living::Living;

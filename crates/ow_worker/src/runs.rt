@@ -1,7 +1,6 @@
 // A run, from its container to its end.
 ghost use Rattle.std.specs.Prelude.{◌≡◌, ◌≤◌, false, None};
-ghost use Rattle.ow_traits.specs.Runner.{Steady};
-ghost use Rattle.ow_invoker.specs.Turns.{is_answer};
+ghost use Rattle.ow_traits.specs.Runner.{Steady, is_answer};
 ghost use Rattle.ow_board.specs.Board.{size, view_of, IsPassOf, StaysPassOf};
 ghost use Rattle.ow_desk.specs.Fitting.{IsSlot};
 ghost use Rattle.ow_worker.specs.Shown.{IsSecond};

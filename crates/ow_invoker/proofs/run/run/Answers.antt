@@ -1,6 +1,6 @@
 use Rattle.std.proofs.Common.{refl}
 use Rattle.ow_invoker.proofs.Parts.{carried, early, missed, performs_from, unready}
-use Rattle.ow_invoker.proofs.Running.{replied_on}
+use Rattle.ow_invoker.proofs.Running.{refused_on}
 use Rattle.ow_invoker.proofs.run.run.Goals as goal
 
 pub returns-in-Up-clause-turns : goal.returns-in-Up-clause-turns
@@ -15,7 +15,7 @@ pub returns-in-Early-clause-turns : goal.returns-in-Early-clause-turns
 returns-in-Early-clause-turns g c =
     early g.P.Keeper.rows g.P.Keeper.faults (g.R.Runner.gives c.args.runner.now) (g.R.Runner.faults c.args.runner.now) (g.R.Runner.faults c.settle.new.runner) c.args.hall.now c.settle.new.hall c.args.at
     c.args.order.now c.args.shelf.now c.make_ready.new.shelf c.settle.new.shelf c.in-Early.ensures.ready.0 c.in-Early.ensures.ready.1 c.in-Early.reply c.settle.result
-    (λ params. replied_on c.args.order.now.kind c.args.order.now.code params c.in-Early.reply c.in-Early.ensures.runner c.settle.ensures.runner.later (c.in-Early.ensures.ready.2.0 params))
+    (refused_on c.args.order.now.kind c.args.order.now.code c.in-Early.reply c.in-Early.ensures.runner c.settle.ensures.runner.later c.in-Early.ensures.ready.2)
     c.settle.ensures.settles
 
 pub returns-in-Missing-clause-turns : goal.returns-in-Missing-clause-turns
