@@ -131,6 +131,19 @@ impl Book {
         }
     }
 
+    /// The same book, with room of its own.
+    pub fn copy(&self, alloc: Global) -> Result<Book, NoMemory>
+        ensures { IfOk result (λ b. b.ledger ≡ self.now.ledger) }
+    {
+        Ok(Book {
+            entries: self.entries.copy(alloc)?,
+            total: self.total,
+            stored: self.stored,
+            quiet: self.quiet,
+            denied: self.denied,
+        })
+    }
+
     /// Makes room for an answer, where it is booked, and for so many entries that are owed behind it. It tells how many bytes the
     /// entry counts beside its 64. A count that would pass its type is answered as want of memory.
     pub(crate) fn reserve(

@@ -85,7 +85,8 @@ pub(crate) fn tell_gone<H: Wait, P: Keeper + Drop, C: Clock>(
     let _ = notes.gone(&mut *desk.lock(rt), clock.now(), slot, generation);
 }
 
-/// The runner's reply. Where it isn't taken it is handed back. The lock is free again behind this call.
+/// The runner's reply. Where it isn't taken it is handed back. The lock is free again behind this call, and who waits for an end is
+/// woken.
 pub(crate) fn tell_reply<H: Wait, P: Keeper + Drop, C: Clock>(
     rt: &H,
     alloc: Global,
@@ -99,7 +100,9 @@ pub(crate) fn tell_reply<H: Wait, P: Keeper + Drop, C: Clock>(
     ensures back { HandsBack run reply result }
     ensures room { notes.old.room ≤ notes.new.room + 1 }
 {
-    notes.answered(alloc, &mut *desk.lock(rt), clock.now(), run, reply)
+    let answered = notes.answered(alloc, &mut *desk.lock(rt), clock.now(), run, reply);
+    clock.ring();
+    answered
 }
 
 /// The run is lost, and so is its container.
