@@ -1,6 +1,17 @@
 // The clock, and a clock in memory that stands still.
 ghost use Rattle.std.specs.Prelude.{◌≡◌, ℕ, Option, Some, IfSome};
 
+/// What a pause waits for beside its time.
+#[derive(Clone, Copy, Debug, PartialEq, Eq)]
+pub enum Bell {
+    /// Something was accepted that a worker may run. One worker that waits is enough.
+    Work,
+    /// An activation of this count has ended, of whichever namespace.
+    End(u64),
+    /// The service closes.
+    Close,
+}
+
 /// Tells the moment, and lets a worker wait.
 pub trait Clock {
     /// The moment in milliseconds, where the clock tells it.
@@ -10,11 +21,11 @@ pub trait Clock {
     fn now(&self) -> u64
         ensures { IfSome (tells self.now) (λ t. result ≡ t) };
 
-    /// Waits for at most so many milliseconds. It may end at once: how long it takes is not promised.
-    fn pause(&self, ms: u64);
+    /// Waits for at most so many milliseconds, or for the bell. It may end at once: how long it takes is not promised.
+    fn pause(&self, bell: Bell, ms: u64);
 
-    /// Lets pauses that are under way end early, those of other threads too. Where nothing waits it does nothing.
-    fn ring(&self);
+    /// Lets pauses that wait for this bell end early, those of other threads too. Where nothing waits it does nothing.
+    fn ring(&self, bell: Bell);
 }
 
 /// A clock that tells one moment. Its pauses end at once.
@@ -39,7 +50,7 @@ impl Clock for FixedClock {
         self.at
     }
 
-    fn pause(&self, _ms: u64) {}
+    fn pause(&self, _bell: Bell, _ms: u64) {}
 
-    fn ring(&self) {}
+    fn ring(&self, _bell: Bell) {}
 }

@@ -6,7 +6,7 @@ mod gate;
 mod refusing_spawner;
 mod tasks;
 
-pub use clock::{Clock, FixedClock};
+pub use clock::{Bell, Clock, FixedClock};
 pub use gate::{Gate, OpenGate, Stage};
 pub use refusing_spawner::RefusingSpawner;
 pub use tasks::{Begun, Spawner, Task};

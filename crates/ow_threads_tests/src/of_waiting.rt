@@ -1,12 +1,14 @@
 // The clock that stands still, and the gate that holds nobody.
-use ow_threads::{Clock, FixedClock, Gate, OpenGate, Stage};
+use ow_threads::{Bell, Clock, FixedClock, Gate, OpenGate, Stage};
 
 const HOUR: u64 = 3_600_000;
 
-// The moment behind a pause and a ring.
+// The moment behind a pause for each bell, and its ring.
 fn moment_behind<C: Clock + Send + Sync>(clock: &C, ms: u64) -> u64 {
-    clock.pause(ms);
-    clock.ring();
+    for bell in [Bell::Work, Bell::End(1), Bell::Close] {
+        clock.pause(bell, ms);
+        clock.ring(bell);
+    }
     clock.now()
 }
 

@@ -9,9 +9,9 @@ ghost use Rattle.ow_worker.specs.Noted.{GivenUp, GoneNoted, LostNoted, NextNoted
 ghost use Rattle.ow_worker.specs.Turned.{ToldBegun};
 
 use ow_desk::{Desk, Receipts};
-use ow_floor::{AnswerRefusal, Answered, Order, RunOrder};
+use ow_floor::{AnswerRefusal, Answered, Happening, Order, RunOrder};
 use ow_slots::Start;
-use ow_threads::Clock;
+use ow_threads::{Bell, Clock};
 use ow_traits::{Keeper, RunReply};
 use ow_value::NoMemory;
 use std::alloc::Global;
@@ -85,8 +85,8 @@ pub(crate) fn tell_gone<H: Wait, P: Keeper + Drop, C: Clock>(
     let _ = notes.gone(&mut *desk.lock(rt), clock.now(), slot, generation);
 }
 
-/// The runner's reply. Where it isn't taken it is handed back. The lock is free again behind this call, and who waits for an end is
-/// woken.
+/// The runner's reply. Where it isn't taken it is handed back. The lock is free again behind this call, and who waits for
+/// one of the ends that were recorded is woken.
 pub(crate) fn tell_reply<H: Wait, P: Keeper + Drop, C: Clock>(
     rt: &H,
     alloc: Global,
@@ -101,8 +101,19 @@ pub(crate) fn tell_reply<H: Wait, P: Keeper + Drop, C: Clock>(
     ensures room { notes.old.room ≤ notes.new.room + 1 }
 {
     let answered = notes.answered(alloc, &mut *desk.lock(rt), clock.now(), run, reply);
-    clock.ring();
+    ring_ends(clock, &answered);
     answered
+}
+
+// Wakes who waits for one of these ends.
+fn ring_ends<C: Clock>(clock: &C, answered: &Result<Answered, AnswerRefusal>) {
+    if let Ok(Answered::Recorded(happened)) = answered {
+        for happening in happened.items() {
+            if let Happening::Recorded { id, .. } = happening {
+                clock.ring(Bell::End(id.count));
+            }
+        }
+    }
 }
 
 /// The run is lost, and so is its container.
