@@ -32,7 +32,7 @@ carried_within {order = order} turn s t le x = record {
   reply = x.reply;
   replies = replied_from order.kind order.code order.params x.reply s t x.replies;
   opened = x.opened;
-  opens = ⊎_elim (λ y. inl y) (λ y. inr (y.0, λ params. replied_from order.kind order.code params x.reply s t (y.1 params))) x.opens;
+  opens = ⊎_elim (λ y. inl y) (λ y. inr (y.0, refused_from order.kind order.code x.reply s t y.1)) x.opens;
   settles = settled_earlier le x.settles;
 }
 
