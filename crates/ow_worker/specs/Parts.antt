@@ -1,5 +1,5 @@
 -- The parts of a run, each with the notes before and after it.
-use Rattle.std.specs.Prelude.{◌≡◌, ◌⊎◌, ℕ, Bool, true, false, Some, None}
+use Rattle.std.specs.Prelude.{◌≡◌, ◌⊎◌, ℕ, Bool, true, false, Some}
 use Rattle.ow_traits.specs.Runner.{Giving, RefusesCode, is_answer}
 use Rattle.ow_traits.specs.declared.replies.RunReply.{RunReply}
 use Rattle.ow_slots.specs.State.{is_cold, is_warm}
