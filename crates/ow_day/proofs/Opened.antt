@@ -28,6 +28,7 @@ over_table (statuses.BadTable row) never = absurd never
 over_table statuses.NoMemory of = tt
 over_table statuses.DayTooLong of = tt
 over_table (statuses.BadKept key) never = absurd never
+over_table (statuses.Passed words tenants) never = absurd never
 
 pub no_opening : (status : Status) → IsOfDay status → IsOpeningFault status → ⊥
 no_opening statuses.Ok of never = never
@@ -40,6 +41,7 @@ no_opening (statuses.BadTable row) of never = never
 no_opening statuses.NoMemory of never = never
 no_opening statuses.DayTooLong of never = never
 no_opening (statuses.BadKept key) never fault = never
+no_opening (statuses.Passed words tenants) never fault = never
 
 module _ {P : Type 0} (rows : P → KeptRows) (faults : P → ℕ) (t : Table) (store : P) where
   abbrev pub opening : Entries → Opening
@@ -109,6 +111,7 @@ module _ {P : Type 0} (rows : P → KeptRows) (faults : P → ℕ) (t : Table) (
   tells_of before after day old new statuses.NoMemory of c = inr c
   tells_of before after day old new statuses.DayTooLong of c = c
   tells_of before after day old new (statuses.BadKept key) never c = absurd never
+  tells_of before after day old new (statuses.Passed words tenants) never c = absurd never
 
   -- what is told, by the status
   pub day_told : (day before left left' taken taken' : Option (List ℕ)) (old new : Run P) (status : Status) (back : P) → back ≡ new.session.hall.store → IsOfDay status → faults old.session.hall.store ≤ faults new.session.hall.store

@@ -13,6 +13,7 @@ use Rattle.ow_tenant.specs.declared.refusal.TenantRefusal.{TenantRefusal}
 use Rattle.ow_tenant.specs.declared.refusal.TenantRefusal.TheVariants as refusals
 use Rattle.ow_day.specs.declared.status.Status.{Status}
 use Rattle.ow_day.specs.declared.status.Status.TheVariants as statuses
+use Rattle.ow_words.specs.declared.command.ServeWords.{ServeWords}
 use Rattle.ow_words.specs.declared.command.WordsRefusal.{WordsRefusal}
 use Rattle.ow_words.specs.declared.command.WordsRefusal.TheVariants as words
 use Rattle.ow_day.specs.declared.words.Asked.{Asked}
@@ -129,7 +130,14 @@ unread refusals.NotGranted = statuses.NoMemory
 abbrev pub IsOverTable : Status → Type 0
 IsOverTable statuses.BadWords = ⊥
 IsOverTable (statuses.BadTable row) = ⊥
+IsOverTable (statuses.Passed asked tenants) = ⊥
 IsOverTable other = Unit {0}
+
+-- a status with which a day ends
+abbrev pub EndsDay : Status → Type 0
+EndsDay statuses.BadWords = ⊥
+EndsDay (statuses.Passed asked tenants) = ⊥
+EndsDay other = Unit {0}
 
 -- a status that the opening has, and no day that is begun
 abbrev pub IsOpeningFault : Status → Type 0
@@ -149,11 +157,28 @@ TellsText old new statuses.Ok text = Takes old new text
 TellsText old new statuses.WriteFault text = TakesFront old new text
 TellsText old new status text = ⊥
 
+-- ---- a service
+
+-- a service is passed on with the office table, or why that wasn't read
+abbrev pub TellsServe : ServeWords → Result Table ℕ → Status → Type 0
+TellsServe asked want (statuses.Passed served tenants) = (served ≡ asked) × (want ≡ Ok tenants)
+TellsServe asked want (statuses.BadTable row) = want ≡ Err row
+TellsServe asked want statuses.ReadFault = Unit {0}
+TellsServe asked want statuses.NoMemory = Unit {0}
+TellsServe asked want other = ⊥
+
+-- the same, where the table tells its bytes: with the table that these are, or the first bad row of it
+abbrev pub PassesOn : ServeWords → Option (List ℕ) → Status → Type 0
+PassesOn asked rows status = (want : Result Table ℕ) × IfSome rows (λ text. want ≡ table_of text) × TellsServe asked want status
+
+-- ---- the command
+
 -- what the office wrote, by what it is asked for and the status. `left` is what the day had left, where that is told
 abbrev pub TellsCommand : (help version : List ℕ) → Option Asked → Option (List ℕ) → StoreView → StoreView → Option (List ℕ) → Option (List ℕ) → Option (List ℕ) → Status → Type 0
 TellsCommand help version None rows before after left old new status = ((status ≡ statuses.BadWords) ⊎ (status ≡ statuses.NoMemory)) × IsUnopened before after old new
 TellsCommand help version (Some asks.Help) rows before after left old new status = TellsText old new status help
 TellsCommand help version (Some asks.Version) rows before after left old new status = TellsText old new status version
+TellsCommand help version (Some (asks.Serve asked)) rows before after left old new status = PassesOn asked rows status × IsUnopened before after old new
 TellsCommand help version (Some (asks.Day named)) rows before after left old new status = TellsTable rows before after left old new status
 
 -- how it ends where the words aren't read

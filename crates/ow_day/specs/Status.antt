@@ -1,4 +1,4 @@
--- The exit status of each way to end, and its line on err.
+-- The exit status of each way to end, and its line on err. What is passed on has no line.
 use Rattle.std.specs.Prelude.{◌++◌, ℕ, List, [], codes}
 use Rattle.std.specs.Fmt.{decimal}
 use Rattle.ow_day.specs.declared.status.Status.{Status}
@@ -15,6 +15,7 @@ status_number (statuses.BadTable row) = 6
 status_number statuses.NoMemory = 7
 status_number statuses.DayTooLong = 8
 status_number (statuses.BadKept key) = 9
+status_number (statuses.Passed words tenants) = 0
 
 abbrev pub err_text : Status → List ℕ
 err_text statuses.Ok = []
@@ -27,3 +28,9 @@ err_text (statuses.BadTable row) = codes "bad table at " ++ (decimal row ++ code
 err_text statuses.NoMemory = codes "no memory\n"
 err_text statuses.DayTooLong = codes "day too long\n"
 err_text (statuses.BadKept key) = codes "bad kept row " ++ (key ++ codes "\n")
+err_text (statuses.Passed words tenants) = []
+
+-- a service is passed on
+abbrev pub IsPassed : Status → Type 0
+IsPassed (statuses.Passed words tenants) = Unit {0}
+IsPassed other = ⊥

@@ -4,10 +4,11 @@ use Rattle.ow_words.specs.Words.{command_of}
 use Rattle.ow_words.specs.declared.command.Command.{Command}
 use Rattle.ow_words.specs.declared.command.Command.TheVariants as commands
 use Rattle.ow_day.specs.declared.words.Asked.{Asked}
-use Rattle.ow_day.specs.declared.words.Asked.TheVariants.{Day, Help, Version}
+use Rattle.ow_day.specs.declared.words.Asked.TheVariants.{Day, Serve, Help, Version}
 
 abbrev pub asked_of : Command → Asked
 asked_of (commands.Day table store) = Day (is_some table)
+asked_of (commands.Serve words) = Serve words
 asked_of commands.Help = Help
 asked_of commands.Version = Version
 
@@ -15,11 +16,16 @@ asked_of commands.Version = Version
 abbrev pub asked_by : List (List ℕ) → Option Asked
 asked_by words = option_map asked_of (command_of words)
 
--- a day over an office table
+-- a day or a service over an office table
 abbrev pub names_table : Option Asked → Bool
 names_table (Some (Day named)) = named
+names_table (Some (Serve words)) = is_some words.table
 names_table other = false
 
 abbrev pub is_day : Option Asked → Bool
 is_day (Some (Day named)) = true
 is_day other = false
+
+abbrev pub is_serve : Option Asked → Bool
+is_serve (Some (Serve words)) = true
+is_serve other = false

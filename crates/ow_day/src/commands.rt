@@ -1,14 +1,16 @@
 // The top call: what the words of the command line ask for, over what lies outside.
-ghost use Rattle.std.specs.Prelude.{◌≡◌, ◌≢◌, ◌⊎◌, ℕ, List, Some, None, Err, IfOk, IfSome, IsSome, false, map, string_bytes, true};
+ghost use Rattle.std.specs.Prelude.{◌≡◌, ◌≢◌, ◌⊎◌, ℕ, List, Some, None, Err, IfOk, IfSome, IsSome, false, is_some, map, string_bytes, true};
 ghost use Rattle.ow_traits.specs.Streams.{Rose, Takes, TakesFront};
 ghost use Rattle.ow_tenant.specs.Reading.{Tells};
-ghost use Rattle.ow_tenant.specs.Table.{AreWantsSized, Table, table_of as table_of_text};
+ghost use Rattle.ow_tenant.specs.Table.{AreWantsSized, IsPoolSized, Table, table_of as table_of_text};
 ghost use Rattle.ow_hall.specs.Beginnings.{KeepsEach, KeepsLimits};
 ghost use Rattle.ow_hall.specs.History.{History, IsLegal};
-ghost use Rattle.ow_words.specs.Words.{begins_day, command_of};
-ghost use Rattle.ow_day.specs.Words.{asked_by, is_day, names_table};
-ghost use Rattle.ow_day.specs.Status.{err_text};
-ghost use Rattle.ow_day.specs.Office.{HasBadRow, HasLegalBooks, IsOpeningFault, TellsCommand, TellsTable, TellsText, rows_named, store_of, unread, unread_words};
+ghost use Rattle.ow_words.specs.Words.{command_of, takes_options};
+ghost use Rattle.ow_words.specs.declared.command.Command.TheVariants as commands;
+ghost use Rattle.ow_words.specs.declared.command.ServeWords.{ServeWords as Words};
+ghost use Rattle.ow_day.specs.Words.{asked_by, is_day, is_serve, names_table};
+ghost use Rattle.ow_day.specs.Status.{IsPassed, err_text};
+ghost use Rattle.ow_day.specs.Office.{EndsDay, HasBadRow, HasLegalBooks, IsOpeningFault, PassesOn, TellsCommand, TellsTable, TellsText, rows_named, store_of, unread, unread_words};
 ghost use Rattle.ow_day.specs.Reads.{AnswersTable, LeavesRest};
 
 use crate::run::run_day;
@@ -16,13 +18,14 @@ use crate::status::{Status, report};
 use crate::words::{Asked, HELP, VERSION, read_asked};
 use ow_tenant::{TenantRefusal, Tenants};
 use ow_traits::{Keeper, MemorySource, Sink, Source, write_all};
-use ow_words::WordsRefusal;
+use ow_words::{ServeWords, WordsRefusal};
 use std::alloc::Global;
 
 /// Does what the words say: for `day`, reads the office table that they name, opens the service over it and the store, carries
 /// out the statements of the day as they come, and writes each answer before it asks for more of the day, or as soon as a megabyte
 /// is ready. The words are looked at first, then the table, then the store: where they name no table it has no rows, and `table`
-/// isn't touched. The store is handed back in each case.
+/// isn't touched. For `serve` it reads the words and the table alone, and passes both on: the caller serves. The store is handed
+/// back in each case.
 pub fn office<T: Source, S: Source, O: Sink, E: Sink, P: Keeper + Drop>(
     alloc: Global,
     words: &[String],
@@ -51,11 +54,12 @@ pub fn office<T: Source, S: Source, O: Sink, E: Sink, P: Keeper + Drop>(
 
     // When the other statuses come.
     ensures words { result.0 ≡ Status.BadWords → command_of (map string_bytes words.now) ≡ None }
-    ensures refused { command_of (map string_bytes words.now) ≡ None → (result.0 ≡ Status.BadWords) ⊎ ((result.0 ≡ Status.NoMemory) × (begins_day (map string_bytes words.now) ≡ true)) }
+    ensures refused { command_of (map string_bytes words.now) ≡ None → (result.0 ≡ Status.BadWords) ⊎ ((result.0 ≡ Status.NoMemory) × (takes_options (map string_bytes words.now) ≡ true)) }
     ensures read { result.0 ≡ Status.ReadFault → Rose (S.faults day.old) (S.faults day.new) ⊎ (Rose (T.faults table.old) (T.faults table.new) × (day.new ≡ day.old) × (out.new ≡ out.old)) }
     ensures write { result.0 ≡ Status.WriteFault → Rose (O.faults out.old) (O.faults out.new) }
     ensures fault { result.0 ≡ Status.StoreFault → IfSome result.1 (λ back. Rose (P.faults store) (P.faults back)) }
     ensures bad_kept { (key : List ℕ) → result.0 ≡ Status.BadKept key → HasBadRow (store_of P.rows P.faults store) key }
+    ensures passed { (asked : Words) (t : Table) → result.0 ≡ Status.Passed asked t → (command_of (map string_bytes words.now) ≡ Some (commands.Serve asked)) × AreWantsSized t.wants × IsPoolSized t.pool }
 
     // What isn't touched.
     ensures unbegun { IsOpeningFault result.0 → (day.new ≡ day.old) × (out.new ≡ out.old) }
@@ -63,6 +67,8 @@ pub fn office<T: Source, S: Source, O: Sink, E: Sink, P: Keeper + Drop>(
     ensures untouched { is_day (asked_by (map string_bytes words.now)) ≡ false → result.1 ≡ Some store }
     ensures idle { is_day (asked_by (map string_bytes words.now)) ≡ false → day.new ≡ day.old }
     ensures silent { command_of (map string_bytes words.now) ≡ None → out.new ≡ out.old }
+    ensures passing { is_serve (asked_by (map string_bytes words.now)) ≡ true → out.new ≡ out.old }
+    ensures passed_quiet { IsPassed result.0 → err.new ≡ err.old }
     ensures unnamed { names_table (asked_by (map string_bytes words.now)) ≡ false → table.new ≡ table.old }
 {
     let (status, store) = perform(alloc, words, table, store, day, out);
@@ -84,7 +90,7 @@ fn perform<T: Source, S: Source, O: Sink, P: Keeper + Drop>(
     ensures reads { IfSome (S.left day.old) (λ bytes. LeavesRest bytes (S.left day.new)) }
     ensures answered { result.0 ≡ Status.ReadFault → AnswersTable (rows_named (names_table (asked_by (map string_bytes words.now))) (T.left table.old)) (store_of P.rows P.faults store) (S.left day.old) (S.left day.new) (O.taken out.old) (O.taken out.new) }
     ensures words { result.0 ≡ Status.BadWords → command_of (map string_bytes words.now) ≡ None }
-    ensures refused { command_of (map string_bytes words.now) ≡ None → (result.0 ≡ Status.BadWords) ⊎ ((result.0 ≡ Status.NoMemory) × (begins_day (map string_bytes words.now) ≡ true)) }
+    ensures refused { command_of (map string_bytes words.now) ≡ None → (result.0 ≡ Status.BadWords) ⊎ ((result.0 ≡ Status.NoMemory) × (takes_options (map string_bytes words.now) ≡ true)) }
     ensures read { result.0 ≡ Status.ReadFault → Rose (S.faults day.old) (S.faults day.new) ⊎ (Rose (T.faults table.old) (T.faults table.new) × (day.new ≡ day.old) × (out.new ≡ out.old)) }
     ensures write { result.0 ≡ Status.WriteFault → Rose (O.faults out.old) (O.faults out.new) }
     ensures fault { result.0 ≡ Status.StoreFault → Rose (P.faults store) (P.faults result.1) }
@@ -94,10 +100,13 @@ fn perform<T: Source, S: Source, O: Sink, P: Keeper + Drop>(
     ensures untouched { is_day (asked_by (map string_bytes words.now)) ≡ false → result.1 ≡ store }
     ensures idle { is_day (asked_by (map string_bytes words.now)) ≡ false → day.new ≡ day.old }
     ensures silent { command_of (map string_bytes words.now) ≡ None → out.new ≡ out.old }
+    ensures passing { is_serve (asked_by (map string_bytes words.now)) ≡ true → out.new ≡ out.old }
+    ensures passed { (asked : Words) (t : Table) → result.0 ≡ Status.Passed asked t → (command_of (map string_bytes words.now) ≡ Some (commands.Serve asked)) × AreWantsSized t.wants × IsPoolSized t.pool }
     ensures unnamed { names_table (asked_by (map string_bytes words.now)) ≡ false → table.new ≡ table.old }
 {
     match read_asked(alloc, words) {
         Ok(Asked::Day { has_table }) => day_over(alloc, has_table, table, store, day, out),
+        Ok(Asked::Serve(asked)) => (passed(alloc, asked, table), store),
         Ok(Asked::Help) => (write_text(out, HELP), store),
         Ok(Asked::Version) => (write_text(out, VERSION), store),
         Err(refusal) => (unread_words(refusal), store),
@@ -126,7 +135,7 @@ fn day_over<T: Source, S: Source, O: Sink, P: Keeper + Drop>(
     ensures told { TellsTable (rows_named has_table (T.left table.old)) (store_of P.rows P.faults store) (store_of P.rows P.faults result.1) (S.left day.old) (O.taken out.old) (O.taken out.new) result.0 }
     ensures reads { IfSome (S.left day.old) (λ bytes. LeavesRest bytes (S.left day.new)) }
     ensures answered { result.0 ≡ Status.ReadFault → AnswersTable (rows_named has_table (T.left table.old)) (store_of P.rows P.faults store) (S.left day.old) (S.left day.new) (O.taken out.old) (O.taken out.new) }
-    ensures own { result.0 ≢ Status.BadWords }
+    ensures own { EndsDay result.0 }
     ensures read { result.0 ≡ Status.ReadFault → Rose (S.faults day.old) (S.faults day.new) ⊎ (Rose (T.faults table.old) (T.faults table.new) × (day.new ≡ day.old) × (out.new ≡ out.old)) }
     ensures write { result.0 ≡ Status.WriteFault → Rose (O.faults out.old) (O.faults out.new) }
     ensures fault { result.0 ≡ Status.StoreFault → Rose (P.faults store) (P.faults result.1) }
@@ -141,6 +150,19 @@ fn day_over<T: Source, S: Source, O: Sink, P: Keeper + Drop>(
     }
 }
 
+// A service, with the office table that its words name, or how the office ends where that isn't read.
+fn passed<T: Source>(alloc: Global, asked: ServeWords, table: &mut T) -> Status
+    ensures told { PassesOn asked (rows_named (is_some asked.table) (T.left table.old)) result }
+    ensures own { (served : Words) (t : Table) → result ≡ Status.Passed served t → (served ≡ asked) × AreWantsSized t.wants × IsPoolSized t.pool }
+    ensures read { result ≡ Status.ReadFault → Rose (T.faults table.old) (T.faults table.new) }
+    ensures unnamed { is_some asked.table ≡ false → table.new ≡ table.old }
+{
+    match tenants(alloc, asked.table.is_some(), table) {
+        Ok(tenants) => Status::Passed(asked, tenants),
+        Err(refusal) => unread(refusal),
+    }
+}
+
 // The office table that the words name. Where they name none it has no rows.
 fn tenants<T: Source>(
     alloc: Global,
@@ -149,6 +171,7 @@ fn tenants<T: Source>(
 ) -> Result<Tenants, TenantRefusal>
     ensures told { IfSome (rows_named has_table (T.left table.old)) (λ text. Tells (table_of_text text) result) }
     ensures sized { IfOk result (λ t. AreWantsSized t.wants) }
+    ensures pool { IfOk result (λ t. IsPoolSized t.pool) }
     ensures cause { result ≡ Err TenantRefusal.ReadFault → Rose (T.faults table.old) (T.faults table.new) }
     ensures unnamed { has_table ≡ false → table.new ≡ table.old }
 {

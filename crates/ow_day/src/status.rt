@@ -2,11 +2,13 @@
 ghost use Rattle.std.specs.Prelude.{◌≡◌, ◌++◌, OnOk, OnErr, codes};
 ghost use Rattle.std.specs.Fmt.{decimal};
 ghost use Rattle.ow_traits.specs.Streams.{HasCause, Takes, TakesFront};
-ghost use Rattle.ow_day.specs.Status.{err_text, status_number};
+ghost use Rattle.ow_day.specs.Status.{IsPassed, err_text, status_number};
 
 use itoa::Buffer;
+use ow_tenant::Tenants;
 use ow_traits::{Failed, Sink, write_all};
 use ow_value::Str;
+use ow_words::ServeWords;
 
 /// How the office ended.
 #[derive(Drop)]
@@ -31,10 +33,12 @@ pub enum Status {
     DayTooLong,
     /// The store's rows are not allowed: the first bad one has this key.
     BadKept { key: Str },
+    /// The words ask for a service over this office table. The caller serves it, and its end has a status of its own.
+    Passed(ServeWords, Tenants),
 }
 
 impl Status {
-    /// The exit status of the program.
+    /// The exit status of the program. A service that is passed on has none yet, and 0 stands for it.
     pub fn number(&self) -> u8
         ensures { result ≡ status_number self.now }
     {
@@ -49,6 +53,7 @@ impl Status {
             Status::NoMemory => 7,
             Status::DayTooLong => 8,
             Status::BadKept { key: _ } => 9,
+            Status::Passed(_, _) => 0,
         }
     }
 }
@@ -60,9 +65,10 @@ pub fn report<E: Sink>(status: &Status, err: &mut E) -> Result<(), Failed>
     ensures err { OnErr result (TakesFront (E.taken err.old) (E.taken err.new) (err_text status.now)) }
     ensures cause { HasCause (E.faults err.old) (E.faults err.new) result }
     ensures quiet { status.now ≡ Status.Ok → err.new ≡ err.old }
+    ensures passed { IsPassed status.now → err.new ≡ err.old }
 {
     match status {
-        Status::Ok => Ok(()),
+        Status::Ok | Status::Passed(_, _) => Ok(()),
         Status::BadDay { statement } => report_place(err, b"bad day at ", *statement),
         Status::BadTable { row } => report_place(err, b"bad table at ", *row),
         Status::BadWords => write_all(err, b"bad words\n"),

@@ -1,17 +1,19 @@
 // The command line.
 ghost use Rattle.std.specs.Prelude.{◌≡◌, Err, MatchResult, Some, None, map, option_map, string_bytes, true};
-ghost use Rattle.ow_words.specs.Words.{begins_day, command_of};
+ghost use Rattle.ow_words.specs.Words.{command_of, takes_options};
 ghost use Rattle.ow_words.specs.declared.command.WordsRefusal.TheVariants as refusals;
 ghost use Rattle.ow_day.specs.Words.{asked_of};
 
-use ow_words::{Command, WordsRefusal, read_words};
+use ow_words::{Command, ServeWords, WordsRefusal, read_words};
 use std::alloc::Global;
 
 /// What the office is asked to do.
-#[derive(Clone, Copy, Debug, PartialEq, Eq)]
+#[derive(Drop)]
 pub enum Asked {
     /// Carry out the statements of a day, over an office table or none.
     Day { has_table: bool },
+    /// Pass a service on.
+    Serve(ServeWords),
     /// Tell how the program is used.
     Help,
     /// Tell the program's version.
@@ -25,6 +27,11 @@ usage: ow_whisk day < FILE     carries out the statements of a day, and writes e
        ow_whisk day --table TABLE --store STORE < FILE
                                does so over the office table in the file TABLE, and the store in the
                                file STORE; one of them, in any order, or as --table=TABLE
+       ow_whisk serve --port PORT
+                               answers HTTP requests that come to PORT, 0 to 65535; for 0 the system
+                               chooses one. Behind it may stand, in any order: --workers W, how many
+                               runs are carried out at once, 1 to 64, and 4 without it; --connections
+                               N, after which it stops listening; --table TABLE and --store STORE
        ow_whisk --help         writes this text
        ow_whisk --version      writes the version
 
@@ -45,10 +52,10 @@ request has a known key, and only actions of whisk.system can be called.
   prewarm,KIND,MB,COUNT,,
                      so many containers of the kind plain:1 or program:1 are started ahead
   program,NAME,PATH,,,
-                     a program, which is not run yet
+                     a program that actions of the kind program:1 may name, which serve runs
 
-The store keeps entities, activations and their counts from one day to the next. Without a store they
-end with the day. What had not ended when a day begins is recorded with code 3.
+The store keeps entities, activations and their counts from one day or service to the next. Without a
+store they end with it. What had not ended when one begins is recorded with code 3.
 
 A day has one statement a line, of at most 8388608 bytes. Its words are parted by one space, its
 numbers are decimal without leading zeros. NAME is an action's full name, percent-encoded, as
@@ -123,7 +130,7 @@ Where the store fails, nothing is done, and a statement that would have changed 
   store fault        below turn, behind its order; an ask and a call are refused instead
 
 exit status, and its line on standard error:
-  0  none            all was carried out
+  0  none            all was carried out, or the service has closed
   1  bad day at N    what stands at the Nth place is no statement; an ask and its bytes are one,
                      as are a logged and its lines
   2  bad words       the command line is none of those above
@@ -134,6 +141,9 @@ exit status, and its line on standard error:
   7  no memory       memory was wanted
   8  day too long    it has more than 1073741824 bytes
   9  bad kept row K  the store has a row with the key K that is not allowed there
+ 10  none            the port could not be listened on, or no connection accepted any more
+ 11  none            a worker, the sweeper or the reaper had no thread
+ 12  none            what was noted of the service is not what its book has
 ";
 
 /// What `--version` writes.
@@ -142,12 +152,13 @@ pub const VERSION: &[u8] = b"ow_whisk 0.1.0\n";
 /// What the words ask the office to do.
 pub(crate) fn read_asked(alloc: Global, words: &[String]) -> Result<Asked, WordsRefusal>
     ensures asked { MatchResult result (λ asked. option_map asked_of (command_of (map string_bytes words.now)) ≡ Some asked) (λ e. e ≡ refusals.BadWords → command_of (map string_bytes words.now) ≡ None) }
-    ensures memory { result ≡ Err refusals.NoMemory → begins_day (map string_bytes words.now) ≡ true }
+    ensures memory { result ≡ Err refusals.NoMemory → takes_options (map string_bytes words.now) ≡ true }
 {
     match read_words(alloc, words)? {
         Command::Day { table, .. } => Ok(Asked::Day {
             has_table: table.is_some(),
         }),
+        Command::Serve(words) => Ok(Asked::Serve(words)),
         Command::Help => Ok(Asked::Help),
         Command::Version => Ok(Asked::Version),
     }

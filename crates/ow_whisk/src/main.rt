@@ -1,11 +1,12 @@
 #![tactic(auto)]
 
-//! The program: the words of the command line, standard input, output and error, the store, and the exit status.
+//! The program: the words of the command line, standard input, output and error, sockets, the store, and the exit status.
 
 #[cfg(test)]
 mod containers;
 #[cfg(test)]
 mod endings;
+mod serving;
 #[cfg(test)]
 mod stores;
 #[cfg(test)]
@@ -18,14 +19,18 @@ mod waits;
 ghost use Rattle.std.specs.Prelude.{◌≡◌};
 ghost use Rattle.std.specs.Process.{exit_status};
 ghost use Rattle.ow_day.specs.Status.{status_number};
+ghost use Rattle.ow_whisk.specs.Served.{IsSized};
 
+use crate::serving::{System, served};
 use ow_day::{Status, office, report};
 use ow_store::FileKeeper;
 use ow_traits::{Keeper, MemoryKeeper, MemorySource, ReaderSource, Source, WriterSink};
 use ow_value::Str;
-use ow_words::{Command, read_words};
+use ow_words::{Command, ServeWords, read_words};
+use std::alloc::Global;
 use std::fs::File;
-use std::process::ExitCode;
+use std::net::{Net, TcpListener, TcpStream};
+use std::process::{ExitCode, Processes, SystemProcess};
 use std::{env, io};
 
 // The words of the command line, or how the office ends without them. A word that isn't UTF-8 is in no
@@ -56,7 +61,9 @@ fn run<T: Source + Drop, P: Keeper + Drop>(
     words: &[String],
     mut table: T,
     store: P,
-) -> (Status, Option<P>) {
+) -> (Status, Option<P>)
+    ensures { IsSized result.0 }
+{
     let alloc = rt.alloc();
     let mut day = ReaderSource::new(rt.stdin());
     let mut out = WriterSink::new(rt.stdout());
@@ -66,58 +73,26 @@ fn run<T: Source + Drop, P: Keeper + Drop>(
     )
 }
 
-// The same over a store in memory, which ends with the program.
-fn run_in_memory<T: Source + Drop>(rt: &HostRuntime, words: &[String], table: T) -> Status {
-    let (status, _store) = run(rt, words, table, MemoryKeeper::new(rt.alloc()));
-    status
-}
-
-// The same over the file of this name. Where it can't be opened, each call of its keeper fails. Its log is copied into it at the
-// end: where that fails, the log stays beside the file, and the next open reads it.
-fn run_in_file<T: Source + Drop>(
-    rt: &HostRuntime,
-    words: &[String],
-    table: T,
-    name: &str,
-) -> Status {
-    let (status, store) = run(rt, words, table, FileKeeper::open(rt, name));
-    if let Some(store) = store {
-        let _ = store.close();
-    }
-    status
-}
-
-// The same over the store in the file that was named, or else over one in memory.
-fn run_in<T: Source + Drop>(
-    rt: &HostRuntime,
-    words: &[String],
-    table: T,
-    store: Option<&Str>,
-) -> Status {
-    match store {
-        Some(name) => run_in_file(rt, words, table, name.as_str()),
-        None => run_in_memory(rt, words, table),
-    }
-}
-
 // The same over the table in the file that was named, or else over none. Where the file can't be opened, the first read of it fails.
-fn run_over(
+fn run_over<P: Keeper + Drop>(
     rt: &HostRuntime,
     words: &[String],
     table: Option<&Str>,
-    store: Option<&Str>,
-) -> Status {
+    store: P,
+) -> (Status, Option<P>)
+    ensures { IsSized result.0 }
+{
     let Some(name) = table else {
-        return run_in(rt, words, ReaderSource::new(io::empty()), store);
+        return run(rt, words, ReaderSource::new(io::empty()), store);
     };
     match File::open(rt, name.as_str()) {
-        Ok(file) => run_in(rt, words, ReaderSource::new(file), store),
+        Ok(file) => run(rt, words, ReaderSource::new(file), store),
         Err(_) => match vec![in rt.alloc(); 0] {
             Ok(failing) => {
                 let table = MemorySource::new(Vec::new(rt.alloc()), failing);
-                run_in(rt, words, table, store)
+                run(rt, words, table, store)
             }
-            Err(_) => told(rt, Status::NoMemory),
+            Err(_) => (told(rt, Status::NoMemory), Some(store)),
         },
     }
 }
@@ -130,17 +105,59 @@ fn told(rt: &HostRuntime, status: Status) -> Status
     status
 }
 
-// Opens what the words name, and ends with the number of the office's status. Words that name nothing are read by the office again,
-// which says what they are.
+// The files of the table and of the store that the words name. Words that name none are read by the office again, which says what
+// they are.
+fn named(alloc: Global, words: &[String]) -> (Option<Str>, Option<Str>) {
+    match read_words(alloc, words) {
+        Ok(Command::Day { table, store }) => (table, store),
+        Ok(Command::Serve(ServeWords { table, store, .. })) => (table, store),
+        _ => (None, None),
+    }
+}
+
+// Serves what the office passed on, and tells how the program ends. The store is handed back, where it could be had.
+fn ended<
+    H: System
+        + Net<Listener = TcpListener, Stream = TcpStream>
+        + Processes<Started = SystemProcess>,
+    P: Keeper + Drop + Send + 'static,
+>(rt: &H, status: Status, store: Option<P>) -> (ExitCode, Option<P>)
+    requires { IsSized status }
+{
+    match (status, store) {
+        (Status::Passed(words, tenants), Some(store)) => served(rt, words, tenants, store),
+        (status, store) => (code_of(&status), store),
+    }
+}
+
+// Copies the log of a file into it. Where that fails, the log stays beside the file, and the next open reads it.
+fn close(store: Option<FileKeeper>) {
+    if let Some(store) = store {
+        let _ = store.close();
+    }
+}
+
+// Opens what the words name, and ends with the number of the office's status, or of the service's end. Where the file of a store can't
+// be opened, each call of its keeper fails. A store in memory ends with the program.
 fn main(rt: HostRuntime) -> ExitCode {
     let words = match words_of(&rt) {
         Ok(words) => words,
         Err(status) => return code_of(&told(&rt, status)),
     };
-    match read_words(rt.alloc(), &words) {
-        Ok(Command::Day { table, store }) => {
-            code_of(&run_over(&rt, &words, table.as_ref(), store.as_ref()))
+    let (table, store) = named(rt.alloc(), &words);
+    match store {
+        Some(name) => {
+            let keeper = FileKeeper::open(&rt, name.as_str());
+            let (status, store) = run_over(&rt, &words, table.as_ref(), keeper);
+            let (code, store) = ended(&rt, status, store);
+            close(store);
+            code
         }
-        _ => code_of(&run_over(&rt, &words, None, None)),
+        None => {
+            let keeper = MemoryKeeper::new(rt.alloc());
+            let (status, store) = run_over(&rt, &words, table.as_ref(), keeper);
+            let (code, _store) = ended(&rt, status, store);
+            code
+        }
     }
 }

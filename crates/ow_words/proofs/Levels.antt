@@ -9,10 +9,9 @@ use Rattle.clap.specs.Faults.{built_fault, check_fault, default_fault, defaults_
 use Rattle.clap.specs.Takes.{is_given as is_held}
 use Rattle.clap.specs.Walk.{first_of, has_row, idle, nothing_held, settled, walk, with_default}
 use Rattle.clap.proofs.FaultLemmas.{leaf_fault}
-use Rattle.ow_words.specs.Parse.{day_app, day_of_rows}
-use Rattle.ow_words.specs.declared.command.Command.TheVariants.{Day}
-use Rattle.ow_words.specs.Words.{Given, day_options, day_with, each_once, given_from, value_in}
-use Rattle.ow_words.proofs.Apps.{app, day_is_built, rule, shape}
+use Rattle.ow_words.specs.Parse.{app_with}
+use Rattle.ow_words.specs.Words.{Given, each_once, given_from, values_in}
+use Rattle.ow_words.proofs.Apps.{app, is_built, rule, shape}
 use Rattle.ow_words.proofs.Walks.{Judged, Judged-is, at, faults, found, held, judged, row, rows, rules}
 
 or_else-nil : (a : Kinds) → or_else a [] ≡ a
@@ -60,27 +59,25 @@ module _ (name : List ℕ) (names : List (List ℕ)) (words : List (List ℕ)) w
   rows_are : fold with_default (found (shape name names) (at (held []) idle) words) (rules names) ≡ found (shape name names) (at (held []) idle) words
   rows_are = (defaults_none names (found (shape name names) (at (held []) idle) words)).1
 
--- the options of a day are accepted exactly where each is known and stands once, and these are their rows
-pub day_judged : (words : List (List ℕ)) (all : List Given) → given_from words None ≡ Some all
-    → Judged (each_once day_options [] all) (fault_of day_app words) (matches_of day_app words) (rows all)
-day_judged words all e =
-    let s = shape (codes "day") day_options in
-    let wrong = ap (λ (a : App). built_fault a nothing_held words) day_is_built ∙ fault_is (codes "day") day_options words in
-    let rs = ap (λ (a : App). fold with_default (found a.top (at (held []) idle) words) a.top.rules) day_is_built ∙ rows_are (codes "day") day_options words in
-    Judged-is (each_once day_options [] all) (each_once day_options [] all) (fault_of day_app words) (faults s (at (held []) idle) words)
-    (matches_of day_app words) (found s (at (held []) idle) words) (rows all) (rows all) refl wrong rs refl (judged (codes "day") day_options words all e)
+-- the options are accepted exactly where each is known and stands once, and these are their rows
+pub options_judged : (names words : List (List ℕ)) (all : List Given) → given_from words None ≡ Some all
+    → Judged (each_once names [] all) (fault_of (app_with names) words) (matches_of (app_with names) words) (rows all)
+options_judged names words all e =
+    let name = codes "ow_whisk" in
+    let s = shape name names in
+    let wrong = ap (λ (a : App). built_fault a nothing_held words) (is_built names) ∙ fault_is name names words in
+    let rs = ap (λ (a : App). fold with_default (found a.top (at (held []) idle) words) a.top.rules) (is_built names) ∙ rows_are name names words in
+    Judged-is (each_once names [] all) (each_once names [] all) (fault_of (app_with names) words) (faults s (at (held []) idle) words)
+    (matches_of (app_with names) words) (found s (at (held []) idle) words) (rows all) (rows all) refl wrong rs refl (judged name names words all e)
 
 -- ---- values
 
-pub value_of_rows : (name : List ℕ) (given : List Given) → first_of name (rows given) ≡ value_in name given
+pub value_of_rows : (name : List ℕ) (given : List Given) → first_of name (rows given) ≡ values_in given name
 value_of_rows name [] = refl
 value_of_rows name (g ∷ given) = go (bytes_eq g.0 name) (value_of_rows name given)
   where
-    go : (b : Bool) → first_of name (rows given) ≡ value_in name given
+    go : (b : Bool) → first_of name (rows given) ≡ values_in given name
         → option_and_then (λ (r : Row). slice_get r.values 0) (cond b (Some (row g)) (find (λ (r : Row). bytes_eq r.id name) (rows given)))
         ≡ option_map (λ (x : Given). x.1) (cond b (Some g) (find (λ (x : Given). bytes_eq x.0 name) given))
     go true rest = refl
     go false rest = rest
-
-pub day_is : (given : List Given) → day_of_rows (rows given) ≡ day_with given
-day_is given = ap₂ (λ t s. Day t s) (value_of_rows (codes "table") given) (value_of_rows (codes "store") given)

@@ -1,7 +1,10 @@
 -- Words that are in the command set, and words that aren't.
-use Rattle.std.proofs.Common.{◌≡◌, refl, ℕ, List, true}
-use Rattle.ow_words.specs.Laws.{RefusesAgain, RefusesWords, TakesDays, TakesWords}
-use Rattle.ow_words.specs.Words.{each_once, given_from, is_value}
+use Rattle.std.proofs.Common.{◌≡◌, ◌==◌, ◌&&◌, refl, ap, sym, ℕ, List, [], ◌∷◌, Bool, true, false, Some, None, Option, not, cond, is_some, nat_le, option_map, subst, true≢false}
+use Rattle.std.proofs.lemmas.Bool.{eqb-true}
+use Rattle.std.specs.Prelude.{option_and_then}
+use Rattle.ow_value.specs.Decimal.{decimal_of}
+use Rattle.ow_words.specs.Laws.{BoundsWorkers, RefusesAgain, RefusesServices, RefusesWords, TakesDays, TakesNumbers, TakesServices, TakesWords, service}
+use Rattle.ow_words.specs.Words.{connections_of, each_once, given_from, if_within, is_value, number_within, port_of, serve_by, workers_of}
 
 pub takes_days : (f g : List ℕ) → is_value f ≡ true → is_value g ≡ true → TakesDays f g
 unfolding each_once given_from
@@ -29,6 +32,65 @@ refuses_again f g e d = record {
   in_both_forms = simp (e, d) refl;
 }
 
+-- ---- services
+
+-- a number begins with no `-`
+dash_is_none : (cs : List ℕ) (n : ℕ) → decimal_of (45 ∷ cs) ≡ Some n → ⊥
+dash_is_none [] n e = true≢false (sym (ap is_some e))
+dash_is_none (c ∷ cs) n e = true≢false (sym (ap is_some e))
+
+decimal_is_value : (text : List ℕ) (n : ℕ) → decimal_of text ≡ Some n → is_value text ≡ true
+decimal_is_value [] n e = absurd (true≢false (sym (ap is_some e)))
+decimal_is_value (c ∷ cs) n e = go (c == 45) refl
+  where
+    go : (b : Bool) → (c == 45) ≡ b → not b ≡ true
+    go true is = absurd (dash_is_none cs n (subst (λ x. decimal_of (x ∷ cs) ≡ Some n) (eqb-true c 45 is) e))
+    go false is = refl
+
+within_is_value : (least most : ℕ) (text : List ℕ) (n : ℕ) → number_within least most text ≡ Some n → is_value text ≡ true
+within_is_value least most text n e = go (decimal_of text) refl e
+  where
+    go : (o : Option ℕ) → decimal_of text ≡ o → option_and_then (if_within least most) o ≡ Some n → is_value text ≡ true
+    go None is e = absurd (true≢false (sym (ap is_some e)))
+    go (Some m) is e = decimal_is_value text m is
+
+count_is_value : (text : List ℕ) (n : ℕ) → connections_of (Some text) ≡ Some (Some n) → is_value text ≡ true
+count_is_value text n e = go (decimal_of text) refl e
+  where
+    go : (o : Option ℕ) → decimal_of text ≡ o → option_map Some o ≡ Some (Some n) → is_value text ≡ true
+    go None is e = absurd (true≢false (sym (ap is_some e)))
+    go (Some m) is e = decimal_is_value text m is
+
+pub takes_services : (p w n f g : List ℕ) (at many most : ℕ) → port_of (Some p) ≡ Some at → workers_of (Some w) ≡ Some many → connections_of (Some n) ≡ Some (Some most)
+    → is_value f ≡ true → is_value g ≡ true → TakesServices p w n f g at many most
+unfolding each_once given_from
+takes_services p w n f g at many most p_is w_is n_is e d =
+    let p_value = within_is_value 0 65535 p at p_is in
+    let w_value = within_is_value 1 64 w many w_is in
+    let n_value = count_is_value n most n_is in
+    record {
+      port_apart = simp (p_value, p_is) refl;
+      port_joined = simp (p_value, p_is) refl;
+      workers_behind = simp (p_value, p_is, w_value, w_is) refl;
+      workers_before = simp (p_value, p_is, w_value, w_is) refl;
+      connections_behind = simp (p_value, p_is, n_value, n_is) refl;
+      connections_before = simp (p_value, p_is, n_value, n_is) refl;
+      files = simp (p_value, p_is, e, d) refl;
+      all_apart = simp (p_value, p_is, w_value, w_is, n_value, n_is, e, d) refl;
+      all_joined = simp (p_value, p_is, w_value, w_is, n_value, n_is, e, d) refl;
+    }
+
+pub bounds_workers : (p w : List ℕ) (at n : ℕ) → port_of (Some p) ≡ Some at → decimal_of w ≡ Some n → BoundsWorkers p w at n
+unfolding each_once given_from
+bounds_workers p w at n p_is w_is =
+    let p_value = within_is_value 0 65535 p at p_is in
+    let w_value = decimal_is_value w n w_is in
+    simp (p_value, p_is, w_value, w_is) (go (nat_le 1 n && nat_le n 64))
+  where
+    go : (b : Bool) → serve_by (Some at) (cond b (Some n) None) (Some None) None None ≡ cond b (service at n None None None) None
+    go true = refl
+    go false = refl
+
 pub takes_words : TakesWords
 takes_words = record { help = refl; version = refl }
 
@@ -50,4 +112,26 @@ refuses_words = record {
   help_of_day = refl;
   short = refl;
   front = refl;
+}
+
+pub takes_numbers : TakesNumbers
+unfolding each_once given_from
+takes_numbers = record { least = refl; greatest = refl }
+
+pub refuses_services : RefusesServices
+unfolding each_once given_from
+refuses_services = record {
+  alone = refl;
+  portless = refl;
+  no_worker = refl;
+  more_workers = refl;
+  past_ports = refl;
+  past_connections = refl;
+  zero_in_front = refl;
+  signed = refl;
+  no_number = refl;
+  empty_number = refl;
+  port_twice = refl;
+  port_of_day = refl;
+  unknown = refl;
 }

@@ -1,7 +1,8 @@
 -- Words that are in the command set, and words that aren't.
-use Rattle.std.specs.Prelude.{◌≡◌, ℕ, List, [], ◌∷◌, ◌++◌, Some, None, codes}
-use Rattle.ow_words.specs.declared.command.Command.TheVariants.{Day, Help, Version}
-use Rattle.ow_words.specs.Words.{command_of}
+use Rattle.std.specs.Prelude.{◌≡◌, ◌&&◌, ℕ, List, [], ◌∷◌, ◌++◌, Option, Some, None, codes, if◌then◌else◌, nat_le}
+use Rattle.ow_words.specs.declared.command.Command.{Command}
+use Rattle.ow_words.specs.declared.command.Command.TheVariants.{Day, Serve, Help, Version}
+use Rattle.ow_words.specs.Words.{Given, command_of, given_from, values_in}
 
 abbrev day : List ℕ
 day = codes "day"
@@ -37,6 +38,85 @@ pub record RefusesAgain (f g : List ℕ) : Type 0 where
   pub in_two_words : command_of (day ∷ table ∷ f ∷ table ∷ g ∷ []) ≡ None
   pub in_one_word : command_of (day ∷ joined table f ∷ joined table g ∷ []) ≡ None
   pub in_both_forms : command_of (day ∷ store ∷ f ∷ joined store g ∷ []) ≡ None
+
+-- the words give the same options, but for the order of two that stand side by side
+pub record TurnsTwo (words turned : List (List ℕ)) : Type 0 where
+  pub before : List Given
+  pub first : Given
+  pub second : Given
+  pub behind : List Given
+  pub in_order : given_from words None ≡ Some (before ++ first ∷ second ∷ behind)
+  pub in_turn : given_from turned None ≡ Some (before ++ second ∷ first ∷ behind)
+
+-- ---- services
+
+abbrev pub serve : List ℕ
+serve = codes "serve"
+
+abbrev pub port : List ℕ
+port = codes "--port"
+
+abbrev pub workers : List ℕ
+workers = codes "--workers"
+
+abbrev pub connections : List ℕ
+connections = codes "--connections"
+
+-- a service with these numbers and files
+abbrev pub service : (port workers : ℕ) → Option ℕ → (table store : Option (List ℕ)) → Option Command
+service port workers connections table store = Some (Serve (record {
+  port = port;
+  workers = workers;
+  connections = connections;
+  table = table;
+  store = store;
+}))
+
+-- a service has a port, and perhaps workers, connections, a table and a store. The words p, w and n are these numbers
+pub record TakesServices (p w n f g : List ℕ) (at many most : ℕ) : Type 0 where
+  pub port_apart : command_of (serve ∷ port ∷ p ∷ []) ≡ service at 4 None None None
+  pub port_joined : command_of (serve ∷ joined port p ∷ []) ≡ service at 4 None None None
+  pub workers_behind : command_of (serve ∷ port ∷ p ∷ joined workers w ∷ []) ≡ service at many None None None
+  pub workers_before : command_of (serve ∷ workers ∷ w ∷ port ∷ p ∷ []) ≡ service at many None None None
+  pub connections_behind : command_of (serve ∷ port ∷ p ∷ connections ∷ n ∷ []) ≡ service at 4 (Some most) None None
+  pub connections_before : command_of (serve ∷ joined connections n ∷ port ∷ p ∷ []) ≡ service at 4 (Some most) None None
+  pub files : command_of (serve ∷ table ∷ f ∷ port ∷ p ∷ store ∷ g ∷ []) ≡ service at 4 None (Some f) (Some g)
+  pub all_apart : command_of (serve ∷ port ∷ p ∷ workers ∷ w ∷ connections ∷ n ∷ table ∷ f ∷ store ∷ g ∷ []) ≡ service at many (Some most) (Some f) (Some g)
+  pub all_joined : command_of (serve ∷ joined store g ∷ joined table f ∷ joined connections n ∷ joined workers w ∷ joined port p ∷ [])
+      ≡ service at many (Some most) (Some f) (Some g)
+
+-- n workers are taken exactly where they are 1 to 64
+abbrev pub BoundsWorkers : (p w : List ℕ) (at n : ℕ) → Type 0
+BoundsWorkers p w at n =
+    command_of (serve ∷ port ∷ p ∷ workers ∷ w ∷ []) ≡ (if nat_le 1 n && nat_le n 64 then service at n None None None else None)
+
+-- words that give no port ask for no service
+abbrev pub NeedsPort : List (List ℕ) → Type 0
+NeedsPort words = (given : List Given) → given_from words None ≡ Some given → values_in given (codes "port") ≡ None → command_of (serve ∷ words) ≡ None
+
+-- the greatest and the least numbers that a service takes
+pub record TakesNumbers : Type 0 where
+  pub least : command_of (serve ∷ codes "--port=0" ∷ codes "--workers=1" ∷ codes "--connections=0" ∷ []) ≡ service 0 1 (Some 0) None None
+  pub greatest : command_of (serve ∷ codes "--port=65535" ∷ codes "--workers=64" ∷ codes "--connections=18446744073709551615" ∷ [])
+      ≡ service 65535 64 (Some 18446744073709551615) None None
+
+-- what asks for no service
+pub record RefusesServices : Type 0 where
+  pub alone : command_of (serve ∷ []) ≡ None
+  pub portless : command_of (serve ∷ codes "--workers=4" ∷ []) ≡ None
+  pub no_worker : command_of (serve ∷ codes "--port=80" ∷ codes "--workers=0" ∷ []) ≡ None
+  pub more_workers : command_of (serve ∷ codes "--port=80" ∷ codes "--workers=65" ∷ []) ≡ None
+  pub past_ports : command_of (serve ∷ codes "--port=65536" ∷ []) ≡ None
+  pub past_connections : command_of (serve ∷ codes "--port=80" ∷ codes "--connections=18446744073709551616" ∷ []) ≡ None
+  pub zero_in_front : command_of (serve ∷ codes "--port=080" ∷ []) ≡ None
+  pub signed : command_of (serve ∷ codes "--port=+80" ∷ []) ≡ None
+  pub no_number : command_of (serve ∷ codes "--port=http" ∷ []) ≡ None
+  pub empty_number : command_of (serve ∷ codes "--port=80" ∷ codes "--connections=" ∷ []) ≡ None
+  pub port_twice : command_of (serve ∷ codes "--port=80" ∷ codes "--port=80" ∷ []) ≡ None
+  pub port_of_day : command_of (day ∷ codes "--port" ∷ codes "1" ∷ []) ≡ None
+  pub unknown : command_of (serve ∷ codes "--port=80" ∷ codes "--seed=1" ∷ []) ≡ None
+
+-- ---- other words
 
 -- words that ask for nothing
 pub record RefusesWords : Type 0 where

@@ -1,21 +1,31 @@
--- The commands, as `clap` sees them.
-use Rattle.std.specs.Prelude.{ℕ, List, Some, true, codes}
-use Rattle.clap.specs.Words.{App, Rule, new_app, new_rule, with_rule}
-use Rattle.clap.specs.Simple.{on_top}
-use Rattle.clap.specs.Walk.{Row, first_of}
-use Rattle.ow_words.specs.declared.command.Command.{Command}
-use Rattle.ow_words.specs.declared.command.Command.TheVariants.{Day}
+-- The options of a command, as `clap` sees them.
+use Rattle.std.specs.Prelude.{◌≡◌, ℕ, List, [], Option, Some, None, Result, MatchResult, codes, map, true}
+use Rattle.clap.specs.Words.{App, Rule, first_value, found_of, new_rule}
+use Rattle.clap.specs.Simple.{new_shape}
+use Rattle.clap.specs.declared.parser.matches.ArgMatches.{ArgMatches}
+use Rattle.ow_words.specs.declared.command.WordsRefusal.{WordsRefusal}
+use Rattle.ow_words.specs.declared.command.WordsRefusal.TheVariants.{BadWords}
+use Rattle.ow_words.specs.Words.{Values}
 
 -- an option with a value, of this name
 abbrev pub option_rule : List ℕ → Rule
 option_rule name = record (new_rule name) { long = Some name }
 
-abbrev pub plain_app : List ℕ → App
-plain_app name = on_top (λ s. record s { no_binary_name = true; disable_help_flag = true }) (new_app name)
+-- a command that takes the options with these names, and no other word
+abbrev pub app_with : List (List ℕ) → App
+app_with names = record {
+  top = record (new_shape (codes "ow_whisk")) {
+    rules = map option_rule names;
+    no_binary_name = true;
+    disable_help_flag = true;
+  };
+  subs = [];
+}
 
-abbrev pub day_app : App
-day_app = with_rule (with_rule (plain_app (codes "day")) (option_rule (codes "table"))) (option_rule (codes "store"))
+-- the value that was found for each option
+abbrev pub values_found : ArgMatches → Values
+values_found found name = first_value (found_of found) name
 
--- the day whose options stand in these rows
-abbrev pub day_of_rows : List Row → Command
-day_of_rows rows = Day (first_of (codes "table") rows) (first_of (codes "store") rows)
+-- what was found are these values, and there are bad words only where there are none. Want of memory may always come
+abbrev pub AreFound : Option Values → Result ArgMatches WordsRefusal → Type 0
+AreFound values result = MatchResult result (λ found. values ≡ Some (values_found found)) (λ e. e ≡ BadWords → values ≡ None)

@@ -1,12 +1,15 @@
 -- The command set.
-use Rattle.std.specs.Prelude.{◌≡◌, ◌==◌, ◌&&◌, ℕ, Bool, true, false, List, [], ◌∷◌, ◌++◌, Option, Some, None, if◌then◌else◌, codes, find, not, option_map, Result, MatchResult}
+use Rattle.std.specs.Prelude.{◌≡◌, ◌==◌, ◌&&◌, ◌||◌, ℕ, Bool, true, false, List, [], ◌∷◌, ◌++◌, Option, Some, None, if◌then◌else◌, codes, find, not, nat_le, option_and_then, option_map, Result, MatchResult}
 use Rattle.std.specs.List.{list_any}
 use Rattle.std.specs.Str.{bytes_eq}
 use Rattle.clap.specs.Lexer.{long_of}
+use Rattle.ow_value.specs.Decimal.{decimal_of}
 use Rattle.ow_words.specs.declared.command.Command.{Command}
-use Rattle.ow_words.specs.declared.command.Command.TheVariants.{Day, Help, Version}
+use Rattle.ow_words.specs.declared.command.Command.TheVariants.{Day, Serve, Help, Version}
 use Rattle.ow_words.specs.declared.command.WordsRefusal.{WordsRefusal}
 use Rattle.ow_words.specs.declared.command.WordsRefusal.TheVariants.{BadWords}
+
+-- ---- options
 
 -- the value of an option isn't empty, and begins with no `-`
 abbrev pub is_value : List ℕ → Bool
@@ -56,22 +59,80 @@ once_of names (Some given) = if each_once names [] given then Some given else No
 abbrev pub options_in : List (List ℕ) → List (List ℕ) → Option (List Given)
 options_in names words = once_of names (given_from words None)
 
--- the value that the option of this name has
-abbrev pub value_in : List ℕ → List Given → Option (List ℕ)
-value_in name given = option_map (λ g. g.1) (find (λ g. bytes_eq g.0 name) given)
+-- the value of each option, by its name
+abbrev pub Values : Type 0
+Values = List ℕ → Option (List ℕ)
+
+abbrev pub values_in : List Given → Values
+values_in given name = option_map (λ g. g.1) (find (λ g. bytes_eq g.0 name) given)
+
+-- the values that the words give to the options with these names
+abbrev pub values_of : List (List ℕ) → List (List ℕ) → Option Values
+values_of names words = option_map values_in (options_in names words)
+
+-- ---- a day
 
 abbrev pub day_options : List (List ℕ)
 day_options = codes "table" ∷ codes "store" ∷ []
 
-abbrev pub day_with : List Given → Command
-day_with given = Day (value_in (codes "table") given) (value_in (codes "store") given)
+abbrev pub day_with : Values → Command
+day_with value = Day (value (codes "table")) (value (codes "store"))
 
 abbrev pub is_day : List ℕ → Bool
 is_day word = bytes_eq word (codes "day")
 
-abbrev pub begins_day : List (List ℕ) → Bool
-begins_day [] = false
-begins_day (word ∷ words) = is_day word
+-- ---- a service
+
+abbrev pub serve_options : List (List ℕ)
+serve_options = codes "port" ∷ codes "workers" ∷ codes "connections" ∷ codes "table" ∷ codes "store" ∷ []
+
+-- n, where it lies between these two
+abbrev pub if_within : ℕ → ℕ → ℕ → Option ℕ
+if_within least most n = if nat_le least n && nat_le n most then Some n else None
+
+-- decimal digits with no 0 in front of others
+abbrev pub number_within : ℕ → ℕ → List ℕ → Option ℕ
+number_within least most text = option_and_then (if_within least most) (decimal_of text)
+
+-- a service has a port, a number of 16 bits
+abbrev pub port_of : Option (List ℕ) → Option ℕ
+port_of value = option_and_then (number_within 0 65535) value
+
+-- 1 to 64 workers, and 4 where the words don't tell
+abbrev pub workers_of : Option (List ℕ) → Option ℕ
+workers_of None = Some 4
+workers_of (Some text) = number_within 1 64 text
+
+-- as many connections as a number of 64 bits says, or whichever come where the words don't tell
+abbrev pub connections_of : Option (List ℕ) → Option (Option ℕ)
+connections_of None = Some None
+connections_of (Some text) = option_map Some (decimal_of text)
+
+-- a service, where its numbers are allowed
+abbrev pub serve_by : (port workers : Option ℕ) (connections : Option (Option ℕ)) (table store : Option (List ℕ)) → Option Command
+serve_by (Some port) (Some workers) (Some connections) table store = Some (Serve (record {
+  port = port;
+  workers = workers;
+  connections = connections;
+  table = table;
+  store = store;
+}))
+serve_by port workers connections table store = None
+
+abbrev pub serve_with : Values → Option Command
+serve_with value =
+    serve_by (port_of (value (codes "port"))) (workers_of (value (codes "workers"))) (connections_of (value (codes "connections")))
+    (value (codes "table")) (value (codes "store"))
+
+abbrev pub is_serve : List ℕ → Bool
+is_serve word = bytes_eq word (codes "serve")
+
+-- ---- the words
+
+-- the first word is that of a command with options
+abbrev pub takes_options : List (List ℕ) → Bool
+takes_options [] = false
+takes_options (word ∷ words) = is_day word || is_serve word
 
 -- the commands of one word
 abbrev pub command_named : List ℕ → Option Command
@@ -85,7 +146,9 @@ alone command (word ∷ words) = None
 -- the command of the words, or none where they aren't in the command set
 abbrev pub command_of : List (List ℕ) → Option Command
 command_of [] = None
-command_of (word ∷ words) = if is_day word then option_map day_with (options_in day_options words) else alone (command_named word) words
+command_of (word ∷ words) = if is_day word then option_map day_with (values_of day_options words)
+    else (if is_serve word then option_and_then serve_with (values_of serve_options words)
+    else alone (command_named word) words)
 
 -- a command is answered exactly where it is this one, and bad words only where there is none. Want of memory may always come
 abbrev pub IsReading : Option Command → Result Command WordsRefusal → Type 0

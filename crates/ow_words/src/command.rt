@@ -13,10 +13,27 @@ pub enum Command {
         /// The file that the rows and records are kept in.
         store: Option<Str>,
     },
+    /// Serve requests that come over sockets.
+    Serve(ServeWords),
     /// Tell how the program is used.
     Help,
     /// Tell the program's version.
     Version,
+}
+
+/// What the words tell of a service.
+#[derive(Drop)]
+pub struct ServeWords {
+    /// The port that it listens on. For 0 the system chooses one.
+    pub port: u16,
+    /// How many workers there are, 1 to 64: 4 where the words don't tell.
+    pub workers: u32,
+    /// How many connections are accepted before it stops listening, or none where it doesn't stop for their number.
+    pub connections: Option<u64>,
+    /// The file with the office table.
+    pub table: Option<Str>,
+    /// The file that the rows and records are kept in.
+    pub store: Option<Str>,
 }
 
 /// Why there is no command.

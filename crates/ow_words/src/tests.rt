@@ -1,5 +1,5 @@
 // The command set, by its worked words.
-use crate::{Command, WordsRefusal, read_words};
+use crate::{Command, ServeWords, WordsRefusal, read_words};
 use ow_value::{NoMemory, Str};
 use std::alloc::Global;
 
@@ -32,6 +32,56 @@ fn is_day(alloc: Global, line: &str, wants_table: &str, wants_store: &str) -> bo
             named(&table) == wants_table && named(&store) == wants_store
         }
         _ => false,
+    }
+}
+
+// Whether the words ask for a service with these numbers and files. An empty name stands for none.
+fn is_service(
+    alloc: Global,
+    line: &str,
+    port: u16,
+    workers: u32,
+    connections: Option<u64>,
+    files: (&str, &str),
+) -> bool {
+    let Ok(Command::Serve(asked)) = read(alloc, line) else {
+        return false;
+    };
+    let ServeWords { table, store, .. } = &asked;
+    let are_files = named(table) == files.0 && named(store) == files.1;
+    (asked.port, asked.workers, asked.connections) == (port, workers, connections) && are_files
+}
+
+#[test]
+fn services(rt: HostRuntime) {
+    let most = u64::MAX;
+    for (line, port, workers, connections, files) in [
+        ("serve|--port|8080", 8080, 4, None, ("", "")),
+        ("serve|--port=0", 0, 4, None, ("", "")),
+        ("serve|--port=65535|--workers=1", 65535, 1, None, ("", "")),
+        ("serve|--workers|64|--port|1", 1, 64, None, ("", "")),
+        ("serve|--connections|0|--port|1", 1, 4, Some(0), ("", "")),
+        (
+            "serve|--port|1|--connections=18446744073709551615",
+            1,
+            4,
+            Some(most),
+            ("", ""),
+        ),
+        ("serve|--table|t|--port|1", 1, 4, None, ("t", "")),
+        ("serve|--port|1|--store=s", 1, 4, None, ("", "s")),
+        (
+            "serve|--store|s|--connections|2|--table=t|--workers=3|--port|1",
+            1,
+            3,
+            Some(2),
+            ("t", "s"),
+        ),
+    ] {
+        assert!(rt;
+            is_service(rt.alloc(), line, port, workers, connections, files),
+            "{line}"
+        );
     }
 }
 
@@ -87,6 +137,29 @@ fn bad_words(rt: HostRuntime) {
         "day|--port|1",
         "day|-t|t",
         "--table|t|day",
+        "serve",
+        "Serve|--port|1",
+        "serve|--port",
+        "serve|--port=",
+        "serve|--port|-1",
+        "serve|--port|+1",
+        "serve|--port|01",
+        "serve|--port|1 ",
+        "serve|--port|http",
+        "serve|--port|65536",
+        "serve|--port|1|--port|1",
+        "serve|--workers|4",
+        "serve|--port|1|--workers|0",
+        "serve|--port|1|--workers|65",
+        "serve|--port|1|--workers|4|--workers|4",
+        "serve|--port|1|--workers|18446744073709551617",
+        "serve|--port|1|--connections|18446744073709551616",
+        "serve|--port|1|--connections|00",
+        "serve|--port|1|--seed|1",
+        "serve|1",
+        "serve|--port|1|day",
+        "serve|--help",
+        "--port|1|serve",
     ] {
         assert!(rt;
             matches!(read(rt.alloc(), line), Err(WordsRefusal::BadWords)),

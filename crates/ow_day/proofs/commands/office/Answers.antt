@@ -1,4 +1,6 @@
+use Rattle.ow_traits.proofs.Taking.{took_front}
 use Rattle.ow_hall.proofs.Beginnings.{keeps_each, keeps_limits}
+use Rattle.ow_day.specs.Status.{err_text}
 use Rattle.ow_day.proofs.Legal.{legal_books}
 use Rattle.ow_day.proofs.commands.office.Goals as goal
 
@@ -10,3 +12,7 @@ returns-clause-limits g c = λ t B legal. keeps_limits t B
 
 pub returns-clause-legal : goal.returns-clause-legal
 returns-clause-legal g c = legal_books
+
+pub returns-clause-line : goal.returns-clause-line
+returns-clause-line g c =
+    took_front c.report.result (g.E.Sink.taken c.args.err.now) (g.E.Sink.taken c.report.new.err) (err_text c.perform-status.result.0) c.report.ensures.ok c.report.ensures.err

@@ -1,0 +1,5 @@
+pub mod First
+pub mod Places
+pub mod Numbers
+pub mod Drains
+pub mod Differs

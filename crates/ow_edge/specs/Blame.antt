@@ -1,0 +1,23 @@
+-- What an error of an accept concerns.
+use Rattle.std.specs.Prelude.{ℤ, pos, Option, Some, if◌then◌else◌, ◌==◌, ◌||◌}
+use Rattle.ow_edge.specs.declared.blame.Blamed.{Blamed}
+use Rattle.ow_edge.specs.declared.blame.Blamed.TheVariants.{Connection, Want, Listener}
+use Rattle.std.specs.declared.io.ErrorKind.{ErrorKind}
+use Rattle.std.specs.declared.io.ErrorKind.TheVariants.{ConnectionAborted, ConnectionReset, HostUnreachable, Interrupted, NetworkDown, NetworkUnreachable, OutOfMemory, TimedOut}
+
+-- what is to blame for an error whose kind doesn't tell: on Linux 23 is want of a file, 24 of a descriptor, and 105 of room for buffers
+abbrev pub blamed_by_number : Option ℤ → Blamed
+blamed_by_number (Some (pos n)) = if n == 23 || n == 24 || n == 105 then Want else Listener
+blamed_by_number code = Listener
+
+-- what is to blame for an error of an accept, by its kind, or else by the system's number
+abbrev pub blamed : ErrorKind → Option ℤ → Blamed
+blamed ConnectionAborted code = Connection
+blamed ConnectionReset code = Connection
+blamed HostUnreachable code = Connection
+blamed Interrupted code = Connection
+blamed NetworkDown code = Connection
+blamed NetworkUnreachable code = Connection
+blamed TimedOut code = Connection
+blamed OutOfMemory code = Want
+blamed kind code = blamed_by_number code

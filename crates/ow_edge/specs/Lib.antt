@@ -1,0 +1,5 @@
+pub mod Accepting
+pub mod Blame
+pub mod CrewView
+pub mod Runs
+pub mod Slots

@@ -1,0 +1,11 @@
+#![tactic(auto)]
+
+//! A connection of a peer: its requests are asked of a shared hall, and the replies go back in their order.
+mod asking;
+mod ending;
+mod talking;
+#[cfg(test)]
+mod tests;
+
+pub use ending::Ending;
+pub use talking::connection;

@@ -1,0 +1,9 @@
+use denote.Param.Send.{sendable}
+use Rattle.ow_serve.proofs.Crossing.{done_send, duty_send}
+use Rattle.ow_serve.proofs.service.begin.Goals as goal
+
+pub begin-requires-send-T : goal.begin-requires-send-T
+begin-requires-send-T g c κs within = search (sendable, duty_send, c.type_bounds)
+
+pub begin-requires-send-T-Done : goal.begin-requires-send-T-Done
+begin-requires-send-T-Done g c κs within = search (sendable, done_send, c.type_bounds)

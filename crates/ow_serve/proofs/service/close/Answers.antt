@@ -1,0 +1,14 @@
+use denote.Param.Send.{sendable}
+use Rattle.ow_serve.proofs.Whole.{closes_by}
+use Rattle.ow_serve.proofs.Crossing.{done_send, duty_send}
+use Rattle.ow_serve.proofs.service.close.Goals as goal
+
+pub returns-clause-closes : goal.returns-clause-closes
+returns-clause-closes g c =
+    closes_by _ _ _ _ _ _ _ _ _ _ _ _ c.args.first c.join-joined.result c.all_of-all.result c.join-joined.ensures.joined c.all_of-all.ensures c.leave.ensures.left c.leave.ensures.none
+
+pub join-joined-requires-send-T : goal.join-joined-requires-send-T
+join-joined-requires-send-T g c κs within = search (sendable, duty_send, c.type_bounds)
+
+pub join-joined-requires-send-T-Done : goal.join-joined-requires-send-T-Done
+join-joined-requires-send-T-Done g c κs within = search (sendable, done_send, c.type_bounds)

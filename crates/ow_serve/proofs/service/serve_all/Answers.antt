@@ -1,0 +1,23 @@
+use denote.Param.Send.{sendable}
+use Rattle.std.proofs.Common.{◌≡◌}
+use Rattle.ow_desk.specs.Notes.{no_notes}
+use Rattle.ow_serve.specs.Duties.{Ends}
+use Rattle.ow_serve.specs.declared.duty.Work.TheVariants.{Serves}
+use Rattle.ow_serve.proofs.Seating.{served_by}
+use Rattle.ow_serve.proofs.Whole.{serves_by}
+use Rattle.ow_serve.proofs.Crossing.{done_send, duty_send}
+use Rattle.ow_serve.proofs.service.serve_all.Goals as goal
+
+pub returns-in-Ok-clause-serves : goal.returns-in-Ok-clause-serves
+returns-in-Ok-clause-serves g c =
+    rw (← c.unwrap_or-most.ensures)
+    (serves_by g.K.Link.left g.K.Link.taken (λ d. d.notes.notes) (λ d. d.ending) (λ t k. (t.work ≡ Serves k) × (t.notes.notes ≡ no_notes))
+    (λ t d. Ends g.K.Link.left g.K.Link.taken t.work t.notes.notes d.notes.notes d.ending)
+    (λ t k d mine e. served_by g.K.Link.left g.K.Link.taken t.work k t.notes.notes d.notes.notes d.ending mine.0 mine.1 e)
+    _ _ _ _ _ _ _ _ _ _ _ _ c.started-first.ensures c.accept_all-seats.ensures.accepted c.close.ensures.closes)
+
+pub started-first-requires-send-T : goal.started-first-requires-send-T
+started-first-requires-send-T g c κs within = search (sendable, duty_send, c.type_bounds)
+
+pub started-first-requires-send-T-Done : goal.started-first-requires-send-T-Done
+started-first-requires-send-T-Done g c κs within = search (sendable, done_send, c.type_bounds)

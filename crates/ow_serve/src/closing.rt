@@ -1,0 +1,165 @@
+// The end: all that was accepted ends, and what lies on the board is stopped.
+ghost use Rattle.std.specs.Prelude.{◌≡◌, ◌<◌, ◌++◌, ◌∷◌, map, IfOk, OnOk};
+ghost use Rattle.ow_tenant.specs.Table.{Table};
+ghost use Rattle.ow_board.specs.Board.{IsPassOf, size};
+ghost use Rattle.ow_hall.specs.History.{IsLegal};
+ghost use Rattle.ow_serve.specs.Peers.{endings_in, filled};
+
+use crate::duty::Done;
+use crate::house::House;
+use crate::place::Place;
+use ow_board::{Pass, is_full};
+use ow_desk::Receipts;
+use ow_floor::Drain;
+use ow_hall::Book;
+use ow_peer::Ending;
+use ow_threads::{Bell, Clock, Gate};
+use ow_traits::{Keeper, Runner};
+use ow_value::NoMemory;
+use std::alloc::Global;
+use std::collections::VecDeque;
+use std::sync::{Arc, Wait};
+
+/// How long the service pauses between two drains, in milliseconds. The ring of a worker ends the pause.
+const PAUSE: u64 = 10;
+
+/// Takes no more calls, and waits until all that was accepted has ended.
+pub(crate) fn drain<H: Wait, P: Keeper + Drop, R: Runner + Drop, C: Clock + Drop, G: Gate + Drop>(
+    rt: &H,
+    alloc: Global,
+    house: &mut House<P, R, C, G>,
+) -> Result<(), NoMemory> {
+    for _ in rt.forever() {
+        match drain_once(rt, alloc, house) {
+            Ok(Drain::Drained(_)) => return Ok(()),
+            Ok(Drain::StillOpen(_)) => house.clock.pause(Bell::Close, PAUSE),
+            Err(e) => return Err(e),
+        }
+    }
+    Err(NoMemory)
+}
+
+// The lock is free again behind this call.
+fn drain_once<H: Wait, P: Keeper + Drop, R: Runner + Drop, C: Clock + Drop, G: Gate + Drop>(
+    rt: &H,
+    alloc: Global,
+    house: &mut House<P, R, C, G>,
+) -> Result<Drain, NoMemory> {
+    let at = house.clock.now();
+    house
+        .notes
+        .drain(alloc, &mut *house.place.desk.lock(rt), at)
+}
+
+/// Stops each container that lies on the board.
+pub(crate) fn clear<P: Keeper + Drop, R: Runner>(
+    place: &Place<P, R::Container>,
+    pass: &mut Pass<R::Container>,
+    runner: &mut R,
+)
+    requires { IsPassOf place.now.board pass.old }
+    ensures { IsPassOf place.now.board pass.new }
+{
+    for i in 0..place.board.slots() {
+        clear_slot(place, pass, runner, i);
+    }
+}
+
+fn clear_slot<P: Keeper + Drop, R: Runner>(
+    place: &Place<P, R::Container>,
+    pass: &mut Pass<R::Container>,
+    runner: &mut R,
+    i: u32,
+)
+    requires pass { IsPassOf place.now.board pass.old }
+    requires slot { i < size place.now.board }
+    ensures { IsPassOf place.now.board pass.new }
+{
+    let word = place.board.look(pass, i);
+    if is_full(word) {
+        if let Ok(container) = place.board.take(pass, i, word) {
+            runner.stop(container);
+        }
+    }
+}
+
+/// The book as it stands.
+pub(crate) fn book_of<H: Wait, P: Keeper + Drop, B: Drop>(
+    rt: &H,
+    alloc: Global,
+    place: &Place<P, B>,
+) -> Result<Book, NoMemory>
+    ensures { IfOk result (λ b. (t : Table) × IsLegal t b.ledger.entries) }
+{
+    let desk = place.desk.lock(rt);
+    desk.hall().book().copy(alloc)
+}
+
+/// The store, where nothing else shares the place any more.
+pub(crate) fn store_of<P: Keeper + Drop, B: Drop>(place: Arc<Place<P, B>, Global>) -> Option<P> {
+    let place = Arc::into_inner(place)?;
+    let (store, _book) = place.into_desk().open().finish();
+    Some(store)
+}
+
+/// What all peers came to, in order: what the service served itself stands in its seat, what threads came to takes the free ones.
+pub(crate) fn in_order<T: Drop>(
+    alloc: Global,
+    seats: Vec<Option<T>>,
+    joined: Vec<T>,
+) -> Result<Vec<T>, NoMemory>
+    ensures { IfOk result (λ v. v.items ≡ filled seats.items joined.items) }
+{
+    let mut all = Vec::with_capacity(alloc, seats.len())?;
+    let mut seats = VecDeque::from(seats);
+    let mut joined = VecDeque::from(joined);
+    while let Some(seat) = seats.pop_front() {
+        let done = match seat {
+            Some(done) => Some(done),
+            None => joined.pop_front(),
+        };
+        if let Some(done) = done {
+            all.push(done)?;
+        }
+    }
+    Ok(all)
+}
+
+/// The receipts of the service itself, of its peers, and of the others, and how the peers' connections ended.
+pub(crate) fn gathered<R: Runner + Drop, P: Keeper + Drop>(
+    alloc: Global,
+    own: Receipts<P>,
+    peers: Vec<Done<R, P>>,
+    others: Vec<Done<R, P>>,
+) -> Result<(Vec<Receipts<P>>, Vec<Ending>), NoMemory>
+    ensures { IfOk result (λ r. (map (λ x. x.notes) r.0.items ≡ own.notes ∷ (map (λ d. d.notes.notes) peers.items ++ map (λ d. d.notes.notes) others.items))
+        × (r.1.items ≡ endings_in (map (λ d. d.ending) peers.items))) }
+{
+    let mut receipts = Vec::new(alloc);
+    let mut endings = Vec::new(alloc);
+    receipts.push(own)?;
+    put_all(peers, &mut receipts, &mut endings)?;
+    let mut unused = Vec::new(alloc);
+    put_all(others, &mut receipts, &mut unused)?;
+    Ok((receipts, endings))
+}
+
+// Puts the receipts and the endings behind the others.
+fn put_all<R: Runner + Drop, P: Keeper + Drop>(
+    dones: Vec<Done<R, P>>,
+    receipts: &mut Vec<Receipts<P>>,
+    endings: &mut Vec<Ending>,
+) -> Result<(), NoMemory>
+    ensures { OnOk result ((map (λ x. x.notes) receipts.new.items ≡ map (λ x. x.notes) receipts.old.items ++ map (λ d. d.notes.notes) dones.items)
+        × (endings.new.items ≡ endings.old.items ++ endings_in (map (λ d. d.ending) dones.items))) }
+{
+    let mut dones = VecDeque::from(dones);
+    while let Some(done) = dones.pop_front() {
+        let Done { notes, ending, .. } = done;
+        receipts.push(notes)?;
+        if let Some(ending) = ending {
+            endings.push(ending)?;
+        }
+    }
+    Ok(())
+}

@@ -1,0 +1,46 @@
+// What a service came to.
+use ow_audit::Difference;
+use ow_desk::Receipts;
+use ow_hall::Book;
+use ow_peer::Ending;
+use ow_traits::Keeper;
+use ow_value::Str;
+
+/// How a service ended.
+#[derive(Drop)]
+pub enum ServedEnd {
+    /// No peer will come any more, or as many came as were to be accepted, and all that was accepted has ended.
+    Closed,
+    /// The listener failed. All that was accepted has ended.
+    ListenFault,
+    /// No thread was to be had for a worker, the sweeper or the reaper. No peer was accepted.
+    NoWorker,
+    /// The store failed at the opening.
+    StoreFault,
+    /// The kept rows are not allowed: the first bad one has this key.
+    BadKept(Str),
+    /// No memory was left.
+    NoMemory,
+    /// The receipts aren't the book.
+    Unmatched(Difference),
+}
+
+/// What a service came to, and what it leaves.
+#[derive(Drop)]
+pub struct Served<P: Keeper + Drop> {
+    /// How it ended.
+    pub end: ServedEnd,
+    /// The store, where it could be taken out of what the threads shared.
+    pub store: Option<P>,
+    /// The book as it stood when all threads had ended.
+    pub book: Option<Book>,
+    /// Those of the service itself, which hold the opening and the drains; those of the peers, in the order in which they were accepted;
+    /// and those of workers, sweeper and reaper.
+    pub receipts: Vec<Receipts<P>>,
+    /// How the connections of the peers ended, in the same order.
+    pub endings: Vec<Ending>,
+    /// How many calls of the listener failed.
+    pub listener_faults: u64,
+    /// How many duties got no thread.
+    pub spawner_faults: u64,
+}

@@ -1,0 +1,7 @@
+use denote.Param.Send.{sendable}
+use Rattle.std.proofs.Crossing.{crosses}
+use Rattle.ow_whisk.proofs.Container.{container_send}
+use Rattle.ow_whisk.proofs.serving.serve_at.Goals as goal
+
+pub serve-requires-send-R-Container : goal.serve-requires-send-R-Container
+serve-requires-send-R-Container g c κs within = search (sendable, crosses, container_send) depth 50 fits 20000

@@ -1,0 +1,142 @@
+// The running service, over sockets, the system's clock, threads and programs.
+ghost use Rattle.std.specs.Prelude.{◌≡◌, ◌≤◌, ◌<◌, length, IfOk};
+ghost use Rattle.std.specs.Process.{exit_status};
+ghost use Rattle.ow_tenant.specs.Table.{AreWantsSized, IsPoolSized};
+ghost use Rattle.ow_whisk.specs.Served.{served_number};
+
+use ow_edge::{Always, Bells, SocketListener, SystemClock};
+use ow_links::{Link, Listener};
+use ow_runners::ProgramRunner;
+use ow_serve::{Served, ServedEnd, serve};
+use ow_tenant::Tenants;
+use ow_threads::OpenGate;
+use ow_traits::Keeper;
+use ow_value::{NoMemory, PlainData};
+use ow_words::ServeWords;
+use std::net::{Net, TcpListener, TcpStream};
+use std::process::{ExitCode, Processes, SystemProcess};
+use std::sync::{Arc, Wait};
+use std::thread::Threads;
+use std::time::Clock;
+
+/// What the service needs of the system beside sockets and programs.
+pub trait System: Wait + Threads + Clock + AllocGlobal + Clone + Drop + Send + Sync + 'static {}
+
+impl<H: Wait + Threads + Clock + AllocGlobal + Clone + Drop + Send + Sync + 'static> System for H {}
+
+// A runner for each worker, of which there is one at least, and one for the reaper.
+fn runners_of<H: System + Processes<Started = SystemProcess>>(
+    rt: &H,
+    workers: u32,
+    tenants: &Tenants,
+) -> Result<Vec<ProgramRunner<H>>, NoMemory>
+    ensures least { IfOk result (λ runners. 2 ≤ length runners.items) }
+    ensures each { IfOk result (λ runners. workers < length runners.items) }
+{
+    let mut runners = Vec::new(rt.alloc());
+    for _ in 0..workers.max(1) {
+        runners.push(runner_of(rt, tenants)?)?;
+    }
+    runners.push(runner_of(rt, tenants)?)?;
+    Ok(runners)
+}
+
+fn runner_of<H: System + Processes<Started = SystemProcess>>(
+    rt: &H,
+    tenants: &Tenants,
+) -> Result<ProgramRunner<H>, NoMemory> {
+    let programs = tenants.programs().copy(rt.alloc())?;
+    Ok(ProgramRunner::new(rt.clone()?, programs))
+}
+
+// The exit status of a service.
+fn code_of(end: &ServedEnd) -> ExitCode
+    ensures { exit_status result ≡ served_number end.now }
+{
+    ExitCode::from(number_of(end))
+}
+
+// Its number: those of the other commands, and three of its own.
+fn number_of(end: &ServedEnd) -> u8
+    ensures { result ≡ served_number end.now }
+{
+    match end {
+        ServedEnd::Closed => 0,
+        ServedEnd::StoreFault => 5,
+        ServedEnd::NoMemory => 7,
+        ServedEnd::BadKept(_) => 9,
+        ServedEnd::ListenFault => 10,
+        ServedEnd::NoWorker => 11,
+        ServedEnd::Unmatched(_) => 12,
+    }
+}
+
+// Serves the peers of a listener.
+fn serve_at<
+    H: System + Processes<Started = SystemProcess>,
+    K: Link + Drop + Send + 'static,
+    L: Listener<Peer = K>,
+    P: Keeper + Drop + Send + 'static,
+>(
+    rt: &H,
+    words: ServeWords,
+    tenants: Tenants,
+    store: P,
+    listener: &mut L,
+) -> Result<Served<P>, NoMemory>
+    requires wants { AreWantsSized tenants.wants }
+    requires pool { IsPoolSized tenants.pool }
+{
+    let alloc = rt.alloc();
+    let runners = runners_of(rt, words.workers, &tenants)?;
+    let bells = Arc::new(alloc, Bells::new())?;
+    let clock = Arc::new(alloc, SystemClock::new(rt.clone()?, bells))?;
+    let gate = Arc::new(alloc, OpenGate::new())?;
+    Ok(serve(
+        rt,
+        alloc,
+        words,
+        tenants,
+        listener,
+        runners,
+        store,
+        clock,
+        gate,
+        Always::new(),
+    ))
+}
+
+// Listens on the port of all addresses of the machine. Where it can't, the listener's first accept fails.
+fn serve_port<
+    H: System
+        + Net<Listener = TcpListener, Stream = TcpStream>
+        + Processes<Started = SystemProcess>,
+    P: Keeper + Drop + Send + 'static,
+>(rt: &H, words: ServeWords, tenants: Tenants, store: P) -> Result<Served<P>, NoMemory>
+    requires wants { AreWantsSized tenants.wants }
+    requires pool { IsPoolSized tenants.pool }
+{
+    let port = words.port;
+    let address = format!(in rt.alloc(); "0.0.0.0:{port}")?;
+    let mut listener = SocketListener::new(TcpListener::bind(rt, address.as_str()), rt.clone()?);
+    serve_at(rt, words, tenants, store, &mut listener)
+}
+
+/// Serves over the store and the office table, and gives the exit status, and the store where it came back.
+pub fn served<
+    H: System
+        + Net<Listener = TcpListener, Stream = TcpStream>
+        + Processes<Started = SystemProcess>,
+    P: Keeper + Drop + Send + 'static,
+>(rt: &H, words: ServeWords, tenants: Tenants, store: P) -> (ExitCode, Option<P>)
+    requires wants { AreWantsSized tenants.wants }
+    requires pool { IsPoolSized tenants.pool }
+{
+    match serve_port(rt, words, tenants, store) {
+        Ok(served) => {
+            let Served { end, store, .. } = served;
+            (code_of(&end), store)
+        }
+        Err(_) => (code_of(&ServedEnd::NoMemory), None),
+    }
+}

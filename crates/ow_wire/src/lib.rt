@@ -1,0 +1,8 @@
+#![tactic(auto)]
+
+//! Requests off a link, and replies onto it.
+mod inbox;
+mod replying;
+
+pub use inbox::{Arrival, Inbox};
+pub use replying::{Sent, send_reply};
