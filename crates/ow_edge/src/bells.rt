@@ -7,13 +7,13 @@ use std::sync::{Condvar, Mutex, Wait};
 use std::time::{Clock, Duration};
 
 // How many bells ring for the ends of activations: the counts of those that share one are equal modulo this number.
-const END_BELLS: usize = 64;
+const END_BELLS: usize = 1024;
 
 /// The bells that the clocks of one server share, so that a ring of one ends the pauses of all that wait for it.
 ///
 /// A ring of work ends one pause, where one is under way, and any other ring all of them. That of the close ends those for work too. A
 /// ring that finds no pause ends the next one for the same bell, unless another bell rang in its place since. Ends of activations whose
-/// counts are equal modulo 64 share a place, and a ring of one may end the pause for another.
+/// counts are equal modulo 1,024 share a place, and a ring of one may end the pause for another.
 #[derive(Drop)]
 pub struct Bells {
     work: Place,
@@ -55,7 +55,7 @@ impl Bells {
 
 // The place of the bell of an end.
 fn place_of(count: u64) -> usize
-    ensures { result < 64 }
+    ensures { result < 1024 }
 {
     (count % END_BELLS as u64) as usize
 }

@@ -1,3 +1,4 @@
+pub mod Chain
 pub mod Extent
 pub mod Parts
 pub mod Lists

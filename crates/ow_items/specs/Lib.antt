@@ -3,3 +3,4 @@ pub mod Bytes
 pub mod Lists
 pub mod Item
 pub mod Laws
+pub mod Tokens

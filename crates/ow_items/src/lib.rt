@@ -2,9 +2,13 @@
 
 //! What is kept of the service from one run to the next, as rows of a key and a text: the row of each item, and what
 //! changes make of the rows.
+mod done_text;
 mod item;
 mod laws;
+mod notes_text;
+mod open_text;
 mod rows;
+mod tokens;
 mod writing;
 
 pub use item::Item;

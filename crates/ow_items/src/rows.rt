@@ -3,10 +3,12 @@ ghost use Rattle.std.specs.Prelude.{◌≡◌, IfOk};
 ghost use Rattle.ow_items.specs.Item.{item_row};
 ghost use Rattle.ow_items.specs.declared.item.Item.TheVariants as items;
 
+use crate::done_text::done_text;
 use crate::item::Item;
-use crate::writing::{compacted, count_key, done_key, entity_key, open_key, write_open};
+use crate::open_text::open_text;
+use crate::writing::{compacted, count_key, entity_key, joined};
 use ow_entity::{Row, write_entity};
-use ow_records::{Record, Unrecorded, write_record};
+use ow_records::{Record, Unrecorded};
 use ow_value::{NoMemory, Str};
 use std::alloc::Global;
 
@@ -60,9 +62,9 @@ pub fn entity_row(alloc: Global, row: &Row) -> Result<(Str, Str), NoMemory>
 pub fn open_row(alloc: Global, activation: &Unrecorded) -> Result<(Str, Str), NoMemory>
     ensures { IfOk result (λ r. r ≡ item_row (items.Open activation.now)) }
 {
-    let key = open_key(alloc, activation.id)?;
-    let value = write_open(alloc, activation)?;
-    let text = compacted(alloc, &value)?;
+    let digits = activation.id.text(alloc)?;
+    let key = joined(alloc, "open/", digits.as_str())?;
+    let text = open_text(alloc, activation, digits.as_str())?;
     Ok((key, text))
 }
 
@@ -71,8 +73,8 @@ pub fn open_row(alloc: Global, activation: &Unrecorded) -> Result<(Str, Str), No
 pub fn done_row(alloc: Global, ended: &Record) -> Result<(Str, Str), NoMemory>
     ensures { IfOk result (λ r. r ≡ item_row (items.Done ended.now)) }
 {
-    let key = done_key(alloc, ended.id)?;
-    let value = write_record(alloc, ended)?;
-    let text = compacted(alloc, &value)?;
+    let digits = ended.id.text(alloc)?;
+    let key = joined(alloc, "done/", digits.as_str())?;
+    let text = done_text(alloc, ended, digits.as_str())?;
     Ok((key, text))
 }

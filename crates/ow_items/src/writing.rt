@@ -60,7 +60,7 @@ pub fn done_key(alloc: Global, id: Id) -> Result<Str, NoMemory>
     joined(alloc, "done/", digits.as_str())
 }
 
-fn joined(alloc: Global, a: &str, b: &str) -> Result<Str, NoMemory>
+pub(crate) fn joined(alloc: Global, a: &str, b: &str) -> Result<Str, NoMemory>
     ensures { IfOk result (λ s. s ≡ a.now ++ b.now) }
 {
     let mut text = String::with_capacity(alloc, 64)?;

@@ -8,7 +8,7 @@ use ow_decide::{HallCollected, Reply};
 use ow_desk::{Desk, Receipts};
 use ow_http::{Answer, Request};
 use ow_records::Id;
-use ow_threads::{Bell, Clock};
+use ow_threads::{Bell, Clock, hold};
 use ow_traits::Keeper;
 use ow_value::NoMemory;
 use std::alloc::Global;
@@ -57,7 +57,7 @@ fn ask<H: Wait, P: Keeper + Drop, C: Clock>(
 ) -> Result<Reply, NoMemory>
     ensures { AsksFor request.now result notes.old.notes notes.new.notes }
 {
-    notes.ask(alloc, &mut *desk.lock(rt), clock.now(), request)
+    notes.ask(alloc, &mut *hold(rt, desk), clock.now(), request)
 }
 
 // What became of an activation. The lock is free again behind this call.
@@ -71,7 +71,7 @@ fn collect<H: Wait, P: Keeper + Drop, C: Clock>(
 ) -> Result<HallCollected, NoMemory>
     ensures { WasCalled (events.Collected id.now) (collect_outcome result) notes.old.notes notes.new.notes }
 {
-    notes.collect(alloc, &mut *desk.lock(rt), clock.now(), id)
+    notes.collect(alloc, &mut *hold(rt, desk), clock.now(), id)
 }
 
 // The answer that an activation comes to, or that its request's time is over.
@@ -86,13 +86,13 @@ fn collect_on<H: Wait, P: Keeper + Drop, C: Clock>(
     ensures { Collects id.now notes.old.notes notes.new.notes result }
 {
     for _ in rt.forever() {
+        clock.pause(Bell::End(id.count), PAUSE);
         match collect(rt, alloc, desk, clock, notes, id) {
             Ok(HallCollected::Reply(answer)) => return Ok(answer),
             Ok(HallCollected::NotYet) => {}
             Ok(HallCollected::Unknown) => {}
             Err(e) => return Err(e),
         }
-        clock.pause(Bell::End(id.count), PAUSE);
     }
     Err(NoMemory)
 }

@@ -45,4 +45,4 @@ pub use records::Records;
 pub use responses::Response;
 pub use span::Span;
 pub use unrecorded::Unrecorded;
-pub use written::{write_logs, write_record, write_response, write_summary};
+pub use written::{status_text, write_logs, write_record, write_response, write_summary};

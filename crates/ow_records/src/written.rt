@@ -110,7 +110,8 @@ fn record_members(alloc: Global, ended: &Record) -> Result<Fields, NoMemory>
     Ok(fields)
 }
 
-fn status_text(code: u8) -> &'static str
+/// What a code of a response is called.
+pub fn status_text(code: u8) -> &'static str
     ensures { result.now ≡ status_text code }
 {
     match code {

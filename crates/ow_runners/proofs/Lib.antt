@@ -1,3 +1,4 @@
+pub mod Container
 pub mod Equal
 pub mod Filling
 pub mod Lines

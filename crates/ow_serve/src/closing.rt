@@ -13,7 +13,7 @@ use ow_desk::Receipts;
 use ow_floor::Drain;
 use ow_hall::Book;
 use ow_peer::Ending;
-use ow_threads::{Bell, Clock, Gate};
+use ow_threads::{Bell, Clock, Gate, hold};
 use ow_traits::{Keeper, Runner};
 use ow_value::NoMemory;
 use std::alloc::Global;
@@ -48,7 +48,7 @@ fn drain_once<H: Wait, P: Keeper + Drop, R: Runner + Drop, C: Clock + Drop, G: G
     let at = house.clock.now();
     house
         .notes
-        .drain(alloc, &mut *house.place.desk.lock(rt), at)
+        .drain(alloc, &mut *hold(rt, &house.place.desk), at)
 }
 
 /// Stops each container that lies on the board.
@@ -91,7 +91,7 @@ pub(crate) fn book_of<H: Wait, P: Keeper + Drop, B: Drop>(
 ) -> Result<Book, NoMemory>
     ensures { IfOk result (λ b. (t : Table) × IsLegal t b.ledger.entries) }
 {
-    let desk = place.desk.lock(rt);
+    let desk = hold(rt, &place.desk);
     desk.hall().book().copy(alloc)
 }
 

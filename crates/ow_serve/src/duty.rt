@@ -88,15 +88,11 @@ where
             notes,
         } = self;
         let (mut notes, mut pass) = (notes, pass);
-        match work {
+        let (ending, runner) = match work {
             Work::Serves { link } => {
                 let mut link = link;
                 let ending = connection(&rt, alloc, &mut link, &place.desk, &*clock, &mut notes);
-                Done {
-                    notes,
-                    ending: Some(ending),
-                    runner: None,
-                }
+                (Some(ending), None)
             }
             Work::Turns { runner } => {
                 let mut runner = runner;
@@ -111,19 +107,11 @@ where
                     opened,
                     &mut notes,
                 );
-                Done {
-                    notes,
-                    ending: None,
-                    runner: Some(runner),
-                }
+                (None, Some(runner))
             }
             Work::Sweeps => {
                 sweep_on(&rt, alloc, &place, &*clock, &mut notes);
-                Done {
-                    notes,
-                    ending: None,
-                    runner: None,
-                }
+                (None, None)
             }
             Work::Reaps { runner } => {
                 let mut runner = runner;
@@ -138,12 +126,13 @@ where
                     opened,
                     &mut notes,
                 );
-                Done {
-                    notes,
-                    ending: None,
-                    runner: Some(runner),
-                }
+                (None, Some(runner))
             }
+        };
+        Done {
+            notes,
+            ending,
+            runner,
         }
     }
 }

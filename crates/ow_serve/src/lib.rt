@@ -3,9 +3,11 @@
 //! The running service: workers, a sweeper and a reaper over one hall and one board, a connection for each peer, and the end of it all,
 //! at which the receipts of every thread are compared with the book.
 mod accepting;
+mod beginning;
 mod closing;
 mod duty;
 mod house;
+mod leaving;
 mod place;
 mod served;
 mod service;

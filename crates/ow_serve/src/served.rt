@@ -1,10 +1,13 @@
 // What a service came to.
+ghost use Rattle.std.specs.Prelude.{◌≡◌, [], None};
+
 use ow_audit::Difference;
 use ow_desk::Receipts;
 use ow_hall::Book;
 use ow_peer::Ending;
 use ow_traits::Keeper;
 use ow_value::Str;
+use std::alloc::Global;
 
 /// How a service ended.
 #[derive(Drop)]
@@ -43,4 +46,28 @@ pub struct Served<P: Keeper + Drop> {
     pub listener_faults: u64,
     /// How many duties got no thread.
     pub spawner_faults: u64,
+}
+
+/// Nobody was served.
+pub(crate) fn nothing<P: Keeper + Drop>(
+    alloc: Global,
+    end: ServedEnd,
+    store: Option<P>,
+) -> Served<P>
+    ensures end { result.end ≡ end }
+    ensures store { result.store ≡ store }
+    ensures book { result.book ≡ None }
+    ensures receipts { result.receipts.items ≡ [] }
+    ensures endings { result.endings.items ≡ [] }
+    ensures counts { (result.listener_faults ≡ 0) × (result.spawner_faults ≡ 0) }
+{
+    Served {
+        end,
+        store,
+        book: None,
+        receipts: Vec::new(alloc),
+        endings: Vec::new(alloc),
+        listener_faults: 0,
+        spawner_faults: 0,
+    }
 }

@@ -1,6 +1,6 @@
 // Writes the text of a value.
-ghost use Rattle.std.specs.Prelude.{◌≡◌, ◌≤◌, ◌++◌, ℕ, Ok, IfOk, OnOk};
-ghost use Rattle.ow_value.specs.Value.{depth, items_of, members_of};
+ghost use Rattle.std.specs.Prelude.{◌≡◌, ◌≤◌, ◌++◌, ℕ, [], Ok, IfOk, OnOk};
+ghost use Rattle.ow_value.specs.Value.{V, depth, items_of, members_of};
 ghost use Rattle.serde_json.specs.Read.{max_depth};
 ghost use Rattle.ow_value.specs.Read.{reading};
 ghost use Rattle.ow_value.specs.Text.{compact, value_tokens, items_tokens, members_tokens};
@@ -8,6 +8,7 @@ ghost use Rattle.ow_value.specs.View.{view};
 
 use crate::memory::NoMemory;
 use crate::shared::held;
+use crate::text::Str;
 use crate::val::{Params, Val, Vals};
 use crate::walk::known;
 use json::Writer;
@@ -21,12 +22,23 @@ pub fn write_val(alloc: Global, v: &Val) -> Result<Vec<u8>, NoMemory>
 {
     known(v);
     let mut out = Writer::new(Vec::with_capacity(alloc, 128)?);
-    write(v, &mut out)?;
+    write_onto(v, &mut out)?;
     Ok(out.into_inner())
 }
 
+/// What was written, as a text: that of a value, where its tokens are the value's.
+pub fn written_text(out: Writer) -> Result<Str, NoMemory>
+    ensures { (v : V) → out.before ≡ [] → out.tokens ≡ value_tokens v → IfOk result (λ s. s ≡ compact v) }
+{
+    match String::from_utf8(out.into_inner()) {
+        Ok(text) => Str::from_string(text),
+        Err(_) => Err(NoMemory),
+    }
+}
+
+/// Writes the tokens of a value behind what was written.
 #[cycle(written)]
-fn write(v: &Val, out: &mut Writer) -> Result<(), AllocError>
+pub fn write_onto(v: &Val, out: &mut Writer) -> Result<(), AllocError>
     ensures ok { OnOk result (out.new.tokens ≡ out.old.tokens ++ value_tokens (view v.now)) }
     ensures before { out.new.before ≡ out.old.before }
 {
@@ -52,7 +64,7 @@ fn write_items(vs: &Vals, out: &mut Writer) -> Result<(), AllocError>
     ensures before { out.new.before ≡ out.old.before }
 {
     for v in held(&vs.items) {
-        write(v, out)?;
+        write_onto(v, out)?;
     }
     out.end_array()
 }
@@ -64,7 +76,7 @@ fn write_members(ps: &Params, out: &mut Writer) -> Result<(), AllocError>
 {
     for p in held(&ps.pairs) {
         out.key(p.name.as_str())?;
-        write(&p.value, out)?;
+        write_onto(&p.value, out)?;
     }
     out.end_object()
 }

@@ -1,2 +1,1 @@
-pub mod Container
 pub mod Crossing

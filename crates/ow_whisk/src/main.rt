@@ -13,6 +13,7 @@ mod stores;
 mod tables;
 #[cfg(test)]
 mod tests;
+mod unkept;
 #[cfg(test)]
 mod waits;
 
@@ -22,6 +23,7 @@ ghost use Rattle.ow_day.specs.Status.{status_number};
 ghost use Rattle.ow_whisk.specs.Served.{IsSized};
 
 use crate::serving::{System, served};
+use crate::unkept::Unkept;
 use ow_day::{Status, office, report};
 use ow_store::FileKeeper;
 use ow_traits::{Keeper, MemoryKeeper, MemorySource, ReaderSource, Source, WriterSink};
@@ -105,13 +107,30 @@ fn told(rt: &HostRuntime, status: Status) -> Status
     status
 }
 
-// The files of the table and of the store that the words name. Words that name none are read by the office again, which says what
-// they are.
-fn named(alloc: Global, words: &[String]) -> (Option<Str>, Option<Str>) {
+// What rows are kept by.
+#[derive(Drop)]
+enum Store {
+    File(Str),
+    Memory,
+    Nothing,
+}
+
+// The file of the table that the words name, and what rows are to be kept by: a file, memory for a day, and nothing for a service. Words
+// that name none are read by the office again, which says what they are.
+fn named(alloc: Global, words: &[String]) -> (Option<Str>, Store) {
     match read_words(alloc, words) {
-        Ok(Command::Day { table, store }) => (table, store),
-        Ok(Command::Serve(ServeWords { table, store, .. })) => (table, store),
-        _ => (None, None),
+        Ok(Command::Day { table, store }) => (table, store_named(store, Store::Memory)),
+        Ok(Command::Serve(ServeWords { table, store, .. })) => {
+            (table, store_named(store, Store::Nothing))
+        }
+        _ => (None, Store::Memory),
+    }
+}
+
+fn store_named(file: Option<Str>, without: Store) -> Store {
+    match file {
+        Some(name) => Store::File(name),
+        None => without,
     }
 }
 
@@ -138,7 +157,7 @@ fn close(store: Option<FileKeeper>) {
 }
 
 // Opens what the words name, and ends with the number of the office's status, or of the service's end. Where the file of a store can't
-// be opened, each call of its keeper fails. A store in memory ends with the program.
+// be opened, each call of its keeper fails.
 fn main(rt: HostRuntime) -> ExitCode {
     let words = match words_of(&rt) {
         Ok(words) => words,
@@ -146,18 +165,21 @@ fn main(rt: HostRuntime) -> ExitCode {
     };
     let (table, store) = named(rt.alloc(), &words);
     match store {
-        Some(name) => {
+        Store::File(name) => {
             let keeper = FileKeeper::open(&rt, name.as_str());
             let (status, store) = run_over(&rt, &words, table.as_ref(), keeper);
             let (code, store) = ended(&rt, status, store);
             close(store);
             code
         }
-        None => {
+        Store::Memory => {
             let keeper = MemoryKeeper::new(rt.alloc());
             let (status, store) = run_over(&rt, &words, table.as_ref(), keeper);
-            let (code, _store) = ended(&rt, status, store);
-            code
+            ended(&rt, status, store).0
+        }
+        Store::Nothing => {
+            let (status, store) = run_over(&rt, &words, table.as_ref(), Unkept);
+            ended(&rt, status, store).0
         }
     }
 }

@@ -11,7 +11,7 @@ ghost use Rattle.ow_worker.specs.Turned.{ToldBegun};
 use ow_desk::{Desk, Receipts};
 use ow_floor::{AnswerRefusal, Answered, Happening, Order, RunOrder};
 use ow_slots::Start;
-use ow_threads::{Bell, Clock};
+use ow_threads::{Bell, Clock, hold};
 use ow_traits::{Keeper, RunReply};
 use ow_value::NoMemory;
 use std::alloc::Global;
@@ -34,7 +34,7 @@ pub(crate) fn take_order<H: Wait, P: Keeper + Drop, C: Clock>(
     ensures wants { OnErr result (notes.new.notes ≡ notes.old.notes) }
 {
     notes.reserve(alloc, MOST_RECEIPTS)?;
-    notes.next(alloc, &mut *desk.lock(rt), clock.now())
+    notes.next(alloc, &mut *hold(rt, desk), clock.now())
 }
 
 /// The container of a start that isn't warm is up and initialised.
@@ -50,7 +50,7 @@ pub(crate) fn tell_begun<H: Wait, P: Keeper + Drop, C: Clock>(
     ensures room { notes.old.room ≤ notes.new.room + 1 }
 {
     if order.start != Start::Warm {
-        let _ = notes.begun(&mut *desk.lock(rt), clock.now(), order.run);
+        let _ = notes.begun(&mut *hold(rt, desk), clock.now(), order.run);
     }
 }
 
@@ -66,7 +66,7 @@ pub(crate) fn tell_lost<H: Wait, P: Keeper + Drop, C: Clock>(
     ensures lost { LostNoted run notes.old.notes notes.new.notes }
     ensures room { notes.old.room ≤ notes.new.room + 1 }
 {
-    let _ = notes.lost(&mut *desk.lock(rt), clock.now(), run);
+    let _ = notes.lost(&mut *hold(rt, desk), clock.now(), run);
 }
 
 /// The container of the slot is gone.
@@ -82,7 +82,7 @@ pub(crate) fn tell_gone<H: Wait, P: Keeper + Drop, C: Clock>(
     ensures gone { GoneNoted slot generation notes.old.notes notes.new.notes }
     ensures room { notes.old.room ≤ notes.new.room + 1 }
 {
-    let _ = notes.gone(&mut *desk.lock(rt), clock.now(), slot, generation);
+    let _ = notes.gone(&mut *hold(rt, desk), clock.now(), slot, generation);
 }
 
 /// The runner's reply. Where it isn't taken it is handed back. The lock is free again behind this call, and who waits for
@@ -100,7 +100,7 @@ pub(crate) fn tell_reply<H: Wait, P: Keeper + Drop, C: Clock>(
     ensures back { HandsBack run reply result }
     ensures room { notes.old.room ≤ notes.new.room + 1 }
 {
-    let answered = notes.answered(alloc, &mut *desk.lock(rt), clock.now(), run, reply);
+    let answered = notes.answered(alloc, &mut *hold(rt, desk), clock.now(), run, reply);
     ring_ends(clock, &answered);
     answered
 }

@@ -14,7 +14,7 @@ use crate::telling::give_up;
 use ow_board::{Board, Pass};
 use ow_desk::{Desk, Receipts};
 use ow_floor::{Container, PrewarmOrder};
-use ow_threads::Clock;
+use ow_threads::{Clock, hold};
 use ow_traits::{Keeper, Runner, Started};
 use std::alloc::Global;
 use std::sync::{Mutex, Wait};
@@ -43,7 +43,7 @@ pub(crate) fn prewarm<H: Wait, P: Keeper + Drop, R: Runner, C: Clock>(
 {
     match warm(alloc, board, pass, runner, &order) {
         Warming::Up => {
-            let _ = notes.begun(&mut *desk.lock(rt), clock.now(), order.run);
+            let _ = notes.begun(&mut *hold(rt, desk), clock.now(), order.run);
             Turn::Warmed
         }
         Warming::Down | Warming::Taken => {

@@ -4,7 +4,7 @@ ghost use Rattle.ow_worker.specs.Noted.{Watched};
 use crate::outcome::Watch;
 use ow_desk::{Desk, Receipts};
 use ow_hall::SweepRefusal;
-use ow_threads::Clock;
+use ow_threads::{Clock, hold};
 use ow_traits::Keeper;
 use std::alloc::Global;
 use std::sync::{Mutex, Wait};
@@ -19,7 +19,7 @@ pub fn watch<H: Wait, P: Keeper + Drop, C: Clock>(
 ) -> Watch
     ensures { Watched notes.old.notes notes.new.notes result }
 {
-    match notes.sweep(alloc, &mut *desk.lock(rt), clock.now()) {
+    match notes.sweep(alloc, &mut *hold(rt, desk), clock.now()) {
         Ok(_) => Watch::Swept,
         Err(SweepRefusal::StoreFault) => Watch::StoreFault,
         Err(SweepRefusal::NoMemory) => Watch::NoMemory,

@@ -1,6 +1,6 @@
 use denote.Param.Send.{sendable}
 use Rattle.std.proofs.Crossing.{crosses}
-use Rattle.ow_whisk.proofs.Container.{container_send}
+use Rattle.ow_runners.proofs.Container.{container_send}
 use Rattle.ow_whisk.proofs.serving.serve_at.Goals as goal
 
 pub serve-requires-send-R-Container : goal.serve-requires-send-R-Container

@@ -1,6 +1,6 @@
 use denote.Param.Send.{sendable}
 use Rattle.ow_serve.proofs.Crossing.{done_send, duty_send}
-use Rattle.ow_serve.proofs.service.begin.Goals as goal
+use Rattle.ow_serve.proofs.beginning.begin.Goals as goal
 
 pub begin-requires-send-T : goal.begin-requires-send-T
 begin-requires-send-T g c κs within = search (sendable, duty_send, c.type_bounds)

@@ -1,7 +1,7 @@
 use denote.Param.Send.{sendable}
 use Rattle.ow_serve.proofs.Whole.{closes_by}
 use Rattle.ow_serve.proofs.Crossing.{done_send, duty_send}
-use Rattle.ow_serve.proofs.service.close.Goals as goal
+use Rattle.ow_serve.proofs.leaving.close.Goals as goal
 
 pub returns-clause-closes : goal.returns-clause-closes
 returns-clause-closes g c =

@@ -1,0 +1,73 @@
+// The threads that the service begins before it accepts anybody.
+ghost use Rattle.std.specs.Prelude.{◌≡◌, ◌⊎◌, ◌<◌, IfErr};
+
+use crate::duty::{Duty, Work};
+use crate::house::House;
+use crate::served::ServedEnd;
+use ow_edge::{Crew, Leave};
+use ow_links::Link;
+use ow_threads::{Begun, Clock, Gate};
+use ow_traits::{Keeper, Runner};
+use std::alloc::Global;
+use std::sync::Wait;
+use std::thread::Threads;
+
+/// Begins the workers, the sweeper and the reaper.
+pub(crate) fn begin_all<
+    H: Wait + Threads + Clone + Drop + Send + 'static,
+    K: Link + Drop + Send + 'static,
+    R: Runner + Drop + Send + 'static,
+    P: Keeper + Drop + Send + 'static,
+    C: Clock + Drop + Send + Sync + 'static,
+    G: Gate + Drop + Send + Sync + 'static,
+    V: Leave + Drop,
+>(
+    rt: &H,
+    alloc: Global,
+    runners: Vec<R>,
+    house: &mut House<P, R, C, G>,
+    crew: &mut Crew<V, Duty<H, K, R, P, C, G>>,
+) -> Result<(), ServedEnd>
+where
+    R::Container: Send + 'static,
+    ensures worker { IfErr result (λ e. (e ≡ ServedEnd.NoMemory) ⊎ ((e ≡ ServedEnd.NoWorker) × (0 < crew.new.faults))) }
+{
+    let mut runners = runners;
+    let last = runners.pop();
+    for runner in runners {
+        begin(rt, alloc, Work::Turns { runner }, house, crew)?;
+    }
+    begin(rt, alloc, Work::Sweeps, house, crew)?;
+    if let Some(runner) = last {
+        begin(rt, alloc, Work::Reaps { runner }, house, crew)?;
+    }
+    Ok(())
+}
+
+fn begin<
+    H: Wait + Threads + Clone + Drop + Send + 'static,
+    K: Link + Drop + Send + 'static,
+    R: Runner + Drop + Send + 'static,
+    P: Keeper + Drop + Send + 'static,
+    C: Clock + Drop + Send + Sync + 'static,
+    G: Gate + Drop + Send + Sync + 'static,
+    V: Leave + Drop,
+>(
+    rt: &H,
+    alloc: Global,
+    work: Work<K, R>,
+    house: &mut House<P, R, C, G>,
+    crew: &mut Crew<V, Duty<H, K, R, P, C, G>>,
+) -> Result<(), ServedEnd>
+where
+    R::Container: Send + 'static,
+    ensures worker { IfErr result (λ e. (e ≡ ServedEnd.NoMemory) ⊎ ((e ≡ ServedEnd.NoWorker) × (0 < crew.new.faults))) }
+{
+    let Ok(duty) = house.duty(rt, alloc, work) else {
+        return Err(ServedEnd::NoMemory);
+    };
+    match crew.begin(rt, duty, false) {
+        Begun::Started => Ok(()),
+        Begun::Ran(_) | Begun::Refused => Err(ServedEnd::NoWorker),
+    }
+}

@@ -1,0 +1,219 @@
+// The end of the service: its threads are joined, and what they leave is compared.
+ghost use Rattle.std.specs.Prelude.{◌≡◌, Some, map, IfOk, OnErr, IsOkAnd};
+ghost use Rattle.ow_threads.specs.Tasks.{Joined, pending};
+ghost use Rattle.ow_board.specs.Board.{IsPassOf};
+ghost use Rattle.ow_audit.specs.Places.{notes_of};
+ghost use Rattle.ow_serve.specs.Duties.{Ends};
+ghost use Rattle.ow_serve.specs.Ended.{Closes, IsEnd, Left};
+ghost use Rattle.ow_serve.specs.Peers.{filled};
+
+use crate::accepting::Stopped;
+use crate::closing::{book_of, clear, drain, gathered, in_order, store_of};
+use crate::duty::{Done, Duty};
+use crate::house::House;
+use crate::place::Place;
+use crate::served::{Served, ServedEnd, nothing};
+use ow_audit::first_difference;
+use ow_board::Pass;
+use ow_desk::Receipts;
+use ow_edge::{Crew, Leave};
+use ow_hall::Book;
+use ow_links::Link;
+use ow_peer::Ending;
+use ow_threads::{Bell, Clock, Gate};
+use ow_traits::{Keeper, Runner};
+use ow_value::NoMemory;
+use std::alloc::Global;
+use std::sync::Wait;
+use std::thread::Threads;
+
+/// Ends workers, sweeper and reaper, and gives what they came to.
+pub(crate) fn end_all<
+    H: Wait + Threads + Drop + Send + 'static,
+    K: Link + Drop + Send + 'static,
+    R: Runner + Drop + Send + 'static,
+    P: Keeper + Drop + Send + 'static,
+    C: Clock + Drop + Send + Sync + 'static,
+    G: Gate + Drop + Send + Sync + 'static,
+    V: Leave + Drop,
+>(
+    rt: &H,
+    alloc: Global,
+    house: &House<P, R, C, G>,
+    crew: &mut Crew<V, Duty<H, K, R, P, C, G>>,
+) -> Result<Vec<Done<R, P>>, NoMemory>
+where
+    R::Container: Send + 'static,
+    ensures joined { Joined (λ t d. Ends K.left K.taken t.work t.notes.notes d.notes.notes d.ending) (λ v. v.items) crew.old.tasks crew.new.tasks 0 result }
+    ensures faults { crew.new.faults ≡ crew.old.faults }
+{
+    house.place.end();
+    house.clock.ring(Bell::Close);
+    crew.join(rt, alloc, 0)
+}
+
+/// Waits for the connections and for all that was accepted, ends the threads, and compares.
+pub(crate) fn close<
+    H: Wait + Threads + Drop + Send + 'static,
+    K: Link + Drop + Send + 'static,
+    R: Runner + Drop + Send + 'static,
+    P: Keeper + Drop + Send + 'static,
+    C: Clock + Drop + Send + Sync + 'static,
+    G: Gate + Drop + Send + Sync + 'static,
+    V: Leave + Drop,
+>(
+    rt: &H,
+    alloc: Global,
+    house: House<P, R, C, G>,
+    seats: Vec<Option<Done<R, P>>>,
+    stopped: Stopped,
+    first: u64,
+    crew: &mut Crew<V, Duty<H, K, R, P, C, G>>,
+) -> Served<P>
+where
+    R::Container: Send + 'static,
+    ensures closes { Closes (λ t d. Ends K.left K.taken t.work t.notes.notes d.notes.notes d.ending) (λ d. d.notes.notes) (λ d. d.ending) (pending first crew.old.tasks) seats.items stopped result.end result.book (map (λ r. r.notes) result.receipts.items) result.endings.items }
+    ensures faults { crew.new.faults ≡ crew.old.faults }
+{
+    let mut house = house;
+    let joined = crew.join(rt, alloc, first);
+    let drained = drain(rt, alloc, &mut house);
+    let others = end_all(rt, alloc, &house, crew);
+    let all = all_of(alloc, seats, joined, drained, others);
+    leave(rt, alloc, house, all, stopped)
+}
+
+// What the peers came to, in order, and what the others came to.
+fn all_of<R: Runner + Drop, P: Keeper + Drop>(
+    alloc: Global,
+    seats: Vec<Option<Done<R, P>>>,
+    joined: Result<Vec<Done<R, P>>, NoMemory>,
+    drained: Result<(), NoMemory>,
+    others: Result<Vec<Done<R, P>>, NoMemory>,
+) -> Result<(Vec<Done<R, P>>, Vec<Done<R, P>>), NoMemory>
+    ensures { IfOk result (λ a. IsOkAnd joined (λ js. a.0.items ≡ filled seats.items js.items)) }
+{
+    let joined = joined?;
+    drained?;
+    let others = others?;
+    let peers = in_order(alloc, seats, joined)?;
+    Ok((peers, others))
+}
+
+// What is left once all threads have ended.
+fn leave<H: Wait, R: Runner + Drop, P: Keeper + Drop, C: Clock + Drop, G: Gate + Drop>(
+    rt: &H,
+    alloc: Global,
+    house: House<P, R, C, G>,
+    all: Result<(Vec<Done<R, P>>, Vec<Done<R, P>>), NoMemory>,
+    stopped: Stopped,
+) -> Served<P>
+    ensures left { IfOk all (λ a. Left (map (λ d. d.notes.notes) a.0.items) (map (λ d. d.ending) a.0.items) stopped result.end result.book (map (λ r. r.notes) result.receipts.items) result.endings.items) }
+    ensures none { OnErr all (result.end ≡ ServedEnd.NoMemory) }
+{
+    let House {
+        place,
+        pass,
+        notes,
+        ..
+    } = house;
+    match all {
+        Ok((peers, others)) => {
+            let others = cleared(&place, pass, others);
+            let book = book_of(rt, alloc, &place);
+            let gathered = gathered(alloc, notes, peers, others);
+            let store = store_of(place);
+            match (book, gathered) {
+                (Ok(book), Ok((receipts, endings))) => {
+                    compared(alloc, book, receipts, endings, stopped, store)
+                }
+                _ => nothing(alloc, ServedEnd::NoMemory, store),
+            }
+        }
+        Err(_) => nothing(alloc, ServedEnd::NoMemory, store_of(place)),
+    }
+}
+
+// What lies on the board is stopped, with the runner of the reaper, who is the last of the others.
+fn cleared<R: Runner + Drop, P: Keeper + Drop>(
+    place: &Place<P, R::Container>,
+    pass: Pass<R::Container>,
+    others: Vec<Done<R, P>>,
+) -> Vec<Done<R, P>>
+    requires { IsPassOf place.now.board pass }
+    ensures { map (λ d. d.notes.notes) result.items ≡ map (λ d. d.notes.notes) others.items }
+{
+    let (mut pass, mut others) = (pass, others);
+    if let Some(last) = others.pop() {
+        let Done {
+            notes,
+            ending,
+            runner,
+        } = last;
+        let runner = stopped_by(place, &mut pass, runner);
+        others.push_reserved(Done {
+            notes,
+            ending,
+            runner,
+        });
+    }
+    others
+}
+
+fn stopped_by<R: Runner + Drop, P: Keeper + Drop>(
+    place: &Place<P, R::Container>,
+    pass: &mut Pass<R::Container>,
+    runner: Option<R>,
+) -> Option<R>
+    requires { IsPassOf place.now.board pass.old }
+{
+    let mut runner = runner?;
+    clear(place, pass, &mut runner);
+    Some(runner)
+}
+
+// The end, with what is left.
+fn compared<P: Keeper + Drop>(
+    alloc: Global,
+    book: Book,
+    receipts: Vec<Receipts<P>>,
+    endings: Vec<Ending>,
+    stopped: Stopped,
+    store: Option<P>,
+) -> Served<P>
+    ensures end { IsEnd stopped (map (λ r. r.notes) receipts.items) book.ledger result.end }
+    ensures book { result.book ≡ Some book }
+    ensures receipts { result.receipts ≡ receipts }
+    ensures endings { result.endings ≡ endings }
+{
+    let end = end_of(alloc, stopped, receipts.as_slice(), &book);
+    Served {
+        end,
+        store,
+        book: Some(book),
+        receipts,
+        endings,
+        listener_faults: 0,
+        spawner_faults: 0,
+    }
+}
+
+// How the service ended, by why it accepted no more, and whether its receipts are its book.
+fn end_of<P: Keeper + Drop>(
+    alloc: Global,
+    stopped: Stopped,
+    receipts: &[Receipts<P>],
+    book: &Book,
+) -> ServedEnd
+    ensures { IsEnd stopped (notes_of receipts.now) book.now.ledger result }
+{
+    match first_difference(alloc, receipts, book) {
+        Ok(None) => match stopped {
+            Stopped::Closed => ServedEnd::Closed,
+            Stopped::Fault => ServedEnd::ListenFault,
+            Stopped::NoMemory => ServedEnd::NoMemory,
+        },
+        Ok(Some(difference)) => ServedEnd::Unmatched(difference),
+        Err(_) => ServedEnd::NoMemory,
+    }
+}
