@@ -1,0 +1,168 @@
+// What services come to.
+use crate::gates::Turnstile;
+use crate::peers::Peer;
+use crate::services::{Case, System, told};
+use ow_threads::OpenGate;
+use std::alloc::Global;
+use std::process::Abort;
+use std::sync::Arc;
+use std::test::Fail;
+
+const HELLO: Peer = Peer {
+    action: "hello",
+    greeting: "Hello",
+    head: "",
+    rest: "",
+};
+
+// It asks for the end of its connection.
+const HOWDY: Peer = Peer {
+    action: "howdy",
+    greeting: "Howdy",
+    head: "Connection: close\r\n",
+    rest: "",
+};
+
+// Its bytes end in the head of a third request.
+const LATER: Peer = Peer {
+    action: "later",
+    greeting: "Later",
+    head: "",
+    rest: "GET /api/v",
+};
+
+// What each of them is told: the action as it stands, and its greeting; a reply of 322 bytes, and one of 91.
+const HELLO_TOLD: &str = r#"413 bytes
+200 OK
+Content-Type: application/json
+Content-Length: 250
+
+{"annotations":[],"exec":{"code":"{\"cases\":[{\"when\":{},\"give\":{\"greeting\":\"Hello\"}}]}","kind":"plain:1"},"limits":{"logs":10,"memory":256,"timeout":60000},"name":"hello","namespace":"guest","parameters":[],"publish":false,"version":"0.0.1"}
+200 OK
+Content-Type: application/json
+Content-Length: 20
+
+{"greeting":"Hello"}
+"#;
+
+const HOWDY_TOLD: &str = r#"413 bytes
+200 OK
+Content-Type: application/json
+Content-Length: 250
+
+{"annotations":[],"exec":{"code":"{\"cases\":[{\"when\":{},\"give\":{\"greeting\":\"Howdy\"}}]}","kind":"plain:1"},"limits":{"logs":10,"memory":256,"timeout":60000},"name":"howdy","namespace":"guest","parameters":[],"publish":false,"version":"0.0.1"}
+200 OK
+Content-Type: application/json
+Content-Length: 20
+
+{"greeting":"Howdy"}
+"#;
+
+// And one of 127.
+const LATER_TOLD: &str = r#"540 bytes
+200 OK
+Content-Type: application/json
+Content-Length: 250
+
+{"annotations":[],"exec":{"code":"{\"cases\":[{\"when\":{},\"give\":{\"greeting\":\"Later\"}}]}","kind":"plain:1"},"limits":{"logs":10,"memory":256,"timeout":60000},"name":"later","namespace":"guest","parameters":[],"publish":false,"version":"0.0.1"}
+200 OK
+Content-Type: application/json
+Content-Length: 20
+
+{"greeting":"Later"}
+400 Bad Request
+Content-Type: application/json
+Content-Length: 47
+
+{"code":40,"error":"The request is cut short."}
+"#;
+
+const NOTHING_TOLD: &str = "0 bytes\n";
+
+fn joined(alloc: Global, parts: &[&str]) -> Result<String, Fail> {
+    let mut text = String::new(alloc);
+    for part in parts {
+        text.push_str(part)?;
+    }
+    Ok(text)
+}
+
+fn check<H: System + Abort>(rt: &H, alloc: Global, case: Case, parts: &[&str]) -> Result<(), Fail> {
+    let gate = Arc::new(alloc, OpenGate::new())?;
+    let told = told(rt, alloc, case, gate)?;
+    let wanted = joined(alloc, parts)?;
+    assert_eq!(rt; told.as_str(), wanted.as_str());
+    Ok(())
+}
+
+#[test]
+fn each_peer_is_answered(rt: HostRuntime) -> Result<(), Fail> {
+    let case = Case {
+        peers: &[HELLO, HOWDY, LATER],
+        unheard: &[],
+        refused: &[],
+    };
+    let first = "closed, 0 and 0 faults\nEnded\nClosed\nCutShort\n";
+    check(
+        &rt,
+        rt.alloc(),
+        case,
+        &[first, HELLO_TOLD, HOWDY_TOLD, LATER_TOLD],
+    )
+}
+
+#[test]
+fn a_listener_that_fails(rt: HostRuntime) -> Result<(), Fail> {
+    let case = Case {
+        peers: &[HELLO, HOWDY, LATER],
+        unheard: &[2],
+        refused: &[],
+    };
+    let first = "listen fault, 1 and 0 faults\nEnded\nClosed\n";
+    check(
+        &rt,
+        rt.alloc(),
+        case,
+        &[first, HELLO_TOLD, HOWDY_TOLD, NOTHING_TOLD],
+    )
+}
+
+#[test]
+fn threads_that_are_refused(rt: HostRuntime) -> Result<(), Fail> {
+    let case = Case {
+        peers: &[HELLO, HOWDY, LATER],
+        unheard: &[],
+        refused: &[4, 5, 6],
+    };
+    let first = "closed, 0 and 3 faults\nEnded\nClosed\nCutShort\n";
+    check(
+        &rt,
+        rt.alloc(),
+        case,
+        &[first, HELLO_TOLD, HOWDY_TOLD, LATER_TOLD],
+    )?;
+    let case = Case {
+        peers: &[HELLO],
+        unheard: &[],
+        refused: &[0],
+    };
+    let first = "no worker, 0 and 1 faults\n";
+    check(&rt, rt.alloc(), case, &[first, NOTHING_TOLD])
+}
+
+#[test]
+fn runs_are_spread_over_threads(rt: HostRuntime) -> Result<(), Fail> {
+    let alloc = rt.alloc();
+    let case = Case {
+        peers: &[HELLO, HOWDY],
+        unheard: &[],
+        refused: &[],
+    };
+    let gate = Arc::new(alloc, Turnstile::new(rt.clone()?))?;
+    let told = told(&rt, alloc, case, Arc::try_clone(&gate)?)?;
+    let first = "closed, 0 and 0 faults\nEnded\nClosed\n";
+    let wanted = joined(alloc, &[first, HELLO_TOLD, HOWDY_TOLD])?;
+    assert_eq!(rt; told.as_str(), wanted.as_str());
+    assert!(rt; gate.have_met());
+    Ok(())
+}
