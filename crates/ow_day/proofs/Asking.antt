@@ -35,8 +35,8 @@ wanted_over (Ok t) store left taken = inl (untouched store taken)
 wanted_over (Err row) store left taken = untouched store taken
 
 wanted_table : (rows : Option (List ℕ)) (store : StoreView) (left taken : Option (List ℕ)) → TellsTable rows store store left taken taken statuses.NoMemory
-wanted_table None store left taken = tt
-wanted_table (Some text) store left taken = wanted_over (table_of text) store left taken
+wanted_table None store left taken = (Err 0, tt, wanted_over (Err 0) store left taken)
+wanted_table (Some text) store left taken = (table_of text, refl, wanted_over (table_of text) store left taken)
 
 wanted_day : (help version : List ℕ) (o : Option Values) (rows : Option (List ℕ)) (store : StoreView) (left taken : Option (List ℕ))
     → TellsCommand help version (option_map asked_of (option_map day_with o)) rows store store left taken taken statuses.NoMemory

@@ -1,10 +1,12 @@
 -- What is told where the office table isn't read.
-use Rattle.std.proofs.Common.{◌≡◌, ◌≤◌, ℕ, List, Option, Some, None, IfSome, IfOk, Result, Ok, Err, inl, refl, arith}
+use Rattle.std.proofs.Common.{◌≡◌, ◌≤◌, ℕ, List, Option, Some, None, IfSome, IfOk, Result, Ok, Err, inl, inr, refl, sym, arith}
 use Rattle.ow_tenant.specs.Reading.{Tells as TellsRows}
 use Rattle.ow_tenant.specs.Table.{Table, table_of}
 use Rattle.ow_tenant.specs.declared.refusal.TenantRefusal.{TenantRefusal}
 use Rattle.ow_tenant.specs.declared.refusal.TenantRefusal.TheVariants as refusals
-use Rattle.ow_day.specs.Office.{IsUnopened, StoreView, TellsOver, TellsTable, unread}
+use Rattle.ow_day.specs.Office.{IsOverTable, IsUnopened, StoreView, TellsDay, TellsOver, TellsTable, unread}
+use Rattle.ow_day.specs.declared.status.Status.{Status}
+use Rattle.ow_day.specs.declared.status.Status.TheVariants as statuses
 use Rattle.ow_day.specs.Reads.{AnswersTable, IsAnsweredOver}
 
 -- what is told of a table, where its source tells its rows
@@ -25,8 +27,31 @@ unread_day want store left taken refusals.UnknownKey told = absurd told
 unread_day want store left taken refusals.NotGranted told = absurd told
 
 pub unread_tells : (rows : Option (List ℕ)) (store : StoreView) (left taken : Option (List ℕ)) (refusal : TenantRefusal) → IsToldBy rows (Err refusal) → TellsTable rows store store left taken taken (unread refusal)
-unread_tells None store left taken refusal told = tt
-unread_tells (Some text) store left taken refusal told = unread_day (table_of text) store left taken refusal told
+unread_tells None store left taken (refusals.BadRow row) told = (Err row, tt, (refl, untouched store taken))
+unread_tells None store left taken refusals.ReadFault told = (Err 0, tt, untouched store taken)
+unread_tells None store left taken refusals.NoMemory told = (Err 0, tt, untouched store taken)
+unread_tells None store left taken refusals.UnknownKey told = (Err 0, tt, untouched store taken)
+unread_tells None store left taken refusals.NotGranted told = (Err 0, tt, untouched store taken)
+unread_tells (Some text) store left taken refusal told = (table_of text, refl, unread_day (table_of text) store left taken refusal told)
+
+-- a day over a table that was read
+over_read : (t : Table) (before after : StoreView) (left old new : Option (List ℕ)) (status : Status) → IsOverTable status → TellsDay t before after left old new status → TellsOver (Ok t) before after left old new status
+over_read t before after left old new statuses.Ok own told = told
+over_read t before after left old new (statuses.BadDay n) own told = told
+over_read t before after left old new statuses.BadWords own told = absurd own
+over_read t before after left old new statuses.ReadFault own told = inr told
+over_read t before after left old new statuses.WriteFault own told = told
+over_read t before after left old new statuses.StoreFault own told = told
+over_read t before after left old new (statuses.BadTable row) own told = absurd own
+over_read t before after left old new statuses.NoMemory own told = told
+over_read t before after left old new statuses.DayTooLong own told = told
+over_read t before after left old new (statuses.BadKept key) own told = told
+over_read t before after left old new (statuses.Passed asked tenants) own told = absurd own
+
+pub read_tells : (rows : Option (List ℕ)) (t : Table) (before after : StoreView) (left old new : Option (List ℕ)) (status : Status) → IsToldBy rows (Ok t) → IsOverTable status
+    → TellsDay t before after left old new status → TellsTable rows before after left old new status
+read_tells None t before after left old new status is own told = (Ok t, tt, over_read t before after left old new status own told)
+read_tells (Some text) t before after left old new status is own told = (Ok t, sym is, over_read t before after left old new status own told)
 
 day_answered : (want : Result Table ℕ) (store : StoreView) (day taken : Option (List ℕ)) → IfOk want (λ t. IfSome day (λ bytes. IsAnsweredOver t store bytes day taken taken))
 day_answered (Err row) store day taken = tt

@@ -114,9 +114,9 @@ TellsOver (Err row) before after left old new statuses.ReadFault = IsUnopened be
 TellsOver (Err row) before after left old new statuses.NoMemory = IsUnopened before after old new
 TellsOver (Err row) before after left old new status = ⊥
 
--- what was written, by the table and the status, where the table tells its bytes
+-- what was written, by the table and the status: over the table that the rows are, where they are told, and else over some table or bad row
 abbrev pub TellsTable : Option (List ℕ) → StoreView → StoreView → Option (List ℕ) → Option (List ℕ) → Option (List ℕ) → Status → Type 0
-TellsTable rows before after left old new status = IfSome rows (λ text. TellsOver (table_of text) before after left old new status)
+TellsTable rows before after left old new status = (want : Result Table ℕ) × IfSome rows (λ text. want ≡ table_of text) × TellsOver want before after left old new status
 
 -- how it ends where the table isn't read
 abbrev pub unread : TenantRefusal → Status

@@ -22,8 +22,8 @@ use ow_words::{ServeWords, WordsRefusal};
 use std::alloc::Global;
 
 /// Does what the words say: for `day`, reads the office table that they name, opens the service over it and the store, carries
-/// out the statements of the day as they come, and writes each answer before it asks for more of the day, or as soon as a megabyte
-/// is ready. The words are looked at first, then the table, then the store: where they name no table it has no rows, and `table`
+/// out the statements of the day as they come, and writes their answers. That each is written before more of the day is asked for, or
+/// once a megabyte is ready, a clause says of days whose read fails. The words are looked at first, then the table, then the store: where they name no table it has no rows, and `table`
 /// isn't touched. For `serve` it reads the words and the table alone, and passes both on: the caller serves. The store is handed
 /// back in each case.
 pub fn office<T: Source, S: Source, O: Sink, E: Sink, P: Keeper + Drop>(
@@ -55,7 +55,7 @@ pub fn office<T: Source, S: Source, O: Sink, E: Sink, P: Keeper + Drop>(
     // When the other statuses come.
     ensures words { result.0 ≡ Status.BadWords → command_of (map string_bytes words.now) ≡ None }
     ensures refused { command_of (map string_bytes words.now) ≡ None → (result.0 ≡ Status.BadWords) ⊎ ((result.0 ≡ Status.NoMemory) × (takes_options (map string_bytes words.now) ≡ true)) }
-    ensures read { result.0 ≡ Status.ReadFault → Rose (S.faults day.old) (S.faults day.new) ⊎ (Rose (T.faults table.old) (T.faults table.new) × (day.new ≡ day.old) × (out.new ≡ out.old)) }
+    ensures read { result.0 ≡ Status.ReadFault → Rose (S.faults day.old) (S.faults day.new) ⊎ (Rose (T.faults table.old) (T.faults table.new) × (result.1 ≡ Some store) × (day.new ≡ day.old) × (out.new ≡ out.old)) }
     ensures write { result.0 ≡ Status.WriteFault → Rose (O.faults out.old) (O.faults out.new) }
     ensures fault { result.0 ≡ Status.StoreFault → IfSome result.1 (λ back. Rose (P.faults store) (P.faults back)) }
     ensures bad_kept { (key : List ℕ) → result.0 ≡ Status.BadKept key → HasBadRow (store_of P.rows P.faults store) key }
@@ -91,7 +91,7 @@ fn perform<T: Source, S: Source, O: Sink, P: Keeper + Drop>(
     ensures answered { result.0 ≡ Status.ReadFault → AnswersTable (rows_named (names_table (asked_by (map string_bytes words.now))) (T.left table.old)) (store_of P.rows P.faults store) (S.left day.old) (S.left day.new) (O.taken out.old) (O.taken out.new) }
     ensures words { result.0 ≡ Status.BadWords → command_of (map string_bytes words.now) ≡ None }
     ensures refused { command_of (map string_bytes words.now) ≡ None → (result.0 ≡ Status.BadWords) ⊎ ((result.0 ≡ Status.NoMemory) × (takes_options (map string_bytes words.now) ≡ true)) }
-    ensures read { result.0 ≡ Status.ReadFault → Rose (S.faults day.old) (S.faults day.new) ⊎ (Rose (T.faults table.old) (T.faults table.new) × (day.new ≡ day.old) × (out.new ≡ out.old)) }
+    ensures read { result.0 ≡ Status.ReadFault → Rose (S.faults day.old) (S.faults day.new) ⊎ (Rose (T.faults table.old) (T.faults table.new) × (result.1 ≡ store) × (day.new ≡ day.old) × (out.new ≡ out.old)) }
     ensures write { result.0 ≡ Status.WriteFault → Rose (O.faults out.old) (O.faults out.new) }
     ensures fault { result.0 ≡ Status.StoreFault → Rose (P.faults store) (P.faults result.1) }
     ensures bad_kept { (key : List ℕ) → result.0 ≡ Status.BadKept key → HasBadRow (store_of P.rows P.faults store) key }
@@ -136,7 +136,7 @@ fn day_over<T: Source, S: Source, O: Sink, P: Keeper + Drop>(
     ensures reads { IfSome (S.left day.old) (λ bytes. LeavesRest bytes (S.left day.new)) }
     ensures answered { result.0 ≡ Status.ReadFault → AnswersTable (rows_named has_table (T.left table.old)) (store_of P.rows P.faults store) (S.left day.old) (S.left day.new) (O.taken out.old) (O.taken out.new) }
     ensures own { EndsDay result.0 }
-    ensures read { result.0 ≡ Status.ReadFault → Rose (S.faults day.old) (S.faults day.new) ⊎ (Rose (T.faults table.old) (T.faults table.new) × (day.new ≡ day.old) × (out.new ≡ out.old)) }
+    ensures read { result.0 ≡ Status.ReadFault → Rose (S.faults day.old) (S.faults day.new) ⊎ (Rose (T.faults table.old) (T.faults table.new) × (result.1 ≡ store) × (day.new ≡ day.old) × (out.new ≡ out.old)) }
     ensures write { result.0 ≡ Status.WriteFault → Rose (O.faults out.old) (O.faults out.new) }
     ensures fault { result.0 ≡ Status.StoreFault → Rose (P.faults store) (P.faults result.1) }
     ensures bad_kept { (key : List ℕ) → result.0 ≡ Status.BadKept key → HasBadRow (store_of P.rows P.faults store) key }

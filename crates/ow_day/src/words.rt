@@ -97,13 +97,13 @@ Below each statement stand the forms of its answer.
                        late RUN MOMENT       a sweep ended what it carries, at that moment
                        refused 29 WHY        no such run is under way
   logged RUN K TEXT  is such an answer with logs: K lines follow, of at most 8388608 bytes each
-                       recorded, refused     as below answer
+                       recorded, late or refused, as below answer
   exit RUN CODE      tells that the run's program ended with this status, up to 255, and no answer
-                       recorded ID 2         or refused, as below answer
+                       recorded ID 2         or late or refused, as below answer
   nostart RUN TEXT   tells why what was to run did not start
-                       recorded ID 3         or refused, as below answer
+                       recorded ID 3         or late or refused, as below answer
   fault RUN          tells that the run's runner failed
-                       recorded ID 3         or refused, as below answer
+                       recorded ID 3         or late or refused, as below answer
   lost RUN           tells that no reply to that run will come; what it carries waits again
                        ok                    a slot had it
                        refused 29 WHY        none has such a run
@@ -117,7 +117,7 @@ Below each statement stand the forms of its answer.
                        reply M               as below ask
                        not yet               it has not ended, and its request still waits
                        refused 14 WHY        no request waits for it
-  drain              takes no more calls from now on
+  drain              takes no more invocations from now on
                        drained N             all N that were accepted have ended
                        open N                N have not ended
   reopen             begins anew over what is kept: no container or run of before is there

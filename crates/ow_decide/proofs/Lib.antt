@@ -18,4 +18,5 @@ mod FloorLaws
 mod CallLaws
 mod PlanLaws
 mod PutLaws
+mod LeaveLaws
 pub mod NamedLaws

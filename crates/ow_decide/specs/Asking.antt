@@ -235,3 +235,8 @@ reply_in t = None
 abbrev pub IsOfView : Sight → Type 0
 IsOfView S = (h : Holder) (reading : Reading) (p : Parts) → act_of p.route p.method ≡ Some (Reads reading) → is_full S.counted p.size ≡ false → holder_of p.key S.tenants ≡ Some h
     → (ask_decision S.moment (request_done S p)).told ≡ at_once (read_answer (view_of S h) reading p)
+
+-- a read leaves the rows and what happened on the floor as they were, and so what anybody may see
+abbrev pub ReadsChangeNothing : Type 0
+ReadsChangeNothing = (S : Sight) (reading : Reading) (p : Parts) → act_of p.route p.method ≡ Some (Reads reading)
+    → ((ask_decision S.moment (request_done S p)).items ≡ []) × ((ask_decision S.moment (request_done S p)).changes ≡ [])

@@ -8,7 +8,7 @@ ghost use Rattle.ow_traits.specs.Changes.{changed};
 ghost use Rattle.ow_tenant.specs.Tenants.{limits_of};
 ghost use Rattle.ow_counts.specs.View.{AreUpTo, notes_of};
 ghost use Rattle.ow_counts.specs.Within.{AreWithin};
-ghost use Rattle.ow_decide.specs.Asking.{IsOfView};
+ghost use Rattle.ow_decide.specs.Asking.{IsOfView, ReadsChangeNothing};
 ghost use Rattle.ow_decide.specs.Decision.{all_changed, commits};
 ghost use Rattle.ow_decide.specs.Decisions.{decide, is_opening, wants_memory};
 ghost use Rattle.ow_decide.specs.Noted.{MayAllEnd, invoked_in, noted_ends, noted_invoked};
@@ -18,6 +18,11 @@ ghost use Rattle.ow_decide.specs.declared.events.Event.{Event};
 /// A read that the book has room for is answered by what whoever asks may see, and by nothing else.
 pub fn reads_are_answered_of_the_view()
     ensures { (S : Sight) → IsOfView S }
+{}
+
+/// A read changes nothing that anybody may see: the rows and what happened stay as they were.
+pub fn reads_change_nothing()
+    ensures { ReadsChangeNothing }
 {}
 
 /// Behind what is decided at an event a sound trace is sound.

@@ -25,7 +25,7 @@ pub use events::{Event, Told};
 pub use floor_steps::{take, taken_told};
 pub use laws::{
     decisions_commit_what_is_kept, decisions_keep_limits, decisions_keep_traces_sound,
-    notes_follow_decisions, reads_are_answered_of_the_view,
+    notes_follow_decisions, reads_are_answered_of_the_view, reads_change_nothing,
 };
 pub use reasons::tells_full;
 pub use replies::{Called, HallCollected, Reply};

@@ -173,7 +173,7 @@ impl<P: Keeper + Drop> Receipts<P> {
         }
     }
 
-    /// Takes no more calls from now on, as `Hall::drain` does.
+    /// Takes no more invocations from now on, as `Hall::drain` does.
     pub fn drain(&mut self, alloc: Global, desk: &mut Desk<P>, at: u64) -> Result<Drain, NoMemory>
         ensures received { IsReceived P.rows P.faults desk.old desk.new at events.Drain (drain_outcome result) self.old.notes self.new.notes }
         ensures noted { HasNoted events.Drain (drain_outcome result) self.old.notes self.new.notes }

@@ -3,6 +3,7 @@ ghost use Rattle.std.specs.Prelude.{◌≡◌, ◌+◌, ◌<◌, ◌≤◌};
 ghost use Rattle.ow_tenant.specs.Table.{IsPoolSized};
 ghost use Rattle.ow_floor.specs.Laws.{StandInSlots};
 ghost use Rattle.ow_hall.specs.Beginnings.{KeepsEach, KeepsLimits};
+ghost use Rattle.ow_hall.specs.Comes.{HoldsBook};
 ghost use Rattle.ow_hall.specs.History.{IsLegal, seen};
 ghost use Rattle.ow_desk.specs.Desks.{IsWithinFaults};
 
@@ -68,6 +69,7 @@ impl<P: Keeper + Drop> Desk<P> {
         ensures activations { KeepsEach self.now.hall.tenants self.now.hall.ledger.entries }
         ensures limits { KeepsLimits self.now.hall.tenants self.now.hall.ledger.entries }
         ensures slots { StandInSlots (seen self.now.hall.tenants self.now.hall.ledger.entries).trace }
+        ensures kept { HoldsBook (P.rows self.now.hall.store) self.now.hall.tenants self.now.hall.ledger }
         ensures stored { IsWithinFaults (P.faults self.now.hall.store) self.now.since self.now.hall.ledger.stored self.now.before }
     {
         self.hall.book();

@@ -5,9 +5,10 @@ use Rattle.ow_edge.specs.declared.blame.Blamed.TheVariants.{Connection, Want, Li
 use Rattle.std.specs.declared.io.ErrorKind.{ErrorKind}
 use Rattle.std.specs.declared.io.ErrorKind.TheVariants.{ConnectionAborted, ConnectionReset, HostUnreachable, Interrupted, NetworkDown, NetworkUnreachable, OutOfMemory, TimedOut}
 
--- what is to blame for an error whose kind doesn't tell: on Linux 23 is want of a file, 24 of a descriptor, and 105 of room for buffers
+-- what is to blame for an error whose kind doesn't tell: on Linux 23 is want of a file, 24 of a descriptor, and 105 of room for buffers; 64
+-- (no network), 71 (protocol), 92 (no such option) and 112 (host down) are pending errors of the connection that came
 abbrev pub blamed_by_number : Option ℤ → Blamed
-blamed_by_number (Some (pos n)) = if n == 23 || n == 24 || n == 105 then Want else Listener
+blamed_by_number (Some (pos n)) = if n == 23 || n == 24 || n == 105 then Want else if n == 64 || n == 71 || n == 92 || n == 112 then Connection else Listener
 blamed_by_number code = Listener
 
 -- what is to blame for an error of an accept, by its kind, or else by the system's number

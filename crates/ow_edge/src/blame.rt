@@ -15,6 +15,16 @@ const NO_DESCRIPTOR: i32 = 24;
 // The same of room for buffers.
 const NO_BUFFER: i32 = 105;
 
+// The same of errors that lie at the connection that came: no network, an error of the protocol, no such option of it, and a host that
+// is down.
+const NO_NETWORK: i32 = 64;
+
+const PROTOCOL: i32 = 71;
+
+const NO_OPTION: i32 = 92;
+
+const HOST_DOWN: i32 = 112;
+
 // What an accept failed for.
 #[derive(Clone, Copy)]
 pub(crate) enum Blamed {
@@ -49,6 +59,7 @@ fn blamed_by_number(code: Option<i32>) -> Blamed
 {
     match code {
         Some(NO_FILE | NO_DESCRIPTOR | NO_BUFFER) => Blamed::Want,
+        Some(NO_NETWORK | PROTOCOL | NO_OPTION | HOST_DOWN) => Blamed::Connection,
         _ => Blamed::Listener,
     }
 }

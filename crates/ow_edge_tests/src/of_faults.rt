@@ -8,8 +8,9 @@ use std::net::TcpListener;
 use std::test::Fail;
 use std::time::Clock;
 
-// Linux's numbers of errors: EINTR, ENETDOWN, ENETUNREACH, ECONNABORTED, ECONNRESET, ETIMEDOUT, EHOSTUNREACH.
-const OF_CONNECTIONS: [i32; 7] = [4, 100, 101, 103, 104, 110, 113];
+// Linux's numbers of errors: EINTR, ENONET, EPROTO, ENOPROTOOPT, ENETDOWN, ENETUNREACH, ECONNABORTED, ECONNRESET, ETIMEDOUT, EHOSTDOWN,
+// EHOSTUNREACH.
+const OF_CONNECTIONS: [i32; 11] = [4, 64, 71, 92, 100, 101, 103, 104, 110, 112, 113];
 
 // ENOMEM, ENFILE, EMFILE, ENOBUFS.
 const OF_WANT: [i32; 4] = [12, 23, 24, 105];
@@ -43,7 +44,7 @@ fn only_a_fault_of_the_listener_ends_an_accept(rt: HostRuntime) -> Result<(), Fa
     let alloc = rt.alloc();
     for (codes, faults) in [
         ([].as_slice(), 1),
-        (OF_CONNECTIONS.as_slice(), 8),
+        (OF_CONNECTIONS.as_slice(), 12),
         (OF_WANT.as_slice(), 5),
     ] {
         assert_eq!(rt;

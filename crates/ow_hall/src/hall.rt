@@ -76,6 +76,7 @@ impl<P: Keeper + Drop> Hall<P> {
     pub fn book(&self) -> &Book
         ensures ledger { result.now.ledger ≡ self.now.ledger }
         ensures legal { IsLegal self.now.tenants self.now.ledger.entries }
+        ensures kept { HoldsBook (P.rows self.now.store) self.now.tenants self.now.ledger }
     {
         &self.book
     }
@@ -104,7 +105,7 @@ impl<P: Keeper + Drop> Hall<P> {
         }
     }
 
-    /// The office's own invocation of an action: it is charged to the namespace of the action, in the name of the office.
+    /// The office's own invocation of an action: it is charged to the namespace that the name states, in the name of the office.
     pub fn call(
         &mut self,
         alloc: Global,
@@ -210,7 +211,7 @@ impl<P: Keeper + Drop> Hall<P> {
         }
     }
 
-    /// Takes no more calls from now on. It tells whether all that was accepted has ended.
+    /// Takes no more invocations from now on. It tells whether all that was accepted has ended.
     pub fn drain(&mut self, alloc: Global, at: u64) -> Result<Drain, NoMemory>
         ensures { Comes P.rows P.faults self.old self.new at events.Drain (drain_outcome result) }
     {
@@ -256,7 +257,7 @@ impl<P: Keeper + Drop> Hall<P> {
 impl<P: Keeper + Drop> Hall<P> {
     /// What comes of an event that may want memory, as the calls above make it of what they are handed. What is told of it is given
     /// twice, so that one of the two can be kept beside the book. The event is held until all memory that it takes is there, and
-    /// what it changes of what is kept was committed.
+    /// what it changes of what is kept was committed, as is to be seen in the code.
     pub fn perform(&mut self, alloc: Global, at: u64, event: Event) -> Result<(Told, Told), Undone>
         requires later { is_opening event ≡ false }
         requires memory { wants_memory event ≡ true }

@@ -13,7 +13,7 @@ use std::alloc::Global;
 impl<P: Keeper + Drop> Hall<P> {
     /// Opens the service over a store and an office table, as `Tenants::read` gives one: its pool and limits stay as they are. What the
     /// store keeps stands then: the rows of entities, the last counts and the records. What had not ended is recorded as abandoned.
-    /// One commit is made. A refusal hands store and table back.
+    /// It makes one commit, as is to be seen in the code. A refusal hands store and table back.
     pub fn start(
         alloc: Global,
         store: P,

@@ -105,7 +105,7 @@ strangers : (id : Id) (rs : List Record) (xs : List Activation) → AllByRecursi
 strangers id [] xs h there = tt
 strangers id (r ∷ rs) xs h there = (strange_by id r.id xs (same_id id r.id) refl h.0 there, strangers id rs xs h.1 there)
 
-no_resumed : (id : Id) (T : Trace) → IsSound T → 1 ≤ times id (accepted_ids T) → AllByRecursion (λ r. same_id id r.id ≡ false) (resumed T)
+pub no_resumed : (id : Id) (T : Trace) → IsSound T → 1 ≤ times id (accepted_ids T) → AllByRecursion (λ r. same_id id r.id ≡ false) (resumed T)
 no_resumed id T sound there = strangers id (resumed T) (accepted T) sound.resumed.strange there
 
 pub record Stood (id : Id) (T : Trace) : Type 0 where

@@ -14,6 +14,8 @@ pub mod Picking
 pub mod Taking
 pub mod Opening
 pub mod Resuming
+pub mod Allowing
+pub mod Shallow
 pub mod Standing
 pub mod Loops
 pub mod Removing

@@ -100,7 +100,7 @@ first_true : (a b : Bool) → a && b ≡ true → a ≡ true
 first_true true b e = refl
 first_true false b e = cc
 
-at_least : (n : ℕ) (b : Bool) → nat_le 1 n && b ≡ true → 1 ≤ n
+pub at_least : (n : ℕ) (b : Bool) → nat_le 1 n && b ≡ true → 1 ≤ n
 at_least n b e = let h : nat_le 1 n ≡ true = first_true (nat_le 1 n) b e in grind (arith, nat_tests)
 
 drawn_of : (all : Entries) (i : Item) (id : Id) → pick_count i ≡ Some id → MayStand all i × IsItem i → IsDrawn id
@@ -133,7 +133,7 @@ read_by n x xs false e small h rest =
     ∙ (rest
     ∙ ap (λ b. option_map (λ (i : Id). i.count) (cond b (Some x) (find (is_in n) xs))) (sym e))
 
-last_read : (n : ℕ) (ids : List Id) → n < 2 ^ 64 → AllByRecursion IsDrawn ids → option_and_then digits_of (text_of (count_key n) (map count_of ids)) ≡ option_map (λ (i : Id). i.count) (find (is_in n) ids)
+pub last_read : (n : ℕ) (ids : List Id) → n < 2 ^ 64 → AllByRecursion IsDrawn ids → option_and_then digits_of (text_of (count_key n) (map count_of ids)) ≡ option_map (λ (i : Id). i.count) (find (is_in n) ids)
 last_read n [] small all = refl
 last_read n (x ∷ ids) small all = read_by n x ids (x.namespace == n) refl small all.0 (last_read n ids small all.1)
 

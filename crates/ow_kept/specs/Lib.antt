@@ -2,4 +2,6 @@ pub mod Kept
 pub mod Commits
 pub mod Keeping
 pub mod Opening
+pub mod Fit
+pub mod Shallow
 pub mod Laws

@@ -1,6 +1,8 @@
 // What is true of what is kept. The functions do nothing: their contracts are the laws.
+ghost use Rattle.ow_kept.specs.Fit.{KeptIsAllowed};
 ghost use Rattle.ow_kept.specs.Laws.{AcceptancesAreKept, ChangesOfRowsAreKept, EndsAreKept, QuietItemsAreKept};
 ghost use Rattle.ow_kept.specs.Opening.{HeldRowsAreNotBuiltin, MayBeResumed, OpeningsAreKept, ResumedIdsAreKnown};
+ghost use Rattle.ow_kept.specs.Shallow.{AbandonedAreShallow, EndsAreShallow, OpensAreShallow};
 
 /// What is committed of an acceptance makes what is kept behind it.
 #[tactic(auto, using(crate::proofs::Accepting::acceptances_kept))]
@@ -36,4 +38,16 @@ pub fn kept_rows_may_be_resumed()
     ensures resumed { MayBeResumed }
     ensures ids { ResumedIdsAreKnown }
     ensures entities { HeldRowsAreNotBuiltin }
+{}
+
+/// No row of an activation nests deeper than it is read back, ended or not.
+pub fn rows_of_activations_are_shallow()
+    ensures opened { OpensAreShallow }
+    ensures ended { EndsAreShallow }
+    ensures abandoned { AbandonedAreShallow }
+{}
+
+/// What is kept is allowed at the next opening, and read as what it is of, where each item by itself is fit to be kept.
+pub fn what_is_kept_is_allowed()
+    ensures { KeptIsAllowed }
 {}

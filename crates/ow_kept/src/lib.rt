@@ -14,5 +14,6 @@ pub use commit::{Commit, OpenBytes};
 pub use keeping::Keeping;
 pub use laws::{
     acceptances_are_kept, changes_of_rows_are_kept, ends_are_kept, kept_rows_may_be_resumed,
-    openings_are_kept, quiet_items_are_kept,
+    openings_are_kept, quiet_items_are_kept, rows_of_activations_are_shallow,
+    what_is_kept_is_allowed,
 };

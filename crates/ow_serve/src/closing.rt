@@ -20,7 +20,7 @@ use std::alloc::Global;
 use std::collections::VecDeque;
 use std::sync::{Arc, Wait};
 
-/// How long the service pauses between two drains, in milliseconds. The ring of a worker ends the pause.
+/// How long the service pauses between two drains, in milliseconds. No ring ends the pause.
 const PAUSE: u64 = 10;
 
 /// Takes no more calls, and waits until all that was accepted has ended.

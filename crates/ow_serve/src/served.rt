@@ -22,7 +22,7 @@ pub enum ServedEnd {
     StoreFault,
     /// The kept rows are not allowed: the first bad one has this key.
     BadKept(Str),
-    /// No memory was left.
+    /// No memory was left. Peers may have been served, and threads may go on; book, receipts and endings are left out.
     NoMemory,
     /// The receipts aren't the book.
     Unmatched(Difference),
@@ -42,13 +42,13 @@ pub struct Served<P: Keeper + Drop> {
     pub receipts: Vec<Receipts<P>>,
     /// How the connections of the peers ended, in the same order.
     pub endings: Vec<Ending>,
-    /// How many calls of the listener failed.
+    /// By how much the count of the listener's faults rose.
     pub listener_faults: u64,
     /// How many duties got no thread.
     pub spawner_faults: u64,
 }
 
-/// Nobody was served.
+/// It ends so, and leaves neither a book nor receipts.
 pub(crate) fn nothing<P: Keeper + Drop>(
     alloc: Global,
     end: ServedEnd,

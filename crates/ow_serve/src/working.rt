@@ -11,7 +11,7 @@ use ow_worker::{Job, Turn, again, reap, turn, watch};
 use std::alloc::Global;
 use std::sync::Wait;
 
-/// How long a worker pauses that finds nothing to do, or no memory, in milliseconds.
+/// How long a worker pauses that finds nothing to do, or no memory, or has started a container ahead, in milliseconds.
 const PAUSE: u64 = 10;
 
 /// How long the sweeper and the reaper pause between two calls, in milliseconds.
@@ -104,9 +104,10 @@ fn book_on<H: Wait, P: Keeper + Drop, R: Runner, C: Clock>(
 // What is done after a turn.
 fn next_of(turned: Turn) -> Next {
     match turned {
-        Turn::Ran | Turn::Removed | Turn::Warmed => Next::Turn,
+        Turn::Ran | Turn::Removed => Next::Turn,
         Turn::Lost { seen: _ } => Next::Turn,
-        Turn::Idle => Next::Pause,
+        // A container that doesn't come up is wanted again at once.
+        Turn::Idle | Turn::Warmed => Next::Pause,
         Turn::StoreFault(job) => Next::Book(job),
         Turn::NoMemory(None) => Next::Pause,
         Turn::NoMemory(Some(job)) => Next::Book(job),

@@ -5,11 +5,11 @@
 pub enum Stage {
     /// It is about to carry out the run of this number.
     BeforeRun(u64),
-    /// It has carried out the run of this number, whose end is not recorded yet.
+    /// It has carried out the run of this number, and hasn't told its end yet. A sweep may have recorded one.
     AfterRun(u64),
     /// It is about to take the container out of the slot of this number.
     BeforeTake(u32),
-    /// It is about to remove the container in the slot of this number.
+    /// It is about to look for a container in the slot of this number that has lain there for long.
     BeforeReap(u32),
 }
 

@@ -1,7 +1,7 @@
 #![tactic(auto)]
 
 //! What a service of many threads needs of the outside: a clock, gates at which a worker may be held, tasks with who begins them, and
-//! locks that are held for microseconds.
+//! locks that are mostly held for microseconds.
 mod clock;
 mod gate;
 mod locks;

@@ -1,4 +1,4 @@
-// A lock that is held for microseconds.
+// A lock that is held for microseconds, but where a commit waits for a disk under it.
 use std::hint::spin_loop;
 use std::sync::{Mutex, MutexGuard, Wait};
 use std::thread::yield_now;

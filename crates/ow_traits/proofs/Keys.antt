@@ -1,9 +1,14 @@
 -- What a search among rows finds, and what an edit at that place makes of them.
-use Rattle.std.proofs.Common.{◌≡◌, ◌≢◌, ℕ, zero, suc, ◌<◌, List, [], ◌∷◌, ◌++◌, Bool, true, false, cond, length, get_or, set, take, drop, Some, None, Less, Equal, is_eq, refl, sym, ap, ◌∙◌, subst, arith}
-use Rattle.std.specs.List.Sorted.{IsStrictlySortedBy}
+use Rattle.std.proofs.Common.{◌≡◌, ◌≢◌, ℕ, zero, suc, ◌+◌, ◌-◌, ◌<◌, ◌≤◌, List, [], ◌∷◌, ◌++◌, Bool, true, false, cond, length, get_or, set, take, drop, Some, None, Result, Ok, Err, IfOk, IfErr, Ordering, Less, Equal, Greater, inl, inr, is_eq, refl, sym, ap, ◌∙◌, subst, arith}
+use Rattle.std.specs.List.{AllWithin}
+use Rattle.std.specs.List.Sorted.{IsStrictlySortedBy, IsSearchInRange, IsBinarySearchResult}
+use Rattle.std.specs.Ordering.{ordering_index}
+use Rattle.std.proofs.lemmas.Bool.{cases_lt}
+use Rattle.std.proofs.lemmas.List.{get_or-drop, get_or_default, length-drop}
+use Rattle.std.proofs.Math.Seq.{take-length}
 use Rattle.ow_value.specs.Value.{text_cmp}
 use Rattle.ow_value.proofs.Entries.{Above, lookup_at, lookup_nowhere, insert_at_equal, insert_between}
-use Rattle.ow_value.proofs.KeySearch.{turned, below_equal, other, key_at, StandsAt, PartsAt, parted}
+use Rattle.ow_value.proofs.KeySearch.{turned, below_equal, other, key_at, rises, searched, StandsAt, PartsAt, parted}
 use Rattle.ow_traits.specs.Rows.{AreRows, text_of, with_row, without}
 
 abbrev Row : Type 0
@@ -50,6 +55,77 @@ pub AreRows-without : (rows : List Row) (k : List ℕ) → AreRows rows → AreR
 unfolding IsStrictlySortedBy
 AreRows-without [] k h = tt
 AreRows-without (r ∷ rows) k h = sorted_cond k r rows (is_eq (text_cmp k r.0)) h (AreRows-without rows k h.1)
+
+-- ---- a search that begins further on
+
+-- the rows before one that is below the key are below it too
+pub below_before : (rows : List Row) (key : List ℕ) (count : ℕ) (d : Row) → AreRows rows → count ≤ length rows → 0 < count → text_cmp (get_or rows (count - 1) d).0 key ≡ Less
+    → AllWithin (λ r. text_cmp r.0 key ≡ Less) rows 0 count
+below_before rows key count d up le some last j e low high =
+    let rise = rises key_of key rows up j (count - 1) d (omega (arith, high)) (omega (arith, le, some)) in
+    let here : text_cmp (get_or rows j d).0 key ≡ Less = is_least _ (subst (λ o. ordering_index (text_cmp (get_or rows j d).0 key) ≤ ordering_index o) last rise) in
+    subst (λ r. text_cmp r.0 key ≡ Less) (get_or_default rows j d e (omega (arith, high, le))) here
+  where
+    is_least : (o : Ordering) → ordering_index o ≤ 0 → o ≡ Less
+    is_least Less h = refl
+    is_least Equal h = absurd (omega (arith, h))
+    is_least Greater h = absurd (omega (arith, h))
+
+AreRows-drop : (n : ℕ) (rows : List Row) → AreRows rows → AreRows (drop n rows)
+unfolding IsStrictlySortedBy
+AreRows-drop zero rows up = up
+AreRows-drop (suc n) [] up = tt
+AreRows-drop (suc n) (r ∷ rows) up = AreRows-drop n rows up.1
+
+-- where it stands among the rows from `below` on, it stands among all
+there_from : (rows : List Row) (key : List ℕ) (below i : ℕ) → below ≤ length rows → StandsAt key_of key (drop below rows) i → StandsAt key_of key rows (below + i)
+there_from rows key below i le at =
+    let n = length-drop below rows in
+    (omega (arith, at.0, n, le), λ d. subst (λ r. text_cmp r.0 key ≡ Equal) (get_or-drop below rows i d) (at.1 d))
+
+-- and likewise where it would stand
+parts_from : (rows : List Row) (key : List ℕ) (below i : ℕ) → below ≤ length rows → AllWithin (λ r. text_cmp r.0 key ≡ Less) rows 0 below → PartsAt key_of key (drop below rows) i
+    → PartsAt key_of key rows (below + i)
+parts_from rows key below i le all parts = (less, greater)
+  where
+    shifted : (o : Ordering) (j : ℕ) (d : Row) → below ≤ j → text_cmp (get_or (drop below rows) (j - below) d).0 key ≡ o → text_cmp (get_or rows j d).0 key ≡ o
+    shifted o j d from h =
+        let same : below + (j - below) ≡ j = omega (arith, from) in
+        subst (λ m. text_cmp (get_or rows m d).0 key ≡ o) same (subst (λ r. text_cmp r.0 key ≡ o) (get_or-drop below rows (j - below) d) h)
+
+    less : AllWithin (λ r. text_cmp r.0 key ≡ Less) rows 0 (below + i)
+    less j d low high = elim (cases_lt j below) [
+      | inl before ↦ all j d low before
+      | inr from ↦ shifted Less j d from (parts.0 (j - below) d (omega arith) (omega (arith, from, high)))
+    ]
+
+    greater : AllWithin (λ r. text_cmp r.0 key ≡ Greater) rows (below + i) (length rows)
+    greater j d low high =
+        let n = length-drop below rows in
+        shifted Greater j d (omega (arith, low)) (parts.1 (j - below) d (omega (arith, low)) (omega (arith, low, high, n, le)))
+
+-- what is found by a search among the rows from `below` on is found among all
+pub found_from : (rows : List Row) (key : List ℕ) (below : ℕ) → AreRows rows → below ≤ length rows → AllWithin (λ r. text_cmp r.0 key ≡ Less) rows 0 below
+    → (r : Result ℕ ℕ) → IsSearchInRange r (length (take (length rows - below) (drop below rows))) → IsBinarySearchResult (λ r. text_cmp r.0 key) (take (length rows - below) (drop below rows)) r
+    → record {
+      ok : IfOk r (λ i. StandsAt key_of key rows (below + i));
+      err : IfErr r (λ i. (below + i ≤ length rows) × PartsAt key_of key rows (below + i));
+    }
+found_from rows key below up le all r range found = from r (subst (λ ys. IsSearchInRange r (length ys)) same range) (subst (λ ys. IsBinarySearchResult (λ x. text_cmp x.0 key) ys r) same found)
+  where
+    same : take (length rows - below) (drop below rows) ≡ drop below rows
+    same = ap (λ n. take n (drop below rows)) (sym (length-drop below rows)) ∙ take-length (drop below rows)
+
+    from : (r : Result ℕ ℕ) → IsSearchInRange r (length (drop below rows)) → IsBinarySearchResult (λ x. text_cmp x.0 key) (drop below rows) r
+        → record {
+          ok : IfOk r (λ i. StandsAt key_of key rows (below + i));
+          err : IfErr r (λ i. (below + i ≤ length rows) × PartsAt key_of key rows (below + i));
+        }
+    from (Ok i) range found = record { ok = there_from rows key below i le (range, found); err = tt }
+    from (Err i) range found =
+        let n = length-drop below rows in
+        let h = (searched key_of key (drop below rows) (AreRows-drop below rows up) (Err i) range found).err in
+        record { ok = tt; err = (omega (arith, h.0, n, le), parts_from rows key below i le all h.1) }
 
 -- ---- the edits of a Vec of rows, searched as another list that is equal
 

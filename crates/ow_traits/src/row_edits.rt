@@ -1,6 +1,6 @@
 // Edits of a Vec of rows, which stays in the order of its keys.
 ghost use Rattle.std.specs.Prelude.{◌≡◌, ◌≤◌, ◌<◌, ◌+◌, length, vec_len, vec_capacity, IsOk, IfOk, IfErr, OnOk, OnErr};
-ghost use Rattle.std.specs.List.{HoldsAt};
+ghost use Rattle.std.specs.List.{AllWithin, HoldsAt};
 ghost use Rattle.std.specs.List.Sorted.{IsPartitionPoint};
 ghost use Rattle.std.specs.declared.cmp.Ordering.TheVariants.{Less, Equal, Greater};
 ghost use Rattle.ow_value.specs.Value.{text_cmp};
@@ -9,14 +9,36 @@ ghost use Rattle.ow_traits.specs.Rows.{AreRows, with_row, without};
 
 use crate::Change;
 use ow_value::{NoMemory, Str};
+use std::cmp::Ordering;
 
-// Where the key stands, or would.
+// Where the key stands, or would. It is looked for near the end first, since the keys of what is new are mostly among the last.
 pub(crate) fn place(rows: &[(Str, Str)], key: &str) -> Result<usize, usize>
     requires { AreRows rows.now }
     ensures ok { IfOk result (λ i. (i < length rows.now) × HoldsAt (λ r. text_cmp r.0 key.now ≡ Equal) rows.now i) }
     ensures err { IfErr result (λ i. (i ≤ length rows.now) × IsPartitionPoint (λ r. text_cmp r.0 key.now ≡ Less) (λ r. text_cmp r.0 key.now ≡ Greater) rows.now i) }
 {
-    rows.binary_search_by(|row| row.0.compare(key))
+    let below = rows_below(rows, key, 8);
+    match rows[below..].binary_search_by(|row| row.0.compare(key)) {
+        Ok(i) => Ok(below + i),
+        Err(i) => Err(below + i),
+    }
+}
+
+// How many of the first rows surely stand below the key: those up to some step before the end. The steps grow by eight times.
+fn rows_below(rows: &[(Str, Str)], key: &str, step: usize) -> usize
+    requires sorted { AreRows rows.now }
+    requires step { 0 < step }
+    ensures bound { result ≤ length rows.now }
+    ensures below { AllWithin (λ r. text_cmp r.0 key.now ≡ Less) rows.now 0 result }
+{
+    if step >= rows.len() {
+        return 0;
+    }
+    let count = rows.len() - step;
+    if rows[count - 1].0.compare(key) == Ordering::Less {
+        return count;
+    }
+    rows_below(rows, key, step.saturating_mul(8))
 }
 
 pub(crate) fn put_row(rows: &mut Vec<(Str, Str)>, key: Str, text: Str) -> Result<(), NoMemory>

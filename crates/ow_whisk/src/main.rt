@@ -27,8 +27,8 @@ use crate::unkept::Unkept;
 use ow_day::{Status, office, report};
 use ow_store::FileKeeper;
 use ow_traits::{Keeper, MemoryKeeper, MemorySource, ReaderSource, Source, WriterSink};
-use ow_value::Str;
-use ow_words::{Command, ServeWords, read_words};
+use ow_value::{NoMemory, Str};
+use ow_words::{Command, ServeWords, WordsRefusal, read_words};
 use std::alloc::Global;
 use std::fs::File;
 use std::net::{Net, TcpListener, TcpStream};
@@ -116,14 +116,15 @@ enum Store {
 }
 
 // The file of the table that the words name, and what rows are to be kept by: a file, memory for a day, and nothing for a service. Words
-// that name none are read by the office again, which says what they are.
-fn named(alloc: Global, words: &[String]) -> (Option<Str>, Store) {
+// that name none are read by the office again, which says what they are. Those that took more memory than there is are never read as such.
+fn named(alloc: Global, words: &[String]) -> Result<(Option<Str>, Store), NoMemory> {
     match read_words(alloc, words) {
-        Ok(Command::Day { table, store }) => (table, store_named(store, Store::Memory)),
+        Ok(Command::Day { table, store }) => Ok((table, store_named(store, Store::Memory))),
         Ok(Command::Serve(ServeWords { table, store, .. })) => {
-            (table, store_named(store, Store::Nothing))
+            Ok((table, store_named(store, Store::Nothing)))
         }
-        _ => (None, Store::Memory),
+        Err(WordsRefusal::NoMemory) => Err(NoMemory),
+        _ => Ok((None, Store::Memory)),
     }
 }
 
@@ -163,7 +164,9 @@ fn main(rt: HostRuntime) -> ExitCode {
         Ok(words) => words,
         Err(status) => return code_of(&told(&rt, status)),
     };
-    let (table, store) = named(rt.alloc(), &words);
+    let Ok((table, store)) = named(rt.alloc(), &words) else {
+        return code_of(&told(&rt, Status::NoMemory));
+    };
     match store {
         Store::File(name) => {
             let keeper = FileKeeper::open(&rt, name.as_str());

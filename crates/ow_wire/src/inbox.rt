@@ -26,7 +26,7 @@ pub enum Arrival {
     Ended,
     /// The link failed.
     Fault,
-    /// No memory was left.
+    /// No memory was left. What was read may be lost, so nothing more can be had of this peer.
     NoMemory,
 }
 

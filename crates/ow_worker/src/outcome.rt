@@ -50,7 +50,7 @@ impl Job {
 
 /// What a turn came to.
 pub enum Turn {
-    /// A run has its reply, which the hall has.
+    /// A run has its reply, and the hall was told of it: it has it, or told that it came late or to no run.
     Ran,
     /// Containers that were to make room were looked for, and what lay there is gone.
     Removed,

@@ -1,6 +1,9 @@
 use Rattle.ow_day.proofs.SoFar.{leaves_unread}
-use Rattle.ow_day.proofs.Tables.{unread_answers, unread_tells}
+use Rattle.ow_day.proofs.Tables.{read_tells, unread_answers, unread_tells}
 use Rattle.ow_day.proofs.commands.day_over.Goals as goal
+
+pub returns-in-Ok-clause-told : goal.returns-in-Ok-clause-told
+returns-in-Ok-clause-told g c = read_tells _ c.in-Ok.tenants _ _ _ _ _ c.run_day.result.0 c.in-Ok.ensures.told c.run_day.ensures.own c.run_day.ensures.told
 
 pub returns-in-Err-clause-told : goal.returns-in-Err-clause-told
 returns-in-Err-clause-told g c = rw c.unread.ensures (unread_tells _ _ _ _ c.in-Err.refusal c.in-Err.ensures.told)
