@@ -1,5 +1,5 @@
 -- What is decided accepts one activation that the limits admit, changes one row, or does neither.
-use Rattle.std.proofs.Common.{◌≡◌, ◌++◌, ◌&&◌, ℕ, Bool, true, false, cond, List, [], ◌∷◌, Option, Some, None, Result, Ok, Err, IfOk, refl}
+use Rattle.std.proofs.Common.{◌≡◌, ◌++◌, ◌&&◌, ℕ, Bool, true, false, cond, List, [], ◌∷◌, Option, Some, None, Result, Ok, Err, IfOk, refl, ap}
 use Rattle.std.specs.Prelude.{is_none}
 use Rattle.std.specs.List.{find}
 use Rattle.ow_value.specs.Value.{V, Pairs}
@@ -24,11 +24,15 @@ use Rattle.ow_keep.specs.Split.{Parts as KeptParts}
 use Rattle.ow_kept.specs.Commits.{accept_changes, row_changes}
 use Rattle.ow_kept.specs.Keeping.{AreLater, IsLater}
 use Rattle.ow_records.specs.Unrecorded.{unrecorded_of}
+use Rattle.ow_entity.specs.declared.rows.Row.{Row}
+use Rattle.ow_packages.specs.Effective.{effective}
+use Rattle.ow_packages.specs.declared.effective_action.Effective.{Effective}
 use Rattle.ow_tables.specs.Contents.{Change}
+use Rattle.ow_tables.specs.Rows.{standing}
 use Rattle.ow_floor.specs.Growth.{grown}
 use Rattle.ow_floor.specs.Calls.{IsNext, abandon_items, abandoned_items, accept_items, activation_of, answered_items, begins, begun_items, busy_run, end_items, goes, gone_items, is_late, items_if, late_items, late_of, loses, lost_items, next_items, order_items, overrun_items, place_on, reply_items, resume_items, sorted_by_id, swept_items}
 use Rattle.ow_tables.specs.Refusal.{remove_refusal}
-use Rattle.ow_tenant.specs.Tenants.{limits_of}
+use Rattle.ow_tenant.specs.Tenants.{limits_of, number_of}
 use Rattle.ow_tenant.specs.declared.entries.Holder.{Holder}
 use Rattle.ow_counts.specs.Counts.{admitted}
 use Rattle.ow_counts.specs.declared.refusal.LimitRefusal.{LimitRefusal}
@@ -37,6 +41,9 @@ use Rattle.ow_http.specs.Request.{parts_of}
 use Rattle.ow_http.specs.declared.call.Call.{Call}
 use Rattle.ow_http.specs.declared.reason.Reason.{Reason}
 use Rattle.ow_decide.specs.declared.acts.Act.{Act}
+use Rattle.ow_decide.specs.declared.call_steps.Callee.{Callee}
+use Rattle.ow_decide.specs.Reasons.{not_found}
+use Rattle.ow_decide.specs.Steps.{or_else}
 use Rattle.ow_decide.specs.declared.acts.Act.TheVariants.{Reads, Puts, Removes, Invokes}
 use Rattle.ow_decide.specs.declared.events.Event.{Event}
 use Rattle.ow_decide.specs.declared.events.Event.TheVariants as events
@@ -44,7 +51,7 @@ use Rattle.ow_decide.specs.Sight.{Sight, or_limit, room_for, store_room, takes_c
 use Rattle.ow_decide.specs.Tenants.{asker, office}
 use Rattle.ow_decide.specs.View.{view_of}
 use Rattle.ow_decide.specs.Reading.{name_in, read_done}
-use Rattle.ow_decide.specs.Calling.{admitted_plan, call_decision, call_plan, callee, charged_namespace, given_over, invocation_plan, next_id, plan_for, until_of}
+use Rattle.ow_decide.specs.Calling.{admitted_plan, call_decision, call_plan, callee, callee_in, callee_of, charged_namespace, given_over, invocation_plan, next_id, plan_for, until_of}
 use Rattle.ow_decide.specs.Asking.{Done, Shown, Changed, Invoked, act_done, act_for, ask_decision, change_done, draft_in, granted_call, put_of, request_done, row_for, row_of, shown_done, unless_refused}
 use Rattle.ow_decide.specs.Opening.{opened_decision, parts_taken}
 use Rattle.ow_decide.specs.Decisions.{decide, is_opening}
@@ -119,25 +126,41 @@ later_abandon at T = (tt, later_abandoned at (sorted_by_id (open_items T)))
 
 -- ---- what is accepted
 
--- the limits admit it, and its id is the next of its namespace
+-- some name calls what it carries out
+abbrev pub IsCallee : List Row → Effective → Type 0
+IsCallee rs e = (name : FullName) × ((namespace : List ℕ) × (effective (standing rs) name namespace ≡ Some e))
+
+-- the limits admit it, its id is the next of its namespace, nothing caused it, and some name calls it
 pub record IsAdmitted (S : Sight) (plan : Plan) : Type 0 where
   pub admitted : admitted S.trace plan.namespace (limits_of plan.namespace S.tenants) S.moment ≡ Ok tt
   pub next : IsNext plan.id S.trace
+  pub uncaused : plan.cause ≡ None
+  pub callee : IsCallee S.rows plan.effective
 
 limit_ok : (r : Result (Unit {0}) LimitRefusal) → IfOk (or_limit r) (λ u. r ≡ Ok tt)
 limit_ok (Ok u) = refl
 limit_ok (Err e) = tt
 
-admitted_so : (S : Sight) (plan : Plan) → IsNext plan.id S.trace → IfOk (admitted_plan S plan) (IsAdmitted S)
-admitted_so S plan next =
+admitted_so : (S : Sight) (plan : Plan) → IsNext plan.id S.trace → plan.cause ≡ None → IsCallee S.rows plan.effective → IfOk (admitted_plan S plan) (IsAdmitted S)
+admitted_so S plan next uncaused called =
     let asked = admitted S.trace plan.namespace (limits_of plan.namespace S.tenants) S.moment in
     then_ok (IsAdmitted S) (store_room S (accept_changes (unrecorded_of (activation_of S.moment plan)))) _ (λ room.
-    then_from (λ u. asked ≡ Ok tt) (IsAdmitted S) (within_limits S plan.namespace) _ (limit_ok asked) (λ u ok. record { admitted = ok; next = next }))
+    then_from (λ u. asked ≡ Ok tt) (IsAdmitted S) (within_limits S plan.namespace) _ (limit_ok asked) (λ u ok. record { admitted = ok; next = next; uncaused = uncaused; callee = called }))
+
+there_ok : {X : Type 0} (o : Option X) (reason : Reason) → IfOk (or_else o reason) (λ (x : X). o ≡ Some x)
+there_ok None reason = tt
+there_ok (Some x) reason = refl
+
+called_of : (number : Option ℕ) (e : Option Effective) (c : Callee) → callee_of number e ≡ Some c → e ≡ Some c.effective
+called_of None e c is = cc
+called_of (Some n) None c is = cc
+called_of (Some n) (Some e) c is = let same : ◌≡◌ {A = Callee} (record { number = n; effective = e }) c = cc in ap (λ (x : Callee). Some x.effective) same
 
 planned_admitted : (S : Sight) (subject namespace : List ℕ) (blocking : Bool) (name : FullName) (params : Pairs) → IfOk (invocation_plan S subject namespace blocking name params) (IsAdmitted S)
 planned_admitted S subject namespace blocking name params =
-    then_ok (IsAdmitted S) (callee S name namespace) _ (λ c. then_ok (IsAdmitted S) (given_over c.effective params) _ (λ merged. then_ok (IsAdmitted S) (takes_calls S) _ (λ taken.
-    admitted_so S (plan_for subject (until_of S.moment blocking c.effective.action) (next_id S c.number) namespace c.effective merged) refl)))
+    then_from (λ (c : Callee). callee_in S.tenants S.rows name namespace ≡ Some c) (IsAdmitted S) (callee S name namespace) _ (there_ok (callee_in S.tenants S.rows name namespace) not_found) (λ c is. then_ok (IsAdmitted S) (given_over c.effective params) _ (λ merged. then_ok (IsAdmitted S) (takes_calls S) _ (λ taken.
+    admitted_so S (plan_for subject (until_of S.moment blocking c.effective.action) (next_id S c.number) namespace c.effective merged) refl refl
+    (name, (namespace, called_of (number_of namespace S.tenants) (effective (standing S.rows) name namespace) c is)))))
 
 pub called_admitted : (S : Sight) (name : FullName) (params : Pairs) → IfOk (call_plan S name params) (IsAdmitted S)
 called_admitted S name params = then_ok (IsAdmitted S) (room_for S 0) _ (λ room. planned_admitted S office name.namespace false name params)

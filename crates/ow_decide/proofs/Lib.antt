@@ -20,3 +20,4 @@ mod PlanLaws
 mod PutLaws
 mod LeaveLaws
 pub mod NamedLaws
+pub mod RowLaws

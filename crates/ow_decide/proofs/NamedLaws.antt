@@ -38,6 +38,34 @@ fault_none_of : (f : Option NameRefusal) (o : Option FullName) → (checked BadN
 fault_none_of None o is = refl
 fault_none_of (Some e) o is = cc
 
+-- a path of one entity lists nothing
+lists_no_entity : (namespace : List ℕ) (kind : EntityKind) (inside : Option (List ℕ)) (name : List ℕ) (m : Verb) (reading : Reading) → lists reading ≡ true
+    → act_of (route.Entity namespace kind inside name) m ≡ Some (Reads reading) → ⊥
+lists_no_entity namespace kinds.Action inside name verbs.Get reading lists_it act = cc
+lists_no_entity namespace kinds.Action inside name verbs.Put reading lists_it act = cc
+lists_no_entity namespace kinds.Action inside name verbs.Post reading lists_it act = cc
+lists_no_entity namespace kinds.Action inside name verbs.Delete reading lists_it act = cc
+lists_no_entity namespace kinds.Action inside name verbs.Patch reading lists_it act = cc
+lists_no_entity namespace kinds.Action inside name verbs.Options reading lists_it act = cc
+lists_no_entity namespace kinds.Package inside name verbs.Get reading lists_it act = cc
+lists_no_entity namespace kinds.Package inside name verbs.Put reading lists_it act = cc
+lists_no_entity namespace kinds.Package inside name verbs.Post reading lists_it act = cc
+lists_no_entity namespace kinds.Package inside name verbs.Delete reading lists_it act = cc
+lists_no_entity namespace kinds.Package inside name verbs.Patch reading lists_it act = cc
+lists_no_entity namespace kinds.Package inside name verbs.Options reading lists_it act = cc
+lists_no_entity namespace kinds.Trigger inside name verbs.Get reading lists_it act = cc
+lists_no_entity namespace kinds.Trigger inside name verbs.Put reading lists_it act = cc
+lists_no_entity namespace kinds.Trigger inside name verbs.Post reading lists_it act = cc
+lists_no_entity namespace kinds.Trigger inside name verbs.Delete reading lists_it act = cc
+lists_no_entity namespace kinds.Trigger inside name verbs.Patch reading lists_it act = cc
+lists_no_entity namespace kinds.Trigger inside name verbs.Options reading lists_it act = cc
+lists_no_entity namespace kinds.Rule inside name verbs.Get reading lists_it act = cc
+lists_no_entity namespace kinds.Rule inside name verbs.Put reading lists_it act = cc
+lists_no_entity namespace kinds.Rule inside name verbs.Post reading lists_it act = cc
+lists_no_entity namespace kinds.Rule inside name verbs.Delete reading lists_it act = cc
+lists_no_entity namespace kinds.Rule inside name verbs.Patch reading lists_it act = cc
+lists_no_entity namespace kinds.Rule inside name verbs.Options reading lists_it act = cc
+
 named_list : (here : List ℕ) (r : Route) (m : Verb) (reading : Reading) (o : Option FullName) → lists reading ≡ true → act_of r m ≡ Some (Reads reading) → name_of_path here r ≡ Ok o → first_fault (namespace_of r) ≡ None
 named_list here (route.List namespace k) m reading o lists_it act named = fault_none_of (first_fault namespace) o named
 named_list here (route.Activations namespace) m reading o lists_it act named = fault_none_of (first_fault namespace) o named
@@ -53,30 +81,7 @@ named_list here (route.Activation namespace id part) verbs.Post reading o lists_
 named_list here (route.Activation namespace id part) verbs.Delete reading o lists_it act named = cc
 named_list here (route.Activation namespace id part) verbs.Patch reading o lists_it act named = cc
 named_list here (route.Activation namespace id part) verbs.Options reading o lists_it act named = cc
-named_list here (route.Entity namespace kinds.Action inside name) verbs.Get reading o lists_it act named = cc
-named_list here (route.Entity namespace kinds.Action inside name) verbs.Put reading o lists_it act named = cc
-named_list here (route.Entity namespace kinds.Action inside name) verbs.Post reading o lists_it act named = cc
-named_list here (route.Entity namespace kinds.Action inside name) verbs.Delete reading o lists_it act named = cc
-named_list here (route.Entity namespace kinds.Action inside name) verbs.Patch reading o lists_it act named = cc
-named_list here (route.Entity namespace kinds.Action inside name) verbs.Options reading o lists_it act named = cc
-named_list here (route.Entity namespace kinds.Package inside name) verbs.Get reading o lists_it act named = cc
-named_list here (route.Entity namespace kinds.Package inside name) verbs.Put reading o lists_it act named = cc
-named_list here (route.Entity namespace kinds.Package inside name) verbs.Post reading o lists_it act named = cc
-named_list here (route.Entity namespace kinds.Package inside name) verbs.Delete reading o lists_it act named = cc
-named_list here (route.Entity namespace kinds.Package inside name) verbs.Patch reading o lists_it act named = cc
-named_list here (route.Entity namespace kinds.Package inside name) verbs.Options reading o lists_it act named = cc
-named_list here (route.Entity namespace kinds.Trigger inside name) verbs.Get reading o lists_it act named = cc
-named_list here (route.Entity namespace kinds.Trigger inside name) verbs.Put reading o lists_it act named = cc
-named_list here (route.Entity namespace kinds.Trigger inside name) verbs.Post reading o lists_it act named = cc
-named_list here (route.Entity namespace kinds.Trigger inside name) verbs.Delete reading o lists_it act named = cc
-named_list here (route.Entity namespace kinds.Trigger inside name) verbs.Patch reading o lists_it act named = cc
-named_list here (route.Entity namespace kinds.Trigger inside name) verbs.Options reading o lists_it act named = cc
-named_list here (route.Entity namespace kinds.Rule inside name) verbs.Get reading o lists_it act named = cc
-named_list here (route.Entity namespace kinds.Rule inside name) verbs.Put reading o lists_it act named = cc
-named_list here (route.Entity namespace kinds.Rule inside name) verbs.Post reading o lists_it act named = cc
-named_list here (route.Entity namespace kinds.Rule inside name) verbs.Delete reading o lists_it act named = cc
-named_list here (route.Entity namespace kinds.Rule inside name) verbs.Patch reading o lists_it act named = cc
-named_list here (route.Entity namespace kinds.Rule inside name) verbs.Options reading o lists_it act named = cc
+named_list here (route.Entity namespace kind inside name) m reading o lists_it act named = absurd (lists_no_entity namespace kind inside name m reading lists_it act)
 named_list here (route.Web namespace inside name rest) verbs.Get reading o lists_it act named = cc
 named_list here (route.Web namespace inside name rest) verbs.Put reading o lists_it act named = cc
 named_list here (route.Web namespace inside name rest) verbs.Post reading o lists_it act named = cc

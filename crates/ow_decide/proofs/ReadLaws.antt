@@ -14,7 +14,7 @@ use Rattle.ow_entity.specs.Row.{kind_of as row_kind, name_of}
 use Rattle.ow_entity.specs.Written.{summary_value}
 use Rattle.ow_packages.specs.Access.{package_of}
 use Rattle.ow_tables.specs.Rows.{AreRows, kind_place, listing, stands_in}
-use Rattle.ow_http.specs.CallOf.{as_call, bare_call, call_of_kind, checked_query, draft_of, filled_call, name_of as name_of_path, params_of}
+use Rattle.ow_http.specs.CallOf.{as_call, bare_call, call_of_kind, checked_query, draft_of, filled_call, name_of as name_of_path, package_for, params_of}
 use Rattle.ow_http.specs.CallKind.{kind_of}
 use Rattle.ow_http.specs.Pair.{Pair}
 use Rattle.ow_http.specs.Parts.{Parts}
@@ -29,7 +29,7 @@ use Rattle.ow_http.specs.declared.route.Route.{Route}
 use Rattle.ow_http.specs.declared.route.Route.TheVariants as route
 use Rattle.ow_decide.specs.Asking.{Done, Shown, call_for, granted_call, shown_done}
 use Rattle.ow_decide.specs.Named.{AreNamed}
-use Rattle.ow_decide.specs.Reading.{is_opened, is_shared_at, namespace_of, or_call_reason, path_package, read_call, read_done, read_kind, read_value, row_read}
+use Rattle.ow_decide.specs.Reading.{entity_package, is_opened, is_shared_at, namespace_of, or_call_reason, path_package, read_call, read_done, read_kind, read_value, row_read}
 use Rattle.ow_decide.specs.Shown.{shown_row}
 use Rattle.ow_decide.specs.declared.acts.Reading.{Reading}
 use Rattle.ow_decide.specs.declared.acts.Act.TheVariants.{Reads}
@@ -131,7 +131,7 @@ unnamed (Ok u) n is = no_name n is
 unnamed (Err e) n is = cc
 
 path_namespace : (here : List ℕ) (r : Route) (n : FullName) → name_of_path here r ≡ Ok (Some n) → n.namespace ≡ home here (namespace_of r)
-path_namespace here (route.Entity namespace kind inside name) n is = in_namespace here namespace name inside n (as_named _ n is)
+path_namespace here (route.Entity namespace kind inside name) n is = in_namespace here namespace name (package_for kind inside) n (as_named _ n is)
 path_namespace here (route.List namespace kind) n is = absurd (unnamed _ n is)
 path_namespace here (route.Activations namespace) n is = absurd (unnamed _ n is)
 path_namespace here route.Namespaces n is = absurd (no_name n is)
@@ -165,12 +165,16 @@ lying_package here namespace parent name n is =
     let made : record { namespace = home here namespace; «package» = Some parent; name = name } ≡ n = cc in
     rw (a, b) (ap package_of made)
 
+entity_named : (here namespace : List ℕ) (inside : Option (List ℕ)) (name : List ℕ) (kind : EntityKind) (n : FullName) → named_in here namespace inside name ≡ Ok n
+    → (entity_package here namespace inside name kind ≡ None) ⊎ (entity_package here namespace inside name kind ≡ granting kind n)
+entity_named here namespace None name kinds.Action n is = inl refl
+entity_named here namespace (Some parent) name kinds.Action n is = inr (lying_package here namespace parent name n is)
+entity_named here namespace inside name kinds.Package n is = inr (ap result_ok is)
+entity_named here namespace inside name kinds.Rule n is = inl refl
+entity_named here namespace inside name kinds.Trigger n is = inl refl
+
 package_named : (here : List ℕ) (r : Route) (kind : EntityKind) (n : FullName) → name_of_path here r ≡ Ok (Some n) → (path_package here r kind ≡ None) ⊎ (path_package here r kind ≡ granting kind n)
-package_named here (route.Entity namespace k None name) kinds.Action n is = inl refl
-package_named here (route.Entity namespace k (Some parent) name) kinds.Action n is = inr (lying_package here namespace parent name n (as_named _ n is))
-package_named here (route.Entity namespace k inside name) kinds.Package n is = inr (ap result_ok (as_named _ n is))
-package_named here (route.Entity namespace k inside name) kinds.Rule n is = inl refl
-package_named here (route.Entity namespace k inside name) kinds.Trigger n is = inl refl
+package_named here (route.Entity namespace k inside name) kind n is = entity_named here namespace (package_for k inside) name kind n (as_named _ n is)
 package_named here (route.List namespace k) kind n is = inl refl
 package_named here (route.Activations namespace) kind n is = inl refl
 package_named here route.Namespaces kind n is = inl refl

@@ -18,7 +18,7 @@ use Rattle.ow_records.specs.Written.{logs_value, record_value, response_value}
 use Rattle.ow_records.specs.declared.ids.Id.{Id}
 use Rattle.ow_records.specs.declared.record.Record.{Record}
 use Rattle.ow_tables.specs.Rows.{found, listing, standing}
-use Rattle.ow_http.specs.CallOf.{call_of}
+use Rattle.ow_http.specs.CallOf.{call_of, package_for}
 use Rattle.ow_http.specs.Parts.{Parts}
 use Rattle.ow_http.specs.Refused.{refusal_of}
 use Rattle.ow_http.specs.Steps.{◌>>=◌}
@@ -72,7 +72,7 @@ entity_package here namespace inside name kinds.Package = result_ok (named_in he
 entity_package here namespace inside name kind = None
 
 abbrev pub path_package : List ℕ → Route → EntityKind → Option FullName
-path_package here (route.Entity namespace kind inside name) wanted = entity_package here namespace inside name wanted
+path_package here (route.Entity namespace kind inside name) wanted = entity_package here namespace (package_for kind inside) name wanted
 path_package here other wanted = None
 
 abbrev pub is_shared_at : List Entity → Option FullName → Bool

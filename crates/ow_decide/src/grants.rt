@@ -108,10 +108,20 @@ fn path_package(
     match route {
         Route::Entity {
             namespace,
+            kind: named,
             package,
             name,
-            ..
-        } => entity_package(alloc, home, namespace, package, name, kind),
+        } => match (named, package) {
+            (EntityKind::Action, Some(inside)) => entity_package(
+                alloc,
+                home,
+                namespace,
+                Some(inside.as_slice()),
+                name,
+                kind,
+            ),
+            _ => entity_package(alloc, home, namespace, None, name, kind),
+        },
         _ => Ok(None),
     }
 }
@@ -120,24 +130,15 @@ fn entity_package(
     alloc: Global,
     home: &EntityName,
     namespace: &Bytes,
-    inside: &Option<Bytes>,
+    inside: Option<&[u8]>,
     name: &Bytes,
     kind: EntityKind,
 ) -> Result<Option<FullName>, NoMemory>
-    ensures { IfOk result (λ n. n ≡ entity_package home.now namespace.now inside.now name.now kind) }
+    ensures { IfOk result (λ n. n ≡ entity_package home.now namespace.now (option_copied inside.entry) name.now kind) }
 {
     match (kind, inside) {
-        (EntityKind::Action, Some(inside)) => {
-            full_name(alloc, home, namespace, None, inside.as_slice())
-        }
-        (EntityKind::Package, Some(inside)) => full_name(
-            alloc,
-            home,
-            namespace,
-            Some(inside.as_slice()),
-            name.as_slice(),
-        ),
-        (EntityKind::Package, None) => full_name(alloc, home, namespace, None, name.as_slice()),
+        (EntityKind::Action, Some(inside)) => full_name(alloc, home, namespace, None, inside),
+        (EntityKind::Package, _) => full_name(alloc, home, namespace, inside, name.as_slice()),
         _ => Ok(None),
     }
 }

@@ -30,3 +30,4 @@ pub mod Growing
 pub mod Losing
 pub mod Ordering
 pub mod Emptying
+pub mod Knowing

@@ -1,7 +1,10 @@
 // The floor and its calls. Each adds items to the trace. What was before a hold is kept until it is settled.
 ghost use Rattle.std.specs.Prelude.{◌≡◌, ◌+◌, ◌-◌, ◌<◌, ◌≤◌, ◌++◌, [], ◌∷◌, length, find, map, None, Some, true, false, option_copied, IfOk, IfSome, OnOk, OnErr, IfErr, IsSome};
+ghost use Rattle.std.specs.List.{AllByRecursion};
+ghost use Rattle.ow_records.specs.Known.{IsId, IsKnown, IsKnownUnrecorded};
+ghost use Rattle.ow_records.specs.Unrecorded.{unrecorded_of};
 ghost use Rattle.ow_floor.specs.View.{is_of, last_of};
-ghost use Rattle.ow_floor.specs.Trace.{Drained, Opened, Trace, is_draining, last, latest, open_items, records, shown};
+ghost use Rattle.ow_floor.specs.Trace.{Drained, Opened, Trace, all_records, drawn, is_draining, last, latest, open_items, records, shown};
 ghost use Rattle.ow_floor.specs.Growth.{AreResumable, IsFresh};
 ghost use Rattle.ow_floor.specs.Laws.{Grows, Stands};
 ghost use Rattle.ow_pool.specs.Rules.{AreWantsSized};
@@ -10,6 +13,7 @@ ghost use Rattle.ow_floor.specs.Owed.{owed, owed_of};
 ghost use Rattle.ow_floor.specs.Calls.{AllRecorded, AnswersSo, GrowsBy, HandsBack, HasWork, abandon_items, abandoned_ends, accept_items, activation_of, answer_to, answered_by, answered_items, begun_answer, begun_items, busy_run, drain_answer, drain_by, gone_answer, gone_items, happened, happened_accepted, is_store_fault, leaves_alive, lost_answer, lost_items, next_items, next_order, record_abandoned, resume_items, sorted_by_id, swept_ends, swept_items, unrecorded_by, unrecorded_in};
 
 use crate::ends::{abandon, end_run, sweep};
+use crate::known::known_tasks;
 use crate::lists::Lists;
 use crate::orders::next_order;
 use crate::places::last_of;
@@ -20,7 +24,7 @@ use crate::{
     Swept,
 };
 use ow_packages::Effective;
-use ow_records::{Activation, Id, Record, Records, Unrecorded};
+use ow_records::{Activation, Id, Record, Records, Unrecorded, known_ids, known_records};
 use ow_traits::{Prewarms, RunReply};
 use ow_value::{NoMemory, Scratch, Shared};
 use std::alloc::Global;
@@ -111,6 +115,18 @@ impl Floor {
         ensures { result.now.items ≡ self.now.now.resumed ++ self.now.now.ended }
     {
         self.lists.records()
+    }
+
+    /// Makes known what the types of the activations that have not ended, of the last ids and of the records tell. It looks at all of
+    /// them.
+    pub fn known_parts(&self)
+        ensures unended { (T : Trace) → Stands self.now.now T → AllByRecursion (λ o. IsKnownUnrecorded (unrecorded_of o.task)) (open_items T) }
+        ensures drawn { (T : Trace) → Stands self.now.now T → AllByRecursion IsId (drawn T) }
+        ensures records { (T : Trace) → Stands self.now.now T → AllByRecursion IsKnown (all_records T) }
+    {
+        known_tasks(self.lists.tasks());
+        known_ids(self.lists.drawn());
+        known_records(self.lists.records().items());
     }
 
     /// The end of an activation for which a request waits: its record, where it has ended. It takes no memory.

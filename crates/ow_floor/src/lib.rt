@@ -8,6 +8,7 @@ mod ends;
 mod floor;
 mod kept;
 mod kept_slots;
+mod known;
 mod laws;
 mod lists;
 mod orders;

@@ -7,6 +7,7 @@ mod entries;
 mod entry;
 mod fronts;
 mod hall;
+mod known;
 mod laws;
 mod opening;
 mod openings;

@@ -1,9 +1,12 @@
 // What stands behind the book: the floor, the rows, who waits, and what counts against the limits. What is done at an event is held
 // on the floor, and made ready beside it, until it is settled.
 ghost use Rattle.std.specs.Prelude.{◌≡◌, ◌≤◌, [], ◌∷◌, true, false, Some, None, length, drop, min, IfOk, IfSome, OnOk, OnErr};
+ghost use Rattle.std.specs.List.{AllByRecursion};
 ghost use Rattle.ow_floor.specs.Laws.{Stands};
 ghost use Rattle.ow_floor.specs.Owed.{owed};
 ghost use Rattle.ow_floor.specs.Trace.{Trace};
+ghost use Rattle.ow_keep.specs.Known.{IsItem};
+ghost use Rattle.ow_kept.specs.Kept.{kept_items};
 ghost use Rattle.ow_pool.specs.Rules.{AreWantsSized};
 ghost use Rattle.ow_decide.specs.Decisions.{decide, is_opening, taken_told, wants_memory};
 ghost use Rattle.ow_decide.specs.Decision.{all_changed};
@@ -15,6 +18,7 @@ ghost use Rattle.ow_tenant.specs.Table.{Table};
 use ow_counts::Counts;
 use ow_decide::{Event, Now, Step, Wait, Waits, step_for, take};
 use ow_floor::{Floor, FloorRefusal};
+use ow_keep::known_entities;
 use ow_kept::{Commit, Keeping};
 use ow_names::EntityName;
 use ow_records::Record;
@@ -91,6 +95,14 @@ impl HallState {
         ensures { result ≡ length (all_ended self.now.floor.now) }
     {
         self.floor.records().len()
+    }
+
+    /// Makes known that each item that is kept of rows and floor is what its type tells.
+    pub(crate) fn known_items(&self)
+        ensures { (T : Trace) → Stands self.now.floor.now T → AllByRecursion IsItem (kept_items self.now.rows T) }
+    {
+        known_entities(self.tables.rows());
+        self.floor.known_parts();
     }
 
     /// Takes a beginning, a loss or a going. This takes no memory.

@@ -11,6 +11,7 @@ use Rattle.ow_names.specs.declared.full.FullName.{FullName}
 use Rattle.ow_entity.specs.Body.{entity_of}
 use Rattle.ow_entity.specs.declared.field_name.FieldName.TheVariants as fields
 use Rattle.ow_entity.specs.declared.kinds.EntityKind.{EntityKind}
+use Rattle.ow_entity.specs.declared.kinds.EntityKind.TheVariants as kinds
 use Rattle.ow_entity.specs.declared.refusal.EntityRefusal.TheVariants.{WrongType}
 use Rattle.ow_entity.specs.declared.rows.Draft.{Draft}
 use Rattle.ow_http.specs.declared.call.Call.{Call}
@@ -48,9 +49,16 @@ list_name namespace = do
   right ← checked BadName (first_fault namespace)
   Ok None
 
+-- the package that the path names; only actions lie in packages
+abbrev pub package_for : EntityKind → Option (List ℕ) → Option (List ℕ)
+package_for kinds.Action inside = inside
+package_for kinds.Package inside = None
+package_for kinds.Rule inside = None
+package_for kinds.Trigger inside = None
+
 -- the full name of what the path names
 abbrev pub name_of : List ℕ → Route → Result (Option FullName) CallRefusal
-name_of home (route.Entity namespace kind inside name) = as_call Some BadName (named_in home namespace inside name)
+name_of home (route.Entity namespace kind inside name) = as_call Some BadName (named_in home namespace (package_for kind inside) name)
 name_of home (route.List namespace kind) = list_name namespace
 name_of home (route.Activations namespace) = list_name namespace
 name_of home other = Ok None

@@ -1,7 +1,7 @@
 // Requests as calls.
 ghost use Rattle.std.specs.Prelude.{◌≡◌, ◌≢◌, Ok, Err, MatchResult, option_copied};
 ghost use Rattle.ow_value.specs.View.{view};
-ghost use Rattle.ow_http.specs.CallOf.{bare_call, body_draft, body_params, body_value, call_of, checked_query, draft_of, filled_call, members_in, name_of, params_of};
+ghost use Rattle.ow_http.specs.CallOf.{bare_call, body_draft, body_params, body_value, call_of, checked_query, draft_of, filled_call, members_in, name_of, package_for, params_of};
 ghost use Rattle.ow_http.specs.Request.{parts_of};
 
 use crate::call::Call;
@@ -90,14 +90,14 @@ fn name_of(alloc: Global, route: &Route, home: &EntityName) -> Result<Option<Ful
     match route {
         Route::Entity {
             namespace,
+            kind,
             package,
             name,
-            ..
         } => match named_in(
             alloc,
             home,
             namespace.as_slice(),
-            slice_in(package),
+            package_for(*kind, package),
             name.as_slice(),
         ) {
             Ok(name) => Ok(Some(name)),
@@ -111,6 +111,15 @@ fn name_of(alloc: Global, route: &Route, home: &EntityName) -> Result<Option<Ful
             }
         }
         _ => Ok(None),
+    }
+}
+
+fn package_for(kind: EntityKind, inside: &Option<Bytes>) -> Option<&[u8]>
+    ensures { option_copied result ≡ package_for kind inside.now }
+{
+    match kind {
+        EntityKind::Action => slice_in(inside),
+        _ => None,
     }
 }
 

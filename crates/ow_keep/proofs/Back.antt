@@ -1,5 +1,5 @@
 -- What is written of an item reads as the item.
-use Rattle.std.proofs.Common.{◌≡◌, ℕ, ◌≤◌, true, nat_le, not, IfSome, Option, Some, None, option_map, option_and_then, refl, ap, ◌∙◌, arith}
+use Rattle.std.proofs.Common.{◌≡◌, ◌&&◌, ℕ, ◌≤◌, true, nat_le, not, IfSome, Option, Some, None, option_map, option_and_then, refl, ap, ◌∙◌, arith}
 use Rattle.ow_value.specs.Value.{V, depth}
 use Rattle.ow_value.specs.Json.{IsValue}
 use Rattle.ow_value.specs.Read.{reading}
@@ -26,7 +26,7 @@ use Rattle.ow_tables.specs.Builtin.{is_builtin}
 use Rattle.ow_items.specs.Item.{item_key, item_text, open_value}
 use Rattle.ow_items.specs.declared.item.Item.{Item}
 use Rattle.ow_items.specs.declared.item.Item.TheVariants.{Version, Count, Row, Open, Done}
-use Rattle.ow_keep.specs.Allowed.{is_entity}
+use Rattle.ow_keep.specs.Allowed.{is_binding, is_entity, is_version, stands_alone}
 use Rattle.ow_keep.specs.EntityIn.{entity_from, entity_with as entity_made}
 use Rattle.ow_keep.specs.ItemIn.{count_with, entity_with, item_from, value_read}
 use Rattle.ow_keep.specs.Kept.{MayStand}
@@ -62,7 +62,9 @@ action_back : (a : Action) → IsKnownAction a → entity_from kinds.Action a.na
 action_back a h = λ i. entity_made (version_back a.version h.version i) (reads_back a h.notes.rises h.params.rises h.fits i)
 
 entity_back : (p : Package) → IsKnownPackage p → is_entity (rows.Package p) ≡ true → entity_from kinds.Package p.name (package_value p) ≡ Some (rows.Package p)
-entity_back p h e = λ i. entity_made (version_back p.version h.version i) (package_back p h.notes.rises h.params.rises h.fit_notes h.fit_params h.binding e i)
+entity_back p h e =
+    let bound = (ands (stands_alone p.name) (is_binding p.name.namespace p.binding) (ands (is_version p.version) (stands_alone p.name && is_binding p.name.namespace p.binding) e).1).1 in
+    λ i. entity_made (version_back p.version h.version i) (package_back p h.notes.rises h.params.rises h.fit_notes h.fit_params h.binding bound i)
 
 -- ---- an item
 

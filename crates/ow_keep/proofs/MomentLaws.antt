@@ -23,7 +23,7 @@ use Rattle.ow_traits.specs.Rows.{text_of}
 use Rattle.ow_items.specs.Sorted.{Entries}
 use Rattle.ow_items.specs.declared.item.Item.{Item}
 use Rattle.ow_items.specs.declared.item.Item.TheVariants.{Version, Count, Row, Open, Done}
-use Rattle.ow_keep.specs.Allowed.{confirmed, has_record, is_cause, is_confirmed, is_drawn, is_moment, item_at}
+use Rattle.ow_keep.specs.Allowed.{are_durations, confirmed, has_record, is_called, is_confirmed, is_drawn, is_moment, item_at}
 use Rattle.ow_keep.specs.EntityIn.{entity_from}
 use Rattle.ow_keep.specs.ItemIn.{count_with, deep_value_of, entity_of, entity_with, item_from, value_of}
 use Rattle.ow_keep.specs.Judged.{gathered, judged, or_key, versioned}
@@ -51,9 +51,9 @@ item_small all Version may order = omega arith
 item_small all (Count namespace count) may order = omega arith
 item_small all (Row r) may order = omega arith
 item_small all (Open u) may order =
-    small_at u.at (ands (is_moment u.at) (is_cause u.cause) (ands (is_drawn all u.id && not (has_record all u.id)) (is_moment u.at && is_cause u.cause) may.allowed).1).0
+    small_at u.at (ands (is_moment u.at) (is_called u.cause u.version u.binding) (ands (is_drawn all u.id && not (has_record all u.id)) (is_moment u.at && is_called u.cause u.version u.binding) may.allowed).1).0
 item_small all (Done r) may order =
-    let end = small_at r.span.end (ands (is_moment r.span.end) (is_cause r.cause) (ands (is_drawn all r.id) (is_moment r.span.end && is_cause r.cause) may.allowed).1).0 in
+    let end = small_at r.span.end (ands (is_moment r.span.end) (is_called r.cause r.version r.notes.binding && are_durations r.notes) (ands (is_drawn all r.id) (is_moment r.span.end && (is_called r.cause r.version r.notes.binding && are_durations r.notes)) may.allowed).1).0 in
     max-le (omega (arith, order, end)) end
 
 items_small : (all : Entries) (is : List Item) → AllByRecursion (MayStand all) is → AllByRecursion IsInOrder is → greatest_kept_moment is ≤ GREATEST_MOMENT

@@ -11,6 +11,7 @@ use Rattle.ow_entity.specs.declared.rows.Row.{Row as EntityRow}
 use Rattle.ow_entity.specs.declared.rows.Row.TheVariants as rows
 use Rattle.ow_records.specs.Written.{record_value}
 use Rattle.ow_records.specs.declared.ids.Id.{Id}
+use Rattle.ow_records.specs.declared.notes.Notes.{Notes}
 use Rattle.ow_traits.specs.Rows.{text_of}
 use Rattle.ow_tables.specs.Builtin.{is_builtin}
 use Rattle.ow_items.specs.Item.{count_key, done_key, item_key, item_text, open_value}
@@ -48,21 +49,47 @@ is_cause (Some id) = nat_le 1 id.count
 abbrev pub is_moment : ℕ → Bool
 is_moment moment = nat_le moment GREATEST_MOMENT
 
+-- versions begin with 1
+abbrev pub is_version : ℕ → Bool
+is_version version = nat_le 1 version
+
+-- it stands in a namespace, and in no package there
+abbrev pub stands_alone : FullName → Bool
+stands_alone name = not (is_some name.package)
+
+-- an activation was called through no binding, or through one that stands in a namespace
+abbrev pub is_reached : Option FullName → Bool
+is_reached None = true
+is_reached (Some binding) = stands_alone binding
+
+-- by what it was called
+abbrev pub is_called : Option Id → ℕ → Option FullName → Bool
+is_called cause version binding = is_cause cause && (is_version version && is_reached binding)
+
+-- no longer than from the first moment to the greatest
+abbrev pub is_duration : Option ℕ → Bool
+is_duration None = true
+is_duration (Some duration) = is_moment duration
+
+abbrev pub are_durations : Notes → Bool
+are_durations n = is_duration n.init_time && is_duration n.wait_time
+
 -- the binding names a package, by what is written of it: its name, and its namespace, which `_` doesn't stand for
 abbrev pub is_binding : List ℕ → Option FullName → Bool
 is_binding here None = true
-is_binding here (Some bound) = not (is_some bound.package) && bytes_eq (home here bound.namespace) bound.namespace
+is_binding here (Some bound) = stands_alone bound && bytes_eq (home here bound.namespace) bound.namespace
 
+-- packages stand in no packages
 abbrev pub is_entity : EntityRow → Bool
-is_entity (rows.Action a) = true
-is_entity (rows.Package p) = is_binding p.name.namespace p.binding
+is_entity (rows.Action a) = is_version a.version
+is_entity (rows.Package p) = is_version p.version && (stands_alone p.name && is_binding p.name.namespace p.binding)
 
 abbrev pub is_allowed : Entries → Item → Bool
 is_allowed all Version = true
 is_allowed all (Count namespace count) = nat_le 1 count && nat_le count GREATEST_COUNT
 is_allowed all (Row r) = is_entity r && not (is_builtin r)
-is_allowed all (Open u) = (is_drawn all u.id && not (has_record all u.id)) && (is_moment u.at && is_cause u.cause)
-is_allowed all (Done r) = is_drawn all r.id && (is_moment r.span.end && is_cause r.cause)
+is_allowed all (Open u) = (is_drawn all u.id && not (has_record all u.id)) && (is_moment u.at && is_called u.cause u.version u.binding)
+is_allowed all (Done r) = is_drawn all r.id && (is_moment r.span.end && (is_called r.cause r.version r.notes.binding && are_durations r.notes))
 
 -- the item is written as this row, whose text nests no deeper than such texts are read
 abbrev pub is_row_of : Item → List ℕ × List ℕ → Bool

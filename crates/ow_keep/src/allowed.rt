@@ -5,13 +5,14 @@ ghost use Rattle.ow_value.specs.Value.{depth};
 ghost use Rattle.ow_value.specs.Text.{compact};
 ghost use Rattle.ow_value.specs.View.{view};
 ghost use Rattle.ow_names.specs.Path.{home};
+ghost use Rattle.ow_entity.specs.declared.rows.Row.TheVariants as rows;
 ghost use Rattle.ow_items.specs.declared.item.Item.TheVariants as items;
-ghost use Rattle.ow_keep.specs.Allowed.{has_record, is_allowed, is_binding, is_cause, is_confirmed, is_drawn, is_entity, is_moment, is_row_of};
+ghost use Rattle.ow_keep.specs.Allowed.{are_durations, has_record, is_allowed, is_binding, is_called, is_cause, is_confirmed, is_drawn, is_duration, is_entity, is_moment, is_reached, is_row_of, stands_alone};
 
-use ow_entity::{Row, write_entity};
+use ow_entity::{Package, Row, write_entity};
 use ow_items::{Item, count_key, count_row, done_key, entity_key, open_key, write_open};
 use ow_names::{EntityName, FullName};
-use ow_records::{Id, Record, Unrecorded, write_record};
+use ow_records::{Id, Notes, Record, Unrecorded, write_record};
 use ow_tables::is_builtin;
 use ow_traits::Rows;
 use ow_value::{MOST_NESTED, MOST_NESTED_RECORD, NoMemory, Str, Val, depth, digits_of, write_val};
@@ -145,8 +146,8 @@ fn is_allowed_open(alloc: Global, all: &Rows, activation: &Unrecorded) -> Result
     let drawn = is_drawn(alloc, all, activation.id)?;
     let ended = has_record(alloc, all, activation.id)?;
     let moment = is_moment(activation.at);
-    let cause = is_cause(activation.cause);
-    Ok((drawn && !ended) && (moment && cause))
+    let called = is_called(activation.cause, activation.version, &activation.binding);
+    Ok((drawn && !ended) && (moment && called))
 }
 
 fn is_allowed_done(alloc: Global, all: &Rows, ended: &Record) -> Result<bool, NoMemory>
@@ -154,8 +155,9 @@ fn is_allowed_done(alloc: Global, all: &Rows, ended: &Record) -> Result<bool, No
 {
     let drawn = is_drawn(alloc, all, ended.id)?;
     let moment = is_moment(ended.span.end());
-    let cause = is_cause(ended.cause);
-    Ok(drawn && (moment && cause))
+    let called = is_called(ended.cause, ended.version, &ended.notes.binding);
+    let durations = are_durations(&ended.notes);
+    Ok(drawn && (moment && (called && durations)))
 }
 
 fn is_drawn(alloc: Global, all: &Rows, id: Id) -> Result<bool, NoMemory>
@@ -193,13 +195,61 @@ fn is_cause(cause: Option<Id>) -> bool
     }
 }
 
+fn is_called(cause: Option<Id>, version: u32, binding: &Option<FullName>) -> bool
+    ensures { result ≡ is_called cause version binding.now }
+{
+    let cause = is_cause(cause);
+    let reached = is_reached(binding);
+    cause && (1 <= version && reached)
+}
+
+fn is_reached(binding: &Option<FullName>) -> bool
+    ensures { result ≡ is_reached binding.now }
+{
+    match binding {
+        None => true,
+        Some(binding) => stands_alone(binding),
+    }
+}
+
+fn are_durations(notes: &Notes) -> bool
+    ensures { result ≡ are_durations notes.now }
+{
+    let start = is_duration(notes.init_time);
+    let wait = is_duration(notes.wait_time);
+    start && wait
+}
+
+fn is_duration(duration: Option<u64>) -> bool
+    ensures { result ≡ is_duration duration }
+{
+    match duration {
+        None => true,
+        Some(duration) => is_moment(duration),
+    }
+}
+
+fn stands_alone(name: &FullName) -> bool
+    ensures { result ≡ stands_alone name.now }
+{
+    name.package.is_none()
+}
+
 fn is_entity(entity: &Row) -> bool
     ensures { result ≡ is_entity entity.now }
 {
     match entity {
-        Row::Action(_) => true,
-        Row::Package(bundle) => is_binding(&bundle.get().name.namespace, &bundle.get().binding),
+        Row::Action(action) => 1 <= action.get().version,
+        Row::Package(bundle) => is_package(bundle.get()),
     }
+}
+
+fn is_package(bundle: &Package) -> bool
+    ensures { result ≡ is_entity (rows.Package bundle.now) }
+{
+    let alone = stands_alone(&bundle.name);
+    let bound = is_binding(&bundle.name.namespace, &bundle.binding);
+    1 <= bundle.version && (alone && bound)
 }
 
 fn is_binding(here: &EntityName, binding: &Option<FullName>) -> bool
@@ -207,7 +257,7 @@ fn is_binding(here: &EntityName, binding: &Option<FullName>) -> bool
 {
     match binding {
         None => true,
-        Some(bound) => bound.package.is_none() && stands_for_itself(here, &bound.namespace),
+        Some(bound) => stands_alone(bound) && stands_for_itself(here, &bound.namespace),
     }
 }
 

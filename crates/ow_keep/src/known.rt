@@ -1,5 +1,6 @@
 // What the types of items tell of them. These functions do nothing but look.
 ghost use Rattle.std.specs.Prelude.{◌<◌, ◌^◌, IfSome};
+ghost use Rattle.std.specs.List.{AllByRecursion};
 ghost use Rattle.std.specs.Str.{IsUtf8};
 ghost use Rattle.ow_names.specs.FullName.{IsFullName};
 ghost use Rattle.ow_value.specs.Json.{IsObject};
@@ -38,6 +39,17 @@ pub fn known_entity(row: &Row)
     match row {
         Row::Action(action) => known_action(action.get()),
         Row::Package(bundle) => known_package(bundle.get()),
+    }
+}
+
+/// Makes known what the types of the entities' fields tell.
+pub fn known_entities(rows: &[Row])
+    ensures { AllByRecursion IsKnownEntity rows.now }
+{
+    let mut rest = rows;
+    while let [row, after @ ..] = rest {
+        known_entity(row);
+        rest = after;
     }
 }
 

@@ -16,7 +16,7 @@ mod refusal;
 pub use allowed::{GREATEST_COUNT, GREATEST_MOMENT};
 pub use keeping::{kept_items, kept_rows};
 pub use kept::Kept;
-pub use known::{known_entity, known_item};
+pub use known::{known_entities, known_entity, known_item};
 pub use laws::{
     items_read_back, moment_of_split, moments_are_small, no_builtin_is_held, split_is_kept,
 };

@@ -22,7 +22,7 @@ use Rattle.ow_items.specs.Item.{count_key, done_key, item_key, item_row, item_te
 use Rattle.ow_items.specs.Sorted.{rows_of}
 use Rattle.ow_items.proofs.Extent.{text_of-rows_of}
 use Rattle.ow_items.proofs.Lists.{absent}
-use Rattle.ow_keep.specs.Allowed.{has_record, is_cause, is_counted, is_drawn, is_entity, is_moment}
+use Rattle.ow_keep.specs.Allowed.{are_durations, has_record, is_called, is_counted, is_drawn, is_entity, is_moment}
 use Rattle.ow_keep.specs.Kept.{AreKept, MayStand}
 use Rattle.ow_keep.specs.Known.{IsItem}
 use Rattle.ow_keep.specs.declared.allowed.TheConstants.{GREATEST_COUNT}
@@ -222,16 +222,16 @@ module _ (rs : List Row) (T : Trace) (sound : IsSound T) (small : AreCountsSmall
       let none = ap not (no_record_there u.id h.0.known.id h.1.0) in
       record {
         shallow = h.0.shallow;
-        allowed = both_true (is_drawn (kept rs T) u.id && not (has_record (kept rs T) u.id)) (is_moment u.at && is_cause u.cause)
+        allowed = both_true (is_drawn (kept rs T) u.id && not (has_record (kept rs T) u.id)) (is_moment u.at && is_called u.cause u.version u.binding)
             (both_true (is_drawn (kept rs T) u.id) (not (has_record (kept rs T) u.id)) was_drawn none)
-            (behind_true (nat_le 1 u.id.count) (is_moment u.at && is_cause u.cause) h.0.fit);
+            (behind_true (nat_le 1 u.id.count) (is_moment u.at && is_called u.cause u.version u.binding) h.0.fit);
       }
 
   done_stands : (r : Record) → IsFit (items.Done r) × (r.id.count ≤ last T r.id.namespace) → MayStand (kept rs T) (items.Done r)
   done_stands r h = record {
     shallow = h.0.shallow;
-    allowed = both_true (is_drawn (kept rs T) r.id) (is_moment r.span.end && is_cause r.cause) (is_drawn_there r.id h.0.known.id (at_least r.id.count _ h.0.fit) h.1)
-        (behind_true (nat_le 1 r.id.count) (is_moment r.span.end && is_cause r.cause) h.0.fit);
+    allowed = both_true (is_drawn (kept rs T) r.id) (is_moment r.span.end && (is_called r.cause r.version r.notes.binding && are_durations r.notes)) (is_drawn_there r.id h.0.known.id (at_least r.id.count _ h.0.fit) h.1)
+        (behind_true (nat_le 1 r.id.count) (is_moment r.span.end && (is_called r.cause r.version r.notes.binding && are_durations r.notes)) h.0.fit);
   }
 
   -- ---- all may

@@ -1,4 +1,5 @@
 pub mod Keys
+pub mod Knowing
 pub mod Places
 pub mod Sections
 pub mod Counting

@@ -5,11 +5,12 @@ ghost use Rattle.std.specs.Str.{IsUtf8};
 ghost use Rattle.ow_entity.specs.FitAction.{IsFitLimits};
 ghost use Rattle.ow_names.specs.FullName.{IsFullName};
 ghost use Rattle.ow_records.specs.Known.{AreNotes, IsId, IsKnown, IsKnownUnrecorded, IsResponse, IsSpan};
+ghost use Rattle.ow_records.specs.Unrecorded.{unrecorded_of};
 
-use crate::{Id, Notes, Record, Response, Span, Unrecorded};
+use crate::{Activation, Id, Notes, Record, Response, Span, Unrecorded};
 use ow_entity::Limits;
 use ow_names::FullName;
-use ow_value::Lines;
+use ow_value::{Lines, Shared};
 
 /// Makes known that both numbers have 64 bits.
 pub fn known_id(id: Id)
@@ -49,6 +50,44 @@ pub fn known_unrecorded(activation: &Unrecorded)
     known_name(&activation.path);
     activation.subject.as_str();
     known_version(activation.version);
+}
+
+/// Makes known what the types of the fields tell of what is kept of it.
+pub fn known_activation(activation: &Activation)
+    ensures { IsKnownUnrecorded (unrecorded_of activation.now) }
+{
+    let action = activation.action.get();
+    known_id(activation.id);
+    known_moment(activation.at);
+    known_binding(&activation.binding);
+    known_cause(activation.cause);
+    known_limits(action.limits);
+    activation.namespace.as_str();
+    known_name(&action.name);
+    activation.subject.as_str();
+    known_version(action.version);
+}
+
+/// Makes known what the types of the ids tell.
+pub fn known_ids(ids: &[Id])
+    ensures { AllByRecursion IsId ids.now }
+{
+    let mut rest = ids;
+    while let [id, after @ ..] = rest {
+        known_id(*id);
+        rest = after;
+    }
+}
+
+/// Makes known what the types of the records tell.
+pub fn known_records(records: &[Shared<Record>])
+    ensures { AllByRecursion IsKnown records.now }
+{
+    let mut rest = records;
+    while let [ended, after @ ..] = rest {
+        known_record(ended.get());
+        rest = after;
+    }
 }
 
 fn known_cause(cause: Option<Id>)

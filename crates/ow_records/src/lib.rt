@@ -29,7 +29,9 @@ pub use abandonment::abandoned;
 pub use activations::Activation;
 pub use fields_in::{cause_in, id_in, lines_in, name_in, number_in, path_in, text_in, version_in};
 pub use ids::Id;
-pub use known::{known_id, known_record, known_unrecorded};
+pub use known::{
+    known_activation, known_id, known_ids, known_record, known_records, known_unrecorded,
+};
 pub use laws::{
     abandoned_is_recorded, fields_read_back, id_texts_differ, ids_read_back, read_is_written,
     written_is_read,

@@ -133,6 +133,13 @@ impl Tables {
         self.row(kind, name).ok_or(TableRefusal::NotFound)
     }
 
+    /// The rows, lent, in their order.
+    pub fn rows(&self) -> &[Row]
+        ensures { result.now ≡ self.now.rows }
+    {
+        &self.rows
+    }
+
     /// Makes known that the rows stand in order, none twice.
     pub fn are_ordered(&self)
         ensures { AreRows self.now.rows }

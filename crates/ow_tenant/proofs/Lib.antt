@@ -4,3 +4,4 @@ pub mod RowsLaws
 pub mod TextLaws
 pub mod WindowLaws
 pub mod SizedLaws
+pub mod HomeLaws

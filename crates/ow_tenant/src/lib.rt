@@ -3,6 +3,7 @@
 //! The office table: the namespaces with their limits, the keys and their rights, and the counts that the limits are of.
 mod by_text;
 mod entries;
+mod known;
 mod limits;
 mod line;
 mod queue;

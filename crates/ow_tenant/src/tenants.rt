@@ -1,6 +1,8 @@
 // The office table, and what it says.
 ghost use Rattle.std.specs.Prelude.{◌≡◌, ◌<◌, ◌≤◌, length, map, Some, None, Err, option_map, IfOk};
+ghost use Rattle.std.specs.List.{AllByRecursion};
 ghost use Rattle.std.specs.Option.{option_copied};
+ghost use Rattle.ow_names.specs.Name.{IsName};
 ghost use Rattle.ow_traits.specs.Streams.{Rose};
 ghost use Rattle.ow_tenant.specs.Reading.{TellsTable};
 ghost use Rattle.ow_tenant.specs.Table.{AreWantsSized, IsPoolSized, no_rows};
@@ -8,6 +10,7 @@ ghost use Rattle.ow_tenant.specs.Tenants.{Knows, granted_names, holder_at, holde
 
 use crate::by_text::ByText;
 use crate::entries::{Holder, Space};
+use crate::known::known_homes;
 use crate::limits::NamespaceLimits;
 use crate::read::{read_bytes, read_rows};
 use crate::refusal::TenantRefusal;
@@ -123,6 +126,13 @@ impl Tenants {
         } else {
             Err(TenantRefusal::NotGranted)
         }
+    }
+
+    /// Makes known that the own namespace of each key is a name. It looks at each key.
+    pub fn known_homes(&self)
+        ensures { AllByRecursion (λ e. IsName e.1.home) self.now.keys }
+    {
+        known_homes(self.keys.get().entries());
     }
 
     /// Who holds the key.

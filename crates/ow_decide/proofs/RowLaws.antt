@@ -1,0 +1,95 @@
+-- What becomes of the rows at a request: the row of a draft that is given is put, one is taken out, or they stay.
+use Rattle.std.proofs.Common.{◌≡◌, List, Bool, IfOk, Option, Some, None, Result, Ok, Err, refl}
+use Rattle.ow_value.specs.Value.{V}
+use Rattle.ow_names.specs.declared.full.FullName.{FullName}
+use Rattle.ow_entity.specs.Finish.{finished_row}
+use Rattle.ow_entity.specs.Row.{kind_of, name_of}
+use Rattle.ow_entity.specs.declared.kinds.EntityKind.{EntityKind}
+use Rattle.ow_entity.specs.declared.refusal.EntityRefusal.{EntityRefusal}
+use Rattle.ow_entity.specs.declared.rows.Draft.{Draft}
+use Rattle.ow_entity.specs.declared.rows.Row.{Row}
+use Rattle.ow_http.specs.CallOf.{call_of}
+use Rattle.ow_http.specs.Parts.{Parts}
+use Rattle.ow_http.specs.Steps.{◌>>=◌}
+use Rattle.ow_http.specs.declared.call.Call.{Call}
+use Rattle.ow_http.specs.declared.call_refusal.CallRefusal.{CallRefusal}
+use Rattle.ow_http.specs.declared.reason.Reason.{Reason}
+use Rattle.ow_kept.specs.Commits.{row_changes}
+use Rattle.ow_tables.specs.Refusal.{old_row, put_refusal, remove_refusal}
+use Rattle.ow_tables.specs.Rows.{changed, with_row, without}
+use Rattle.ow_tenant.specs.declared.entries.Holder.{Holder}
+use Rattle.ow_decide.specs.Asking.{Changed, Done, Invoked, Shown, act_done, act_for, ask_decision, change_done, grant_for, granted_call, or_table_reason, put_done, put_of, request_done, row_for, row_of, shown_done, unless_refused}
+use Rattle.ow_decide.specs.Calling.{charged_namespace, invocation_plan}
+use Rattle.ow_decide.specs.Decision.{all_changed}
+use Rattle.ow_decide.specs.Reading.{name_in, or_call_reason, read_done}
+use Rattle.ow_decide.specs.Reasons.{no_route}
+use Rattle.ow_decide.specs.Sight.{Sight, room_for, store_room}
+use Rattle.ow_decide.specs.Steps.{or_else}
+use Rattle.ow_decide.specs.Tenants.{asker}
+use Rattle.ow_decide.specs.View.{view_of}
+use Rattle.ow_decide.specs.declared.acts.Act.{Act}
+use Rattle.ow_decide.specs.declared.acts.Act.TheVariants.{Invokes, Puts, Reads, Removes}
+use Rattle.ow_decide.proofs.Results.{then_from, then_ok}
+
+called_good : (G : Call → Type 0) (r : Result Call CallRefusal) → IfOk r G → IfOk (or_call_reason r) G
+called_good G (Ok c) g = g
+called_good G (Err e) g = tt
+
+made_so : (o : Result Row EntityRefusal) → IfOk (or_table_reason o) (λ (r : Row). o ≡ Ok r)
+made_so (Ok r) = refl
+made_so (Err e) = tt
+
+-- who asks, what the request calls for, and the rows: as they stand, with a row of the call's draft, and without those of a kind and name
+module _ (S : Sight) (p : Parts) (H : Holder → Type 0) (G : Call → Type 0) (N : List Row → Type 0) (known : IfOk (asker S.tenants p.key) H)
+    (called : (h : Holder) → H h → IfOk (call_of h.home p) G) (stays : N S.rows)
+    (put : (c : Call) (d : Draft) (r : Row) → G c → c.draft ≡ Some d → finished_row d (old_row d S.rows) ≡ Ok r → N (with_row r S.rows))
+    (removed : (kind : EntityKind) (name : FullName) → N (without kind name S.rows)) where
+  abbrev IsGoodDone : Done → Type 0
+  IsGoodDone (Changed c value) = N (changed c S.rows)
+  IsGoodDone done = Unit {0}
+
+  row_so : (d : Draft) (overwrite : Bool) → IfOk (row_of S d overwrite) (λ (r : Row). finished_row d (old_row d S.rows) ≡ Ok r)
+  row_so d overwrite =
+      then_ok (λ (r : Row). finished_row d (old_row d S.rows) ≡ Ok r) (unless_refused (put_refusal d overwrite S.rows)) _ (λ free. made_so (finished_row d (old_row d S.rows)))
+
+  draft_good : (c : Call) (o : Option Draft) → G c → c.draft ≡ o → IfOk (or_else o no_route >>= (λ (d : Draft). put_done S d c.overwrite)) IsGoodDone
+  draft_good c None g e = tt
+  draft_good c (Some d) g e =
+      then_from (λ (r : Row). finished_row d (old_row d S.rows) ≡ Ok r) IsGoodDone (row_of S d c.overwrite) _ (row_so d c.overwrite) (λ r made.
+      then_ok IsGoodDone (store_room S (row_changes (put_of r))) _ (λ room. put c d r g e made))
+
+  change_good : (h : Holder) (act : Act) (c : Call) → G c → IfOk (change_done S h act c) IsGoodDone
+  change_good h (Reads reading) c g = tt
+  change_good h Puts c g = draft_good c c.draft g refl
+  change_good h (Removes kind) c g = then_ok IsGoodDone (name_in c) _ (λ name.
+      then_ok IsGoodDone (unless_refused (remove_refusal kind name S.rows)) _ (λ free.
+      then_ok IsGoodDone (row_for S kind name) _ (λ row. removed (kind_of row) (name_of row))))
+  change_good h Invokes c g = then_ok IsGoodDone (name_in c) _ (λ name.
+      then_ok IsGoodDone (invocation_plan S h.subject (charged_namespace h name) c.blocking name c.params) _ (λ plan. tt))
+
+  shown_good : (r : Result V Reason) → IfOk (shown_done r) IsGoodDone
+  shown_good (Ok value) = tt
+  shown_good (Err reason) = tt
+
+  granted_good : (h : Holder) (act : Act) → H h → IfOk (granted_call h S.rows act p) G
+  granted_good h act home = then_ok G (grant_for h S.rows act p) _ (λ grant. called_good G (call_of h.home p) (called h home))
+
+  act_good : (h : Holder) (act : Act) → H h → IfOk (act_done S h act p) IsGoodDone
+  act_good h (Reads reading) home = shown_good (read_done (view_of S h) reading p)
+  act_good h Puts home = then_from G IsGoodDone (granted_call h S.rows Puts p) _ (granted_good h Puts home) (change_good h Puts)
+  act_good h (Removes kind) home = then_from G IsGoodDone (granted_call h S.rows (Removes kind) p) _ (granted_good h (Removes kind) home) (change_good h (Removes kind))
+  act_good h Invokes home = then_from G IsGoodDone (granted_call h S.rows Invokes p) _ (granted_good h Invokes home) (change_good h Invokes)
+
+  request_good : IfOk (request_done S p) IsGoodDone
+  request_good = then_ok IsGoodDone (act_for p) _ (λ act. then_ok IsGoodDone (room_for S p.size) _ (λ room.
+      then_from H IsGoodDone (asker S.tenants p.key) _ known (λ h home. act_good h act home)))
+
+  by_done : (d : Result Done Reason) → IfOk d IsGoodDone → N (all_changed (ask_decision S.moment d).changes S.rows)
+  by_done (Ok (Shown value)) good = stays
+  by_done (Ok (Changed c value)) good = good
+  by_done (Ok (Invoked plan shows)) good = stays
+  by_done (Err reason) good = stays
+
+  -- what is true of them each is true of the rows behind a request
+  pub request_rows : N (all_changed (ask_decision S.moment (request_done S p)).changes S.rows)
+  request_rows = by_done (request_done S p) request_good

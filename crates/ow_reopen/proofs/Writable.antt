@@ -1,0 +1,439 @@
+-- The row that a body makes nests no deeper than is read, and its binding names a package.
+use Rattle.std.proofs.Common.{◌≡◌, ◌≤◌, ◌==◌, ◌+◌, ◌&&◌, ℕ, suc, max, List, [], ◌∷◌, map, codes, Bool, true, false, cond, nat_le, nat_lt, IfSome, IfOk, unwrap_or, Option, Some, None, option_map, option_and_then, Result, Ok, Err, Ordering, Less, Equal, Greater, refl, sym, ap, subst, arith}
+use Rattle.std.specs.BTreeMap.{is_at}
+use Rattle.std.specs.List.{AllByRecursion}
+use Rattle.std.specs.Ordering.{match_ordering}
+use Rattle.std.specs.Result.{result_unwrap_or}
+use Rattle.std.specs.Str.{bytes_eq}
+use Rattle.std.proofs.lemmas.Bool.Decides.{nat_tests}
+use Rattle.std.proofs.lemmas.Slice.Eq.{bytes_eq-Decides}
+use Rattle.ow_value.specs.Field.{field, pairs_in}
+use Rattle.ow_value.specs.Find.{find, with_pair}
+use Rattle.ow_value.specs.Nesting.{most_nested}
+use Rattle.ow_value.specs.Value.{V, Pairs, null, boolean, whole, text, list, object, Items, no_items, item, Members, no_members, member, depth, items_depth, items_of, members_depth, text_cmp}
+use Rattle.ow_value.specs.declared.measure.TheConstants.{MEGABYTE}
+use Rattle.ow_names.specs.Name.{first_fault}
+use Rattle.ow_names.specs.Path.{home, named, named_in, or_fault}
+use Rattle.ow_names.specs.declared.full.FullName.{FullName}
+use Rattle.ow_names.specs.declared.refusal.NameRefusal.{NameRefusal}
+use Rattle.ow_entity.specs.Body.{action_draft, binding_field, binding_given, binding_in, bound_in, draft_of, draft_unless, entity_of, first_refusal, or_bad_name, package_draft, text_field}
+use Rattle.ow_entity.specs.Chain.{and_then, result_map}
+use Rattle.ow_entity.specs.FieldName.{field_name}
+use Rattle.ow_entity.specs.Finish.{action_made, action_over, default_action, default_package, finished_row, new_action, old_action, old_package, package_made, package_over}
+use Rattle.ow_entity.specs.Pairs.{pair_of, pair_value, pair_with, pairs_field, pairs_given, pairs_listed, pairs_of_list, pairs_size, with_pairs}
+use Rattle.ow_entity.specs.PlainCode.{name_count}
+use Rattle.ow_entity.specs.Row.{name_of}
+use Rattle.ow_entity.specs.Written.{action_value, binding_value, package_value, row_value}
+use Rattle.ow_entity.specs.declared.actions.Action.{Action}
+use Rattle.ow_entity.specs.declared.actions.ActionDraft.{ActionDraft}
+use Rattle.ow_entity.specs.declared.exec.Exec.{Exec}
+use Rattle.ow_entity.specs.declared.field_name.FieldName.{FieldName}
+use Rattle.ow_entity.specs.declared.field_name.FieldName.TheVariants as fields
+use Rattle.ow_entity.specs.declared.finishing.TheConstants.{FIRST_VERSION}
+use Rattle.ow_entity.specs.declared.kinds.EntityKind.{EntityKind}
+use Rattle.ow_entity.specs.declared.kinds.EntityKind.TheVariants as kinds
+use Rattle.ow_entity.specs.declared.packages.Package.{Package}
+use Rattle.ow_entity.specs.declared.packages.PackageDraft.{PackageDraft}
+use Rattle.ow_entity.specs.declared.refusal.EntityRefusal.{EntityRefusal}
+use Rattle.ow_entity.specs.declared.refusal.EntityRefusal.TheVariants.{LastVersion, TooLarge}
+use Rattle.ow_entity.specs.declared.rows.Draft.{Draft}
+use Rattle.ow_entity.specs.declared.rows.Draft.TheVariants as drafts
+use Rattle.ow_entity.specs.declared.rows.Row.{Row}
+use Rattle.ow_entity.specs.declared.rows.Row.TheVariants as rows
+use Rattle.ow_keep.specs.Allowed.{is_binding, is_version, stands_alone}
+use Rattle.ow_keep.proofs.Packages.{ands}
+use Rattle.ow_reopen.specs.RowsKept.{IsPlaced, IsWritable}
+
+-- ---- what holds of what is made, if anything is made
+
+mapped : {A B : Type 0} (P : A → Type 0) (Q : B → Type 0) (f : A → B) (r : Result A EntityRefusal) → ((x : A) → P x → Q (f x)) → IfOk r P → IfOk (result_map f r) Q
+mapped P Q f (Ok x) g h = g x h
+mapped P Q f (Err e) g h = tt
+
+some_mapped : {A : Type 0} (P : A → Type 0) (r : Result A EntityRefusal) → IfOk r P → IfOk (result_map Some r) (λ (o : Option A). IfSome o P)
+some_mapped P (Ok x) h = h
+some_mapped P (Err e) h = tt
+
+after : {A B : Type 0} (P : B → Type 0) (r : Result A EntityRefusal) (f : A → Result B EntityRefusal) → ((x : A) → IfOk (f x) P) → IfOk (and_then r f) P
+after P (Ok x) f h = h x
+after P (Err e) f h = tt
+
+unless : {A : Type 0} (P : A → Type 0) (b : Bool) (e : EntityRefusal) (x : A) → P x → IfOk (cond b (Err e) (Ok x)) P
+unless P true e x h = tt
+unless P false e x h = h
+
+unwrapped : {A : Type 0} (P : A → Type 0) (r : Result (Option A) EntityRefusal) → IfOk r (λ (o : Option A). IfSome o P) → IfSome (result_unwrap_or r None) P
+unwrapped P (Ok o) h = h
+unwrapped P (Err e) h = tt
+
+over : {A : Type 0} (P : A → Type 0) (o : Option A) (x : A) → IfSome o P → P x → P (unwrap_or o x)
+over P None x h k = k
+over P (Some y) x h k = h
+
+-- ---- how deep a field of an object nests
+
+found_by : (b : Bool) (n : ℕ) (v : V) (o : Option V) → depth v ≤ n → IfSome o (λ (w : V). depth w ≤ n) → IfSome (cond b (Some v) o) (λ (w : V). depth w ≤ n)
+found_by true n v o h k = h
+found_by false n v o h k = k
+
+found_within : (name : List ℕ) (n : ℕ) (ms : Members) → members_depth ms ≤ n → IfSome (find name (pairs_in ms)) (λ (w : V). depth w ≤ n)
+found_within name n no_members h = tt
+found_within name n (member k v ms) h = found_by (is_at (text_cmp name) k) n v (find name (pairs_in ms)) (omega arith) (found_within name n ms (omega arith))
+
+field_within : (name : List ℕ) (n : ℕ) (v : V) → depth v ≤ suc n → IfSome (field name v) (λ (w : V). depth w ≤ n)
+field_within name n null h = tt
+field_within name n (boolean b) h = tt
+field_within name n (whole z) h = tt
+field_within name n (text s) h = tt
+field_within name n (list vs) h = tt
+field_within name n (object ms) h = found_within name n ms (omega arith)
+
+-- ---- how deep the values of pairs nest that a body lists
+
+-- no value nests deeper
+abbrev AreWithin : ℕ → Pairs → Type 0
+AreWithin n ps = AllByRecursion (λ (p : List ℕ × V). depth p.1 ≤ n) ps
+
+pair_within : (n : ℕ) (key value : Option V) → IfSome value (λ (w : V). depth w ≤ n) → IfSome (pair_with key value) (λ (p : List ℕ × V). depth p.1 ≤ n)
+pair_within n None value h = tt
+pair_within n (Some null) value h = tt
+pair_within n (Some (boolean b)) value h = tt
+pair_within n (Some (whole z)) value h = tt
+pair_within n (Some (text s)) None h = tt
+pair_within n (Some (text s)) (Some v) h = h
+pair_within n (Some (list vs)) value h = tt
+pair_within n (Some (object ms)) value h = tt
+
+next_within : (n : ℕ) (o : Option (List ℕ × V)) (rest : Option Pairs) → IfSome o (λ (p : List ℕ × V). depth p.1 ≤ n) → IfSome rest (AreWithin n)
+    → IfSome (option_and_then (λ (p : List ℕ × V). option_map (λ (ps : Pairs). p ∷ ps) rest) o) (AreWithin n)
+next_within n None rest h k = tt
+next_within n (Some p) None h k = tt
+next_within n (Some p) (Some ps) h k = (h, k)
+
+listed_within : (n : ℕ) (vs : Items) → items_depth vs ≤ suc n → IfSome (pairs_listed vs) (AreWithin n)
+listed_within n no_items h = tt
+listed_within n (item v vs) h = next_within n (pair_of v) (pairs_listed vs)
+    (pair_within n (field (codes "key") v) (field (codes "value") v) (field_within (codes "value") n v (omega arith)))
+    (listed_within n vs (omega arith))
+
+put_by : (o : Ordering) (n : ℕ) (a b c : Pairs) → AreWithin n a → AreWithin n b → AreWithin n c → AreWithin n (match_ordering o a b c)
+put_by Less n a b c f g h = f
+put_by Equal n a b c f g h = g
+put_by Greater n a b c f g h = h
+
+with_within : (n : ℕ) (qs : Pairs) (k : List ℕ) (v : V) → AreWithin n qs → depth v ≤ n → AreWithin n (with_pair qs k v)
+with_within n [] k v h d = (d, tt)
+with_within n (q ∷ qs) k v h d =
+    put_by (text_cmp k q.0) n ((k, v) ∷ q ∷ qs) ((q.0, v) ∷ qs) (q ∷ with_pair qs k v) (d, h) (d, h.1) (h.0, with_within n qs k v h.1 d)
+
+all_within : (n : ℕ) (qs ps : Pairs) → AreWithin n qs → AreWithin n ps → AreWithin n (with_pairs qs ps)
+all_within n qs [] h k = h
+all_within n qs (p ∷ ps) h k = all_within n (with_pair qs p.0 p.1) ps (with_within n qs p.0 p.1 h k.0) k.1
+
+abbrev AreGiven : ℕ → Result (Option Pairs) EntityRefusal → Type 0
+AreGiven n r = IfOk r (λ (o : Option Pairs). IfSome o (AreWithin n))
+
+list_within : (name : FieldName) (n : ℕ) (o : Option Pairs) → IfSome o (AreWithin n) → AreGiven n (pairs_of_list name (option_map (with_pairs []) o))
+list_within name n None h = tt
+list_within name n (Some ps) h =
+    let qs = with_pairs [] ps in
+    some_mapped (AreWithin n) (cond (nat_lt MEGABYTE (pairs_size qs)) (Err TooLarge) (Ok qs)) (unless (AreWithin n) (nat_lt MEGABYTE (pairs_size qs)) TooLarge qs (all_within n [] ps tt h))
+
+given_within : (name : FieldName) (n : ℕ) (o : Option V) → IfSome o (λ (w : V). depth w ≤ suc (suc n)) → AreGiven n (pairs_given name o)
+given_within name n None h = tt
+given_within name n (Some null) h = tt
+given_within name n (Some (boolean b)) h = tt
+given_within name n (Some (whole z)) h = tt
+given_within name n (Some (text s)) h = tt
+given_within name n (Some (list vs)) h =
+    let within : depth (list vs) ≤ suc (suc n) = h in
+    list_within name n (pairs_listed vs) (listed_within n vs (omega arith))
+given_within name n (Some (object ms)) h = tt
+
+pairs_within : (name : FieldName) (n : ℕ) (body : V) → depth body ≤ suc (suc (suc n)) → IfSome (result_unwrap_or (pairs_field name body) None) (AreWithin n)
+pairs_within name n body h = unwrapped (AreWithin n) (pairs_field name body) (given_within name n (field (field_name name) body) (field_within (field_name name) (suc (suc n)) body h))
+
+-- ---- what a body binds
+
+-- what is bound is named with the namespace that it has here
+abbrev IsBound : List ℕ → FullName → Type 0
+IsBound here bound = is_binding here (Some bound) ≡ true
+
+either_same : {X : Type 0} (b : Bool) (x : X) → cond b x x ≡ x
+either_same true x = refl
+either_same false x = refl
+
+home_by : (here namespace : List ℕ) (b : Bool) → bytes_eq namespace (codes "_") ≡ b → home here (cond b here namespace) ≡ cond b here namespace
+home_by here namespace true e = either_same (bytes_eq here (codes "_")) here
+home_by here namespace false e = ap (λ (b : Bool). cond b here namespace) e
+
+home_twice : (here namespace : List ℕ) → home here (home here namespace) ≡ home here namespace
+home_twice here namespace = home_by here namespace (bytes_eq namespace (codes "_")) refl
+
+home_bound : (here namespace name : List ℕ) → IsBound here (record { namespace = home here namespace; «package» = None; name = name })
+home_bound here namespace name = (bytes_eq-Decides (home here (home here namespace)) (home here namespace)).1 (home_twice here namespace)
+
+or_bound : (here : List ℕ) (o : Option NameRefusal) (r : Result FullName NameRefusal) → IfOk r (IsBound here) → IfOk (or_fault o r) (IsBound here)
+or_bound here None r h = h
+or_bound here (Some e) r h = tt
+
+named_bound : (here namespace name : List ℕ) → IfOk (named_in here namespace None name) (IsBound here)
+named_bound here namespace name =
+    or_bound here (first_fault namespace) (named (home here namespace) None name)
+    (or_bound here (first_fault name) (Ok (record { namespace = home here namespace; «package» = None; name = name })) (home_bound here namespace name))
+
+or_bad_bound : (here : List ℕ) (r : Result FullName NameRefusal) → IfOk r (IsBound here) → IfOk (or_bad_name r) (IsBound here)
+or_bad_bound here (Ok name) h = h
+or_bad_bound here (Err e) h = tt
+
+bound_bound : (here : List ℕ) (v : V) → IfOk (bound_in here v) (IsBound here)
+bound_bound here v =
+    after (IsBound here) (text_field fields.BoundNamespace v) (λ (namespace : List ℕ). and_then (text_field fields.BoundName v) (λ (name : List ℕ). or_bad_name (named_in here namespace None name)))
+    (λ (namespace : List ℕ). after (IsBound here) (text_field fields.BoundName v) (λ (name : List ℕ). or_bad_name (named_in here namespace None name))
+    (λ (name : List ℕ). or_bad_bound here (named_in here namespace None name) (named_bound here namespace name)))
+
+none_or_bound : (here : List ℕ) (b : Bool) (r : Result FullName EntityRefusal) → IfOk r (IsBound here) → IfOk (cond b (Ok None) (result_map Some r)) (λ (o : Option FullName). is_binding here o ≡ true)
+none_or_bound here true r h = refl
+none_or_bound here false (Ok bound) h = h
+none_or_bound here false (Err e) h = tt
+
+given_bound : (here : List ℕ) (o : Option V) → IfOk (binding_given here o) (λ (g : Option (Option FullName)). IfSome g (λ (b : Option FullName). is_binding here b ≡ true))
+given_bound here None = tt
+given_bound here (Some null) = tt
+given_bound here (Some (boolean b)) = tt
+given_bound here (Some (whole z)) = tt
+given_bound here (Some (text s)) = tt
+given_bound here (Some (list vs)) = tt
+given_bound here (Some (object ms)) =
+    some_mapped (λ (b : Option FullName). is_binding here b ≡ true) (binding_in here (object ms)) (none_or_bound here (name_count (object ms) == 0) (bound_in here (object ms)) (bound_bound here (object ms)))
+
+binding_bound : (here : List ℕ) (body : V) → IfSome (result_unwrap_or (binding_field here body) None) (λ (b : Option FullName). is_binding here b ≡ true)
+binding_bound here body = unwrapped (λ (b : Option FullName). is_binding here b ≡ true) (binding_field here body) (given_bound here (field (codes "binding") body))
+
+-- ---- drafts
+
+record IsActionDraft (n : ℕ) (d : ActionDraft) : Type 0 where
+  params : IfSome d.params (AreWithin n)
+  notes : IfSome d.notes (AreWithin n)
+
+record IsPackageDraft (n : ℕ) (name : FullName) (d : PackageDraft) : Type 0 where
+  name_is : d.name ≡ name
+  alone : stands_alone name ≡ true
+  params : IfSome d.params (AreWithin n)
+  notes : IfSome d.notes (AreWithin n)
+  binding : IfSome d.binding (λ (b : Option FullName). is_binding name.namespace b ≡ true)
+
+abbrev IsGoodDraft : ℕ → FullName → Draft → Type 0
+IsGoodDraft n name (drafts.Action d) = IsActionDraft n d
+IsGoodDraft n name (drafts.Package d) = IsPackageDraft n name d
+
+draft_by : (n : ℕ) (name : FullName) (o : Option EntityRefusal) (d : Draft) → IsGoodDraft n name d → IfOk (draft_unless o d) (IsGoodDraft n name)
+draft_by n name None d h = h
+draft_by n name (Some e) d h = tt
+
+drafts_good : (n : ℕ) (kind : EntityKind) (name : FullName) (body : V) → IsPlaced kind name → depth body ≤ suc (suc (suc n)) → IfOk (draft_of kind name body) (IsGoodDraft n name)
+drafts_good n kinds.Action name body placed h = draft_by n name (first_refusal kinds.Action name.namespace body) (action_draft name body) (record {
+  params = pairs_within fields.Parameters n body h;
+  notes = pairs_within fields.Annotations n body h;
+})
+drafts_good n kinds.Package name body placed h = draft_by n name (first_refusal kinds.Package name.namespace body) (package_draft name body) (record {
+  name_is = refl;
+  alone = placed;
+  params = pairs_within fields.Parameters n body h;
+  notes = pairs_within fields.Annotations n body h;
+  binding = binding_bound name.namespace body;
+})
+drafts_good n kinds.Rule name body placed h = tt
+drafts_good n kinds.Trigger name body placed h = tt
+
+bodies_good : (n : ℕ) (kind : EntityKind) (name : FullName) (body : V) → IsPlaced kind name → depth body ≤ suc (suc (suc n)) → IfOk (entity_of kind name body) (IsGoodDraft n name)
+unfolding entity_of
+bodies_good n kind name null placed h = tt
+bodies_good n kind name (boolean b) placed h = tt
+bodies_good n kind name (whole z) placed h = tt
+bodies_good n kind name (text s) placed h = tt
+bodies_good n kind name (list vs) placed h = tt
+bodies_good n kind name (object ms) placed h = drafts_good n kind name (object ms) placed h
+
+-- ---- rows
+
+record IsGoodAction (n : ℕ) (a : Action) : Type 0 where
+  version : is_version a.version ≡ true
+  params : AreWithin n a.params
+  notes : AreWithin n a.notes
+
+record IsGoodPackage (n : ℕ) (name : FullName) (p : Package) : Type 0 where
+  name_is : p.name ≡ name
+  alone : stands_alone name ≡ true
+  version : is_version p.version ≡ true
+  params : AreWithin n p.params
+  notes : AreWithin n p.notes
+  binding : is_binding name.namespace p.binding ≡ true
+
+abbrev IsGoodRow : ℕ → FullName → Row → Type 0
+IsGoodRow n name (rows.Action a) = IsGoodAction n a
+IsGoodRow n name (rows.Package p) = IsGoodPackage n name p
+
+-- versions are counted on from 1
+next_version : (n : ℕ) → is_version (n + 1) ≡ true
+next_version n = grind (arith, nat_tests)
+
+action_over_good : (n : ℕ) (d : ActionDraft) (old : Action) (version : ℕ) → IsActionDraft n d → is_version version ≡ true → AreWithin n old.params → AreWithin n old.notes → IsGoodAction n (action_over d old version)
+action_over_good n d old version h counted params notes = record {
+  version = counted;
+  params = over (AreWithin n) d.params old.params h.params params;
+  notes = over (AreWithin n) d.notes old.notes h.notes notes;
+}
+
+new_action_good : (n : ℕ) (d : ActionDraft) (o : Option Exec) → IsActionDraft n d → IfOk (new_action d o) (IsGoodAction n)
+new_action_good n d None h = tt
+new_action_good n d (Some exec) h = action_over_good n d (default_action d.name exec) FIRST_VERSION h refl tt tt
+
+actions_good : (n : ℕ) (d : ActionDraft) (o : Option Action) → IsActionDraft n d → IfSome o (IsGoodAction n) → IfOk (action_made d o) (IsGoodAction n)
+actions_good n d None h k = new_action_good n d d.exec h
+actions_good n d (Some old) h k =
+    let before : IsGoodAction n old = k in
+    unless (IsGoodAction n) _ LastVersion (action_over d old (old.version + 1)) (action_over_good n d old (old.version + 1) h (next_version old.version) before.params before.notes)
+
+package_over_good : (n : ℕ) (name : FullName) (d : PackageDraft) (old : Package) (version : ℕ) → IsPackageDraft n name d → is_version version ≡ true → AreWithin n old.params → AreWithin n old.notes
+    → is_binding name.namespace old.binding ≡ true → IsGoodPackage n name (package_over d old version)
+package_over_good n name d old version h counted params notes binding = record {
+  name_is = h.name_is;
+  alone = h.alone;
+  version = counted;
+  params = over (AreWithin n) d.params old.params h.params params;
+  notes = over (AreWithin n) d.notes old.notes h.notes notes;
+  binding = over (λ (b : Option FullName). is_binding name.namespace b ≡ true) d.binding old.binding h.binding binding;
+}
+
+packages_good : (n : ℕ) (name : FullName) (d : PackageDraft) (o : Option Package) → IsPackageDraft n name d → IfSome o (IsGoodPackage n name) → IfOk (package_made d o) (IsGoodPackage n name)
+packages_good n name d None h k = package_over_good n name d (default_package d.name) FIRST_VERSION h refl tt tt refl
+packages_good n name d (Some old) h k =
+    let before : IsGoodPackage n name old = k in
+    unless (IsGoodPackage n name) _ LastVersion (package_over d old (old.version + 1))
+    (package_over_good n name d old (old.version + 1) h (next_version old.version) before.params before.notes before.binding)
+
+old_action_good : (n : ℕ) (name : FullName) (o : Option Row) → IfSome o (IsGoodRow n name) → IfSome (old_action o) (IsGoodAction n)
+old_action_good n name None h = tt
+old_action_good n name (Some (rows.Action a)) h = h
+old_action_good n name (Some (rows.Package p)) h = tt
+
+old_package_good : (n : ℕ) (name : FullName) (o : Option Row) → IfSome o (IsGoodRow n name) → IfSome (old_package o) (IsGoodPackage n name)
+old_package_good n name None h = tt
+old_package_good n name (Some (rows.Action a)) h = tt
+old_package_good n name (Some (rows.Package p)) h = h
+
+rows_good : (n : ℕ) (name : FullName) (d : Draft) (old : Option Row) → IsGoodDraft n name d → IfSome old (IsGoodRow n name) → IfOk (finished_row d old) (IsGoodRow n name)
+unfolding finished_row
+rows_good n name (drafts.Action d) old h k = mapped (IsGoodAction n) (IsGoodRow n name) rows.Action (action_made d (old_action old)) (λ a g. g) (actions_good n d (old_action old) h (old_action_good n name old k))
+rows_good n name (drafts.Package d) old h k = mapped (IsGoodPackage n name) (IsGoodRow n name) rows.Package (package_made d (old_package old)) (λ p g. g) (packages_good n name d (old_package old) h (old_package_good n name old k))
+
+-- ---- how deep rows nest
+
+-- how deep the items of what is written of pairs nest
+abbrev nested : Pairs → ℕ
+nested ps = items_depth (items_of (map pair_value ps))
+
+nested_within : (n : ℕ) (ps : Pairs) → AreWithin n ps → nested ps ≤ suc n
+nested_within n [] h = omega arith
+nested_within n (p ∷ ps) h =
+    let first : depth p.1 ≤ n = h.0 in
+    let rest : nested ps ≤ suc n = nested_within n ps h.1 in
+    omega (arith, first, rest)
+
+within_nested : (n : ℕ) (ps : Pairs) → nested ps ≤ suc n → AreWithin n ps
+within_nested n [] h = tt
+within_nested n (p ∷ ps) h = (omega arith, within_nested n ps (omega arith))
+
+-- what is written of an action or of a package, by how deep its notes, its parameters and its binding nest
+abbrev action_depth : ℕ → ℕ → ℕ
+action_depth notes params = suc (max (suc notes) (max 1 (max 1 (max 0 (max 0 (max (suc params) (max 0 (max 0 0))))))))
+
+abbrev package_depth : ℕ → ℕ → ℕ → ℕ
+package_depth notes binding params = suc (max (suc notes) (max binding (max 0 (max 0 (max (suc params) (max 0 (max 0 0)))))))
+
+action_within : (n notes params : ℕ) → notes ≤ suc n → params ≤ suc n → action_depth notes params ≤ suc (suc (suc n))
+action_within n notes params h k = omega arith
+
+action_parts : (n notes params : ℕ) → action_depth notes params ≤ suc (suc (suc n)) → (notes ≤ suc n) × (params ≤ suc n)
+action_parts n notes params h = (omega arith, omega arith)
+
+package_within : (n notes binding params : ℕ) → binding ≡ 1 → notes ≤ suc n → params ≤ suc n → package_depth notes binding params ≤ suc (suc (suc n))
+package_within n notes binding params e h k = omega arith
+
+package_parts : (n notes binding params : ℕ) → package_depth notes binding params ≤ suc (suc (suc n)) → (notes ≤ suc n) × (params ≤ suc n)
+package_parts n notes binding params h = (omega arith, omega arith)
+
+binding_depth : (o : Option FullName) → depth (binding_value o) ≡ 1
+binding_depth None = refl
+binding_depth (Some bound) = refl
+
+-- the values of pairs nest three less deep than a body that lists them, or than a row that is written of them
+abbrev most_within : ℕ
+most_within = 97
+
+le_from : (d limit : ℕ) → nat_le d limit ≡ true → d ≤ limit
+le_from d limit h = grind arith
+
+le_true : (d limit : ℕ) → d ≤ limit → nat_le d limit ≡ true
+le_true d limit h = grind arith
+
+action_written : (a : Action) → IsGoodAction most_within a → depth (action_value a) ≤ most_nested
+action_written a h = action_within most_within (nested a.notes) (nested a.params) (nested_within most_within a.notes h.notes) (nested_within most_within a.params h.params)
+
+action_read : (a : Action) → is_version a.version ≡ true → depth (action_value a) ≤ most_nested → IsGoodAction most_within a
+action_read a counted h =
+    let parts = action_parts most_within (nested a.notes) (nested a.params) h in
+    record { version = counted; params = within_nested most_within a.params parts.1; notes = within_nested most_within a.notes parts.0 }
+
+package_written : (p : Package) → AreWithin most_within p.params → AreWithin most_within p.notes → depth (package_value p) ≤ most_nested
+package_written p params notes =
+    package_within most_within (nested p.notes) (depth (binding_value p.binding)) (nested p.params) (binding_depth p.binding) (nested_within most_within p.notes notes) (nested_within most_within p.params params)
+
+package_read : (p : Package) → depth (package_value p) ≤ most_nested → AreWithin most_within p.params × AreWithin most_within p.notes
+package_read p h =
+    let parts = package_parts most_within (nested p.notes) (depth (binding_value p.binding)) (nested p.params) h in
+    (within_nested most_within p.params parts.1, within_nested most_within p.notes parts.0)
+
+-- ---- a row that is writable, as what it holds
+
+both_true : (a b : Bool) → a ≡ true → b ≡ true → a && b ≡ true
+both_true true b h k = k
+both_true false b h k = h
+
+good_from : (name : FullName) (r : Row) → IsWritable r → name_of r ≡ name → IsGoodRow most_within name r
+unfolding row_value
+good_from name (rows.Action a) h e = action_read a h.entity (le_from (depth (action_value a)) most_nested h.shallow)
+good_from name (rows.Package p) h e =
+    let parts = package_read p (le_from (depth (package_value p)) most_nested h.shallow) in
+    let counted = ands (is_version p.version) (stands_alone p.name && is_binding p.name.namespace p.binding) h.entity in
+    let named = ands (stands_alone p.name) (is_binding p.name.namespace p.binding) counted.1 in
+    record {
+      name_is = e;
+      alone = subst (λ (m : FullName). stands_alone m ≡ true) e named.0;
+      version = counted.0;
+      params = parts.0;
+      notes = parts.1;
+      binding = subst (λ (m : FullName). is_binding m.namespace p.binding ≡ true) e named.1;
+    }
+
+writable_from : (name : FullName) (r : Row) → IsGoodRow most_within name r → IsWritable r
+unfolding row_value
+writable_from name (rows.Action a) h = record { shallow = le_true (depth (action_value a)) most_nested (action_written a h); entity = h.version }
+writable_from name (rows.Package p) h = record {
+  shallow = le_true (depth (package_value p)) most_nested (package_written p h.params h.notes);
+  entity = both_true (is_version p.version) (stands_alone p.name && is_binding p.name.namespace p.binding) h.version
+      (both_true (stands_alone p.name) (is_binding p.name.namespace p.binding) (subst (λ (m : FullName). stands_alone m ≡ true) (sym h.name_is) h.alone)
+      (subst (λ (m : FullName). is_binding m.namespace p.binding ≡ true) (sym h.name_is) h.binding));
+}
+
+old_good : (name : FullName) (o : Option Row) → IfSome o (λ (r : Row). IsWritable r × (name_of r ≡ name)) → IfSome o (IsGoodRow most_within name)
+old_good name None h = tt
+old_good name (Some r) h = good_from name r h.0 h.1
+
+pub rows_writable : (kind : EntityKind) (name : FullName) (body : V) (d : Draft) (old : Option Row) (r : Row)
+    → IsPlaced kind name → depth body ≤ most_nested → entity_of kind name body ≡ Ok d → finished_row d old ≡ Ok r → IfSome old (λ (o : Row). IsWritable o × (name_of o ≡ name)) → IsWritable r
+rows_writable kind name body d old r placed within drafted finished before =
+    let good : IsGoodDraft most_within name d = subst (λ (x : Result Draft EntityRefusal). IfOk x (IsGoodDraft most_within name)) drafted (bodies_good most_within kind name body placed within) in
+    let made : IsGoodRow most_within name r = subst (λ (x : Result Row EntityRefusal). IfOk x (IsGoodRow most_within name)) finished (rows_good most_within name d old good (old_good name old before)) in
+    writable_from name r made

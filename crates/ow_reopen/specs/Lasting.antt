@@ -1,0 +1,63 @@
+-- What lasts from event to event, so that what is kept is allowed at the next opening.
+use Rattle.std.specs.Prelude.{◌≡◌, ◌≤◌, ℕ, true, List, IfSome}
+use Rattle.std.specs.List.{AllByRecursion}
+use Rattle.ow_names.specs.FullName.{IsFullName}
+use Rattle.ow_names.specs.Name.{IsName}
+use Rattle.ow_entity.specs.Row.{name_of}
+use Rattle.ow_entity.specs.declared.rows.Row.{Row}
+use Rattle.ow_tenant.specs.Table.{Table}
+use Rattle.ow_tenant.specs.declared.entries.Holder.{Holder}
+use Rattle.ow_floor.specs.Trace.{Item, Trace, Accepted, Begun, Ended, Ordered, Resumed}
+use Rattle.ow_floor.specs.declared.runs.Run.{Run}
+use Rattle.ow_items.specs.declared.item.Item.{Item as KeptItem}
+use Rattle.ow_items.specs.declared.item.Item.TheVariants as items
+use Rattle.ow_keep.specs.Allowed.{is_called, is_shallow}
+use Rattle.ow_keep.specs.declared.allowed.TheConstants.{GREATEST_MOMENT}
+use Rattle.ow_kept.specs.Fit.{is_fit}
+use Rattle.ow_records.specs.declared.activations.Activation.{Activation}
+
+-- an item that nests no deeper than is read, and is fit to be kept
+pub record IsLasting (i : KeptItem) : Type 0 where
+  pub shallow : is_shallow i ≡ true
+  pub fit : is_fit i ≡ true
+
+-- ---- rows
+
+-- a row that is one, and whose name is one by its parts: no two such names have one text
+pub record IsLastingRow (r : Row) : Type 0 where
+  pub lasts : IsLasting (items.Row r)
+  pub named : IsFullName (name_of r)
+
+-- each row is one
+abbrev pub AreWritable : List Row → Type 0
+AreWritable rs = AllByRecursion IsLastingRow rs
+
+-- each key's own namespace is a name, which it is in a table that was read
+abbrev pub AreHomes : Table → Type 0
+AreHomes t = AllByRecursion (λ (e : List ℕ × Holder). IsName e.1.home) t.keys
+
+-- ---- what happened
+
+-- an activation counts from 1, as its cause and the version of its action do, was accepted no later than the greatest moment, and was called
+-- through no binding that stands in a package
+pub record IsTimely (a : Activation) : Type 0 where
+  pub counted : 1 ≤ a.id.count
+  pub early : a.at ≤ GREATEST_MOMENT
+  pub called : is_called a.cause a.action.version a.binding ≡ true
+
+-- a run was ordered, and began, no later than the greatest moment
+pub record IsDue (r : Run) : Type 0 where
+  pub ordered : r.at ≤ GREATEST_MOMENT
+  pub began : IfSome r.begun (λ at. at ≤ GREATEST_MOMENT)
+
+-- what is accepted, ordered, begun or ended is within the greatest moment, and so is what was taken over
+abbrev pub IsEarly : Item → Type 0
+IsEarly (Accepted a) = IsTimely a
+IsEarly (Ordered r key) = IsDue r
+IsEarly (Begun run at) = at ≤ GREATEST_MOMENT
+IsEarly (Ended e) = (e.at ≤ GREATEST_MOMENT) × IfSome e.run IsDue
+IsEarly (Resumed counts rs) = AllByRecursion (λ id. 1 ≤ id.count) counts × AllByRecursion (λ r. IsLasting (items.Done r)) rs
+IsEarly item = Unit {0}
+
+abbrev pub AreEarly : Trace → Type 0
+AreEarly T = AllByRecursion IsEarly T

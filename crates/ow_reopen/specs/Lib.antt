@@ -1,0 +1,4 @@
+pub mod Lasting
+pub mod RowsKept
+pub mod Bodies
+pub mod Laws
