@@ -21,7 +21,7 @@ use Rattle.ow_decide.specs.declared.events.Told.TheVariants as tells
 use Rattle.ow_decide.specs.declared.replies.Called.{Called}
 use Rattle.ow_decide.specs.declared.replies.Reply.{Reply}
 use Rattle.ow_hall.specs.Comes.{Answers, Comes, Fails, HallView, Holds, IsCalled, KeptRows, Outcome, Replies, Wants, decided, done_outcome, reply_outcome}
-use Rattle.ow_runners.specs.Plain.{PlainGives}
+use Rattle.ow_runners.specs.Plain.{plain_giving}
 use Rattle.ow_invoker.specs.Turns.{Chain, Exchange, Turns as TurnsTo}
 use Rattle.ow_runners.specs.declared.plain_runner.PlainContainer.{PlainContainer}
 use Rattle.ow_runners.specs.declared.plain_runner.PlainRunner.{PlainRunner}
@@ -198,7 +198,7 @@ module _ {P : Type 0} (rows : P → KeptRows) (faults : P → ℕ) where
   )
 
   pub turned : (old : Session P) (hall : HallView P) (runner : PlainRunner) (left : List (Laid PlainContainer)) (t : Turned)
-      → TurnsTo rows faults PlainGives 0 0 old.hall hall old.given old.shelf left (Ok t) → GoesTo faults old (behind_turn old hall runner left) (Does (machine_of old) Turn) (dones.Turned t)
+      → TurnsTo rows faults plain_giving 0 0 old.hall hall old.given old.shelf left (Ok t) → GoesTo faults old (behind_turn old hall runner left) (Does (machine_of old) Turn) (dones.Turned t)
   turned old hall runner left t (inl (xs, (turn, chain, steps))) = (
     0,
     (
@@ -232,12 +232,12 @@ module _ {P : Type 0} (rows : P → KeptRows) (faults : P → ℕ) where
       )
 
   pub stopped : (old : Session P) (hall : HallView P) (left : List (Laid PlainContainer)) (r : Result Turned Want)
-      → TurnsTo rows faults PlainGives 0 0 old.hall hall old.given old.shelf left r → faults old.hall.store ≤ faults hall.store
+      → TurnsTo rows faults plain_giving 0 0 old.hall hall old.given old.shelf left r → faults old.hall.store ≤ faults hall.store
   stopped old hall left (Ok t) (inl (xs, (turn, chain, steps))) = chain_later rows faults old.hall hall old.given xs chain
   stopped old hall left (Ok t) (inr (xs, (event, (turn, chain, steps)))) = chain_to_later rows faults old.hall hall old.given xs event Fails chain
   stopped old hall left (Err e) (inl (xs, (begins, chain))) = chain_later rows faults old.hall hall old.given xs chain
   stopped old hall left (Err e) (inr (order, (xs, (event, (offers, undone))))) = undone_later rows faults old.hall hall old.given xs event undone
 
   pub stopped_so : (old : Session P) (hall : HallView P) (runner : PlainRunner) (left : List (Laid PlainContainer)) (t : Result Turned Want) (r : Result Done Want) → IsErr r
-      → TurnsTo rows faults PlainGives 0 0 old.hall hall old.given old.shelf left t → ComesTo faults old (behind_turn old hall runner left) (Does (machine_of old) Turn) r
+      → TurnsTo rows faults plain_giving 0 0 old.hall hall old.given old.shelf left t → ComesTo faults old (behind_turn old hall runner left) (Does (machine_of old) Turn) r
   stopped_so old hall runner left t r is turns = wants_so faults old (behind_turn old hall runner left) (Does (machine_of old) Turn) r is (stopped old hall left t turns)

@@ -22,10 +22,10 @@ use ow_words::{ServeWords, WordsRefusal};
 use std::alloc::Global;
 
 /// Does what the words say: for `day`, reads the office table that they name, opens the service over it and the store, carries
-/// out the statements of the day as they come, and writes their answers. That each is written before more of the day is asked for, or
-/// once a megabyte is ready, a clause says of days whose read fails. The words are looked at first, then the table, then the store: where they name no table it has no rows, and `table`
-/// isn't touched. For `serve` it reads the words and the table alone, and passes both on: the caller serves. The store is handed
-/// back in each case.
+/// out the statements of the day as they come, and writes their answers. That each is written before more of the day is asked for,
+/// or once a megabyte is ready, a clause says of days whose read fails. The words are looked at first, then the table, then the
+/// store: where they name no table it has no rows, and `table` isn't touched. For `serve` it reads the words and the table alone, and
+/// passes both on: the caller serves. The store is handed back in each case.
 pub fn office<T: Source, S: Source, O: Sink, E: Sink, P: Keeper + Drop>(
     alloc: Global,
     words: &[String],

@@ -64,12 +64,12 @@ module _ {P B : Type 0} (rows : P → KeptRows) (faults : P → ℕ) (old : Hall
     removed new shelf left cs steps (Err e) h made = inl (h.0, (inr h.1.0, h.1.1.0))
 
     -- a container was laid down, and its prewarming has begun
-    pub warmed : (new : HallView P) (shelf left : List (Laid B)) (order : PrewarmOrder) (answer : Told) → IsLaid order.slot order.generation shelf left
+    pub warmed : (new : HallView P) (shelf left : List (Laid B)) (order : PrewarmOrder) (answer : Told) → gives.starts order.kind × IsLaid order.slot order.generation shelf left
         → Comes rows faults old new at (events.Begun order.run) (Answers answer)
         → Carries rows faults gives before now old new at shelf left (orders.Prewarm order) (Ok [])
     warmed new shelf left order answer laid comes = inl (
       exchange (events.Begun order.run) answer ∷ [],
-      (inl ((answer, refl), laid), ((new, (comes, refl)), refl)),
+      (inl (laid.0, ((answer, refl), laid.1)), ((new, (comes, refl)), refl)),
     )
 
     pub unwarmed : (new : HallView P) (shelf left : List (Laid B)) (order : PrewarmOrder) (steps : TwoSteps) → (reply : RunReply) × RefusesStart gives before now order.kind reply → left ≡ shelf

@@ -9,21 +9,28 @@ use Rattle.ow_floor.specs.declared.answers.RunOrder.{RunOrder}
 use Rattle.ow_decide.specs.declared.events.Event.TheVariants as events
 use Rattle.ow_decide.specs.declared.events.Told.{Told}
 use Rattle.ow_hall.specs.Comes.{Answers, Comes, HallView, KeptRows}
-use Rattle.ow_invoker.specs.Parts.{Books, Carries, EndsBy, Initialised, OpensBy, Performs, Settles, Tells, TellsAll, TwoSteps, both, in_order, listed, reply_of}
+use Rattle.ow_invoker.specs.Parts.{Books, Carries, EndsBy, Initialised, OpensBy, Performs, Settles, Tells, TellsAll, TwoSteps, UpStarts, both, in_order, listed, reply_of}
 use Rattle.ow_invoker.specs.Shelf.{IsLaid, without}
-use Rattle.ow_invoker.specs.Turns.{AreBoth, Chain, Exchange, IsAlone, IsCarriedOut, IsGivenUp, IsOffered, IsUnlaid, LiesBy, Opens, Rests, RunFollows, RunOffers, RunStops, exchange, gone, is_late, is_missing, lost, shelf_at, steps_in, steps_of}
+use Rattle.ow_invoker.specs.Turns.{AreBoth, Chain, Exchange, IsAlone, IsCarriedOut, IsGivenUp, IsOffered, IsStarted, IsUnlaid, LiesBy, Opens, Rests, RunFollows, RunOffers, RunStops, exchange, gone, is_late, is_missing, lost, shelf_at, steps_in, steps_of}
 use Rattle.ow_invoker.specs.declared.readying.Readiness.{Readiness}
 use Rattle.ow_invoker.specs.declared.readying.Readiness.TheVariants.{Early, Missing, NoMemory, Up}
 use Rattle.ow_invoker.specs.declared.shelf.Laid.{Laid}
 use Rattle.ow_invoker.specs.declared.turn.TurnStep.{TurnStep}
-use Rattle.ow_invoker.proofs.Running.{refused_from, replied_from}
+use Rattle.ow_invoker.proofs.Running.{refused_from, replied_from, started_from}
 use Rattle.ow_invoker.proofs.Turning.{alone_told, chain_more, opens_so, told_behind}
+
+-- of a kind whose containers come up, whatever came of the initialisation
+pub up_started : {B : Type 0} (gives : Giving) (order : RunOrder) (ready : Readiness B) → gives.starts order.kind → UpStarts gives order ready
+up_started gives order (Up living) k = k
+up_started gives order (Early held reply) k = tt
+up_started gives order Missing k = tt
+up_started gives order NoMemory k = tt
 
 opens_from : (f g h : Giving) (a b c : ℕ) (order : RunOrder) (reply : RunReply) (xs : List Exchange) → Steady f g a b → Steady g h b c
     → Opens g b c order reply xs → Opens f a c order reply xs
 opens_from f g h a b c order reply [] s t x =
     ⊎_elim (λ w. inl w) (λ refused. inr (refused_from order.kind order.code reply s t refused)) x
-opens_from f g h a b c order reply (x ∷ xs) s t k = k
+opens_from f g h a b c order reply (x ∷ xs) s t k = (k.0, (started_from f g h a b c order s t k.1.0, k.1.1))
 
 begun_or_not : (b : Bool) (order : RunOrder) (xs : List Exchange) → is_warm order.start ≡ b → OpensBy b order xs
     → (xs ≡ []) ⊎ ((is_warm order.start ≡ false) × IsAlone (events.Begun order.run) xs)
@@ -124,17 +131,17 @@ module _ {P B : Type 0} (rows : P → KeptRows) (faults : P → ℕ) where
   module _ (gives : Giving) (before now : ℕ) where
     -- the run began, and its reply is settled
     pub performed : (old middle new : HallView P) (at : ℕ) (order : RunOrder) (reply : RunReply) (shelf left : List (Laid B)) (result : Result TwoSteps Want)
-        → Replies gives before now order.kind order.code order.params reply
+        → IsStarted gives order → Replies gives before now order.kind order.code order.params reply
         → (xs : List Exchange) × (OpensBy (is_warm order.start) order xs × Chain rows faults old middle at xs)
         → Settles rows faults middle new at order reply shelf left result → Performs rows faults gives before now old new at order shelf left result
-    performed old middle new at order reply shelf left (Ok steps) replies b (inl k) = inl (
+    performed old middle new at order reply shelf left (Ok steps) started replies b (inl k) = inl (
       b.0 ++ k.0,
       (
         record {
           reply = reply;
           replies = replies;
           opening = b.0;
-          opens = opens_so gives before now order reply (is_warm order.start) b.0 refl b.1.0;
+          opens = opens_so gives before now order reply (is_warm order.start) b.0 refl started b.1.0;
           booking = k.0;
           settled = k.1.0;
           is = refl;
@@ -142,37 +149,37 @@ module _ {P B : Type 0} (rows : P → KeptRows) (faults : P → ℕ) where
         (chain_more rows faults old middle new at b.0 k.0 b.1.1 k.1.1.0, told_behind (is_warm order.start) order b.0 k.0 (both steps) b.1.0 k.1.1.1),
       ),
     )
-    performed old middle new at order reply shelf left (Ok steps) replies b (inr k) = inr (
+    performed old middle new at order reply shelf left (Ok steps) started replies b (inr k) = inr (
       (
         b.0,
         (
           reply,
           (
-            record { replies = replies; opens = opens_so gives before now order reply (is_warm order.start) b.0 refl b.1.0; lies = k.0 },
+            record { replies = replies; opens = opens_so gives before now order reply (is_warm order.start) b.0 refl started b.1.0; lies = k.0 },
             (middle, (b.1.1, k.1.0)),
           ),
         ),
       ),
       k.1.1,
     )
-    performed old middle new at order reply shelf left (Err e) replies b (inl k) = inl (
+    performed old middle new at order reply shelf left (Err e) started replies b (inl k) = inl (
       b.0,
       (
         inr (record {
           reply = reply;
           replies = replies;
-          opens = opens_so gives before now order reply (is_warm order.start) b.0 refl b.1.0;
+          opens = opens_so gives before now order reply (is_warm order.start) b.0 refl started b.1.0;
           left_is = k.1;
         }),
         subst (λ v. Chain rows faults old v at b.0) (sym k.0) b.1.1,
       ),
     )
-    performed old middle new at order reply shelf left (Err e) replies b (inr k) = inr (
+    performed old middle new at order reply shelf left (Err e) started replies b (inr k) = inr (
       b.0,
       (
         reply,
         (
-          record { replies = replies; opens = opens_so gives before now order reply (is_warm order.start) b.0 refl b.1.0; lies = k.0 },
+          record { replies = replies; opens = opens_so gives before now order reply (is_warm order.start) b.0 refl started b.1.0; lies = k.0 },
           (middle, (b.1.1, k.1)),
         ),
       ),

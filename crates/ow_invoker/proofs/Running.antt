@@ -8,11 +8,17 @@ use Rattle.ow_traits.specs.Streams.{Rose}
 use Rattle.ow_traits.specs.declared.replies.Kind.{Kind}
 use Rattle.ow_traits.specs.declared.replies.RunReply.{RunReply}
 use Rattle.ow_traits.specs.declared.replies.RunReply.TheVariants.{Answer, Exit, NoStart, Fault}
+use Rattle.ow_slots.specs.declared.keys.Start.{Start}
+use Rattle.ow_slots.specs.declared.keys.Start.TheVariants as starts
+use Rattle.ow_floor.specs.declared.answers.RunOrder.{RunOrder}
+use Rattle.ow_invoker.specs.Turns.{IsStarted, StartsBy}
 
 pub steady_trans : {f g h : Giving} {a b c : ℕ} → Steady f g a b → Steady g h b c → Steady f h a c
 steady_trans s t = record {
   back = λ kind code params reply x. s.back kind code params reply (t.back kind code params reply x);
   on = λ kind code params reply x. t.on kind code params reply (s.on kind code params reply x);
+  starts_back = λ kind x. s.starts_back kind (t.starts_back kind x);
+  starts_on = λ kind x. t.starts_on kind (s.starts_on kind x);
   later = let x = s.later in let y = t.later in omega arith;
 }
 
@@ -41,7 +47,7 @@ down_replied f a b kind code params (Answer text logs) x = absurd x
 down_replied f a b kind code params (Exit status logs) x = absurd x
 
 pub steady_refl : (f : Giving) (a : ℕ) → Steady f f a a
-steady_refl f a = record { back = λ kind code params reply x. x; on = λ kind code params reply x. x; later = omega arith }
+steady_refl f a = record { back = λ kind code params reply x. x; on = λ kind code params reply x. x; starts_back = λ kind x. x; starts_on = λ kind x. x; later = omega arith }
 
 -- what a call replies it replies too with those behind it
 pub replied_on : {g h : Giving} {a b c : ℕ} (kind : Kind) (code : List ℕ) (params : Pairs) (reply : RunReply)
@@ -61,3 +67,20 @@ refused_on kind code reply s le x = (x.0, λ params. replied_on kind code params
 pub refused_from : {f g h : Giving} {a b c : ℕ} (kind : Kind) (code : List ℕ) (reply : RunReply)
     → Steady f g a b → Steady g h b c → RefusesCode g b c kind code reply → RefusesCode f a c kind code reply
 refused_from kind code reply s t x = (x.0, λ params. replied_from kind code params reply s t (x.1 params))
+
+-- ---- kinds of containers that come up
+
+-- what the runner starts it started before
+started_by : (start : Start) (f g : Giving) (a b : ℕ) (kind : Kind) → Steady f g a b → StartsBy start g kind → StartsBy start f kind
+started_by starts.Cold f g a b kind s k = s.starts_back kind k
+started_by starts.Prewarmed f g a b kind s k = tt
+started_by starts.Warm f g a b kind s k = tt
+
+pub started_from : (f g h : Giving) (a b c : ℕ) (order : RunOrder) → Steady f g a b → Steady g h b c → IsStarted g order → IsStarted f order
+started_from f g h a b c order s t k = started_by order.start f g a b order.kind s k
+
+-- and what it started it still does
+pub still_started : (start : Start) (f g : Giving) (a b : ℕ) (kind : Kind) → Steady f g a b → StartsBy start f kind → StartsBy start g kind
+still_started starts.Cold f g a b kind s k = s.starts_on kind k
+still_started starts.Prewarmed f g a b kind s k = tt
+still_started starts.Warm f g a b kind s k = tt

@@ -11,7 +11,7 @@ use Rattle.ow_decide.specs.declared.events.Event.TheVariants as events
 use Rattle.ow_decide.specs.declared.events.Told.{Told}
 use Rattle.ow_hall.specs.Comes.{Answers, Comes, Fails, HallView, KeptRows, Outcome, Wants}
 use Rattle.ow_invoker.specs.Shelf.{IsLaid, without}
-use Rattle.ow_invoker.specs.Turns.{Chain, ChainTo, ChainUndone, Exchange, Follows, IsAlone, IsCarriedOut, IsGivenUp, IsOffered, IsSettled, IsUnlaid, LiesBy, Offers, Stops, exchange, gone, is_late, is_missing, shelf_at, steps_in, steps_of}
+use Rattle.ow_invoker.specs.Turns.{Chain, ChainTo, ChainUndone, Exchange, Follows, IsAlone, IsCarriedOut, IsGivenUp, IsOffered, IsSettled, IsStarted, IsUnlaid, LiesBy, Offers, Stops, exchange, gone, is_late, is_missing, shelf_at, steps_in, steps_of}
 use Rattle.ow_invoker.specs.declared.readying.Readiness.{Readiness}
 use Rattle.ow_invoker.specs.declared.readying.Readiness.TheVariants.{Early, Missing, NoMemory, Up}
 use Rattle.ow_invoker.specs.declared.shelf.Laid.{Laid}
@@ -124,8 +124,15 @@ Initialised gives before now order (Early held reply) = RefusesCode gives before
 Initialised gives before now order Missing = ⊥
 Initialised gives before now order NoMemory = Unit {0}
 
+-- one that is up is of a kind whose containers come up
+abbrev pub UpStarts : {B : Type 0} → Giving → RunOrder → Readiness B → Type 0
+UpStarts gives order (Up living) = gives.starts order.kind
+UpStarts gives order (Early held reply) = Unit {0}
+UpStarts gives order Missing = Unit {0}
+UpStarts gives order NoMemory = Unit {0}
+
 abbrev pub Readied : {B : Type 0} → Giving → ℕ → ℕ → RunOrder → List (Laid B) → List (Laid B) → Readiness B → Type 0
-Readied gives before now order shelf left (Up living) = (is_missing order shelf ≡ false) × (left ≡ shelf_at order shelf)
+Readied gives before now order shelf left (Up living) = (is_missing order shelf ≡ false) × (left ≡ shelf_at order shelf) × IsStarted gives order
 Readied gives before now order shelf left (Early held reply) =
     (is_missing order shelf ≡ false) × (left ≡ shelf_at order shelf) × Initialised gives before now order (Early held reply)
 Readied gives before now order shelf left Missing = (is_missing order shelf ≡ true) × (left ≡ shelf)
@@ -135,7 +142,7 @@ Readied gives before now order shelf left NoMemory = (is_missing order shelf ≡
 
 -- a container is started ahead
 abbrev pub Warms : {B : Type 0} → Giving → ℕ → ℕ → PrewarmOrder → List (Laid B) → List (Laid B) → Warming → Type 0
-Warms gives before now order shelf left Warmed = IsLaid order.slot order.generation shelf left
+Warms gives before now order shelf left Warmed = gives.starts order.kind × IsLaid order.slot order.generation shelf left
 Warms gives before now order shelf left Down = ((reply : RunReply) × RefusesStart gives before now order.kind reply) × (left ≡ shelf)
 Warms gives before now order shelf left Unheld = left ≡ shelf
 

@@ -1,9 +1,12 @@
 -- What one turn comes to: a chain of calls of the hall, what the turn tells of them, and what lies on the shelf afterwards.
 use Rattle.std.specs.Prelude.{◌≡◌, ◌⊎◌, ◌&&◌, ◌++◌, ℕ, Bool, true, false, not, List, [], ◌∷◌, Result, Ok, Err, if◌then◌else◌}
 use Rattle.ow_traits.specs.Runner.{Giving, RefusesCode, RefusesStart, Replies, is_answer}
+use Rattle.ow_traits.specs.declared.replies.Kind.{Kind}
 use Rattle.ow_traits.specs.declared.replies.RunReply.{RunReply}
 use Rattle.ow_value.specs.declared.memory.NoMemory.{NoMemory as Want}
 use Rattle.ow_slots.specs.State.{is_cold, is_warm}
+use Rattle.ow_slots.specs.declared.keys.Start.{Start}
+use Rattle.ow_slots.specs.declared.keys.Start.TheVariants as starts
 use Rattle.ow_floor.specs.declared.answers.Answered.TheVariants.{Late, Recorded}
 use Rattle.ow_floor.specs.declared.answers.Container.{Container}
 use Rattle.ow_floor.specs.declared.answers.Order.{Order}
@@ -92,10 +95,19 @@ is_missing order shelf = not (is_cold order.start) && not (lies order.slot order
 abbrev pub shelf_at : {B : Type 0} → RunOrder → List (Laid B) → List (Laid B)
 shelf_at order shelf = if is_cold order.start then shelf else without order.slot order.generation shelf
 
+-- where a run has a new container, the runner starts those of the code's kind
+abbrev pub StartsBy : Start → Giving → Kind → Type 0
+StartsBy starts.Cold gives kind = gives.starts kind
+StartsBy starts.Prewarmed gives kind = Unit {0}
+StartsBy starts.Warm gives kind = Unit {0}
+
+abbrev pub IsStarted : Giving → RunOrder → Type 0
+IsStarted gives order = StartsBy order.start gives order.kind
+
 -- that the run began is told where its start isn't warm, and left out only where the code is refused
 abbrev pub Opens : Giving → ℕ → ℕ → RunOrder → RunReply → List Exchange → Type 0
 Opens gives before now order reply [] = (is_warm order.start ≡ true) ⊎ RefusesCode gives before now order.kind order.code reply
-Opens gives before now order reply (x ∷ xs) = (is_warm order.start ≡ false) × ((x.event ≡ events.Begun order.run) × (xs ≡ []))
+Opens gives before now order reply (x ∷ xs) = (is_warm order.start ≡ false) × (IsStarted gives order × ((x.event ≡ events.Begun order.run) × (xs ≡ [])))
 
 -- behind an answer in time the container lies on the shelf
 abbrev pub StaysLaid : {B : Type 0} → RunOrder → List (Laid B) → List Exchange → List (Laid B) → Type 0
@@ -148,10 +160,10 @@ IsWarmed order shelf xs left = IsAlone (events.Begun order.run) xs × IsLaid ord
 abbrev pub IsUnwarmed : {B : Type 0} → PrewarmOrder → List (Laid B) → List Exchange → List (Laid B) → Type 0
 IsUnwarmed order shelf xs left = AreBoth (events.Lost order.run) (events.Gone order.slot order.generation) xs × (left ≡ shelf)
 
--- it fails only where the runner refuses its start
+-- it comes up only where the runner starts containers of its kind, and fails only where the runner refuses its start
 abbrev pub PrewarmFollows : {B : Type 0} → Giving → ℕ → ℕ → PrewarmOrder → List (Laid B) → List Exchange → List (Laid B) → Type 0
 PrewarmFollows gives before now order shelf xs left =
-    IsWarmed order shelf xs left ⊎ (((reply : RunReply) × RefusesStart gives before now order.kind reply) × IsUnwarmed order shelf xs left)
+    (gives.starts order.kind × IsWarmed order shelf xs left) ⊎ (((reply : RunReply) × RefusesStart gives before now order.kind reply) × IsUnwarmed order shelf xs left)
 
 -- containers are taken where they lie there, and each is gone
 abbrev pub Removes : {B : Type 0} → List Container → List (Laid B) → List Exchange → List (Laid B) → Type 0

@@ -1,6 +1,6 @@
 // How the container of a run comes up.
 ghost use Rattle.ow_traits.specs.Runner.{Steady};
-ghost use Rattle.ow_invoker.specs.Parts.{Initialised, Readied};
+ghost use Rattle.ow_invoker.specs.Parts.{Initialised, Readied, UpStarts};
 
 use crate::living::{Living, init, stop};
 use crate::shelf::Shelf;
@@ -47,6 +47,7 @@ pub(crate) fn make_ready<R: Runner>(
 fn open<R: Runner>(alloc: Global, runner: &mut R, order: &RunOrder) -> Readiness<R::Container>
     ensures runner { Steady (R.gives runner.old) (R.gives runner.new) (R.faults runner.old) (R.faults runner.new) }
     ensures ready { Initialised (R.gives runner.old) (R.faults runner.old) (R.faults runner.new) order.now result }
+    ensures started { UpStarts (R.gives runner.old) order.now result }
 {
     match runner.start(alloc, order.kind, order.memory) {
         Ok(Started::Up(container)) => initialise(alloc, runner, Living { container }, order),

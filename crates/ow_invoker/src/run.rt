@@ -3,7 +3,7 @@ ghost use Rattle.std.specs.Prelude.{◌≡◌, List, None, false};
 ghost use Rattle.ow_traits.specs.Runner.{Replies, Steady, is_answer};
 ghost use Rattle.ow_floor.specs.declared.answers.Order.TheVariants as orders;
 ghost use Rattle.ow_invoker.specs.Parts.{Books, Carries, EndsBy, LaysDown, Performs, Settles, TellsAll, in_order, listed};
-ghost use Rattle.ow_invoker.specs.Turns.{Exchange};
+ghost use Rattle.ow_invoker.specs.Turns.{Exchange, IsStarted};
 
 use crate::living::{self, Living, stop};
 use crate::readying::{Readiness, make_ready};
@@ -49,6 +49,7 @@ fn perform<P: Keeper + Drop, R: Runner>(
     order: &RunOrder,
     mut living: Living<R::Container>,
 ) -> Result<TwoSteps, NoMemory>
+    requires { IsStarted (R.gives runner.old) order.now }
     ensures performs { Performs P.rows P.faults (R.gives runner.old) (R.faults runner.old) (R.faults runner.new) hall.old hall.new at order.now shelf.old shelf.new result }
     ensures runner { Steady (R.gives runner.old) (R.gives runner.new) (R.faults runner.old) (R.faults runner.new) }
 {

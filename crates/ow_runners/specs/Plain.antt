@@ -1,5 +1,6 @@
 -- The runner of plain code.
 use Rattle.std.specs.Prelude.{◌≡◌, ℕ, List, [], codes, map}
+use Rattle.ow_traits.specs.Runner.{Giving}
 use Rattle.ow_traits.specs.declared.replies.Kind.{Kind}
 use Rattle.ow_traits.specs.declared.replies.Kind.TheVariants.{Plain, Program}
 use Rattle.ow_traits.specs.declared.replies.RunReply.{RunReply}
@@ -10,10 +11,18 @@ use Rattle.ow_entity.specs.PlainCode.{Case}
 use Rattle.ow_runners.specs.PlainReply.{plain_reply}
 use Rattle.ow_runners.specs.declared.plain_cases.PlainCase.{PlainCase}
 
--- it gives the plain reply, without logs, and starts no program
+-- it gives the plain reply, without logs, and runs no program
 abbrev pub PlainGives : Kind → List ℕ → Pairs → RunReply → Type 0
 PlainGives Plain code params reply = reply ≡ Answer (plain_reply code params) []
 PlainGives Program code params reply = reply ≡ NoStart (codes "no program runner")
+
+-- its containers come up for plain code alone
+abbrev pub PlainStarts : Kind → Type 0
+PlainStarts Plain = Unit {0}
+PlainStarts Program = ⊥
+
+abbrev pub plain_giving : Giving
+plain_giving = record { replies = PlainGives; starts = PlainStarts }
 
 -- ---- for private clauses
 

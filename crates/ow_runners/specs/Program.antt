@@ -3,6 +3,7 @@ use Rattle.std.specs.Prelude.{◌≡◌, ◌≢◌, ◌==◌, ℕ, ℤ, pos, neg
 use Rattle.std.specs.Ordering.{int_eq}
 use Rattle.std.specs.Str.{bytes_eq}
 use Rattle.std.specs.Str.Lossy.{utf8_lossy}
+use Rattle.ow_traits.specs.Runner.{Giving}
 use Rattle.ow_traits.specs.declared.replies.Kind.{Kind}
 use Rattle.ow_traits.specs.declared.replies.Kind.TheVariants.{Plain, Program}
 use Rattle.ow_traits.specs.declared.replies.RunReply.{RunReply}
@@ -28,6 +29,10 @@ PathGives (Some path) reply = reply ≢ Fault
 abbrev pub ProgramGives : Programs → Kind → List ℕ → Pairs → RunReply → Type 0
 ProgramGives programs Plain code params reply = PlainGives Plain code params reply
 ProgramGives programs Program code params reply = PathGives (path_of programs code) reply
+
+-- its containers come up for code of both kinds
+abbrev pub program_giving : Programs → Giving
+program_giving programs = record { replies = ProgramGives programs; starts = λ kind. Unit {0} }
 
 -- ---- for private clauses
 

@@ -1,7 +1,7 @@
 // The runner of plain code.
 ghost use Rattle.std.specs.Prelude.{◌≡◌, ◌↔◌, List, ℕ, OnOk, IfOk, Some, codes};
 ghost use Rattle.ow_value.specs.Value.{Pairs};
-ghost use Rattle.ow_runners.specs.Plain.{PlainGives};
+ghost use Rattle.ow_runners.specs.Plain.{PlainGives, PlainStarts};
 
 use crate::plain_cases::PlainCases;
 use ow_traits::{Kind, RunReply, Runner, Started};
@@ -45,7 +45,8 @@ impl PlainRunner {
     /// A runner of plain code.
     pub fn new() -> PlainRunner
         ensures gives { (kind : Kind) (code : List ℕ) (params : Pairs) (reply : RunReply)
-            → (⟦<PlainRunner as Runner>⟧.gives result kind code params reply ↔ PlainGives kind code params reply) }
+            → ((⟦<PlainRunner as Runner>⟧.gives result).replies kind code params reply ↔ PlainGives kind code params reply) }
+        ensures starts { (kind : Kind) → ((⟦<PlainRunner as Runner>⟧.gives result).starts kind ↔ PlainStarts kind) }
         ensures faults { ⟦<PlainRunner as Runner>⟧.faults result ≡ 0 }
     {
         PlainRunner {}
@@ -55,9 +56,9 @@ impl PlainRunner {
 impl Runner for PlainRunner {
     type Container = PlainContainer;
 
-    ghost use Rattle.ow_runners.specs.Plain.{PlainGives};
+    ghost use Rattle.ow_runners.specs.Plain.{plain_giving};
 
-    ghost gives = { λ r kind code params reply. PlainGives kind code params reply };
+    ghost gives = { λ r. plain_giving };
 
     ghost faults = { λ r. 0 };
 

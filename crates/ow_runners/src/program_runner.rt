@@ -29,7 +29,8 @@ impl<R: Processes<Started = SystemProcess> + Threads + Drop> ProgramRunner<R> {
     /// A runner of these programs, each a name and a path, with no fault yet.
     pub fn new(rt: R, programs: Pairs) -> ProgramRunner<R>
         ensures gives { (kind : Kind) (code : List ℕ) (params : Pairs) (reply : RunReply)
-            → (⟦<ProgramRunner<R> as Runner>⟧.gives result kind code params reply ↔ ProgramGives programs kind code params reply) }
+            → ((⟦<ProgramRunner<R> as Runner>⟧.gives result).replies kind code params reply ↔ ProgramGives programs kind code params reply) }
+        ensures starts { (kind : Kind) → (⟦<ProgramRunner<R> as Runner>⟧.gives result).starts kind }
         ensures faults { ⟦<ProgramRunner<R> as Runner>⟧.faults result ≡ 0 }
     {
         ProgramRunner {
@@ -65,9 +66,9 @@ impl<R: Processes<Started = SystemProcess> + Threads + Drop> ProgramRunner<R> {
 impl<R: Processes<Started = SystemProcess> + Threads + Drop> Runner for ProgramRunner<R> {
     type Container = PlainContainer;
 
-    ghost use Rattle.ow_runners.specs.Program.{ProgramGives};
+    ghost use Rattle.ow_runners.specs.Program.{program_giving};
 
-    ghost gives = { λ r kind code params reply. ProgramGives r.programs kind code params reply };
+    ghost gives = { λ r. program_giving r.programs };
 
     ghost faults = { λ r. r.faults };
 

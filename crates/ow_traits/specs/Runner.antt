@@ -8,20 +8,23 @@ use Rattle.ow_traits.specs.declared.replies.RunReply.TheVariants.{Answer, Exit, 
 use Rattle.ow_traits.specs.declared.runners.Started.{Started}
 use Rattle.ow_traits.specs.declared.runners.Started.TheVariants.{Up, Down}
 
--- which replies a runner gives to which code, of which kind, with which parameters
-abbrev pub Giving : Type 1
-Giving = Kind → List ℕ → Pairs → RunReply → Type 0
+-- which replies a runner gives to which code, of which kind, with which parameters, and of which kinds its containers come up
+pub record Giving : Type 1 where
+  pub replies : Kind → List ℕ → Pairs → RunReply → Type 0
+  pub starts : Kind → Type 0
 
--- a runner gives what it gave before, and its count of faults doesn't fall
+-- a runner gives and starts what it did before, and its count of faults doesn't fall
 pub record Steady (old new : Giving) (before now : ℕ) : Type 0 where
-  pub back : (kind : Kind) (code : List ℕ) (params : Pairs) (reply : RunReply) → new kind code params reply → old kind code params reply
-  pub on : (kind : Kind) (code : List ℕ) (params : Pairs) (reply : RunReply) → old kind code params reply → new kind code params reply
+  pub back : (kind : Kind) (code : List ℕ) (params : Pairs) (reply : RunReply) → new.replies kind code params reply → old.replies kind code params reply
+  pub on : (kind : Kind) (code : List ℕ) (params : Pairs) (reply : RunReply) → old.replies kind code params reply → new.replies kind code params reply
+  pub starts_back : (kind : Kind) → new.starts kind → old.starts kind
+  pub starts_on : (kind : Kind) → old.starts kind → new.starts kind
   pub later : before ≤ now
 
 -- a reply to a run: one that the runner gives, or a fault, where its count rose
 abbrev pub Replies : Giving → ℕ → ℕ → Kind → List ℕ → Pairs → RunReply → Type 0
 Replies gives before now kind code params Fault = Rose before now
-Replies gives before now kind code params reply = gives kind code params reply
+Replies gives before now kind code params reply = gives.replies kind code params reply
 
 abbrev pub is_answer : RunReply → Bool
 is_answer (Answer text logs) = true
@@ -40,11 +43,11 @@ Initialises gives before now kind code (Some reply) = RefusesCode gives before n
 
 -- a reply in place of a start: that nothing starts, to each code of that kind whatever the parameters, or a fault
 abbrev pub RefusesStart : Giving → ℕ → ℕ → Kind → RunReply → Type 0
-RefusesStart gives before now kind (NoStart text) = (code : List ℕ) (params : Pairs) → gives kind code params (NoStart text)
+RefusesStart gives before now kind (NoStart text) = (code : List ℕ) (params : Pairs) → gives.replies kind code params (NoStart text)
 RefusesStart gives before now kind Fault = Rose before now
 RefusesStart gives before now kind reply = ⊥
 
--- a start that succeeds, or a reply in its place
+-- a start that succeeds, of a kind whose containers come up, or a reply in its place
 abbrev pub Starts : {B : Type 0} → Giving → ℕ → ℕ → Kind → Started B → Type 0
-Starts gives before now kind (Up container) = Unit {0}
+Starts gives before now kind (Up container) = gives.starts kind
 Starts gives before now kind (Down reply) = RefusesStart gives before now kind reply

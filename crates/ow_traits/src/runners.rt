@@ -1,7 +1,6 @@
 // What actions are run by.
-ghost use Rattle.std.specs.Prelude.{◌≡◌, List, ℕ, IfOk};
-ghost use Rattle.ow_traits.specs.Runner.{Initialises, Replies, Starts, Steady};
-ghost use Rattle.ow_value.specs.Value.{Pairs};
+ghost use Rattle.std.specs.Prelude.{◌≡◌, ℕ, IfOk};
+ghost use Rattle.ow_traits.specs.Runner.{Giving, Initialises, Replies, Starts, Steady};
 
 use crate::{Kind, RunReply};
 use ow_value::{NoMemory, Params, Str};
@@ -16,17 +15,14 @@ pub enum Started<B: Drop> {
     Down(RunReply),
 }
 
-/// What runs actions, each in a container. What it gives to a code with parameters stays through all calls; a fault is no such
-/// reply, and comes only where the count rose.
+/// What runs actions, each in a container. What it gives to a code with parameters stays through all calls, and so do the kinds whose
+/// containers come up; a fault is no such reply, and comes only where the count rose.
 pub trait Runner {
     /// What a run takes place in.
     type Container: Drop;
 
-    ghost use Rattle.ow_traits.specs.declared.replies.Kind.{Kind};
-    ghost use Rattle.ow_traits.specs.declared.replies.RunReply.{RunReply};
-
-    /// Which replies it gives to a kind, a code and parameters.
-    ghost gives: { Self → Kind → List ℕ → Pairs → RunReply → Type 0 };
+    /// Which replies it gives to a kind, a code and parameters, and of which kinds its containers come up.
+    ghost gives: { Self → Giving };
 
     /// How many calls failed.
     ghost faults: { Self → ℕ };

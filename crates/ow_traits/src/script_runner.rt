@@ -23,7 +23,8 @@ impl ScriptRunner {
     /// A runner of this script, with no fault yet.
     pub fn new(script: Items<RunReply>, failing: Vec<u64>) -> ScriptRunner
         ensures gives { (kind : Kind) (code : List ℕ) (params : Pairs) (reply : RunReply)
-            → (⟦<ScriptRunner as Runner>⟧.gives result kind code params reply ↔ Contains script reply) }
+            → ((⟦<ScriptRunner as Runner>⟧.gives result).replies kind code params reply ↔ Contains script reply) }
+        ensures starts { (kind : Kind) → (⟦<ScriptRunner as Runner>⟧.gives result).starts kind }
         ensures faults { ⟦<ScriptRunner as Runner>⟧.faults result ≡ 0 }
     {
         ScriptRunner {
@@ -39,7 +40,7 @@ impl Runner for ScriptRunner {
 
     ghost use Rattle.std.specs.Prelude.{Contains};
 
-    ghost gives = { λ r kind code params reply. Contains r.script reply };
+    ghost gives = { λ r. record { replies = λ kind code params reply. Contains r.script reply; starts = λ kind. Unit {0} } };
 
     ghost faults = { λ r. r.calls.faults };
 

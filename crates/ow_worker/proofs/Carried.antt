@@ -1,22 +1,23 @@
 -- What a turn's parts make of it.
-use Rattle.std.proofs.Common.{ℕ, ◌≤◌, inl, inr, ⊎_elim}
+use Rattle.std.proofs.Common.{◌∙◌, ℕ, inl, inr, ⊎_elim, refl}
 use Rattle.std.specs.Prelude.{Some, None}
 use Rattle.ow_traits.specs.Runner.{Giving, Steady}
 use Rattle.ow_floor.specs.declared.answers.RunOrder.{RunOrder}
-use Rattle.ow_invoker.proofs.Running.{refused_from, replied_from}
+use Rattle.ow_invoker.proofs.Running.{refused_from, replied_from, started_from}
 use Rattle.ow_board.specs.declared.view.View.{View}
 use Rattle.ow_desk.specs.Notes.{Notes}
 use Rattle.ow_worker.specs.declared.outcome.Turn.{Turn}
 use Rattle.ow_worker.specs.declared.outcome.Turn.TheVariants as turns
 use Rattle.ow_worker.specs.declared.outcome.Readiness.{Readiness}
 use Rattle.ow_worker.specs.declared.outcome.Readiness.TheVariants.{Up, Early, NotHad, Unready}
-use Rattle.ow_worker.specs.Parts.{Initialised}
-use Rattle.ow_worker.specs.Turned.{Carried, RunTurn}
-use Rattle.ow_worker.proofs.Earlier.{not_had_earlier, settled_earlier}
+use Rattle.ow_worker.specs.Parts.{Initialised, UpStarts}
+use Rattle.ow_board.specs.View.{KeepsOthers}
+use Rattle.ow_worker.specs.Shown.{WasHad}
+use Rattle.ow_worker.specs.Turned.{Carried, Performs, RunTurn}
 
 -- a run that came to a booking is neither lost nor given up
 pub carried_turns : {gives : Giving} {before now : ℕ} {is_second : ℕ → Type 0} {order : RunOrder} {n m : Notes} {start : ℕ} {w : View} (turn : Turn)
-    → Carried gives before now is_second order n m start w turn → RunTurn gives before now is_second order n m start w turn
+    → Carried gives before now is_second order n m start w turn → Performs gives before now is_second order n m start w turn
 carried_turns turns.Ran t = t
 carried_turns turns.Removed t = t
 carried_turns turns.Warmed t = t
@@ -26,27 +27,54 @@ carried_turns (turns.StoreFault job) t = t
 carried_turns (turns.NoMemory None) t = absurd t.settles.books
 carried_turns (turns.NoMemory (Some job)) t = t
 
-carried_within : {f g h : Giving} {a b c : ℕ} {is_second : ℕ → Type 0} {order : RunOrder} {n m : Notes} {v k : ℕ} {w : View} (turn : Turn) → Steady f g a b → Steady g h b c → v ≤ k
-    → Carried g b c is_second order n m k w turn → Carried f a c is_second order n m v w turn
-carried_within {order = order} turn s t le x = record {
+carried_within : {f g h : Giving} {a b c : ℕ} {is_second : ℕ → Type 0} {order : RunOrder} {n m : Notes} {k : ℕ} {w : View} (turn : Turn) → Steady f g a b → Steady g h b c
+    → Carried g b c is_second order n m k w turn → Carried f a c is_second order n m k w turn
+carried_within {order = order} turn s t x = record {
   reply = x.reply;
   replies = replied_from order.kind order.code order.params x.reply s t x.replies;
   opened = x.opened;
-  opens = ⊎_elim (λ y. inl y) (λ y. inr (y.0, refused_from order.kind order.code x.reply s t y.1)) x.opens;
-  settles = settled_earlier le x.settles;
+  opens = ⊎_elim (λ y. inl (started_from _ _ _ _ _ _ order s t y.0, y.1)) (λ y. inr (y.0, refused_from order.kind order.code x.reply s t y.1)) x.opens;
+  settles = x.settles;
 }
 
--- what a run shows from a later step on, it shows from an earlier one on
-pub run_turn_within : {f g h : Giving} {a b c : ℕ} (is_second : ℕ → Type 0) (order : RunOrder) (n m : Notes) (v k : ℕ) (w : View) (turn : Turn) → Steady f g a b → Steady g h b c → v ≤ k
-    → RunTurn g b c is_second order n m k w turn → RunTurn f a c is_second order n m v w turn
-run_turn_within is_second order n m v k w turns.Ran s t le x = carried_within turns.Ran s t le x
-run_turn_within is_second order n m v k w turns.Removed s t le x = carried_within turns.Removed s t le x
-run_turn_within is_second order n m v k w turns.Warmed s t le x = carried_within turns.Warmed s t le x
-run_turn_within is_second order n m v k w (turns.Lost seen) s t le x = record { start_is = x.start_is; shown = not_had_earlier le x.shown; lost = x.lost }
-run_turn_within is_second order n m v k w turns.Idle s t le x = carried_within turns.Idle s t le x
-run_turn_within is_second order n m v k w (turns.StoreFault job) s t le x = carried_within (turns.StoreFault job) s t le x
-run_turn_within is_second order n m v k w (turns.NoMemory None) s t le x = x
-run_turn_within is_second order n m v k w (turns.NoMemory (Some job)) s t le x = carried_within (turns.NoMemory (Some job)) s t le x
+-- a run behind its container, which it had before
+pub run_turned : (gives : Giving) (before now : ℕ) (is_second : ℕ → Type 0) (order : RunOrder) (n m : Notes) (start : ℕ) (w ready : View) (turn : Turn) → WasHad order start ready
+    → Performs gives before now is_second order n m ready.steps w turn → RunTurn gives before now is_second order n m start w turn
+run_turned gives before now is_second order n m start w ready turns.Ran had x = (ready, had, x)
+run_turned gives before now is_second order n m start w ready turns.Removed had x = (ready, had, x)
+run_turned gives before now is_second order n m start w ready turns.Warmed had x = (ready, had, x)
+run_turned gives before now is_second order n m start w ready (turns.Lost seen) had x = absurd x
+run_turned gives before now is_second order n m start w ready turns.Idle had x = (ready, had, x)
+run_turned gives before now is_second order n m start w ready (turns.StoreFault job) had x = (ready, had, x)
+run_turned gives before now is_second order n m start w ready (turns.NoMemory None) had x = x
+run_turned gives before now is_second order n m start w ready (turns.NoMemory (Some job)) had x = (ready, had, x)
+
+-- the calls of the runner before count too
+pub performs_within : {f g h : Giving} {a b c : ℕ} (is_second : ℕ → Type 0) (order : RunOrder) (n m : Notes) (k : ℕ) (w : View) (turn : Turn) → Steady f g a b → Steady g h b c
+    → Performs g b c is_second order n m k w turn → Performs f a c is_second order n m k w turn
+performs_within is_second order n m k w turns.Ran s t x = carried_within turns.Ran s t x
+performs_within is_second order n m k w turns.Removed s t x = carried_within turns.Removed s t x
+performs_within is_second order n m k w turns.Warmed s t x = carried_within turns.Warmed s t x
+performs_within is_second order n m k w (turns.Lost seen) s t x = x
+performs_within is_second order n m k w turns.Idle s t x = carried_within turns.Idle s t x
+performs_within is_second order n m k w (turns.StoreFault job) s t x = carried_within (turns.StoreFault job) s t x
+performs_within is_second order n m k w (turns.NoMemory None) s t x = x
+performs_within is_second order n m k w (turns.NoMemory (Some job)) s t x = carried_within (turns.NoMemory (Some job)) s t x
+
+-- ---- other slots
+
+pub others_same : (slot : ℕ) (v : View) → KeepsOthers slot v v
+others_same slot v = λ j other. refl
+
+pub others_both : (slot : ℕ) (u v w : View) → KeepsOthers slot u v → KeepsOthers slot v w → KeepsOthers slot u w
+others_both slot u v w h k = λ j other. k j other ∙ h j other
+
+-- of a kind that the runner starts, whatever came of the initialisation
+pub up_started : {B : Type 0} (gives : Giving) (before now : ℕ) (order : RunOrder) (ready : Readiness B) → gives.starts order.kind → UpStarts gives before now order ready
+up_started gives before now order (Up living) k = k
+up_started gives before now order (Early held reply) k = tt
+up_started gives before now order (NotHad seen) k = tt
+up_started gives before now order Unready k = tt
 
 -- a start, and the initialisation behind it
 pub initialised_from : {B : Type 0} (f g h : Giving) (a b c : ℕ) (order : RunOrder) (ready : Readiness B) → Steady f g a b → Steady g h b c

@@ -11,8 +11,8 @@ use Rattle.ow_worker.specs.declared.outcome.Laid.{Laid}
 use Rattle.ow_worker.specs.declared.outcome.Laid.TheVariants.{Put, Taken, Stopped}
 use Rattle.ow_worker.specs.declared.outcome.Turn.{Turn}
 use Rattle.ow_worker.specs.declared.outcome.Turn.TheVariants as turns
-use Rattle.ow_worker.specs.Shown.{StepOfCall, WasNotHad, WasPut, WasTaken, WordTaken}
-use Rattle.ow_worker.specs.Parts.{Booked, Ended, LaidDown, Settled, TakenBack}
+use Rattle.ow_worker.specs.Shown.{StepOfCall, WasNotHad, WasTaken}
+use Rattle.ow_worker.specs.Parts.{Booked, Ended, TakenBack}
 
 of_earlier : {slot a b : ℕ} {w : View} {step : LastStep} → a ≤ b → StepOfCall slot b w step → StepOfCall slot a w step
 of_earlier le t = let n = t.of_call in record { is_last = t.is_last; of_call = omega arith }
@@ -20,10 +20,7 @@ of_earlier le t = let n = t.of_call in record { is_last = t.is_last; of_call = o
 taken_earlier : {slot generation a b : ℕ} {w : View} → a ≤ b → WasTaken slot generation b w → WasTaken slot generation a w
 taken_earlier le t = record { step = t.step; of_call = of_earlier le t.of_call; kind = t.kind; saw = t.saw; left = t.left }
 
-put_earlier : {slot generation second a b : ℕ} {w : View} → a ≤ b → WasPut slot generation second b w → WasPut slot generation second a w
-put_earlier le t = record { step = t.step; of_call = of_earlier le t.of_call; kind = t.kind; left = t.left }
-
-pub not_had_earlier : {slot generation seen a b : ℕ} {w : View} → a ≤ b → WasNotHad slot generation seen b w → WasNotHad slot generation seen a w
+not_had_earlier : {slot generation seen a b : ℕ} {w : View} → a ≤ b → WasNotHad slot generation seen b w → WasNotHad slot generation seen a w
 not_had_earlier le t = record {
   step = t.step;
   of_call = of_earlier le t.of_call;
@@ -31,17 +28,8 @@ not_had_earlier le t = record {
   shows = ⊎_elim (λ x. inl x) (λ x. let l = x.1.3 in inr (x.0, (x.1.0, x.1.1, x.1.2, omega arith, x.1.4, x.1.5))) t.shows;
 }
 
-word_taken_earlier : {slot a b : ℕ} {w : View} → a ≤ b → WordTaken slot b w → WordTaken slot a w
-word_taken_earlier le t = record { step = t.step; of_call = of_earlier le t.of_call; kind = t.kind; saw = t.saw }
-
 back_earlier : {slot generation : ℕ} {n m : Notes} {a b : ℕ} {w : View} → a ≤ b → TakenBack slot generation n m b w → TakenBack slot generation n m a w
 back_earlier le t = ⊎_elim (λ x. inl (x.0, taken_earlier le x.1)) (λ x. inr (x.0, (x.1.0, not_had_earlier le x.1.1))) t
-
-laid_earlier : (is_second : ℕ → Type 0) (order : RunOrder) (reply : RunReply) (n m : Notes) (a b : ℕ) (w : View) (laid : Laid) → a ≤ b
-    → LaidDown is_second order reply n m b w laid → LaidDown is_second order reply n m a w laid
-laid_earlier is_second order reply n m a b w Put le h = (h.0, h.1, (h.2.0, h.2.1, put_earlier le h.2.2))
-laid_earlier is_second order reply n m a b w Taken le h = (h.0, word_taken_earlier le h.1, h.2)
-laid_earlier is_second order reply n m a b w Stopped le h = h
 
 ended_earlier : (order : RunOrder) (n m : Notes) (a b : ℕ) (v w : View) (laid : Laid) (late : Bool) → a ≤ b
     → Ended order n m b v w laid late → Ended order n m a v w laid late
@@ -61,13 +49,3 @@ booked_earlier order reply laid n m a b v w turns.Idle le t = t
 booked_earlier order reply laid n m a b v w (turns.StoreFault job) le t = t
 booked_earlier order reply laid n m a b v w (turns.NoMemory None) le t = t
 booked_earlier order reply laid n m a b v w (turns.NoMemory (Some job)) le t = t
-
-pub settled_earlier : {is_second : ℕ → Type 0} {order : RunOrder} {reply : RunReply} {n m : Notes} {a b : ℕ} {w : View} {turn : Turn} → a ≤ b
-    → Settled is_second order reply n m b w turn → Settled is_second order reply n m a w turn
-settled_earlier {is_second = is_second} {order = order} {reply = reply} {n = n} {m = m} {a = a} {b = b} {w = w} {turn = turn} le t = record {
-  laid = t.laid;
-  down = t.down;
-  middle = t.middle;
-  lays = laid_earlier is_second order reply n t.down a b t.middle t.laid le t.lays;
-  books = booked_earlier order reply t.laid t.down m a b t.middle w turn le t.books;
-}

@@ -5,7 +5,7 @@ use Rattle.ow_traits.specs.declared.replies.RunReply.{RunReply}
 use Rattle.ow_slots.specs.State.{is_cold, is_warm}
 use Rattle.ow_floor.specs.declared.answers.RunOrder.{RunOrder}
 use Rattle.ow_decide.specs.declared.events.Told.{Told}
-use Rattle.ow_invoker.specs.Turns.{is_late}
+use Rattle.ow_invoker.specs.Turns.{IsStarted, is_late}
 use Rattle.ow_board.specs.declared.view.View.{View}
 use Rattle.ow_desk.specs.Notes.{Notes}
 use Rattle.ow_worker.specs.declared.outcome.Laid.{Laid}
@@ -15,7 +15,7 @@ use Rattle.ow_worker.specs.declared.outcome.Turn.{Turn}
 use Rattle.ow_worker.specs.declared.outcome.Turn.TheVariants as turns
 use Rattle.ow_worker.specs.declared.outcome.Readiness.{Readiness}
 use Rattle.ow_worker.specs.declared.outcome.Readiness.TheVariants.{Up, Early, NotHad, Unready}
-use Rattle.ow_worker.specs.Shown.{WasNotHad, WasPut, WasTaken, WordTaken}
+use Rattle.ow_worker.specs.Shown.{WasHad, WasNotHad, WasPut, WasTaken, WordTaken}
 use Rattle.ow_worker.specs.Noted.{FaultNoted, GoneNoted, ReplyNoted}
 
 -- ---- getting a container up and initialised
@@ -28,9 +28,16 @@ module _ (gives : Giving) (before now : ℕ) where
   Initialised order (NotHad seen) = ⊥
   Initialised order Unready = Unit {0}
 
+  -- one that is up is of a kind that the runner starts
+  abbrev pub UpStarts : {B : Type 0} → RunOrder → Readiness B → Type 0
+  UpStarts order (Up living) = gives.starts order.kind
+  UpStarts order (Early held reply) = Unit {0}
+  UpStarts order (NotHad seen) = Unit {0}
+  UpStarts order Unready = Unit {0}
+
   abbrev pub Readied : {B : Type 0} → RunOrder → ℕ → View → Readiness B → Type 0
-  Readied order start w (Up living) = Unit {0}
-  Readied order start w (Early held reply) = (is_warm order.start ≡ false) × RefusesCode gives before now order.kind order.code reply
+  Readied order start w (Up living) = IsStarted gives order × WasHad order start w
+  Readied order start w (Early held reply) = (is_warm order.start ≡ false) × RefusesCode gives before now order.kind order.code reply × WasHad order start w
   Readied order start w (NotHad seen) = (is_cold order.start ≡ false) × WasNotHad order.slot order.generation seen start w
   Readied order start w Unready = is_warm order.start ≡ false
 

@@ -67,6 +67,10 @@ Reaped elapsed start n (suc k) w count m = (middle : Notes) × (before : ℕ) ×
 abbrev pub HasReaped : Option ℕ → ℕ → Notes → Notes → View → View → ℕ → ℕ → Type 0
 HasReaped tells opened n m v w k count = (now : ℕ) × IfSome tells (λ t. now ≡ t) × Reaped ((now - opened) / 1000) v.steps n k w count m
 
+-- of the slots behind so many is shown what was shown before
+abbrev pub KeepsBehind : ℕ → View → View → Type 0
+KeepsBehind k v w = (j : ℕ) → k ≤ j → last_on j w.last ≡ last_on j v.last
+
 -- ---- one slot, for private clauses
 
 -- its steps

@@ -1,5 +1,8 @@
 -- What the last step of a pass on a slot shows of the board.
 use Rattle.std.specs.Prelude.{◌≡◌, ◌≢◌, ◌⊎◌, ◌<◌, ◌≤◌, ℕ, Option, Some, IfSome, min, ◌-◌, ◌/◌}
+use Rattle.ow_slots.specs.declared.keys.Start.{Start}
+use Rattle.ow_slots.specs.declared.keys.Start.TheVariants as starts
+use Rattle.ow_floor.specs.declared.answers.RunOrder.{RunOrder}
 use Rattle.ow_board.specs.declared.view.View.{View}
 use Rattle.ow_board.specs.declared.view.LastStep.{LastStep}
 use Rattle.ow_board.specs.declared.view.StepKind.TheVariants.{ClaimEmpty, Publish, ClaimFull, Release, Load}
@@ -45,6 +48,15 @@ pub record WasPut (slot generation second start : ℕ) (w : View) : Type 0 where
   pub of_call : StepOfCall slot start w step
   pub kind : step.kind ≡ Publish
   pub left : step.left ≡ full_word generation second
+
+-- a run has its container: the one that lay there was taken, unless a new one was started
+abbrev pub HadBy : Start → ℕ → ℕ → ℕ → View → Type 0
+HadBy starts.Cold slot generation start w = Unit {0}
+HadBy starts.Prewarmed slot generation start w = WasTaken slot generation start w
+HadBy starts.Warm slot generation start w = WasTaken slot generation start w
+
+abbrev pub WasHad : RunOrder → ℕ → View → Type 0
+WasHad order start w = HadBy order.start order.slot order.generation start w
 
 -- a load saw no full word of this generation
 abbrev pub SawNone : ℕ → ℕ → LastStep → Type 0

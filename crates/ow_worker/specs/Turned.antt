@@ -8,6 +8,7 @@ use Rattle.ow_floor.specs.declared.answers.Order.{Order}
 use Rattle.ow_floor.specs.declared.answers.Order.TheVariants as orders
 use Rattle.ow_floor.specs.declared.answers.PrewarmOrder.{PrewarmOrder}
 use Rattle.ow_floor.specs.declared.answers.RunOrder.{RunOrder}
+use Rattle.ow_invoker.specs.Turns.{IsStarted}
 use Rattle.ow_board.specs.declared.view.View.{View}
 use Rattle.ow_board.specs.View.{KeepsOthers}
 use Rattle.ow_desk.specs.Notes.{Notes}
@@ -15,7 +16,7 @@ use Rattle.ow_worker.specs.declared.outcome.Turn.{Turn}
 use Rattle.ow_worker.specs.declared.outcome.Turn.TheVariants as turns
 use Rattle.ow_worker.specs.declared.outcome.Warming.{Warming}
 use Rattle.ow_worker.specs.declared.outcome.Warming.TheVariants as warmings
-use Rattle.ow_worker.specs.Shown.{WasNotHad, WasPut, WordTaken, prewarmed}
+use Rattle.ow_worker.specs.Shown.{WasHad, WasNotHad, WasPut, WordTaken, prewarmed}
 use Rattle.ow_worker.specs.Noted.{BegunNoted, GivenUp, LostNoted, NextNoted}
 use Rattle.ow_worker.specs.Parts.{Settled, TakenBack}
 
@@ -38,12 +39,12 @@ pub record NotCarried (order : RunOrder) (seen : ℕ) (n m : Notes) (start : ℕ
   pub lost : LostNoted order.run n m
 
 module _ (gives : Giving) (before now : ℕ) where
-  -- that the run began is left out only where the code is refused
+  -- that the run began is left out only where the code is refused; a new container is of a kind that the runner starts
   abbrev pub Opens : RunOrder → RunReply → Notes → Notes → Type 0
-  Opens order reply n m = ToldBegun order n m ⊎ ((m ≡ n) × RefusesCode gives before now order.kind order.code reply)
+  Opens order reply n m = (IsStarted gives order × ToldBegun order n m) ⊎ ((m ≡ n) × RefusesCode gives before now order.kind order.code reply)
 
   module _ (is_second : ℕ → Type 0) where
-    -- a run with a reply: one that the runner gives, or a fault where its count rose
+    -- behind its container a run has a reply: one that the runner gives, or a fault where its count rose
     pub record Carried (order : RunOrder) (n m : Notes) (start : ℕ) (w : View) (turn : Turn) : Type 0 where
       pub reply : RunReply
       pub replies : Replies gives before now order.kind order.code order.params reply
@@ -51,10 +52,11 @@ module _ (gives : Giving) (before now : ℕ) where
       pub opens : Opens order reply n opened
       pub settles : Settled is_second order reply opened m start w turn
 
+    -- a container that was taken has left its slot before
     abbrev pub RunTurn : RunOrder → Notes → Notes → ℕ → View → Turn → Type 0
     RunTurn order n m start w (turns.Lost seen) = NotCarried order seen n m start w
     RunTurn order n m start w (turns.NoMemory None) = Abandoned order n m
-    RunTurn order n m start w turn = Carried order n m start w turn
+    RunTurn order n m start w turn = (ready : View) × WasHad order start ready × Carried order n m ready.steps w turn
 
   -- ---- containers ahead
 
@@ -63,17 +65,26 @@ module _ (gives : Giving) (before now : ℕ) where
   IsDown order = (reply : RunReply) × RefusesStart gives before now order.kind reply
 
   abbrev pub Warms : PrewarmOrder → ℕ → View → Warming → Type 0
-  Warms order start w warmings.Up = WasPut order.slot order.generation prewarmed start w
+  Warms order start w warmings.Up = gives.starts order.kind × WasPut order.slot order.generation prewarmed start w
   Warms order start w warmings.Down = IsDown order
   Warms order start w warmings.Taken = WordTaken order.slot start w
   Warms order start w warmings.Wanting = Unit {0}
 
-  -- it lies on the board before its prewarming has begun
+  -- it lies on the board before its prewarming has begun, and is of a kind that the runner starts
   abbrev pub WarmTurn : PrewarmOrder → Notes → Notes → ℕ → View → Turn → Type 0
-  WarmTurn order n m start w turns.Warmed = (BegunNoted order.run n m × WasPut order.slot order.generation prewarmed start w)
+  WarmTurn order n m start w turns.Warmed = (BegunNoted order.run n m × gives.starts order.kind × WasPut order.slot order.generation prewarmed start w)
       ⊎ (GivenUp order.run order.slot order.generation n m × (IsDown order ⊎ WordTaken order.slot start w))
   WarmTurn order n m start w (turns.NoMemory None) = GivenUp order.run order.slot order.generation n m
   WarmTurn order n m start w turn = ⊥
+
+-- ---- behind a container, for private clauses
+
+module _ (gives : Giving) (before now : ℕ) (is_second : ℕ → Type 0) where
+  -- a run in its container
+  abbrev pub Performs : RunOrder → Notes → Notes → ℕ → View → Turn → Type 0
+  Performs order n m start w (turns.Lost seen) = ⊥
+  Performs order n m start w (turns.NoMemory None) = Abandoned order n m
+  Performs order n m start w turn = Carried gives before now is_second order n m start w turn
 
 -- ---- removals
 
@@ -86,10 +97,10 @@ Removes (c ∷ cs) n m v w = (between : View) × (middle : Notes) × TakenBack c
 -- ---- turns
 
 module _ (gives : Giving) (before now : ℕ) (is_second : ℕ → Type 0) where
-  -- what follows an order
+  -- what follows an order; a run and a prewarming leave what was shown of other slots
   abbrev pub Follows : Order → Notes → Notes → View → View → Turn → Type 0
-  Follows (orders.Run order) n m v w turn = RunTurn gives before now is_second order n m v.steps w turn
-  Follows (orders.Prewarm order) n m v w turn = WarmTurn gives before now order n m v.steps w turn
+  Follows (orders.Run order) n m v w turn = RunTurn gives before now is_second order n m v.steps w turn × KeepsOthers order.slot v w
+  Follows (orders.Prewarm order) n m v w turn = WarmTurn gives before now order n m v.steps w turn × KeepsOthers order.slot v w
   Follows (orders.Remove containers) n m v w turn = (turn ≡ turns.Removed) × Removes containers n m v w
   Follows (orders.Nothing why) n m v w turn = (turn ≡ turns.Idle) × (m ≡ n) × (w ≡ v)
 

@@ -2,6 +2,7 @@
 ghost use Rattle.std.specs.Prelude.{◌≡◌, ◌≤◌, ◌+◌};
 ghost use Rattle.ow_traits.specs.Runner.{Steady};
 ghost use Rattle.ow_board.specs.Board.{size, view_of, IsPassOf, StaysPassOf};
+ghost use Rattle.ow_board.specs.View.{KeepsOthers};
 ghost use Rattle.ow_desk.specs.Fitting.{IsSlot};
 ghost use Rattle.ow_worker.specs.Shown.{GoesOn};
 ghost use Rattle.ow_worker.specs.Parts.{Booked, Ended};
@@ -34,6 +35,7 @@ pub(crate) fn book<H: Wait, P: Keeper + Drop, R: Runner, C: Clock>(
     ensures pass { StaysPassOf board.now pass.old pass.new }
     ensures on { GoesOn (view_of pass.old) (view_of pass.new) }
     ensures runner { Steady (R.gives runner.old) (R.gives runner.new) (R.faults runner.old) (R.faults runner.new) }
+    ensures others { KeepsOthers job.order.slot (view_of pass.old) (view_of pass.new) }
     ensures booked { Booked job.order job.reply job.laid notes.old.notes notes.new.notes (view_of pass.old).steps (view_of pass.old) (view_of pass.new) result }
 {
     let Job { order, reply, laid } = job;
@@ -80,6 +82,7 @@ fn end<H: Wait, P: Keeper + Drop, R: Runner, C: Clock>(
     ensures pass { StaysPassOf board.now pass.old pass.new }
     ensures on { GoesOn (view_of pass.old) (view_of pass.new) }
     ensures runner { Steady (R.gives runner.old) (R.gives runner.new) (R.faults runner.old) (R.faults runner.new) }
+    ensures others { KeepsOthers order.now.slot (view_of pass.old) (view_of pass.new) }
     ensures ended { Ended order.now notes.old.notes notes.new.notes (view_of pass.old).steps (view_of pass.old) (view_of pass.new) laid late }
 {
     match laid {

@@ -2,6 +2,7 @@
 ghost use Rattle.std.specs.Prelude.{◌≡◌, ◌≤◌, ◌+◌, false, None};
 ghost use Rattle.ow_traits.specs.Runner.{Steady, is_answer};
 ghost use Rattle.ow_board.specs.Board.{size, view_of, IsPassOf, StaysPassOf};
+ghost use Rattle.ow_board.specs.View.{KeepsOthers};
 ghost use Rattle.ow_desk.specs.Fitting.{IsSlot};
 ghost use Rattle.ow_worker.specs.Shown.{GoesOn, IsSecond, put_second};
 ghost use Rattle.ow_worker.specs.Parts.{LaidDown};
@@ -38,6 +39,7 @@ pub(crate) fn lay_down<H: Wait, P: Keeper + Drop, R: Runner, C: Clock>(
     ensures on { GoesOn (view_of pass.old) (view_of pass.new) }
     ensures runner { Steady (R.gives runner.old) (R.gives runner.new) (R.faults runner.old) (R.faults runner.new) }
     ensures room { notes.old.room ≤ notes.new.room + 1 }
+    ensures others { KeepsOthers order.now.slot (view_of pass.old) (view_of pass.new) }
     ensures laid { LaidDown (IsSecond (C.tells clock.now) opened) order.now reply.now notes.old.notes notes.new.notes (view_of pass.old).steps (view_of pass.new) result }
 {
     let Some(living) = held else {

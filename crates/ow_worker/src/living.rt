@@ -2,7 +2,7 @@
 ghost use Rattle.std.specs.Prelude.{◌≡◌, ◌<◌, ◌≤◌, ℕ, IfOk, IfErr, OnOk, OnErr};
 ghost use Rattle.ow_traits.specs.Runner.{Initialises, Replies, Steady};
 ghost use Rattle.ow_board.specs.Word.{IsFull};
-ghost use Rattle.ow_board.specs.View.{SawLast};
+ghost use Rattle.ow_board.specs.View.{KeepsOthers, SawLast};
 ghost use Rattle.ow_board.specs.Board.{size, view_of, IsPassOf, StaysPassOf, HasPut, FoundTaken, HasTaken, FoundGone};
 ghost use Rattle.ow_desk.specs.Fitting.{IsSlot};
 
@@ -35,6 +35,7 @@ impl<B: Drop> Living<B> {
         requires pass { IsPassOf board.now pass.old × (512 ≤ size board.now) }
         requires slot { IsSlot slot generation }
         ensures pass { StaysPassOf board.now pass.old pass.new }
+        ensures others { KeepsOthers slot (view_of pass.old) (view_of pass.new) }
         ensures ok { OnOk result (HasPut slot generation second (view_of pass.old) (view_of pass.new)) }
         ensures taken { OnErr result ((word : ℕ) × FoundTaken slot word (view_of pass.old) (view_of pass.new)) }
     {

@@ -2,9 +2,10 @@
 ghost use Rattle.std.specs.Prelude.{◌≡◌, ◌≤◌};
 ghost use Rattle.ow_traits.specs.Runner.{Steady};
 ghost use Rattle.ow_board.specs.Board.{size, view_of, IsPassOf, StaysPassOf};
+ghost use Rattle.ow_board.specs.View.{KeepsOthers};
 ghost use Rattle.ow_desk.specs.Fitting.{IsSlot};
 ghost use Rattle.ow_worker.specs.Shown.{GoesOn};
-ghost use Rattle.ow_worker.specs.Parts.{Initialised, Readied};
+ghost use Rattle.ow_worker.specs.Parts.{Initialised, Readied, UpStarts};
 
 use crate::fetching::fetch;
 use crate::living::{Living, init, stop};
@@ -30,6 +31,7 @@ pub(crate) fn make_ready<R: Runner, G: Gate>(
     ensures pass { StaysPassOf board.now pass.old pass.new }
     ensures on { GoesOn (view_of pass.old) (view_of pass.new) }
     ensures runner { Steady (R.gives runner.old) (R.gives runner.new) (R.faults runner.old) (R.faults runner.new) }
+    ensures others { KeepsOthers order.now.slot (view_of pass.old) (view_of pass.new) }
     ensures ready { Readied (R.gives runner.old) (R.faults runner.old) (R.faults runner.new) order.now (view_of pass.old).steps (view_of pass.new) result }
 {
     if order.start == Start::Cold {
@@ -48,6 +50,7 @@ pub(crate) fn make_ready<R: Runner, G: Gate>(
 fn open<R: Runner>(alloc: Global, runner: &mut R, order: &RunOrder) -> Readiness<R::Container>
     ensures runner { Steady (R.gives runner.old) (R.gives runner.new) (R.faults runner.old) (R.faults runner.new) }
     ensures ready { Initialised (R.gives runner.old) (R.faults runner.old) (R.faults runner.new) order.now result }
+    ensures started { UpStarts (R.gives runner.old) (R.faults runner.old) (R.faults runner.new) order.now result }
 {
     match runner.start(alloc, order.kind, order.memory) {
         Ok(Started::Up(container)) => initialise(alloc, runner, Living::of(container), order),

@@ -2,7 +2,7 @@
 ghost use Rattle.std.specs.Prelude.{◌≡◌, ◌-◌, ◌/◌, ◌<◌, ◌≤◌, ℕ, Some, None, IfOk, IfSome, IfNone, OnErr};
 ghost use Rattle.ow_traits.specs.Runner.{Steady};
 ghost use Rattle.ow_board.specs.Board.{size, view_of, IsPassOf, StaysPassOf};
-ghost use Rattle.ow_worker.specs.Reaped.{Deals, HasReaped, SlotReaped};
+ghost use Rattle.ow_worker.specs.Reaped.{Deals, HasReaped, KeepsBehind, SlotReaped};
 
 use crate::living::{Living, stop};
 use crate::telling::tell_gone;
@@ -20,7 +20,7 @@ const MOST_IDLE: u64 = 600;
 
 /// Takes each container that lies on the board for 600 seconds and isn't prewarmed, stops it, and tells that it is gone. It answers how
 /// many these are. It doesn't wait for the hall but to tell that. `opened` is the moment of the hall's opening, in milliseconds. After
-/// want of memory the slots up to there stay as they were dealt with.
+/// want of memory the slots up to there stay as they were dealt with, and the others weren't touched.
 pub fn reap<H: Wait, P: Keeper + Drop, R: Runner, C: Clock, G: Gate>(
     rt: &H,
     alloc: Global,
@@ -37,7 +37,7 @@ pub fn reap<H: Wait, P: Keeper + Drop, R: Runner, C: Clock, G: Gate>(
     ensures pass { StaysPassOf board.now pass.old pass.new }
     ensures runner { Steady (R.gives runner.old) (R.gives runner.new) (R.faults runner.old) (R.faults runner.new) }
     ensures ok { IfOk result (λ count. HasReaped (C.tells clock.now) opened notes.old.notes notes.new.notes (view_of pass.old) (view_of pass.new) (size board.now) count) }
-    ensures err { OnErr result ((k : ℕ) × (count : ℕ) × (k ≤ size board.now) × HasReaped (C.tells clock.now) opened notes.old.notes notes.new.notes (view_of pass.old) (view_of pass.new) k count) }
+    ensures err { OnErr result ((k : ℕ) × (count : ℕ) × (k ≤ size board.now) × HasReaped (C.tells clock.now) opened notes.old.notes notes.new.notes (view_of pass.old) (view_of pass.new) k count × KeepsBehind k (view_of pass.old) (view_of pass.new)) }
 {
     let elapsed = seconds_since(clock.now(), opened);
     let mut taken = 0u32;

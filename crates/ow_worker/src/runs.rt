@@ -2,10 +2,12 @@
 ghost use Rattle.std.specs.Prelude.{◌≡◌, ◌≤◌, false, None};
 ghost use Rattle.ow_traits.specs.Runner.{Steady, is_answer};
 ghost use Rattle.ow_board.specs.Board.{size, view_of, IsPassOf, StaysPassOf};
+ghost use Rattle.ow_board.specs.View.{KeepsOthers};
 ghost use Rattle.ow_desk.specs.Fitting.{IsSlot};
+ghost use Rattle.ow_invoker.specs.Turns.{IsStarted};
 ghost use Rattle.ow_worker.specs.Shown.{IsSecond};
 ghost use Rattle.ow_worker.specs.Parts.{Settled};
-ghost use Rattle.ow_worker.specs.Turned.{RunTurn};
+ghost use Rattle.ow_worker.specs.Turned.{Performs, RunTurn};
 
 use crate::booking::book;
 use crate::laying::lay_down;
@@ -40,6 +42,7 @@ pub(crate) fn carry<H: Wait, P: Keeper + Drop, R: Runner, C: Clock, G: Gate>(
     requires room { 4 ≤ notes.old.room }
     ensures pass { StaysPassOf board.now pass.old pass.new }
     ensures runner { Steady (R.gives runner.old) (R.gives runner.new) (R.faults runner.old) (R.faults runner.new) }
+    ensures others { KeepsOthers order.slot (view_of pass.old) (view_of pass.new) }
     ensures turned { RunTurn (R.gives runner.old) (R.faults runner.old) (R.faults runner.new) (IsSecond (C.tells clock.now) opened) order notes.old.notes notes.new.notes (view_of pass.old).steps (view_of pass.new) result }
 {
     match make_ready(alloc, board, pass, runner, gate, &order) {
@@ -83,12 +86,14 @@ fn perform<H: Wait, P: Keeper + Drop, R: Runner, C: Clock, G: Gate>(
     order: RunOrder,
     mut living: Living<R::Container>,
 ) -> Turn
+    requires started { IsStarted (R.gives runner.old) order }
     requires pass { IsPassOf board.now pass.old × (512 ≤ size board.now) }
     requires slot { IsSlot order.slot order.generation }
     requires room { 4 ≤ notes.old.room }
     ensures pass { StaysPassOf board.now pass.old pass.new }
     ensures runner { Steady (R.gives runner.old) (R.gives runner.new) (R.faults runner.old) (R.faults runner.new) }
-    ensures turned { RunTurn (R.gives runner.old) (R.faults runner.old) (R.faults runner.new) (IsSecond (C.tells clock.now) opened) order notes.old.notes notes.new.notes (view_of pass.old).steps (view_of pass.new) result }
+    ensures others { KeepsOthers order.slot (view_of pass.old) (view_of pass.new) }
+    ensures performs { Performs (R.gives runner.old) (R.faults runner.old) (R.faults runner.new) (IsSecond (C.tells clock.now) opened) order notes.old.notes notes.new.notes (view_of pass.old).steps (view_of pass.new) result }
 {
     tell_begun(rt, desk, clock, notes, &order);
     gate.pass(Stage::BeforeRun(order.run));
@@ -147,6 +152,7 @@ fn settle<H: Wait, P: Keeper + Drop, R: Runner, C: Clock>(
     requires none { held ≡ None → is_answer reply ≡ false }
     ensures pass { StaysPassOf board.now pass.old pass.new }
     ensures runner { Steady (R.gives runner.old) (R.gives runner.new) (R.faults runner.old) (R.faults runner.new) }
+    ensures others { KeepsOthers order.slot (view_of pass.old) (view_of pass.new) }
     ensures settled { Settled (IsSecond (C.tells clock.now) opened) order reply notes.old.notes notes.new.notes (view_of pass.old).steps (view_of pass.new) result }
 {
     let laid = lay_down(

@@ -3,6 +3,7 @@ ghost use Rattle.std.specs.Prelude.{◌≡◌, ◌<◌, ◌≤◌, ◌+◌, leng
 ghost use Rattle.std.specs.List.{AllByRecursion};
 ghost use Rattle.ow_traits.specs.Runner.{Steady};
 ghost use Rattle.ow_board.specs.Board.{size, view_of, IsPassOf, StaysPassOf};
+ghost use Rattle.ow_board.specs.View.{KeepsOthers};
 ghost use Rattle.ow_desk.specs.Fitting.{IsSlot};
 ghost use Rattle.ow_worker.specs.Shown.{GoesOn};
 ghost use Rattle.ow_worker.specs.Turned.{Removes, WarmTurn, Warms};
@@ -39,6 +40,7 @@ pub(crate) fn prewarm<H: Wait, P: Keeper + Drop, R: Runner, C: Clock>(
     requires room { 2 ≤ notes.old.room }
     ensures pass { StaysPassOf board.now pass.old pass.new }
     ensures runner { Steady (R.gives runner.old) (R.gives runner.new) (R.faults runner.old) (R.faults runner.new) }
+    ensures others { KeepsOthers order.slot (view_of pass.old) (view_of pass.new) }
     ensures warms { WarmTurn (R.gives runner.old) (R.faults runner.old) (R.faults runner.new) order notes.old.notes notes.new.notes (view_of pass.old).steps (view_of pass.new) result }
 {
     match warm(alloc, board, pass, runner, &order) {
@@ -85,6 +87,7 @@ fn warm<R: Runner>(
     ensures pass { StaysPassOf board.now pass.old pass.new }
     ensures on { GoesOn (view_of pass.old) (view_of pass.new) }
     ensures runner { Steady (R.gives runner.old) (R.gives runner.new) (R.faults runner.old) (R.faults runner.new) }
+    ensures others { KeepsOthers order.now.slot (view_of pass.old) (view_of pass.new) }
     ensures warms { Warms (R.gives runner.old) (R.faults runner.old) (R.faults runner.new) order.now (view_of pass.old).steps (view_of pass.new) result }
 {
     match runner.start(alloc, order.kind, order.memory) {

@@ -5,7 +5,7 @@ use Rattle.ow_invoker.proofs.run.perform.Goals as goal
 pub returns-in-Ok-clause-performs : goal.returns-in-Ok-clause-performs
 returns-in-Ok-clause-performs g c =
     performed g.P.Keeper.rows g.P.Keeper.faults (g.R.Runner.gives c.args.runner.now) (g.R.Runner.faults c.args.runner.now) (g.R.Runner.faults c.settle.new.runner) c.args.hall.now c.begin.new.hall c.settle.new.hall
-    c.args.at c.args.order.now c.in-Ok.reply c.args.shelf.now c.settle.new.shelf c.settle.result
+    c.args.at c.args.order.now c.in-Ok.reply c.args.shelf.now c.settle.new.shelf c.settle.result c.requires
     (replied_on c.args.order.now.kind c.args.order.now.code c.args.order.now.params c.in-Ok.reply c.run.ensures.steady c.settle.ensures.runner.later c.in-Ok.ensures.reply)
     c.begin.ensures c.settle.ensures.settles
 

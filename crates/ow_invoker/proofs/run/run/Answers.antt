@@ -1,6 +1,6 @@
 use Rattle.std.proofs.Common.{refl}
 use Rattle.ow_invoker.proofs.Parts.{carried, early, missed, performs_from, unready}
-use Rattle.ow_invoker.proofs.Running.{refused_on}
+use Rattle.ow_invoker.proofs.Running.{refused_on, still_started}
 use Rattle.ow_invoker.proofs.run.run.Goals as goal
 
 pub returns-in-Up-clause-turns : goal.returns-in-Up-clause-turns
@@ -27,3 +27,8 @@ pub returns-in-NoMemory-clause-turns : goal.returns-in-NoMemory-clause-turns
 returns-in-NoMemory-clause-turns g c =
     unready g.P.Keeper.rows g.P.Keeper.faults (g.R.Runner.gives c.args.runner.now) (g.R.Runner.faults c.args.runner.now) (g.R.Runner.faults c.make_ready.new.runner) c.args.hall.now c.give_up.new.hall c.args.at
     c.args.order.now c.args.shelf.now c.make_ready.new.shelf c.make_ready.new.shelf c.in-NoMemory.ensures.ready.0 c.in-NoMemory.ensures.ready.1 _ c.give_up.result refl c.give_up.ensures
+
+pub perform-requires : goal.perform-requires
+perform-requires g c =
+    still_started c.args.order.now.start (g.R.Runner.gives c.args.runner.now) (g.R.Runner.gives c.make_ready.new.runner) (g.R.Runner.faults c.args.runner.now) (g.R.Runner.faults c.make_ready.new.runner)
+    c.args.order.now.kind c.in-Up.ensures.runner c.in-Up.ensures.ready.2

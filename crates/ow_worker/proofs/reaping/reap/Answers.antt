@@ -18,6 +18,7 @@ loop-i-preserved g c =
       on = omega (arith, inv.on, more);
       runner = steady_trans inv.runner one.runner;
       few = omega (arith, inv.few, one.one);
+      behind = λ j le. one.reaped.others j (λ e. omega (arith, e, le)) ∙ inv.behind j (omega (arith, le));
       reaped = reaped_more c.loop-i.i c.seconds_since-elapsed.result (view_of c.args.pass.now).steps c.loop-i.taken c.reap_slot-taken.result (c.loop-i.taken + c.reap_slot-taken.result)
           c.args.notes.now.notes c.loop-i.notes.notes c.reap_slot-taken.new.notes.notes (view_of c.loop-i.pass) (view_of c.reap_slot-taken.new.pass) inv.on inv.reaped so refl;
     }

@@ -1,3 +1,5 @@
+use Rattle.ow_board.specs.Board.{view_of}
+use Rattle.ow_worker.proofs.Carried.{others_both}
 use Rattle.ow_worker.proofs.Earlier.{booked_earlier}
 use Rattle.ow_worker.proofs.runs.settle.Goals as goal
 
@@ -9,3 +11,6 @@ returns-clause-settled g c = record {
   lays = c.lay_down-laid.ensures.laid;
   books = booked_earlier _ _ _ _ _ _ _ _ _ _ c.lay_down-laid.ensures.on c.book.ensures.booked;
 }
+
+pub returns-clause-others : goal.returns-clause-others
+returns-clause-others g c = others_both c.args.order.slot (view_of c.args.pass.now) (view_of c.lay_down-laid.new.pass) (view_of c.book.new.pass) c.lay_down-laid.ensures.others c.book.ensures.others

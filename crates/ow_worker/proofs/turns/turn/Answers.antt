@@ -9,7 +9,7 @@ returns-in-Run-clause-turned g c = inr (record {
   order = orders.Run c.in-Run.order;
   taken = c.take_order.new.notes.notes;
   next = subst (λ (o : Order). NextNoted c.args.notes.now.notes c.take_order.new.notes.notes o) c.in-Run.is c.in-Ok.ensures.order;
-  follows = c.carry.ensures.turned;
+  follows = (c.carry.ensures.turned, c.carry.ensures.others);
 })
 
 pub returns-in-Prewarm-clause-turned : goal.returns-in-Prewarm-clause-turned
@@ -17,5 +17,5 @@ returns-in-Prewarm-clause-turned g c = inr (record {
   order = orders.Prewarm c.in-Prewarm.order;
   taken = c.take_order.new.notes.notes;
   next = subst (λ (o : Order). NextNoted c.args.notes.now.notes c.take_order.new.notes.notes o) c.in-Prewarm.is c.in-Ok.ensures.order;
-  follows = c.prewarm.ensures.warms;
+  follows = (c.prewarm.ensures.warms, c.prewarm.ensures.others);
 })
