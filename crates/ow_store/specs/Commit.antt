@@ -1,5 +1,5 @@
 -- What a commit of changes makes of a database.
-use Rattle.std.specs.Prelude.{◌≡◌, ℕ, true, IsTrue, List, [], ◌∷◌, Result, Ok, OnOk, OnErr}
+use Rattle.std.specs.Prelude.{◌≡◌, ℕ, true, false, IsTrue, List, [], ◌∷◌, Result, Ok, OnOk, OnErr}
 use Rattle.sqlite.specs.Store.{Ghosts}
 use Rattle.sqlite.specs.State.{Executes, HasCleanDisk, Survives}
 use Rattle.sqlite.specs.Held.{Held, state}
@@ -31,7 +31,9 @@ IsAfterAll {S} g changes old trees = (last : Held S) × MakesAll g changes (reco
 abbrev pub SurvivesCommit : {S : Type 0} → Ghosts S → List Change → Held S → Held S → Type 0
 SurvivesCommit g changes old new = Survives (state g old) (state g new) (IsAfterAll g changes old)
 
--- how a commit leaves the database, while the disk returns what was written: with all the changes, or with what was committed before
+-- how a commit leaves the database, while the disk returns what was written: with all the changes, or with what was committed before; its
+-- transaction is over, whatever the disk does
 pub record EndsCommit {S T E : Type 0} (g : Ghosts S) (changes : List Change) (result : Result T E) (old new : Held S) : Type 0 where
   pub all : HasCleanDisk (state g new) → OnOk result (CommitsAll g changes old new)
   pub neither : HasCleanDisk (state g new) → IsTrue (state g new).is_open → OnErr result ((state g new).committed ≡ (state g old).committed)
+  pub over : old.in_transaction ≡ false → new.in_transaction ≡ false

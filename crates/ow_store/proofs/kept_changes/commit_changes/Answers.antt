@@ -1,4 +1,4 @@
-use Rattle.std.proofs.Common.{◌≡◌, ◌≤◌, length, OnOk, rules, arith, subst}
+use Rattle.std.proofs.Common.{◌≡◌, ◌≤◌, false, length, OnOk, rules, arith, subst}
 use Rattle.sqlite.specs.State.{HasCleanDisk}
 use Rattle.sqlite.specs.Held.{state}
 use Rattle.ow_store.specs.Commit.{CommitsAll, Makes, MakesAll, SurvivesCommit}
@@ -34,6 +34,7 @@ returns-clause-end g c =
           (ok_then c.commit.result _ _ (λ ok. record { last = last; made = subst (λ h. MakesAll g.S.Store c.args.changes.now h last) c.transaction-tx.ensures.begun made; committed = ok.1.committed_is })
           (c.commit.ensures.ok late));
       neither = search rules;
+      over = λ free. subst (λ h. h.in_transaction ≡ false) same c.commit.ensures.ended;
     }
 
 pub returns-clause-stop : goal.returns-clause-stop
