@@ -1,5 +1,5 @@
 -- The end of a service, by its peers.
-use Rattle.std.proofs.Common.{◌≡◌, ℕ, Bool, List, [], ◌∷◌, Option, Some, None, Result, Ok, Err, IfOk, OnErr, length, map, refl, sym, ap, subst, ◌∙◌, inl, inr, ⊎_elim}
+use Rattle.std.proofs.Common.{◌≡◌, ◌++◌, ◌⊎◌, ℕ, Bool, List, [], ◌∷◌, Option, Some, None, Result, Ok, Err, IfOk, IfSome, IsOk, OnErr, OnOk, length, map, refl, sym, ap, subst, ◌∙◌, inl, inr, ⊎_elim}
 use Rattle.std.specs.Prelude.{IsOkAnd}
 use Rattle.ow_threads.specs.Tasks.{AllEnd, Joined, pending}
 use Rattle.ow_audit.specs.Differs.{Matches}
@@ -9,19 +9,24 @@ use Rattle.ow_keep.specs.Judged.{judged}
 use Rattle.ow_keep.specs.Split.{Parts}
 use Rattle.ow_decide.specs.Opening.{opened_decision, parts_taken}
 use Rattle.ow_decide.specs.declared.events.Event.TheVariants as events
+use Rattle.ow_decide.specs.declared.events.Told.TheVariants as told
+use Rattle.ow_hall.specs.Comes.{Answers, KeptRows, drain_outcome}
+use Rattle.ow_value.specs.declared.memory.NoMemory.{NoMemory as Want}
 use Rattle.ow_hall.specs.History.{answer, posting, seen}
 use Rattle.ow_hall.specs.declared.posting.Posting.TheVariants.{Booked}
 use Rattle.ow_hall.specs.Ledger.{BookView, Ledger, no_entries, opened, opening_moment, posted_as}
 use Rattle.ow_hall.specs.declared.refusals.StartFault.{StartFault}
 use Rattle.ow_hall.specs.declared.refusals.StartFault.TheVariants as starts
-use Rattle.ow_desk.specs.Notes.{Notes}
+use Rattle.ow_desk.specs.Notes.{HasNoted, Notes}
+use Rattle.ow_floor.specs.declared.answers.Drain.{Drain}
+use Rattle.ow_floor.specs.declared.answers.Drain.TheVariants as drains
 use Rattle.ow_peer.specs.declared.ending.Ending.{Ending}
 use Rattle.ow_serve.specs.declared.accepting.Stopped.{Stopped}
 use Rattle.ow_serve.specs.declared.accepting.Stopped.TheVariants as stops
 use Rattle.ow_serve.specs.declared.served.ServedEnd.{ServedEnd}
 use Rattle.ow_serve.specs.declared.served.ServedEnd.TheVariants as ends
 use Rattle.ow_serve.specs.Duties.{IsServed, TalksAlone}
-use Rattle.ow_serve.specs.Ended.{Closes, IsWhole, Leaves, Left, Serves, unopened}
+use Rattle.ow_serve.specs.Ended.{Closes, DrainedBy, IsOpenedEnd, IsOpenedOver, IsWhole, KeepsBook, Leaves, LeavesStore, Left, Serves, unopened}
 use Rattle.ow_serve.specs.Peers.{AcceptsPeers, AllTalk, Seated, endings_in, filled}
 use Rattle.ow_serve.proofs.Seating.{all_served, all_talk, as_many, pending_behind, talk_count}
 
@@ -53,6 +58,7 @@ module _ {T K D : Type 0} (left taken : K → Option (List ℕ)) (notes : D → 
     served = map notes (filled seats joined);
     others = l.others;
     receipts_are = l.receipts_are;
+    drained = l.drained;
     talk = subst (λ es. AllTalk (TalksAlone left taken) s.peers (map notes (filled seats joined)) es) (sym l.endings_are) (talk_by old new before now seats joined s all);
   }
 
@@ -90,7 +96,7 @@ module _ {T K D : Type 0} (left taken : K → Option (List ℕ)) (notes : D → 
     left_by stopped ends.StoreFault a l = absurd l.is_end
     left_by stopped (ends.BadKept key) a l = absurd l.is_end
     left_by stopped ends.NoMemory a l = tt
-    left_by stopped (ends.Unmatched difference) a l = l.is_end
+    left_by stopped (ends.Unmatched difference) a l = (l.is_end, (l.own, map notes (filled seats joined) ++ l.others, l.receipts_are, l.drained))
 
   wanting : (old new : Option (List K)) (most : ℕ) (end : ServedEnd) (book : Option BookView) (receipts : List Notes) (endings : List Ending) → end ≡ ends.NoMemory
       → Serves (TalksAlone left taken) old new most end book receipts endings
@@ -126,6 +132,71 @@ pub unserved_by : {K : Type 0} (Talks : K → Notes → Ending → Type 0) (old 
 unserved_by Talks old most (starts.BadKept key) end book receipts endings is none = subst (λ e. Serves Talks old old most e book receipts endings) (sym is) (refl, none)
 unserved_by Talks old most starts.StoreFault end book receipts endings is none = subst (λ e. Serves Talks old old most e book receipts endings) (sym is) (refl, none)
 unserved_by Talks old most starts.NoMemory end book receipts endings is none = subst (λ e. Serves Talks old old most e book receipts endings) (sym is) tt
+
+-- ---- the store
+
+-- what a service that was opened leaves
+pub store_left : {P : Type 0} (rows : P → KeptRows) (store : P) (end : ServedEnd) (back : Option P) (book : Option BookView) → IsOpenedEnd end → IfSome back (λ s. KeepsBook (rows s) book)
+    → LeavesStore rows store end back book
+store_left rows store ends.Closed back book opened left = left
+store_left rows store ends.ListenFault back book opened left = left
+store_left rows store ends.NoWorker back book opened left = left
+store_left rows store (ends.Unmatched difference) back book opened left = left
+store_left rows store ends.StoreFault back book opened left = absurd opened
+store_left rows store (ends.BadKept key) back book opened left = absurd opened
+store_left rows store ends.NoMemory None book opened left = tt
+store_left rows store ends.NoMemory (Some s) book opened left = inr left
+
+-- what one that wasn't opened hands back
+pub store_back : {P : Type 0} (rows : P → KeptRows) (store s : P) (why : StartFault) (end : ServedEnd) (back : Option P) (book : Option BookView) → end ≡ unopened why → back ≡ Some s → rows s ≡ rows store
+    → LeavesStore rows store end back book
+store_back rows store s why end back book is given same =
+    subst (λ e. LeavesStore rows store e back book) (sym is) (subst (λ o. LeavesStore rows store (unopened why) o book) (sym given) (by_why why))
+  where
+    by_why : (w : StartFault) → LeavesStore rows store (unopened w) (Some s) book
+    by_why (starts.BadKept key) = same
+    by_why starts.StoreFault = same
+    by_why starts.NoMemory = inl same
+
+told_allowed : (told : KeptRows) (loaded : List (List ℕ × List ℕ)) → IfSome told (λ kept. loaded ≡ kept) → IsOk (judged loaded) → IfSome told (λ rows. IsOk (judged rows))
+told_allowed None loaded same allowed = tt
+told_allowed (Some kept) loaded same allowed = subst (λ rows. IsOk (judged rows)) same allowed
+
+-- one that was opened was opened over rows that are allowed
+pub over_allowed : (told : KeptRows) (loaded : List (List ℕ × List ℕ)) (end : ServedEnd) → IfSome told (λ kept. loaded ≡ kept) → IsOk (judged loaded) → IsOpenedOver told end
+over_allowed told loaded ends.Closed same allowed = told_allowed told loaded same allowed
+over_allowed told loaded ends.ListenFault same allowed = told_allowed told loaded same allowed
+over_allowed told loaded ends.NoWorker same allowed = told_allowed told loaded same allowed
+over_allowed told loaded (ends.Unmatched difference) same allowed = told_allowed told loaded same allowed
+over_allowed told loaded ends.StoreFault same allowed = tt
+over_allowed told loaded (ends.BadKept key) same allowed = tt
+over_allowed told loaded ends.NoMemory same allowed = tt
+
+-- nothing is said of one that wasn't
+pub over_none : (told : KeptRows) (why : StartFault) (end : ServedEnd) → end ≡ unopened why → IsOpenedOver told end
+over_none told why end is = subst (λ e. IsOpenedOver told e) (sym is) (by_why why)
+  where
+    by_why : (w : StartFault) → IsOpenedOver told (unopened w)
+    by_why (starts.BadKept key) = tt
+    by_why starts.StoreFault = tt
+    by_why starts.NoMemory = tt
+
+-- ---- the last drain
+
+pub drained_so : (d : Drain) (n m : Notes) → HasNoted events.Drain (Answers (told.Drain d)) n m → DrainedBy d m
+drained_so (drains.Drained k) n m noted = (n.entries, record { place = length noted.0; entry = record { at = noted.1; event = events.Drain; answer = told.Drain (drains.Drained k) } }, ap (λ (x : Notes). x.entries) noted.2, refl)
+drained_so (drains.StillOpen k) n m noted = tt
+
+pub drained_if : (r : Result Drain Want) (n m : Notes) → HasNoted events.Drain (drain_outcome r) n m → IfOk r (λ d. DrainedBy d m)
+drained_if (Ok d) n m noted = drained_so d n m noted
+drained_if (Err e) n m noted = tt
+
+-- where all is there, the drain has ended
+pub has_drained : {A B E F : Type 0} (all : Result A E) (drained : Result B F) (X : Type 0) → (IsOk all → IsOk drained) → OnOk drained X → IsOk all → X
+has_drained all (Ok b) X both told is = told
+has_drained all (Err e) X both told is = let never = both is in cc
+
+-- ---- the opening
 
 -- at the opening the book has one entry
 booked_so : (at : ℕ) (parts : Option Parts) → posting [] (opened_decision at parts).told ≡ Booked

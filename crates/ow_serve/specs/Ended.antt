@@ -1,14 +1,19 @@
 -- How a service ends, and what it leaves.
-use Rattle.std.specs.Prelude.{◌≡◌, ◌⊎◌, ◌++◌, ℕ, List, [], ◌∷◌, Option, Some, None, length, map}
+use Rattle.std.specs.Prelude.{◌≡◌, ◌⊎◌, ◌++◌, ℕ, List, [], ◌∷◌, true, Option, Some, None, IfSome, IsOk, length, map}
 use Rattle.ow_tenant.specs.Table.{Table}
 use Rattle.ow_threads.specs.Tasks.{AllEnd}
-use Rattle.ow_hall.specs.Comes.{KeptRows}
+use Rattle.ow_floor.specs.declared.answers.Drain.{Drain}
+use Rattle.ow_floor.specs.declared.answers.Drain.TheVariants as drains
+use Rattle.ow_hall.specs.Comes.{HoldsBook, KeptRows}
 use Rattle.ow_hall.specs.Openings.{HasStartCause}
 use Rattle.ow_hall.specs.declared.refusals.StartFault.{StartFault}
 use Rattle.ow_hall.specs.declared.refusals.StartFault.TheVariants as starts
 use Rattle.ow_hall.specs.History.{IsLegal}
 use Rattle.ow_hall.specs.Ledger.{BookView, Ledger}
+use Rattle.ow_keep.specs.Judged.{judged}
 use Rattle.ow_desk.specs.Notes.{Notes}
+use Rattle.ow_desk.specs.declared.placed.Placed.{Placed}
+use Rattle.ow_audit.specs.Drains.{is_drained}
 use Rattle.ow_audit.specs.Differs.{Differs, Matches}
 use Rattle.ow_peer.specs.declared.ending.Ending.{Ending}
 use Rattle.ow_serve.specs.declared.accepting.Stopped.{Stopped}
@@ -16,6 +21,23 @@ use Rattle.ow_serve.specs.declared.accepting.Stopped.TheVariants as stops
 use Rattle.ow_serve.specs.declared.served.ServedEnd.{ServedEnd}
 use Rattle.ow_serve.specs.declared.served.ServedEnd.TheVariants as ends
 use Rattle.ow_serve.specs.Peers.{AcceptsAll, AllTalk, HasNoPeer, endings_in, filled}
+
+-- ---- the receipts of the service itself
+
+-- they end with a drain that told that all is drained
+abbrev pub EndsDrained : Notes → Type 0
+EndsDrained n = (before : List Placed) × (last : Placed) × (n.entries ≡ before ++ last ∷ []) × (is_drained last.entry ≡ true)
+
+-- they do, where that is what it told
+abbrev pub DrainedBy : Drain → Notes → Type 0
+DrainedBy (drains.Drained n) m = EndsDrained m
+DrainedBy (drains.StillOpen n) m = Unit {0}
+
+-- the first receipts do
+abbrev pub HasDrained : List Notes → Type 0
+HasDrained receipts = (own : Notes) × (others : List Notes) × (receipts ≡ own ∷ others) × EndsDrained own
+
+-- ---- what is left
 
 -- by why no peer was accepted any more, and how the receipts compare with the book
 abbrev pub IsEnd : Stopped → List Notes → Ledger → ServedEnd → Type 0
@@ -30,6 +52,7 @@ pub record Leaves (served : List Notes) (told : List (Option Ending)) (stopped :
   pub own : Notes
   pub others : List Notes
   pub receipts_are : receipts ≡ own ∷ (served ++ others)
+  pub drained : EndsDrained own
   pub endings_are : endings ≡ endings_in told
   pub table : Table
   pub legal : IsLegal table book.entries
@@ -58,13 +81,34 @@ IsOpenedEnd ends.StoreFault = ⊥
 IsOpenedEnd (ends.BadKept key) = ⊥
 IsOpenedEnd end = Unit {0}
 
--- why a service wasn't opened; the store is handed back then
+-- why a service wasn't opened; the store is handed back then, and its rows stay
 abbrev pub IsUnopened : {P : Type 0} → (P → KeptRows) → (P → ℕ) → P → ServedEnd → Option P → Type 0
-IsUnopened rows faults store ends.StoreFault (Some back) = HasStartCause rows faults store back starts.StoreFault
+IsUnopened rows faults store ends.StoreFault (Some back) = HasStartCause rows faults store back starts.StoreFault × (rows back ≡ rows store)
 IsUnopened rows faults store ends.StoreFault None = ⊥
-IsUnopened rows faults store (ends.BadKept key) (Some back) = HasStartCause rows faults store back (starts.BadKept key)
+IsUnopened rows faults store (ends.BadKept key) (Some back) = HasStartCause rows faults store back (starts.BadKept key) × (rows back ≡ rows store)
 IsUnopened rows faults store (ends.BadKept key) None = ⊥
 IsUnopened rows faults store end back = Unit {0}
+
+-- one that was opened was opened over rows that are allowed, where the store tells them
+abbrev pub IsOpenedOver : KeptRows → ServedEnd → Type 0
+IsOpenedOver told ends.StoreFault = Unit {0}
+IsOpenedOver told (ends.BadKept key) = Unit {0}
+IsOpenedOver told ends.NoMemory = Unit {0}
+IsOpenedOver told end = IfSome told (λ rows. IsOk (judged rows))
+
+-- ---- the store
+
+-- where it tells its rows, they are what is kept of the book, which is a legal one; where there is no book, of a legal one
+abbrev pub KeepsBook : KeptRows → Option BookView → Type 0
+KeepsBook told (Some book) = (t : Table) × IsLegal t book.ledger.entries × HoldsBook told t book.ledger
+KeepsBook told None = (t : Table) × (L : Ledger) × IsLegal t L.entries × HoldsBook told t L
+
+-- by the end, where the store is handed back: its rows stay where the service wasn't opened
+abbrev pub LeavesStore : {P : Type 0} → (P → KeptRows) → P → ServedEnd → Option P → Option BookView → Type 0
+LeavesStore rows store ends.StoreFault back book = IfSome back (λ s. rows s ≡ rows store)
+LeavesStore rows store (ends.BadKept key) back book = IfSome back (λ s. rows s ≡ rows store)
+LeavesStore rows store ends.NoMemory back book = IfSome back (λ s. (rows s ≡ rows store) ⊎ KeepsBook (rows s) book)
+LeavesStore rows store end back book = IfSome back (λ s. KeepsBook (rows s) book)
 
 -- ---- the service
 
@@ -79,6 +123,7 @@ pub record IsWhole {K : Type 0} (Talks : K → Notes → Ending → Type 0) (old
   pub served : List Notes
   pub others : List Notes
   pub receipts_are : receipts ≡ own ∷ (served ++ others)
+  pub drained : EndsDrained own
   pub talk : AllTalk Talks peers served endings
 
 -- by the end
@@ -88,7 +133,7 @@ Serves Talks old new most ends.Closed (Some book) receipts endings =
 Serves Talks old new most ends.Closed None receipts endings = ⊥
 Serves Talks old new most ends.ListenFault (Some book) receipts endings = IsWhole Talks old new book.ledger receipts endings
 Serves Talks old new most ends.ListenFault None receipts endings = ⊥
-Serves Talks old new most (ends.Unmatched difference) (Some book) receipts endings = Differs receipts book.ledger difference
+Serves Talks old new most (ends.Unmatched difference) (Some book) receipts endings = Differs receipts book.ledger difference × HasDrained receipts
 Serves Talks old new most (ends.Unmatched difference) None receipts endings = ⊥
 Serves Talks old new most ends.NoWorker book receipts endings = (new ≡ old) × (endings ≡ [])
 Serves Talks old new most ends.StoreFault book receipts endings = (new ≡ old) × (endings ≡ [])

@@ -1,8 +1,10 @@
 // The end: all that was accepted ends, and what lies on the board is stopped.
-ghost use Rattle.std.specs.Prelude.{◌≡◌, ◌<◌, ◌++◌, ◌∷◌, map, IfOk, OnOk};
+ghost use Rattle.std.specs.Prelude.{◌≡◌, ◌<◌, ◌++◌, ◌∷◌, None, map, IfOk, IfSome, OnOk};
 ghost use Rattle.ow_tenant.specs.Table.{Table};
 ghost use Rattle.ow_board.specs.Board.{IsPassOf, size};
+ghost use Rattle.ow_hall.specs.Comes.{HoldsBook};
 ghost use Rattle.ow_hall.specs.History.{IsLegal};
+ghost use Rattle.ow_serve.specs.Ended.{DrainedBy, EndsDrained, KeepsBook};
 ghost use Rattle.ow_serve.specs.Peers.{endings_in, filled};
 
 use crate::duty::Done;
@@ -28,7 +30,9 @@ pub(crate) fn drain<H: Wait, P: Keeper + Drop, R: Runner + Drop, C: Clock + Drop
     rt: &H,
     alloc: Global,
     house: &mut House<P, R, C, G>,
-) -> Result<(), NoMemory> {
+) -> Result<(), NoMemory>
+    ensures { OnOk result (EndsDrained house.new.notes.notes) }
+{
     for _ in rt.forever() {
         match drain_once(rt, alloc, house) {
             Ok(Drain::Drained(_)) => return Ok(()),
@@ -44,7 +48,9 @@ fn drain_once<H: Wait, P: Keeper + Drop, R: Runner + Drop, C: Clock + Drop, G: G
     rt: &H,
     alloc: Global,
     house: &mut House<P, R, C, G>,
-) -> Result<Drain, NoMemory> {
+) -> Result<Drain, NoMemory>
+    ensures { IfOk result (λ d. DrainedBy d house.new.notes.notes) }
+{
     let at = house.clock.now();
     house
         .notes
@@ -83,8 +89,26 @@ fn clear_slot<P: Keeper + Drop, R: Runner>(
     }
 }
 
-/// The book as it stands.
-pub(crate) fn book_of<H: Wait, P: Keeper + Drop, B: Drop>(
+/// The store, where nothing else shares the place any more, and the book as it stands.
+pub(crate) fn left_of<H: Wait, P: Keeper + Drop, B: Drop>(
+    rt: &H,
+    alloc: Global,
+    place: Arc<Place<P, B>, Global>,
+) -> Result<(Option<P>, Book), NoMemory>
+    ensures told { IfOk result (λ l. (t : Table) × IsLegal t l.1.ledger.entries × IfSome l.0 (λ s. HoldsBook (P.rows s) t l.1.ledger)) }
+    ensures kept { IfOk result (λ l. IfSome l.0 (λ s. KeepsBook (P.rows s) None)) }
+{
+    match Arc::try_unwrap(place) {
+        Ok(place) => {
+            let (store, book) = place.into_desk().open().finish();
+            Ok((Some(store), book))
+        }
+        Err(place) => Ok((None, book_of(rt, alloc, &place)?)),
+    }
+}
+
+// The book as it stands.
+fn book_of<H: Wait, P: Keeper + Drop, B: Drop>(
     rt: &H,
     alloc: Global,
     place: &Place<P, B>,
@@ -96,7 +120,9 @@ pub(crate) fn book_of<H: Wait, P: Keeper + Drop, B: Drop>(
 }
 
 /// The store, where nothing else shares the place any more.
-pub(crate) fn store_of<P: Keeper + Drop, B: Drop>(place: Arc<Place<P, B>, Global>) -> Option<P> {
+pub(crate) fn store_of<P: Keeper + Drop, B: Drop>(place: Arc<Place<P, B>, Global>) -> Option<P>
+    ensures { IfSome result (λ s. KeepsBook (P.rows s) None) }
+{
     let place = Arc::into_inner(place)?;
     let (store, _book) = place.into_desk().open().finish();
     Some(store)

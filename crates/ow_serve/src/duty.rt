@@ -1,7 +1,8 @@
 // What one thread does.
-ghost use Rattle.std.specs.Prelude.{◌≡◌, Some};
+ghost use Rattle.std.specs.Prelude.{◌≡◌, Some, None};
 ghost use Rattle.ow_board.specs.Board.{IsPassOf};
-ghost use Rattle.ow_serve.specs.Duties.{Ends};
+ghost use Rattle.ow_peer.specs.declared.ending.Ending.{Ending};
+ghost use Rattle.ow_serve.specs.Duties.{Ends, TalksFrom};
 
 use crate::place::Place;
 use crate::working::{reap_on, sweep_on, work_on};
@@ -87,52 +88,133 @@ where
             opened,
             notes,
         } = self;
-        let (mut notes, mut pass) = (notes, pass);
-        let (ending, runner) = match work {
-            Work::Serves { link } => {
-                let mut link = link;
-                let ending = connection(&rt, alloc, &mut link, &place.desk, &*clock, &mut notes);
-                (Some(ending), None)
-            }
-            Work::Turns { runner } => {
-                let mut runner = runner;
-                work_on(
-                    &rt,
-                    alloc,
-                    &place,
-                    &mut pass,
-                    &mut runner,
-                    &*clock,
-                    &*gate,
-                    opened,
-                    &mut notes,
-                );
-                (None, Some(runner))
-            }
-            Work::Sweeps => {
-                sweep_on(&rt, alloc, &place, &*clock, &mut notes);
-                (None, None)
-            }
-            Work::Reaps { runner } => {
-                let mut runner = runner;
-                reap_on(
-                    &rt,
-                    alloc,
-                    &place,
-                    &mut pass,
-                    &mut runner,
-                    &*clock,
-                    &*gate,
-                    opened,
-                    &mut notes,
-                );
-                (None, Some(runner))
-            }
-        };
-        Done {
+        let hands = Hands {
+            rt,
+            alloc,
+            pass,
+            place,
+            clock,
+            gate,
+            opened,
             notes,
-            ending,
-            runner,
+        };
+        match work {
+            Work::Turns { runner } => work_with(hands, runner),
+            Work::Sweeps => sweep_with(hands),
+            Work::Reaps { runner } => reap_with(hands, runner),
+            Work::Serves { link } => serve_with(hands, link),
         }
+    }
+}
+
+// What a thread works with, whatever it does.
+#[derive(Drop)]
+struct Hands<H: Wait + Drop, B: Drop, P: Keeper + Drop, C: Clock + Drop, G: Gate + Drop> {
+    rt: H,
+    alloc: Global,
+    pass: Pass<B>,
+    place: Arc<Place<P, B>, Global>,
+    clock: Arc<C, Global>,
+    gate: Arc<G, Global>,
+    opened: u64,
+    notes: Receipts<P>,
+    ghost own: { IsPassOf place.value.board pass },
+}
+
+fn work_with<H: Wait + Drop, R: Runner + Drop, P: Keeper + Drop, C: Clock + Drop, G: Gate + Drop>(
+    hands: Hands<H, R::Container, P, C, G>,
+    runner: R,
+) -> Done<R, P>
+    ensures ending { result.ending ≡ None }
+{
+    let (mut hands, mut runner) = (hands, runner);
+    let (alloc, opened) = (hands.alloc, hands.opened);
+    let own = &mut hands;
+    work_on(
+        &own.rt,
+        alloc,
+        &own.place,
+        &mut own.pass,
+        &mut runner,
+        &*own.clock,
+        &*own.gate,
+        opened,
+        &mut own.notes,
+    );
+    Done {
+        notes: hands.notes,
+        ending: None,
+        runner: Some(runner),
+    }
+}
+
+fn sweep_with<H: Wait + Drop, R: Runner + Drop, P: Keeper + Drop, C: Clock + Drop, G: Gate + Drop>(
+    hands: Hands<H, R::Container, P, C, G>,
+) -> Done<R, P>
+    ensures ending { result.ending ≡ None }
+{
+    let mut hands = hands;
+    let alloc = hands.alloc;
+    let own = &mut hands;
+    sweep_on(&own.rt, alloc, &own.place, &*own.clock, &mut own.notes);
+    Done {
+        notes: hands.notes,
+        ending: None,
+        runner: None,
+    }
+}
+
+fn reap_with<H: Wait + Drop, R: Runner + Drop, P: Keeper + Drop, C: Clock + Drop, G: Gate + Drop>(
+    hands: Hands<H, R::Container, P, C, G>,
+    runner: R,
+) -> Done<R, P>
+    ensures ending { result.ending ≡ None }
+{
+    let (mut hands, mut runner) = (hands, runner);
+    let (alloc, opened) = (hands.alloc, hands.opened);
+    let own = &mut hands;
+    reap_on(
+        &own.rt,
+        alloc,
+        &own.place,
+        &mut own.pass,
+        &mut runner,
+        &*own.clock,
+        &*own.gate,
+        opened,
+        &mut own.notes,
+    );
+    Done {
+        notes: hands.notes,
+        ending: None,
+        runner: Some(runner),
+    }
+}
+
+fn serve_with<
+    H: Wait + Drop,
+    K: Link + Drop,
+    R: Runner + Drop,
+    P: Keeper + Drop,
+    C: Clock + Drop,
+    G: Gate + Drop,
+>(hands: Hands<H, R::Container, P, C, G>, link: K) -> Done<R, P>
+    ensures served { (e : Ending) × (result.ending ≡ Some e) × TalksFrom K.left K.taken link hands.notes.notes result.notes.notes e }
+{
+    let (mut hands, mut link) = (hands, link);
+    let alloc = hands.alloc;
+    let own = &mut hands;
+    let ending = connection(
+        &own.rt,
+        alloc,
+        &mut link,
+        &own.place.desk,
+        &*own.clock,
+        &mut own.notes,
+    );
+    Done {
+        notes: hands.notes,
+        ending: Some(ending),
+        runner: None,
     }
 }

@@ -1,14 +1,14 @@
 // The end of the service: its threads are joined, and what they leave is compared.
-ghost use Rattle.std.specs.Prelude.{◌≡◌, Some, map, IfOk, OnErr, IsOkAnd};
+ghost use Rattle.std.specs.Prelude.{◌≡◌, Some, map, IfOk, IfSome, IsOk, OnErr, IsOkAnd};
 ghost use Rattle.ow_threads.specs.Tasks.{Joined, pending};
 ghost use Rattle.ow_board.specs.Board.{IsPassOf};
 ghost use Rattle.ow_audit.specs.Places.{notes_of};
 ghost use Rattle.ow_serve.specs.Duties.{Ends};
-ghost use Rattle.ow_serve.specs.Ended.{Closes, IsEnd, Left};
+ghost use Rattle.ow_serve.specs.Ended.{Closes, EndsDrained, IsEnd, KeepsBook, Left};
 ghost use Rattle.ow_serve.specs.Peers.{filled};
 
 use crate::accepting::Stopped;
-use crate::closing::{book_of, clear, drain, gathered, in_order, store_of};
+use crate::closing::{clear, drain, gathered, in_order, left_of, store_of};
 use crate::duty::{Done, Duty};
 use crate::house::House;
 use crate::place::Place;
@@ -74,6 +74,7 @@ where
     R::Container: Send + 'static,
     ensures closes { Closes (λ t d. Ends K.left K.taken t.work t.notes.notes d.notes.notes d.ending) (λ d. d.notes.notes) (λ d. d.ending) (pending first crew.old.tasks) seats.items stopped result.end result.book (map (λ r. r.notes) result.receipts.items) result.endings.items }
     ensures faults { crew.new.faults ≡ crew.old.faults }
+    ensures store { IfSome result.store (λ s. KeepsBook (P.rows s) result.book) }
 {
     let mut house = house;
     let joined = crew.join(rt, alloc, first);
@@ -91,7 +92,8 @@ fn all_of<R: Runner + Drop, P: Keeper + Drop>(
     drained: Result<(), NoMemory>,
     others: Result<Vec<Done<R, P>>, NoMemory>,
 ) -> Result<(Vec<Done<R, P>>, Vec<Done<R, P>>), NoMemory>
-    ensures { IfOk result (λ a. IsOkAnd joined (λ js. a.0.items ≡ filled seats.items js.items)) }
+    ensures peers { IfOk result (λ a. IsOkAnd joined (λ js. a.0.items ≡ filled seats.items js.items)) }
+    ensures drained { IsOk result → IsOk drained }
 {
     let joined = joined?;
     drained?;
@@ -108,8 +110,10 @@ fn leave<H: Wait, R: Runner + Drop, P: Keeper + Drop, C: Clock + Drop, G: Gate +
     all: Result<(Vec<Done<R, P>>, Vec<Done<R, P>>), NoMemory>,
     stopped: Stopped,
 ) -> Served<P>
+    requires drained { IsOk all → EndsDrained house.notes.notes }
     ensures left { IfOk all (λ a. Left (map (λ d. d.notes.notes) a.0.items) (map (λ d. d.ending) a.0.items) stopped result.end result.book (map (λ r. r.notes) result.receipts.items) result.endings.items) }
     ensures none { OnErr all (result.end ≡ ServedEnd.NoMemory) }
+    ensures store { IfSome result.store (λ s. KeepsBook (P.rows s) result.book) }
 {
     let House {
         place,
@@ -120,14 +124,13 @@ fn leave<H: Wait, R: Runner + Drop, P: Keeper + Drop, C: Clock + Drop, G: Gate +
     match all {
         Ok((peers, others)) => {
             let others = cleared(&place, pass, others);
-            let book = book_of(rt, alloc, &place);
             let gathered = gathered(alloc, notes, peers, others);
-            let store = store_of(place);
-            match (book, gathered) {
-                (Ok(book), Ok((receipts, endings))) => {
+            match (left_of(rt, alloc, place), gathered) {
+                (Ok((store, book)), Ok((receipts, endings))) => {
                     compared(alloc, book, receipts, endings, stopped, store)
                 }
-                _ => nothing(alloc, ServedEnd::NoMemory, store),
+                (Ok((store, _)), Err(_)) => nothing(alloc, ServedEnd::NoMemory, store),
+                (Err(_), _) => nothing(alloc, ServedEnd::NoMemory, None),
             }
         }
         Err(_) => nothing(alloc, ServedEnd::NoMemory, store_of(place)),
@@ -185,6 +188,7 @@ fn compared<P: Keeper + Drop>(
     ensures book { result.book ≡ Some book }
     ensures receipts { result.receipts ≡ receipts }
     ensures endings { result.endings ≡ endings }
+    ensures store { result.store ≡ store }
 {
     let end = end_of(alloc, stopped, receipts.as_slice(), &book);
     Served {

@@ -1,8 +1,8 @@
 // The service, from its opening to its end.
-ghost use Rattle.std.specs.Prelude.{◌≡◌, ◌≤◌, ◌<◌, ◌-◌, length, map, unwrap_or};
+ghost use Rattle.std.specs.Prelude.{◌≡◌, ◌≤◌, ◌<◌, ◌-◌, length, map, unwrap_or, IfSome};
 ghost use Rattle.ow_traits.specs.Streams.{Rose};
 ghost use Rattle.ow_serve.specs.Duties.{TalksAlone};
-ghost use Rattle.ow_serve.specs.Ended.{IsOpenedEnd, IsUnopened, Serves, unopened};
+ghost use Rattle.ow_serve.specs.Ended.{IsOpenedEnd, IsOpenedOver, IsUnopened, KeepsBook, LeavesStore, Serves, unopened};
 ghost use Rattle.ow_tenant.specs.Table.{IsPoolSized};
 ghost use Rattle.ow_pool.specs.Rules.{AreWantsSized};
 
@@ -59,6 +59,8 @@ where
     ensures fault { result.end ≡ ServedEnd.ListenFault → Rose (L.faults listener.old) (L.faults listener.new) }
     ensures worker { result.end ≡ ServedEnd.NoWorker → 0 < result.spawner_faults }
     ensures unopened { IsUnopened P.rows P.faults store result.end result.store }
+    ensures allowed { IsOpenedOver (P.rows store) result.end }
+    ensures store { LeavesStore P.rows store result.end result.store result.book }
 {
     let opened = clock.now();
     match Hall::start(alloc, store, tenants, opened) {
@@ -110,6 +112,7 @@ where
     ensures fault { result.end ≡ ServedEnd.ListenFault → Rose (L.faults listener.old) (L.faults listener.new) }
     ensures worker { result.end ≡ ServedEnd.NoWorker → 0 < result.spawner_faults }
     ensures opened { IsOpenedEnd result.end }
+    ensures store { IfSome result.store (λ s. KeepsBook (P.rows s) result.book) }
 {
     let mut crew: Crew<V, Duty<H, K, R, P, C, G>> = Crew::new(alloc, leave);
     let before = listener.faults();
@@ -145,6 +148,7 @@ where
     ensures fault { result.end ≡ ServedEnd.ListenFault → Rose (L.faults listener.old) (L.faults listener.new) }
     ensures worker { result.end ≡ ServedEnd.NoWorker → 0 < crew.new.faults }
     ensures opened { IsOpenedEnd result.end }
+    ensures store { IfSome result.store (λ s. KeepsBook (P.rows s) result.book) }
 {
     let mut house = house;
     match begin_all(rt, alloc, runners, &mut house, crew) {

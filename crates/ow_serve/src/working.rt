@@ -40,6 +40,7 @@ pub(crate) fn work_on<H: Wait, P: Keeper + Drop, R: Runner, C: Clock, G: Gate>(
     notes: &mut Receipts<P>,
 )
     requires { IsPassOf place.now.board pass.old }
+    ensures { IsPassOf place.now.board pass.new }
 {
     for _ in rt.forever() {
         if place.is_over() {
@@ -154,6 +155,7 @@ pub(crate) fn reap_on<H: Wait, P: Keeper + Drop, R: Runner, C: Clock, G: Gate>(
     notes: &mut Receipts<P>,
 )
     requires { IsPassOf place.now.board pass.old }
+    ensures { IsPassOf place.now.board pass.new }
 {
     for _ in rt.forever() {
         if place.is_over() {

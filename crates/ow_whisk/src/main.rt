@@ -116,7 +116,8 @@ enum Store {
 }
 
 // The file of the table that the words name, and what rows are to be kept by: a file, memory for a day, and nothing for a service. Words
-// that name none are read by the office again, which says what they are. Those that took more memory than there is are never read as such.
+// that name none are read by the office again, which says what they are. Where memory is wanted to read them, that is told: they may name
+// a file.
 fn named(alloc: Global, words: &[String]) -> Result<(Option<Str>, Store), NoMemory> {
     match read_words(alloc, words) {
         Ok(Command::Day { table, store }) => Ok((table, store_named(store, Store::Memory))),

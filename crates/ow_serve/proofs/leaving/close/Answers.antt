@@ -5,7 +5,7 @@ use Rattle.ow_serve.proofs.leaving.close.Goals as goal
 
 pub returns-clause-closes : goal.returns-clause-closes
 returns-clause-closes g c =
-    closes_by _ _ _ _ _ _ _ _ _ _ _ _ c.args.first c.join-joined.result c.all_of-all.result c.join-joined.ensures.joined c.all_of-all.ensures c.leave.ensures.left c.leave.ensures.none
+    closes_by _ _ _ _ _ _ _ _ _ _ _ _ c.args.first c.join-joined.result c.all_of-all.result c.join-joined.ensures.joined c.all_of-all.ensures.peers c.leave.ensures.left c.leave.ensures.none
 
 pub join-joined-requires-send-T : goal.join-joined-requires-send-T
 join-joined-requires-send-T g c κs within = search (sendable, duty_send, c.type_bounds)

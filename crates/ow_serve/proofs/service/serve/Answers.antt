@@ -1,5 +1,5 @@
 use Rattle.std.proofs.Common.{ap, ◌∙◌}
-use Rattle.ow_serve.proofs.Whole.{one_entry, unserved_by}
+use Rattle.ow_serve.proofs.Whole.{one_entry, over_allowed, over_none, unserved_by}
 use Rattle.ow_serve.proofs.service.serve.Goals as goal
 
 pub new-requires-clause-one : goal.new-requires-clause-one
@@ -8,3 +8,9 @@ new-requires-clause-one g c = one_entry c.args.tenants c.in-Ok.ensures.opens.loa
 pub returns-clause-serves : goal.returns-clause-serves
 returns-clause-serves g c =
     unserved_by _ _ _ c.in-Err.refusal.why _ _ _ _ (c.nothing-in-Err.ensures.end ∙ c.unopened.ensures) c.nothing-in-Err.ensures.endings
+
+pub returns-in-Ok-new-clause-allowed : goal.returns-in-Ok-new-clause-allowed
+returns-in-Ok-new-clause-allowed g c = over_allowed _ c.in-Ok.ensures.opens.loaded c.run.result.end c.in-Ok.ensures.opens.told c.in-Ok.ensures.opens.allowed
+
+pub returns-clause-allowed : goal.returns-clause-allowed
+returns-clause-allowed g c = over_none _ c.in-Err.refusal.why _ (c.nothing-in-Err.ensures.end ∙ c.unopened.ensures)
