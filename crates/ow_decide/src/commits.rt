@@ -20,6 +20,7 @@ use ow_floor::Plan;
 use ow_http::{Reason, ServiceRefusal};
 use ow_kept::{Commit, Keeping};
 use ow_records::{ExecKind, Unrecorded};
+use ow_several::copied4;
 use ow_tables::{Ready, Tables};
 use ow_value::{NoMemory, PlainData};
 use std::alloc::Global;
@@ -48,10 +49,13 @@ fn unrecorded(alloc: Global, at: u64, plan: &Plan) -> Result<Unrecorded, NoMemor
     ensures { IfOk result (λ u. u ≡ unrecorded_of (activation_of at plan.now)) }
 {
     let action = plan.effective.action.get();
-    let binding = plan.effective.binding.copy(alloc)?;
-    let namespace = plan.namespace.copy(alloc)?;
-    let path = action.name.copy(alloc)?;
-    let subject = plan.subject.copy(alloc)?;
+    let (binding, namespace, path, subject) = copied4(
+        alloc,
+        &plan.effective.binding,
+        &plan.namespace,
+        &action.name,
+        &plan.subject,
+    )?;
     Ok(Unrecorded {
         id: plan.id,
         at,

@@ -32,6 +32,7 @@ use ow_http::{Call, HttpRefusal, Part, Reason, Request, Route, ServiceRefusal};
 use ow_names::{EntityName, FullName, NameRefusal, read_name};
 use ow_packages::{package_of, reached_package};
 use ow_records::{Id, Record, write_logs, write_record, write_response};
+use ow_several::copied3;
 use ow_tables::Tables;
 use ow_tenant::Holder;
 use ow_value::{NoMemory, PlainData, Val};
@@ -218,9 +219,7 @@ fn action_bound<'a>(
 fn lying_in(alloc: Global, bundle: &FullName, name: &FullName) -> Result<FullName, NoMemory>
     ensures { IfOk result (λ n. n ≡ lying_in bundle.now name.now.name) }
 {
-    let namespace = bundle.namespace.copy(alloc)?;
-    let inside = bundle.name.copy(alloc)?;
-    let name = name.name.copy(alloc)?;
+    let (namespace, inside, name) = copied3(alloc, &bundle.namespace, &bundle.name, &name.name)?;
     Ok(FullName {
         namespace,
         package: Some(inside),

@@ -4,6 +4,7 @@ use crate::bounds::{GivenLimits, Limits};
 use crate::exec::Exec;
 use crate::params::EntityParams;
 use ow_names::FullName;
+use ow_several::copied4;
 use ow_value::{NoMemory, PlainData};
 use std::alloc::Global;
 
@@ -72,10 +73,13 @@ impl PlainData for Action {
     }
 
     fn copy(&self, alloc: Global) -> Result<Action, NoMemory> {
-        let name = self.name.copy(alloc)?;
-        let params = self.params.copy(alloc)?;
-        let notes = self.notes.copy(alloc)?;
-        let exec = self.exec.copy(alloc)?;
+        let (name, params, notes, exec) = copied4(
+            alloc,
+            &self.name,
+            &self.params,
+            &self.notes,
+            &self.exec,
+        )?;
         Ok(Action {
             name,
             version: self.version,
@@ -99,10 +103,13 @@ impl PlainData for ActionDraft {
     }
 
     fn copy(&self, alloc: Global) -> Result<ActionDraft, NoMemory> {
-        let name = self.name.copy(alloc)?;
-        let params = self.params.copy(alloc)?;
-        let notes = self.notes.copy(alloc)?;
-        let exec = self.exec.copy(alloc)?;
+        let (name, params, notes, exec) = copied4(
+            alloc,
+            &self.name,
+            &self.params,
+            &self.notes,
+            &self.exec,
+        )?;
         Ok(ActionDraft {
             name,
             publish: self.publish,

@@ -17,6 +17,7 @@ use crate::plain_code::PlainCode;
 use crate::refusal::EntityRefusal;
 use crate::rows::Draft;
 use ow_names::FullName;
+use ow_several::kept_beside;
 use ow_value::{Params, PlainData, Val, Whole};
 use std::alloc::Global;
 
@@ -49,12 +50,13 @@ fn read_action(alloc: Global, name: &FullName, body: &Params) -> Result<Draft, E
         (λ e. e ≢ EntityRefusal.NoMemory → draft_of kinds.Action name.now (object (members_of body.now)) ≡ Err e) }
 {
     let notes = pairs_field(alloc, body, FieldName::Annotations)?;
-    let params = pairs_field(alloc, body, FieldName::Parameters)?;
-    let publish = bool_field(body, FieldName::Publish)?;
-    let exec = exec_field(alloc, body)?;
-    let limits = limits_field(body)?;
+    let pairs = kept_beside(notes, pairs_field(alloc, body, FieldName::Parameters))?;
+    let (pairs, publish) = kept_beside(pairs, bool_field(body, FieldName::Publish))?;
+    let (pairs, exec) = kept_beside(pairs, exec_field(alloc, body))?;
+    let (given, limits) = kept_beside((pairs, exec), limits_field(body))?;
+    let (((notes, params), exec), name) = kept_beside(given, name.copy(alloc))?;
     Ok(Draft::Action(ActionDraft {
-        name: name.copy(alloc)?,
+        name,
         publish,
         params,
         notes,

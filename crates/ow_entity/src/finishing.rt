@@ -3,7 +3,7 @@ ghost use Rattle.std.specs.Prelude.{◌≡◌, ◌≢◌, unwrap_or, Some, None,
 ghost use Rattle.std.specs.Option.{option_copied};
 ghost use Rattle.ow_entity.specs.declared.rows.Row.TheVariants as rows;
 ghost use Rattle.ow_entity.specs.Chain.{result_map};
-ghost use Rattle.ow_entity.specs.Finish.{finished_row, action_made, old_action, new_action, next_action, limits_over};
+ghost use Rattle.ow_entity.specs.Finish.{finished_row, action_made, old_action, new_action, next_action, action_over, limits_over};
 
 use crate::actions::{Action, ActionDraft};
 use crate::bounds::{GivenLimits, Limits};
@@ -12,7 +12,7 @@ use crate::package_finishing::finish_package;
 use crate::params::EntityParams;
 use crate::refusal::EntityRefusal;
 use crate::rows::{Draft, Row};
-use ow_value::{NoMemory, PlainData, Shared};
+use ow_value::{PlainData, Shared};
 use std::alloc::Global;
 
 /// The version of a new entity.
@@ -84,6 +84,13 @@ fn next_action(alloc: Global, draft: ActionDraft, old: &Action) -> Result<Action
     if old.version == LAST_VERSION {
         return Err(EntityRefusal::LastVersion);
     }
+    Ok(action_over(draft, old.copy(alloc)?, old.version + 1))
+}
+
+// The action with what the draft gives, and else with the old values.
+fn action_over(draft: ActionDraft, old: Action, version: u32) -> Action
+    ensures { result ≡ action_over draft old version }
+{
     let ActionDraft {
         name,
         publish,
@@ -92,28 +99,14 @@ fn next_action(alloc: Global, draft: ActionDraft, old: &Action) -> Result<Action
         exec,
         limits,
     } = draft;
-    Ok(Action {
+    Action {
         name,
-        version: old.version + 1,
+        version,
         publish: publish.unwrap_or(old.publish),
-        params: value_over(alloc, params, &old.params)?,
-        notes: value_over(alloc, notes, &old.notes)?,
-        exec: value_over(alloc, exec, &old.exec)?,
+        params: params.unwrap_or(old.params),
+        notes: notes.unwrap_or(old.notes),
+        exec: exec.unwrap_or(old.exec),
         limits: limits_over(limits, old.limits),
-    })
-}
-
-/// What is given, or else the old value.
-pub(crate) fn value_over<T: PlainData + Drop>(
-    alloc: Global,
-    given: Option<T>,
-    old: &T,
-) -> Result<T, NoMemory>
-    ensures { IfOk result (λ x. x ≡ unwrap_or given old.now) }
-{
-    match given {
-        Some(given) => Ok(given),
-        None => old.copy(alloc),
     }
 }
 

@@ -11,6 +11,7 @@ use crate::pairs::pairs_field;
 use crate::refusal::EntityRefusal;
 use crate::rows::Draft;
 use ow_names::{EntityName, FullName, NameRefusal, named_in};
+use ow_several::kept_beside;
 use ow_value::{Params, PlainData, Val};
 use std::alloc::Global;
 
@@ -24,11 +25,12 @@ pub(crate) fn read_package(
         (λ e. e ≢ EntityRefusal.NoMemory → draft_of kinds.Package name.now (object (members_of body.now)) ≡ Err e) }
 {
     let notes = pairs_field(alloc, body, FieldName::Annotations)?;
-    let params = pairs_field(alloc, body, FieldName::Parameters)?;
-    let publish = bool_field(body, FieldName::Publish)?;
-    let binding = binding_field(alloc, body, &name.namespace)?;
+    let pairs = kept_beside(notes, pairs_field(alloc, body, FieldName::Parameters))?;
+    let (pairs, publish) = kept_beside(pairs, bool_field(body, FieldName::Publish))?;
+    let given = kept_beside(pairs, binding_field(alloc, body, &name.namespace))?;
+    let (((notes, params), binding), name) = kept_beside(given, name.copy(alloc))?;
     Ok(Draft::Package(PackageDraft {
-        name: name.copy(alloc)?,
+        name,
         publish,
         params,
         notes,

@@ -3,14 +3,14 @@ ghost use Rattle.std.specs.Prelude.{◌≡◌, ◌≢◌, Ok, Err, MatchResult};
 ghost use Rattle.std.specs.Option.{option_copied};
 ghost use Rattle.ow_entity.specs.declared.rows.Row.TheVariants as rows;
 ghost use Rattle.ow_entity.specs.Chain.{result_map};
-ghost use Rattle.ow_entity.specs.Finish.{package_made, old_package, new_package, next_package};
+ghost use Rattle.ow_entity.specs.Finish.{package_made, old_package, new_package, next_package, package_over};
 
-use crate::finishing::{FIRST_VERSION, LAST_VERSION, value_over};
+use crate::finishing::{FIRST_VERSION, LAST_VERSION};
 use crate::packages::{Package, PackageDraft};
 use crate::params::EntityParams;
 use crate::refusal::EntityRefusal;
 use crate::rows::Row;
-use ow_value::Shared;
+use ow_value::{PlainData, Shared};
 use std::alloc::Global;
 
 /// The row that a draft of a package makes, over an old row or over none.
@@ -61,6 +61,13 @@ fn next_package(alloc: Global, draft: PackageDraft, old: &Package) -> Result<Pac
     if old.version == LAST_VERSION {
         return Err(EntityRefusal::LastVersion);
     }
+    Ok(package_over(draft, old.copy(alloc)?, old.version + 1))
+}
+
+// The package with what the draft gives, and else with the old values.
+fn package_over(draft: PackageDraft, old: Package, version: u32) -> Package
+    ensures { result ≡ package_over draft old version }
+{
     let PackageDraft {
         name,
         publish,
@@ -68,12 +75,12 @@ fn next_package(alloc: Global, draft: PackageDraft, old: &Package) -> Result<Pac
         notes,
         binding,
     } = draft;
-    Ok(Package {
+    Package {
         name,
-        version: old.version + 1,
+        version,
         publish: publish.unwrap_or(old.publish),
-        params: value_over(alloc, params, &old.params)?,
-        notes: value_over(alloc, notes, &old.notes)?,
-        binding: value_over(alloc, binding, &old.binding)?,
-    })
+        params: params.unwrap_or(old.params),
+        notes: notes.unwrap_or(old.notes),
+        binding: binding.unwrap_or(old.binding),
+    }
 }

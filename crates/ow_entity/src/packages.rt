@@ -2,6 +2,7 @@
 
 use crate::params::EntityParams;
 use ow_names::FullName;
+use ow_several::copied4;
 use ow_value::{NoMemory, PlainData};
 use std::alloc::Global;
 
@@ -48,10 +49,13 @@ impl PlainData for Package {
     }
 
     fn copy(&self, alloc: Global) -> Result<Package, NoMemory> {
-        let name = self.name.copy(alloc)?;
-        let params = self.params.copy(alloc)?;
-        let notes = self.notes.copy(alloc)?;
-        let binding = self.binding.copy(alloc)?;
+        let (name, params, notes, binding) = copied4(
+            alloc,
+            &self.name,
+            &self.params,
+            &self.notes,
+            &self.binding,
+        )?;
         Ok(Package {
             name,
             version: self.version,
@@ -73,10 +77,13 @@ impl PlainData for PackageDraft {
     }
 
     fn copy(&self, alloc: Global) -> Result<PackageDraft, NoMemory> {
-        let name = self.name.copy(alloc)?;
-        let params = self.params.copy(alloc)?;
-        let notes = self.notes.copy(alloc)?;
-        let binding = self.binding.copy(alloc)?;
+        let (name, params, notes, binding) = copied4(
+            alloc,
+            &self.name,
+            &self.params,
+            &self.notes,
+            &self.binding,
+        )?;
         Ok(PackageDraft {
             name,
             publish: self.publish,

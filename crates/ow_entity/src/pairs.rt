@@ -7,6 +7,7 @@ ghost use Rattle.ow_entity.specs.Pairs.{pair_of, pair_value, pairs_listed, with_
 use crate::field_name::FieldName;
 use crate::params::EntityParams;
 use crate::refusal::EntityRefusal;
+use crate::written::put;
 use ow_value::{Fields, NoMemory, Pair, Params, PlainData, Str, Val, Vals, copy};
 use std::alloc::Global;
 
@@ -82,9 +83,7 @@ fn pair_value(alloc: Global, pair: &Pair) -> Result<Val, NoMemory>
     ensures { IfOk result (λ v. view v ≡ pair_value (pair.now.name, view pair.now.value)) }
 {
     let mut fields = Fields::new(alloc);
-    let name = pair.name.copy(alloc)?;
-    fields.set(Str::of(alloc, "key")?, Val::Text(name))?;
-    let value = copy(alloc, &pair.value)?;
-    fields.set(Str::of(alloc, "value")?, value)?;
+    put(alloc, &mut fields, "key", Val::Text(pair.name.copy(alloc)?))?;
+    put(alloc, &mut fields, "value", copy(alloc, &pair.value)?)?;
     Ok(Val::Object(fields.into_params()?))
 }

@@ -17,6 +17,7 @@ use crate::packages::Package;
 use crate::pairs::listed;
 use crate::rows::Row;
 use ow_names::FullName;
+use ow_several::kept_beside;
 use ow_value::{Fields, NoMemory, Params, Str, Val, Whole};
 use std::alloc::Global;
 
@@ -25,10 +26,10 @@ impl Limits {
     pub fn value(self, alloc: Global) -> Result<Val, NoMemory>
         ensures { IfOk result (λ v. view v ≡ limits_value self) }
     {
-        let mut fields = Fields::new(alloc);
-        put(alloc, &mut fields, "logs", number(self.logs.get()))?;
-        put(alloc, &mut fields, "memory", number(self.memory.get()))?;
-        put(alloc, &mut fields, "timeout", number(self.timeout.get()))?;
+        let fields = Fields::new(alloc);
+        let fields = with(alloc, fields, "logs", number(self.logs.get()))?;
+        let fields = with(alloc, fields, "memory", number(self.memory.get()))?;
+        let fields = with(alloc, fields, "timeout", number(self.timeout.get()))?;
         Ok(Val::Object(fields.into_params()?))
     }
 }
@@ -104,42 +105,42 @@ fn write_action(alloc: Global, action: &Action) -> Result<Val, NoMemory>
 fn action_value(alloc: Global, action: &Action) -> Result<Val, NoMemory>
     ensures { IfOk result (λ v. view v ≡ action_value action.now) }
 {
-    let mut fields = Fields::new(alloc);
+    let name = &action.name;
     let notes = listed(alloc, action.notes.get())?;
-    put(alloc, &mut fields, "annotations", Val::List(notes))?;
-    let exec = exec_value(alloc, &action.exec)?;
-    put(alloc, &mut fields, "exec", exec)?;
-    let limits = action.limits.value(alloc)?;
-    put(alloc, &mut fields, "limits", limits)?;
-    let name = text(alloc, action.name.name.as_str())?;
-    put(alloc, &mut fields, "name", name)?;
-    let namespace = shown_namespace(alloc, &action.name)?;
-    put(alloc, &mut fields, "namespace", namespace)?;
-    let params = listed(alloc, action.params.get())?;
-    put(alloc, &mut fields, "parameters", Val::List(params))?;
-    put(alloc, &mut fields, "publish", Val::Bool(action.publish))?;
-    let version = shown_version(alloc, action.version)?;
-    put(alloc, &mut fields, "version", version)?;
+    let fields = with(alloc, Fields::new(alloc), "annotations", Val::List(notes))?;
+    let (fields, exec) = kept_beside(fields, exec_value(alloc, &action.exec))?;
+    let fields = with(alloc, fields, "exec", exec)?;
+    let (fields, limits) = kept_beside(fields, action.limits.value(alloc))?;
+    let fields = with(alloc, fields, "limits", limits)?;
+    let (fields, shown) = kept_beside(fields, text(alloc, name.name.as_str()))?;
+    let fields = with(alloc, fields, "name", shown)?;
+    let (fields, namespace) = kept_beside(fields, shown_namespace(alloc, name))?;
+    let fields = with(alloc, fields, "namespace", namespace)?;
+    let (fields, params) = kept_beside(fields, listed(alloc, action.params.get()))?;
+    let fields = with(alloc, fields, "parameters", Val::List(params))?;
+    let fields = with(alloc, fields, "publish", Val::Bool(action.publish))?;
+    let (fields, version) = kept_beside(fields, shown_version(alloc, action.version))?;
+    let fields = with(alloc, fields, "version", version)?;
     Ok(Val::Object(fields.into_params()?))
 }
 
 fn write_package(alloc: Global, bundle: &Package) -> Result<Val, NoMemory>
     ensures { IfOk result (λ v. view v ≡ package_value bundle.now) }
 {
-    let mut fields = Fields::new(alloc);
+    let name = &bundle.name;
     let notes = listed(alloc, bundle.notes.get())?;
-    put(alloc, &mut fields, "annotations", Val::List(notes))?;
-    let binding = binding_value(alloc, &bundle.binding)?;
-    put(alloc, &mut fields, "binding", binding)?;
-    let name = text(alloc, bundle.name.name.as_str())?;
-    put(alloc, &mut fields, "name", name)?;
-    let namespace = shown_namespace(alloc, &bundle.name)?;
-    put(alloc, &mut fields, "namespace", namespace)?;
-    let params = listed(alloc, bundle.params.get())?;
-    put(alloc, &mut fields, "parameters", Val::List(params))?;
-    put(alloc, &mut fields, "publish", Val::Bool(bundle.publish))?;
-    let version = shown_version(alloc, bundle.version)?;
-    put(alloc, &mut fields, "version", version)?;
+    let fields = with(alloc, Fields::new(alloc), "annotations", Val::List(notes))?;
+    let (fields, binding) = kept_beside(fields, binding_value(alloc, &bundle.binding))?;
+    let fields = with(alloc, fields, "binding", binding)?;
+    let (fields, shown) = kept_beside(fields, text(alloc, name.name.as_str()))?;
+    let fields = with(alloc, fields, "name", shown)?;
+    let (fields, namespace) = kept_beside(fields, shown_namespace(alloc, name))?;
+    let fields = with(alloc, fields, "namespace", namespace)?;
+    let (fields, params) = kept_beside(fields, listed(alloc, bundle.params.get()))?;
+    let fields = with(alloc, fields, "parameters", Val::List(params))?;
+    let fields = with(alloc, fields, "publish", Val::Bool(bundle.publish))?;
+    let (fields, version) = kept_beside(fields, shown_version(alloc, bundle.version))?;
+    let fields = with(alloc, fields, "version", version)?;
     Ok(Val::Object(fields.into_params()?))
 }
 
@@ -169,43 +170,27 @@ fn summary_of(
 ) -> Result<Val, NoMemory>
     ensures { IfOk result (λ v. view v ≡ summary_of name.now notes.now publish version) }
 {
-    let mut fields = Fields::new(alloc);
-    put(
-        alloc,
-        &mut fields,
-        "annotations",
-        Val::List(listed(alloc, notes)?),
-    )?;
-    put(alloc, &mut fields, "name", text(alloc, name.name.as_str())?)?;
-    put(
-        alloc,
-        &mut fields,
-        "namespace",
-        shown_namespace(alloc, name)?,
-    )?;
-    put(alloc, &mut fields, "publish", Val::Bool(publish))?;
-    put(
-        alloc,
-        &mut fields,
-        "version",
-        shown_version(alloc, version)?,
-    )?;
+    let notes = listed(alloc, notes)?;
+    let fields = with(alloc, Fields::new(alloc), "annotations", Val::List(notes))?;
+    let (fields, shown) = kept_beside(fields, text(alloc, name.name.as_str()))?;
+    let fields = with(alloc, fields, "name", shown)?;
+    let (fields, namespace) = kept_beside(fields, shown_namespace(alloc, name))?;
+    let fields = with(alloc, fields, "namespace", namespace)?;
+    let fields = with(alloc, fields, "publish", Val::Bool(publish))?;
+    let (fields, version) = kept_beside(fields, shown_version(alloc, version))?;
+    let fields = with(alloc, fields, "version", version)?;
     Ok(Val::Object(fields.into_params()?))
 }
 
 fn entry_of(alloc: Global, name: &FullName, notes: &Params, version: u32) -> Result<Val, NoMemory>
     ensures { IfOk result (λ v. view v ≡ entry_of name.now notes.now version) }
 {
-    let mut fields = Fields::new(alloc);
     let notes = listed(alloc, notes)?;
-    put(alloc, &mut fields, "annotations", Val::List(notes))?;
-    put(alloc, &mut fields, "name", text(alloc, name.name.as_str())?)?;
-    put(
-        alloc,
-        &mut fields,
-        "version",
-        shown_version(alloc, version)?,
-    )?;
+    let fields = with(alloc, Fields::new(alloc), "annotations", Val::List(notes))?;
+    let (fields, shown) = kept_beside(fields, text(alloc, name.name.as_str()))?;
+    let fields = with(alloc, fields, "name", shown)?;
+    let (fields, version) = kept_beside(fields, shown_version(alloc, version))?;
+    let fields = with(alloc, fields, "version", version)?;
     Ok(Val::Object(fields.into_params()?))
 }
 
@@ -256,8 +241,22 @@ fn text(alloc: Global, s: &str) -> Result<Val, NoMemory>
     Ok(Val::Text(Str::of(alloc, s)?))
 }
 
-fn put(alloc: Global, fields: &mut Fields, name: &str, value: Val) -> Result<(), NoMemory>
+pub(crate) fn put(
+    alloc: Global,
+    fields: &mut Fields,
+    name: &str,
+    value: Val,
+) -> Result<(), NoMemory>
     ensures { OnOk result (fields.new ≡ with_pair fields.old name.now (view value)) }
 {
     fields.set(Str::of(alloc, name)?, value)
+}
+
+// The fields with the value under the name.
+fn with(alloc: Global, fields: Fields, name: &str, value: Val) -> Result<Fields, NoMemory>
+    ensures { IfOk result (λ f. f ≡ with_pair fields name.now (view value)) }
+{
+    let mut fields = fields;
+    put(alloc, &mut fields, name, value)?;
+    Ok(fields)
 }

@@ -254,40 +254,74 @@ fn the_binding_that_a_name_goes_through_is_told(rt: HostRuntime) -> Result<(), F
     Ok(())
 }
 
+/// What is done to the rows.
+#[derive(Clone, Copy, Drop)]
+enum Act {
+    PutAction,
+    PutPackage,
+    RemoveAction,
+    RemovePackage,
+    /// A call by guest.
+    Call,
+    /// The actions that a package shows.
+    Show,
+}
+
+// What is done to a path, with what, what it gives, and the number that it is told.
+type Step = (Act, &'static str, &'static str, &'static str, u32);
+
+fn is_told(alloc: Global, tables: &mut Tables, step: Step) -> Result<bool, Fail> {
+    let (act, path, given, expected, number) = step;
+    match act {
+        Act::PutAction => Ok(put(alloc, tables, ACTION, path, given)? == number),
+        Act::PutPackage => Ok(put(alloc, tables, PACKAGE, path, given)? == number),
+        Act::RemoveAction => Ok(remove(alloc, tables, ACTION, path)? == number),
+        Act::RemovePackage => Ok(remove(alloc, tables, PACKAGE, path)? == number),
+        Act::Call => is_called(alloc, tables, path, "guest", given, expected),
+        Act::Show => shows(alloc, tables, path, expected),
+    }
+}
+
+// The first of these steps, from 0 on, that is told something else.
+fn first_wrong(alloc: Global, steps: &[Step]) -> Result<Option<usize>, Fail> {
+    let mut tables = filled(alloc)?;
+    for number in 0..steps.len() {
+        if !is_told(alloc, &mut tables, steps[number])? {
+            return Ok(Some(number));
+        }
+    }
+    Ok(None)
+}
+
 const FINAL: &str = "{'annotations':[{'key':'final','value':true}]}";
+
+const FINAL_STANDS: [Step; 5] = [
+    (Act::PutAction, "p/a", FINAL, "", 0),
+    (Act::Call, "p/a", "{'x':4}", "x", 0),
+    (Act::Call, "p/a", "{'x':3}", "x", 0),
+    (Act::Call, "b/a", "{'c':1,'p':1}", "p", 0),
+    (Act::Call, "p/a", "{'b':1}", "{'a':3,'b':1,'p':1,'x':3}", 0),
+];
 
 #[test]
 fn final_parameters_stand(rt: HostRuntime) -> Result<(), Fail> {
-    let alloc = rt.alloc();
-    let mut tables = filled(alloc)?;
-    assert_eq!(rt; put(alloc, &mut tables, ACTION, "p/a", FINAL)?, 0);
-    assert!(rt; is_called(alloc, &tables, "p/a", "guest", "{'x':4}", "x")?);
-    assert!(rt; is_called(alloc, &tables, "p/a", "guest", "{'x':3}", "x")?);
-    assert!(rt; is_called(alloc, &tables, "b/a", "guest", "{'c':1,'p':1}", "p")?);
-    assert!(rt;
-        is_called(
-            alloc,
-            &tables,
-            "p/a",
-            "guest",
-            "{'b':1}",
-            "{'a':3,'b':1,'p':1,'x':3}"
-        )?
-    );
+    assert_eq!(rt; first_wrong(rt.alloc(), &FINAL_STANDS)?, None);
     Ok(())
 }
 
 const NULL: &str = "{'parameters':[{'key':'x','value':null}]}";
 
+const NULL_IS_NONE: [Step; 5] = [
+    (Act::PutAction, "p/a", FINAL, "", 0),
+    (Act::PutPackage, "p", NULL, "", 0),
+    (Act::PutPackage, "b", NULL, "", 0),
+    (Act::PutAction, "p/a", NULL, "", 0),
+    (Act::Call, "b/a", "{'x':4}", "{'x':4}", 0),
+];
+
 #[test]
 fn null_is_no_value_of_a_final_parameter(rt: HostRuntime) -> Result<(), Fail> {
-    let alloc = rt.alloc();
-    let mut tables = filled(alloc)?;
-    put(alloc, &mut tables, ACTION, "p/a", FINAL)?;
-    for (kind, path) in [(PACKAGE, "p"), (PACKAGE, "b"), (ACTION, "p/a")].iter() {
-        assert_eq!(rt; put(alloc, &mut tables, *kind, path, NULL)?, 0);
-    }
-    assert!(rt; is_called(alloc, &tables, "b/a", "guest", "{'x':4}", "{'x':4}")?);
+    assert_eq!(rt; first_wrong(rt.alloc(), &NULL_IS_NONE)?, None);
     Ok(())
 }
 
@@ -322,14 +356,19 @@ fn told_of_binding(alloc: Global, tables: &Tables, path: &str) -> Result<u32, Fa
 fn bindings_bind_packages_that_bind_nothing(rt: HostRuntime) -> Result<(), Fail> {
     let alloc = rt.alloc();
     let tables = filled(alloc)?;
-    assert_eq!(rt; told_of_binding(alloc, &tables, "p")?, 0);
-    assert_eq!(rt; told_of_binding(alloc, &tables, "b")?, 15);
-    assert_eq!(rt; told_of_binding(alloc, &tables, "/lib/closed")?, 14);
+    for (path, number) in [("p", 0), ("b", 15), ("/lib/closed", 14)].iter() {
+        assert_eq!(rt; told_of_binding(alloc, &tables, path)?, *number);
+    }
+    assert!(rt; is_open(alloc, &tables)?);
+    Ok(())
+}
+
+// Whether guest reaches the shared package of lib, which lies in none.
+fn is_open(alloc: Global, tables: &Tables) -> Result<bool, Fail> {
     let open = name_of(alloc, "/lib/open")?;
     let guest = boxed(alloc, read_name(alloc, b"guest"))?;
-    assert!(rt; reached_package(&*tables, &open, &guest).is_some_and(|p| p.publish));
-    assert!(rt; is_shared(&*tables, &open) && package_of(alloc, &open)?.is_none());
-    Ok(())
+    let published = reached_package(tables, &open, &guest).is_some_and(|p| p.publish);
+    Ok(published && is_shared(tables, &open) && package_of(alloc, &open)?.is_none())
 }
 
 fn package_in<'a>(tables: &'a Tables, name: &FullName) -> Result<&'a Package, Fail> {
@@ -350,41 +389,38 @@ fn shows(alloc: Global, tables: &Tables, path: &str, expected: &str) -> Result<b
 
 const SHOWN: &str = "[{'annotations':[],'name':'a','version':'0.0.1'}]";
 
+const BINDINGS_SHOW: [Step; 8] = [
+    (Act::Show, "p", "", SHOWN, 0),
+    (Act::Show, "b", "", SHOWN, 0),
+    (Act::RemovePackage, "p", "", "", 21),
+    (Act::RemoveAction, "b/a", "", "", 14),
+    (Act::RemoveAction, "p/a", "", "", 0),
+    (Act::RemovePackage, "p", "", "", 0),
+    (Act::Show, "b", "", "[]", 0),
+    (Act::Call, "b/a", "{}", "14", 0),
+];
+
 #[test]
 fn bindings_show_what_the_bound_package_holds(rt: HostRuntime) -> Result<(), Fail> {
-    let alloc = rt.alloc();
-    let mut tables = filled(alloc)?;
-    assert!(rt; shows(alloc, &tables, "p", SHOWN)? && shows(alloc, &tables, "b", SHOWN)?);
-    assert_eq!(rt; remove(alloc, &mut tables, PACKAGE, "p")?, 21);
-    assert_eq!(rt; remove(alloc, &mut tables, ACTION, "b/a")?, 14);
-    assert_eq!(rt; remove(alloc, &mut tables, ACTION, "p/a")?, 0);
-    assert_eq!(rt; remove(alloc, &mut tables, PACKAGE, "p")?, 0);
-    assert!(rt; shows(alloc, &tables, "b", "[]")?);
-    assert!(rt; is_called(alloc, &tables, "b/a", "guest", "{}", "14")?);
+    assert_eq!(rt; first_wrong(rt.alloc(), &BINDINGS_SHOW)?, None);
     Ok(())
 }
 
+const BINDS_UTILS: &str = "{'binding':{'name':'utils','namespace':'whisk.system'}}";
+
+const ACTIONS_STAY: [Step; 7] = [
+    (Act::PutPackage, "p", BINDS_UTILS, "", 0),
+    (Act::RemoveAction, "p/a", "", "", 15),
+    (Act::RemovePackage, "p", "", "", 21),
+    (Act::Call, "p/a", "{}", "14", 0),
+    (Act::Call, "b/a", "{}", "{'a':3,'b':2,'p':1,'x':3}", 0),
+    (Act::PutPackage, "p", "{'binding':{}}", "", 0),
+    (Act::RemoveAction, "p/a", "", "", 0),
+];
+
 #[test]
 fn actions_of_a_package_that_was_made_a_binding_stay(rt: HostRuntime) -> Result<(), Fail> {
-    let alloc = rt.alloc();
-    let mut tables = filled(alloc)?;
-    let binding = "{'binding':{'name':'utils','namespace':'whisk.system'}}";
-    assert_eq!(rt; put(alloc, &mut tables, PACKAGE, "p", binding)?, 0);
-    assert_eq!(rt; remove(alloc, &mut tables, ACTION, "p/a")?, 15);
-    assert_eq!(rt; remove(alloc, &mut tables, PACKAGE, "p")?, 21);
-    assert!(rt; is_called(alloc, &tables, "p/a", "guest", "{}", "14")?);
-    assert!(rt;
-        is_called(
-            alloc,
-            &tables,
-            "b/a",
-            "guest",
-            "{}",
-            "{'a':3,'b':2,'p':1,'x':3}"
-        )?
-    );
-    assert_eq!(rt; put(alloc, &mut tables, PACKAGE, "p", "{'binding':{}}")?, 0);
-    assert_eq!(rt; remove(alloc, &mut tables, ACTION, "p/a")?, 0);
+    assert_eq!(rt; first_wrong(rt.alloc(), &ACTIONS_STAY)?, None);
     Ok(())
 }
 

@@ -250,14 +250,9 @@ fn told_builtin(alloc: Global, tables: &Tables, of: (EntityKind, &str)) -> Resul
 fn two_rows_are_built_in(rt: HostRuntime) -> Result<(), Fail> {
     let alloc = rt.alloc();
     let mut tables = filled(alloc)?;
-    assert_eq!(rt;
-        told_of_put(&mut tables, alloc, "/whisk.system/echo", CODE, false)?,
-        0
-    );
-    assert_eq!(rt;
-        told_of_put(&mut tables, alloc, "/whisk.system/utils", CODE, false)?,
-        0
-    );
+    for path in ["/whisk.system/echo", "/whisk.system/utils"].iter() {
+        assert_eq!(rt; told_of_put(&mut tables, alloc, path, CODE, false)?, 0);
+    }
     let rows = [
         (EntityKind::Action, "/whisk.system/utils/echo", true),
         (EntityKind::Package, "/whisk.system/utils", true),

@@ -4,6 +4,7 @@ ghost use Rattle.std.specs.Prelude.{◌≡◌, ◌↔◌, IsTrue, IfOk};
 use ow_names::EntityName;
 use ow_packages::Effective;
 use ow_records::{Activation, Id};
+use ow_several::copied4;
 use ow_value::{NoMemory, Params, PlainData, Str};
 use std::alloc::Global;
 
@@ -56,10 +57,13 @@ impl PlainData for Plan {
     }
 
     fn copy(&self, alloc: Global) -> Result<Plan, NoMemory> {
-        let namespace = self.namespace.copy(alloc)?;
-        let effective = self.effective.copy(alloc)?;
-        let params = self.params.copy(alloc)?;
-        let subject = self.subject.copy(alloc)?;
+        let (namespace, effective, params, subject) = copied4(
+            alloc,
+            &self.namespace,
+            &self.effective,
+            &self.params,
+            &self.subject,
+        )?;
         Ok(Plan {
             id: self.id,
             namespace,

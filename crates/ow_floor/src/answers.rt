@@ -3,6 +3,7 @@ ghost use Rattle.std.specs.Prelude.{◌≡◌, ◌↔◌, [], ◌∷◌, IsTrue,
 
 use crate::Run;
 use ow_records::{Activation, Id, Record};
+use ow_several::copied2;
 use ow_slots::{Start, kind_of};
 use ow_traits::{Kind, RunReply};
 use ow_value::{Items, NoMemory, Params, PlainData, Str};
@@ -202,8 +203,7 @@ impl RunOrder {
         ensures { IfOk result (λ order. order ≡ order_for run.number run.slot run.generation run.start task.now) }
     {
         let action = task.action.get();
-        let code = action.exec.code().copy(alloc)?;
-        let params = task.params.copy(alloc)?;
+        let (code, params) = copied2(alloc, action.exec.code(), &task.params)?;
         Ok(RunOrder {
             run: run.number,
             id: task.id,

@@ -194,8 +194,9 @@ impl Floor {
         ensures ok { OnOk result (Grows self.old.now self.new.now (λ T. accept_items at plan)) }
         ensures before { self.new.before ≡ self.old.before }
     {
-        let happened = Happened::one(alloc, Happening::Accepted { id: plan.id })?;
+        let id = plan.id;
         let task = Shared::new(alloc, activation_of(at, plan))?;
+        let happened = Happened::one(alloc, Happening::Accepted { id })?;
         self.lists.accept(task)?;
         Ok(happened)
     }

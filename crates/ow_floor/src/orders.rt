@@ -16,6 +16,7 @@ use crate::runs::generation_in;
 use crate::{Container, Idle, Order, PrewarmOrder, Run, RunOrder};
 use ow_pool::{Head, Place, Removal, Unplaced};
 use ow_records::Activation;
+use ow_several::copied3;
 use ow_slots::{Key, Slots, Start};
 use ow_traits::Kind;
 use ow_value::{Items, NoMemory, PlainData};
@@ -46,11 +47,18 @@ fn order_head(alloc: Global, lists: &mut Lists, at: u64, spot: usize) -> Result<
     let head = head_at(alloc, lists, spot)?;
     match lists.place(Some(&head)) {
         Place::Run { slot, start } => order_run(alloc, lists, at, spot, head.key, slot, start),
-        Place::Remove(removal) => order_removal(alloc, lists, at, removal),
+        Place::Remove(removal) => {
+            drop(head);
+            order_removal(alloc, lists, at, removal)
+        }
         Place::Prewarm { slot, kind, memory } => {
+            drop(head);
             order_prewarm(alloc, lists, at, slot, kind, memory)
         }
-        Place::Nothing(reason) => Ok(Order::Nothing(idle_of(reason))),
+        Place::Nothing(reason) => {
+            drop(head);
+            Ok(Order::Nothing(idle_of(reason)))
+        }
     }
 }
 
@@ -195,9 +203,7 @@ fn key_of(alloc: Global, task: &Activation) -> Result<Key, NoMemory>
 {
     let action = task.action.get();
     let memory = action.limits.memory.get();
-    let namespace = task.namespace.copy(alloc)?;
-    let name = action.name.copy(alloc)?;
-    let exec = action.exec.copy(alloc)?;
+    let (namespace, name, exec) = copied3(alloc, &task.namespace, &action.name, &action.exec)?;
     Ok(Key {
         namespace,
         action: name,

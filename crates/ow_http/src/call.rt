@@ -4,6 +4,7 @@ ghost use Rattle.std.specs.Prelude.{◌≡◌, ◌↔◌, IsTrue};
 use crate::call_kind::CallKind;
 use ow_entity::Draft;
 use ow_names::FullName;
+use ow_several::copied3;
 use ow_value::{NoMemory, Params, PlainData};
 use std::alloc::Global;
 
@@ -57,9 +58,7 @@ impl PlainData for Call {
     }
 
     fn copy(&self, alloc: Global) -> Result<Call, NoMemory> {
-        let name = self.name.copy(alloc)?;
-        let draft = self.draft.copy(alloc)?;
-        let params = self.params.copy(alloc)?;
+        let (name, draft, params) = copied3(alloc, &self.name, &self.draft, &self.params)?;
         Ok(Call {
             kind: self.kind,
             name,

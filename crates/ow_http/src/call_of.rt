@@ -12,6 +12,7 @@ use crate::route::Route;
 use crate::values::{first_wrong, flag_of, limit_of, skip_of};
 use ow_entity::{Draft, EntityKind, EntityRefusal, FieldName, read_entity};
 use ow_names::{EntityName, FullName, NameRefusal, check_name, named_in};
+use ow_several::kept_beside;
 use ow_value::{Bytes, Params, PlainData, Str, Val, ValueRefusal, read_val};
 use std::alloc::Global;
 
@@ -21,17 +22,14 @@ pub fn read_call(alloc: Global, request: &Request, home: &EntityName) -> Result<
         (λ e. e ≢ CallRefusal.NoMemory → call_of home.now (parts_of request.now) ≡ Err e) }
 {
     let query = request.query.as_slice();
+    let body = request.body.as_slice();
     let kind = request.kind();
     check_query(alloc, kind, query)?;
     let name = name_of(alloc, &request.route, home)?;
-    let draft = match draft_of(alloc, kind, &name, request.body.as_slice()) {
-        Ok(draft) => draft,
-        Err(e) => return Err(e),
-    };
-    match params_of(alloc, kind, request.body.as_slice()) {
-        Ok(params) => Ok(filled_call(kind, name, draft, params, query)),
-        Err(e) => Err(e),
-    }
+    let draft = draft_of(alloc, kind, &name, body);
+    let (name, draft) = kept_beside(name, draft)?;
+    let ((name, draft), params) = kept_beside((name, draft), params_of(alloc, kind, body))?;
+    Ok(filled_call(kind, name, draft, params, query))
 }
 
 fn check_query(alloc: Global, kind: CallKind, query: &[(Str, Str)]) -> Result<(), CallRefusal>

@@ -1,7 +1,10 @@
 // Targets, and the pairs of queries and forms.
 ghost use Rattle.std.specs.Prelude.{◌≡◌, IfOk};
-ghost use Rattle.ow_http.specs.Query.{pairs_of, path_of, query_of};
+ghost use Rattle.std.specs.Str.Lossy.{utf8_lossy};
+ghost use Rattle.form_urlencoded.specs.Form.{decode};
+ghost use Rattle.ow_http.specs.Query.{decoded_pair, pairs_of, path_of, query_of};
 
+use ow_several::kept_beside;
 use ow_value::{NoMemory, Pairs, Str};
 use std::alloc::Global;
 
@@ -10,13 +13,24 @@ pub fn read_pairs(alloc: Global, input: &[u8]) -> Result<Pairs, NoMemory>
     ensures { IfOk result (λ p. p ≡ pairs_of input.now) }
 {
     let mut pairs = Vec::new(alloc);
-    for pair in form_urlencoded::parse(alloc, input) {
-        let (name, value) = pair?;
-        let name = Str::of(alloc, name.as_str())?;
-        let value = Str::of(alloc, value.as_str())?;
-        pairs.push((name, value))?;
+    for pair in form_urlencoded::raw_pairs(input) {
+        pairs.push(decoded_pair(alloc, pair.0, pair.1)?)?;
     }
     Pairs::from_vec(pairs)
+}
+
+fn decoded_pair(alloc: Global, name: &[u8], value: &[u8]) -> Result<(Str, Str), NoMemory>
+    ensures { IfOk result (λ p. p ≡ decoded_pair (name.now, value.now)) }
+{
+    kept_beside(decoded_text(alloc, name)?, decoded_text(alloc, value))
+}
+
+// The text of a name or a value.
+fn decoded_text(alloc: Global, bytes: &[u8]) -> Result<Str, NoMemory>
+    ensures { IfOk result (λ s. s ≡ utf8_lossy (decode bytes.now)) }
+{
+    let text = form_urlencoded::decode(alloc, bytes)?;
+    Str::of(alloc, text.as_str())
 }
 
 /// What stands before the first `?`.

@@ -1,12 +1,15 @@
 // Bytes as requests.
-ghost use Rattle.std.specs.Prelude.{◌≡◌, ◌⊎◌, ℕ, List, length, IfOk, OnOk, IfErr, drop, map, true, false, MatchOption, All, ◌++◌, ◌∷◌, [], ◌+◌, ◌<◌, ◌^◌, Ok, codes};
+ghost use Rattle.std.specs.Prelude.{◌≡◌, ◌≢◌, ◌⊎◌, ℕ, List, length, IfOk, OnOk, IfErr, drop, map, true, false, MatchOption, MatchResult, All, ◌++◌, ◌∷◌, [], ◌+◌, ◌<◌, ◌≤◌, ◌^◌, Ok, Err, Some, codes, take};
 ghost use Rattle.std.specs.List.{list_all};
 ghost use Rattle.std.specs.Str.{is_utf8};
 ghost use Rattle.httparse.specs.Grammar.{RequestHead};
 ghost use Rattle.httparse.specs.Spans.{IsRequestAt, IsRequestWithin, IsHeaderWithin, header_bytes};
 ghost use Rattle.ow_http.specs.Headers.{is_text, last_named};
+ghost use Rattle.ow_http.specs.Query.{pairs_of, query_of};
 ghost use Rattle.ow_http.specs.Head.{HasHead, IsBadHead, IsCutHead};
-ghost use Rattle.ow_http.specs.Judged.{judged, judged_method, judged_body, asked_of, as_asked};
+ghost use Rattle.ow_http.specs.Judged.{judged, judged_method, asked_of, as_asked};
+ghost use Rattle.ow_http.specs.Verb.{verb_of};
+ghost use Rattle.ow_http.specs.declared.read.TheConstants.{MAX_BODY};
 ghost use Rattle.ow_http.specs.Gives.{Gives, GivesRead};
 ghost use Rattle.ow_http.specs.Read.{ReadsAs};
 ghost use Rattle.ow_http.specs.CallKind.{takes};
@@ -24,7 +27,8 @@ use crate::routes::Routes;
 use crate::segments::route_at;
 use crate::verb::Verb;
 use httparse::spans::{EMPTY_HEADER_SPAN, HeaderSpan, RequestSpans};
-use ow_value::{NoMemory, Pairs, PlainData, Str, bytes_of};
+use ow_several::kept_beside;
+use ow_value::{Bytes, NoMemory, Pairs, PlainData, Str, bytes_of};
 use std::alloc::Global;
 
 /// How many bytes a body has at most.
@@ -137,63 +141,77 @@ fn judge(alloc: Global, routes: &Routes, asked: Asked<'_>) -> Result<Request, Ht
         return Err(HttpRefusal::NoRoute);
     };
     let route = route_at(alloc, place, path)?;
-    judge_method(alloc, route, size, asked)
+    finish(alloc, route, size, asked)
 }
 
-fn judge_method(
-    alloc: Global,
-    route: Route,
-    size: u64,
-    asked: Asked<'_>,
-) -> Result<Request, HttpRefusal>
+// The request, where the route takes it and its body is whole.
+#[tactic(auto, unfolding(crate::specs::Judged::judged_body))]
+fn finish(alloc: Global, route: Route, size: u64, asked: Asked<'_>) -> Result<Request, HttpRefusal>
     requires whole { is_whole route ≡ true }
     requires fits { asked.head + length asked.rest.now < 2 ^ 64 }
     ensures { Gives (judged_method route size (as_asked asked.entry)) result }
+{
+    let method = taken_method(&route, size, &asked);
+    let ((route, asked), method) = kept_beside((route, asked), method)?;
+    let owned = owned_parts(alloc, &asked, size as usize);
+    let ((route, asked), (raw_query, body, query, key)) = kept_beside((route, asked), owned)?;
+    let close = closes(asked.minor, asked.fields.as_slice());
+    Ok(Request {
+        route,
+        method,
+        key,
+        query,
+        raw_query,
+        headers: asked.fields,
+        body,
+        size: asked.head as u64 + size,
+        close,
+    })
+}
+
+// The method, where the route takes it and the body is whole.
+#[tactic(auto, unfolding(crate::specs::Judged::judged_body))]
+fn taken_method(route: &Route, size: u64, asked: &Asked<'_>) -> Result<Verb, HttpRefusal>
+    ensures { MatchResult result
+        (λ m. (verb_of asked.now.method.now ≡ Some m) × (takes route.now m ≡ true) × (size ≤ MAX_BODY) × (size ≤ length asked.now.rest.now))
+        (λ e. judged_method route.now size (as_asked asked.now) ≡ Err e) }
 {
     let method = match Verb::of(asked.method) {
         Some(method) => method,
         None => return Err(HttpRefusal::BadMethod),
     };
-    if !CallKind::of(&route, method).is_taken() {
+    if !CallKind::of(route, method).is_taken() {
         return Err(HttpRefusal::BadMethod);
     }
-    finish(alloc, method, route, size, asked)
-}
-
-// The request, where its body is whole.
-#[tactic(auto, unfolding(crate::specs::Judged::judged_body))]
-fn finish(
-    alloc: Global,
-    method: Verb,
-    route: Route,
-    size: u64,
-    asked: Asked<'_>,
-) -> Result<Request, HttpRefusal>
-    requires whole { is_whole route ≡ true }
-    requires allowed { takes route method ≡ true }
-    requires fits { asked.head + length asked.rest.now < 2 ^ 64 }
-    ensures { Gives (judged_body method route size (as_asked asked.entry)) result }
-{
     if size > MAX_BODY {
         return Err(HttpRefusal::BodyTooLarge);
     }
     if (asked.rest.len() as u64) < size {
         return Err(HttpRefusal::CutShort);
     }
+    Ok(method)
+}
+
+// The raw query, the body, the pairs of the query, and the key.
+fn owned_parts(
+    alloc: Global,
+    asked: &Asked<'_>,
+    size: usize,
+) -> Result<(Str, Bytes, Pairs, Option<Str>), NoMemory>
+    requires { size ≤ length asked.now.rest.now }
+    ensures { IfOk result (λ r. r ≡ (
+      query_of asked.now.target.now,
+      take size asked.now.rest.now,
+      pairs_of (query_of asked.now.target.now),
+      last_named (codes "x-whisk-key") asked.now.fields,
+    )) }
+{
     let query = query_of(asked.target);
+    let raw_query = Str::of(alloc, query)?;
+    let body = bytes_of(alloc, &asked.rest[..size])?;
+    let pairs = read_pairs(alloc, query.as_bytes())?;
     let key = key_of(alloc, asked.fields.as_slice())?;
-    let close = closes(asked.minor, asked.fields.as_slice());
-    Ok(Request {
-        route,
-        method,
-        key,
-        query: read_pairs(alloc, query.as_bytes())?,
-        raw_query: Str::of(alloc, query)?,
-        headers: asked.fields,
-        body: bytes_of(alloc, &asked.rest[..size as usize])?,
-        size: asked.head as u64 + size,
-        close,
-    })
+    Ok((raw_query, body, pairs, key))
 }
 
 fn key_of(alloc: Global, fields: &[(Str, Str)]) -> Result<Option<Str>, NoMemory>

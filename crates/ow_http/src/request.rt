@@ -6,6 +6,7 @@ ghost use Rattle.ow_http.specs.Route.{is_whole};
 use crate::call_kind::CallKind;
 use crate::route::Route;
 use crate::verb::Verb;
+use ow_several::{copied3, kept_beside};
 use ow_value::{Bytes, NoMemory, Pairs, PlainData, Str};
 use std::alloc::Global;
 
@@ -64,14 +65,18 @@ impl Request {
     fn made_of_parts(&self, alloc: Global) -> Result<Request, NoMemory>
         ensures { IfOk result (λ r. parts_of r ≡ parts_of self.now) }
     {
+        let ((route, key, query), (raw_query, headers, body)) = kept_beside(
+            copied3(alloc, &self.route, &self.key, &self.query)?,
+            copied3(alloc, &self.raw_query, &self.headers, &self.body),
+        )?;
         Ok(Request {
-            route: self.route.copy(alloc)?,
+            route,
             method: self.method,
-            key: self.key.copy(alloc)?,
-            query: self.query.copy(alloc)?,
-            raw_query: self.raw_query.copy(alloc)?,
-            headers: self.headers.copy(alloc)?,
-            body: self.body.copy(alloc)?,
+            key,
+            query,
+            raw_query,
+            headers,
+            body,
             size: self.size,
             close: self.close,
         })

@@ -1,6 +1,7 @@
 // Paths with their parts.
 
 use ow_entity::EntityKind;
+use ow_several::{copied2, copied3, copied4};
 use ow_value::{Bytes, NoMemory, PlainData, Str};
 use std::alloc::Global;
 
@@ -135,12 +136,15 @@ impl PlainData for Route {
                 kind,
                 package,
                 name,
-            } => Route::Entity {
-                namespace: namespace.copy(alloc)?,
-                kind: *kind,
-                package: package.copy(alloc)?,
-                name: name.copy(alloc)?,
-            },
+            } => {
+                let (namespace, package, name) = copied3(alloc, namespace, package, name)?;
+                Route::Entity {
+                    namespace,
+                    kind: *kind,
+                    package,
+                    name,
+                }
+            }
             Route::Activations { namespace } => Route::Activations {
                 namespace: namespace.copy(alloc)?,
             },
@@ -148,22 +152,30 @@ impl PlainData for Route {
                 namespace,
                 id,
                 part,
-            } => Route::Activation {
-                namespace: namespace.copy(alloc)?,
-                id: id.copy(alloc)?,
-                part: *part,
-            },
+            } => {
+                let (namespace, id) = copied2(alloc, namespace, id)?;
+                Route::Activation {
+                    namespace,
+                    id,
+                    part: *part,
+                }
+            }
             Route::Web {
                 namespace,
                 package,
                 name,
                 rest,
-            } => Route::Web {
-                namespace: namespace.copy(alloc)?,
-                package: package.copy(alloc)?,
-                name: name.copy(alloc)?,
-                rest: rest.copy(alloc)?,
-            },
+            } => {
+                let (namespace, package, name, rest) = copied4(
+                    alloc, namespace, package, name, rest,
+                )?;
+                Route::Web {
+                    namespace,
+                    package,
+                    name,
+                    rest,
+                }
+            }
         })
     }
 }

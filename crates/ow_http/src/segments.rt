@@ -11,6 +11,7 @@ ghost use Rattle.ow_http.specs.Segment.{after_slashes, part_at};
 use crate::place::Place;
 use crate::route::Route;
 use ow_entity::EntityKind;
+use ow_several::kept_beside;
 use ow_value::{Bytes, NoMemory, Str};
 use std::alloc::Global;
 
@@ -26,26 +27,35 @@ pub(crate) fn route_at(alloc: Global, place: Place, path: &str) -> Result<Route,
             namespace: part_at(alloc, path, 4)?,
             kind,
         }),
-        Place::Entity(kind) => Ok(Route::Entity {
-            namespace: part_at(alloc, path, 4)?,
-            kind,
-            package: None,
-            name: part_at(alloc, path, 6)?,
-        }),
-        Place::Packaged => Ok(Route::Entity {
-            namespace: part_at(alloc, path, 4)?,
-            kind: EntityKind::Action,
-            package: Some(part_at(alloc, path, 6)?),
-            name: part_at(alloc, path, 7)?,
-        }),
+        Place::Entity(kind) => {
+            let (namespace, name) = two_parts_at(alloc, path, 4, 6)?;
+            Ok(Route::Entity {
+                namespace,
+                kind,
+                package: None,
+                name,
+            })
+        }
+        Place::Packaged => {
+            let ((namespace, package), name) = three_parts_at(alloc, path, 4, 6, 7)?;
+            Ok(Route::Entity {
+                namespace,
+                kind: EntityKind::Action,
+                package: Some(package),
+                name,
+            })
+        }
         Place::Activations => Ok(Route::Activations {
             namespace: part_at(alloc, path, 4)?,
         }),
-        Place::Activation(part) => Ok(Route::Activation {
-            namespace: part_at(alloc, path, 4)?,
-            id: part_at(alloc, path, 6)?,
-            part,
-        }),
+        Place::Activation(part) => {
+            let (namespace, id) = two_parts_at(alloc, path, 4, 6)?;
+            Ok(Route::Activation {
+                namespace,
+                id,
+                part,
+            })
+        }
         Place::Web => web_route(alloc, path, Str::empty()),
         Place::WebRest => web_route(alloc, path, decoded_text(alloc, after_slashes(path, 7))?),
     }
@@ -54,12 +64,31 @@ pub(crate) fn route_at(alloc: Global, place: Place, path: &str) -> Result<Route,
 fn web_route(alloc: Global, path: &[u8], rest: Str) -> Result<Route, NoMemory>
     ensures { IfOk result (λ r. r ≡ web_route path.now rest) }
 {
+    let ((namespace, package), name) = three_parts_at(alloc, path, 4, 5, 6)?;
     Ok(Route::Web {
-        namespace: part_at(alloc, path, 4)?,
-        package: part_at(alloc, path, 5)?,
-        name: part_at(alloc, path, 6)?,
+        namespace,
+        package,
+        name,
         rest,
     })
+}
+
+fn two_parts_at(alloc: Global, path: &[u8], n: u8, m: u8) -> Result<(Bytes, Bytes), NoMemory>
+    ensures { IfOk result (λ r. r ≡ (part_at n path.now, part_at m path.now)) }
+{
+    kept_beside(part_at(alloc, path, n)?, part_at(alloc, path, m))
+}
+
+fn three_parts_at(
+    alloc: Global,
+    path: &[u8],
+    n: u8,
+    m: u8,
+    k: u8,
+) -> Result<((Bytes, Bytes), Bytes), NoMemory>
+    ensures { IfOk result (λ r. r ≡ ((part_at n path.now, part_at m path.now), part_at k path.now)) }
+{
+    kept_beside(two_parts_at(alloc, path, n, m)?, part_at(alloc, path, k))
 }
 
 #[tactic(auto, unfolding(crate::specs::Segment::part_at))]

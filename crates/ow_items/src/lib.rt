@@ -14,4 +14,4 @@ mod writing;
 pub use item::Item;
 pub use laws::{bytes_change, changes_are_kept, entry_changes, section_changes};
 pub use rows::{count_row, done_row, entity_row, open_row, row_text, version_row};
-pub use writing::{count_key, done_key, entity_key, open_key, write_open};
+pub use writing::{count_key, done_key, entity_key, open_key};

@@ -8,3 +8,4 @@ pub mod Exact
 pub mod Splits
 pub mod MomentLaws
 pub mod BuiltinLaws
+pub mod Opens

@@ -10,7 +10,7 @@ ghost use Rattle.ow_items.specs.declared.item.Item.TheVariants as items;
 ghost use Rattle.ow_keep.specs.Allowed.{are_durations, has_record, is_allowed, is_binding, is_called, is_cause, is_confirmed, is_drawn, is_duration, is_entity, is_moment, is_reached, is_row_of, stands_alone};
 
 use ow_entity::{Package, Row, write_entity};
-use ow_items::{Item, count_key, count_row, done_key, entity_key, open_key, write_open};
+use ow_items::{Item, count_key, count_row, done_key, entity_key, open_row};
 use ow_names::{EntityName, FullName};
 use ow_records::{Id, Notes, Record, Unrecorded, write_record};
 use ow_tables::is_builtin;
@@ -77,13 +77,12 @@ fn is_entity_row(alloc: Global, row: &(Str, Str), entity: &Row) -> Result<bool, 
     is_row(alloc, row, &key, &value, MOST_NESTED)
 }
 
-#[tactic(auto, unfolding(ow_items::specs::Item::item_text))]
+#[tactic(auto, using(crate::proofs::Opens::open_rows))]
 fn is_open_row(alloc: Global, row: &(Str, Str), activation: &Unrecorded) -> Result<bool, NoMemory>
     ensures { IfOk result (λ b. b ≡ is_row_of (items.Open activation.now) row.now) }
 {
-    let key = open_key(alloc, activation.id)?;
-    let value = write_open(alloc, activation)?;
-    is_row(alloc, row, &key, &value, MOST_NESTED)
+    let (key, text) = open_row(alloc, activation)?;
+    Ok(key.as_str() == row.0.as_str() && text.as_str() == row.1.as_str())
 }
 
 #[tactic(auto, unfolding(ow_items::specs::Item::item_text))]

@@ -27,20 +27,14 @@ use Rattle.ow_records.specs.declared.outcomes.Ending.TheVariants.{Replied, Overr
 use Rattle.ow_records.specs.declared.record.Record.{Record}
 use Rattle.ow_records.specs.declared.unrecorded.Unrecorded.{Unrecorded}
 use Rattle.ow_floor.specs.Trace.{End, record_of}
-use Rattle.ow_items.specs.Item.{open_members}
 use Rattle.ow_items.specs.declared.item.Item.TheVariants as items
 use Rattle.ow_keep.specs.Allowed.{is_shallow}
+use Rattle.ow_keep.proofs.Opens.{opens_shallow as shallow_open}
 
 -- ---- of activations that have not ended
 
-open_by : (b : Option FullName) (c : Option Id) (u : Unrecorded) → nat_le (depth (object (members_of (open_members b c u)))) most_nested ≡ true
-open_by None None u = refl
-open_by None (Some c) u = refl
-open_by (Some b) None u = refl
-open_by (Some b) (Some c) u = refl
-
 pub opens_shallow : (u : Unrecorded) → is_shallow (items.Open u) ≡ true
-opens_shallow u = open_by u.binding u.cause u
+opens_shallow u = shallow_open u
 
 -- ---- of notes and lines
 

@@ -114,6 +114,14 @@ fn start(
 }
 
 /// The key of a version of guest's action, which the namespace runs.
+/// The value, in a box, which a way out lets go of by one call.
+pub(crate) fn boxed<T: Drop>(alloc: Global, value: T) -> Result<Box<T>, Fail> {
+    match Box::new(alloc, value) {
+        Ok(held) => Ok(held),
+        Err(_) => Err("no memory")?,
+    }
+}
+
 pub(crate) fn key_of(
     alloc: Global,
     namespace: &str,

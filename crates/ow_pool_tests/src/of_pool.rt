@@ -1,5 +1,5 @@
 // Where runs go.
-use crate::events::{Event, happen, key_of};
+use crate::events::{Event, boxed, happen, key_of};
 use ow_pool::{Head, Place, Removal, Unplaced, can_place, place};
 use ow_slots::{Slots, Start};
 use ow_traits::{Kind, Prewarm};
@@ -154,6 +154,19 @@ fn answer(
     Ok(shown(alloc, &place(slots, head, wants, pool))?)
 }
 
+// The same of three slots, behind these events.
+fn next_after(
+    alloc: Global,
+    events: &[Event],
+    step: u64,
+    waits: Waits,
+    wants: &[Prewarm],
+    pool: u32,
+) -> Result<String, Fail> {
+    let slots = after(alloc, 3, events, step)?;
+    next(alloc, &slots, waits, wants, pool)
+}
+
 fn head_of(
     alloc: Global,
     namespace: &str,
@@ -162,10 +175,7 @@ fn head_of(
     memory: u32,
 ) -> Result<Box<Head>, Fail> {
     let key = key_of(alloc, namespace, action, version, memory)?;
-    match Box::new(alloc, Head { key }) {
-        Ok(head) => Ok(head),
-        Err(_) => Err("no memory")?,
-    }
+    boxed(alloc, Head { key })
 }
 
 #[test]
@@ -187,8 +197,7 @@ fn where_runs_go(rt: HostRuntime) -> Result<(), Fail> {
         (11, READY, ("guest", 'a', 1, 128), 512, "remove 1"),
         (12, READY, ("guest", 'a', 1, 512), 512, "remove 1 0"),
     ] {
-        let slots = after(alloc, 3, events, 1)?;
-        let text = next(alloc, &slots, Some(waits), ONE, pool)?;
+        let text = next_after(alloc, events, 1, Some(waits), ONE, pool)?;
         assert_eq!(rt; text.as_str(), want, "in row {row}");
     }
     Ok(())
@@ -204,8 +213,8 @@ fn ties_go_to_the_lowest(rt: HostRuntime) -> Result<(), Fail> {
         (BOTH_OF_A, 'c', "remove 0"),
         (USED_AGAIN, 'c', "remove 0"),
     ] {
-        let slots = after(alloc, 3, events, 0)?;
-        let text = next(alloc, &slots, Some(("guest", action, 1, 256)), NONE, 512)?;
+        let waits = Some(("guest", action, 1, 256));
+        let text = next_after(alloc, events, 0, waits, NONE, 512)?;
         assert_eq!(rt; text.as_str(), want);
     }
     Ok(())
@@ -224,8 +233,7 @@ fn what_is_started_ahead(rt: HostRuntime) -> Result<(), Fail> {
         (7, READY, TWO, 768, "prewarm 2 plain 256"),
         (8, READY, TWO, 512, "empty"),
     ] {
-        let slots = after(alloc, 3, events, 1)?;
-        let text = next(alloc, &slots, None, wants, pool)?;
+        let text = next_after(alloc, events, 1, None, wants, pool)?;
         assert_eq!(rt; text.as_str(), want, "in row {row}");
     }
     Ok(())

@@ -1,5 +1,5 @@
 // What happens to slots.
-use crate::events::{Event, happen, key_of, shown};
+use crate::events::{Event, boxed, happen, key_of, shown};
 use ow_slots::{Key, SlotRefusal, Slots};
 use ow_value::PlainData;
 use std::alloc::Global;
@@ -43,8 +43,9 @@ fn what_happens_to_a_run(rt: HostRuntime) -> Result<(), Fail> {
         (19, Event::Lost(4), Ok(None), "3 closing 512"),
         (20, Event::Gone(0, 3), Ok(None), "3 vacant"),
     ] {
-        assert_eq!(rt; happen(alloc, &mut slots, at, event)?, answer, "at {at}");
-        assert_eq!(rt; shown_at(alloc, &slots, 0)?.as_str(), state, "at {at}");
+        let (told, text) = told_at(alloc, &mut slots, at, event, 0)?;
+        assert_eq!(rt; told, answer, "at {at}");
+        assert_eq!(rt; text.as_str(), state, "at {at}");
     }
     Ok(())
 }
@@ -70,10 +71,24 @@ fn what_happens_to_a_prewarmed_container(rt: HostRuntime) -> Result<(), Fail> {
         (14, Event::Begun(7), Ok(None), "3 prewarmed 256"),
         (15, Event::Removed(1), Ok(None), "3 closing 256"),
     ] {
-        assert_eq!(rt; happen(alloc, &mut slots, at, event)?, answer, "at {at}");
-        assert_eq!(rt; shown_at(alloc, &slots, 1)?.as_str(), state, "at {at}");
+        let (told, text) = told_at(alloc, &mut slots, at, event, 1)?;
+        assert_eq!(rt; told, answer, "at {at}");
+        assert_eq!(rt; text.as_str(), state, "at {at}");
     }
     Ok(())
+}
+
+// The answer to what happens at the moment, and what a slot is then.
+fn told_at(
+    alloc: Global,
+    slots: &mut Slots,
+    at: u64,
+    event: Event,
+    slot: u32,
+) -> Result<(Result<Option<u64>, SlotRefusal>, String), Fail> {
+    let told = happen(alloc, slots, at, event)?;
+    let text = shown_at(alloc, slots, slot)?;
+    Ok((told, text))
 }
 
 fn no_slot(slot: u32, generation: u32) -> Result<Option<u64>, SlotRefusal> {
@@ -141,8 +156,6 @@ fn boxed_key(
     version: u32,
     memory: u32,
 ) -> Result<Box<Key>, Fail> {
-    match Box::new(alloc, key_of(alloc, namespace, action, version, memory)?) {
-        Ok(key) => Ok(key),
-        Err(_) => Err("no memory")?,
-    }
+    let key = key_of(alloc, namespace, action, version, memory)?;
+    boxed(alloc, key)
 }

@@ -3,6 +3,7 @@ ghost use Rattle.std.specs.Prelude.{◌≡◌, IfOk};
 ghost use Rattle.ow_records.specs.Unrecorded.{abandoned_notes, abandoned_record};
 
 use crate::{Ending, Notes, Record, Span, Unrecorded, outcome};
+use ow_several::{copied3, joined3};
 use ow_value::{Lines, NoMemory, PlainData};
 use std::alloc::Global;
 
@@ -11,11 +12,11 @@ use std::alloc::Global;
 pub fn abandoned(alloc: Global, activation: &Unrecorded, at: u64) -> Result<Record, NoMemory>
     ensures { IfOk result (λ r. r ≡ abandoned_record activation.now at) }
 {
-    let name = activation.path.name.copy(alloc)?;
-    let namespace = activation.namespace.copy(alloc)?;
-    let subject = activation.subject.copy(alloc)?;
-    let notes = abandoned_notes(alloc, activation)?;
-    let response = outcome(alloc, &Ending::Abandoned, &activation.limits)?;
+    let (name, namespace) = (&activation.path.name, &activation.namespace);
+    let texts = copied3(alloc, name, namespace, &activation.subject);
+    let notes = abandoned_notes(alloc, activation);
+    let response = outcome(alloc, &Ending::Abandoned, &activation.limits);
+    let ((name, namespace, subject), notes, response) = joined3(texts, notes, response)?;
     Ok(Record {
         id: activation.id,
         name,

@@ -4,6 +4,7 @@ ghost use Rattle.std.specs.Prelude.{◌≡◌, ◌↔◌, IsTrue, IfOk};
 use crate::Id;
 use ow_entity::Action;
 use ow_names::{EntityName, FullName};
+use ow_several::copied5;
 use ow_value::{NoMemory, Params, PlainData, Shared, Str};
 use std::alloc::Global;
 
@@ -44,11 +45,14 @@ impl PlainData for Activation {
     }
 
     fn copy(&self, alloc: Global) -> Result<Activation, NoMemory> {
-        let namespace = self.namespace.copy(alloc)?;
-        let action = self.action.copy(alloc)?;
-        let binding = self.binding.copy(alloc)?;
-        let params = self.params.copy(alloc)?;
-        let subject = self.subject.copy(alloc)?;
+        let (namespace, action, binding, params, subject) = copied5(
+            alloc,
+            &self.namespace,
+            &self.action,
+            &self.binding,
+            &self.params,
+            &self.subject,
+        )?;
         Ok(Activation {
             id: self.id,
             at: self.at,

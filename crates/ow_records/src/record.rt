@@ -1,10 +1,14 @@
 // Records of activations that have ended.
 ghost use Rattle.std.specs.Prelude.{◌≡◌, ◌↔◌, IsTrue, IfOk};
+ghost use Rattle.ow_records.specs.Logs.{kept_lines, lines_of};
+ghost use Rattle.ow_records.specs.Outcome.{outcome};
 ghost use Rattle.ow_records.specs.Record.{init_of, notes_of, record_of, start_of, wait_of};
 
 use crate::logs::logs_of;
 use crate::{Activation, Ending, ExecKind, Id, Notes, Response, Span, outcome_in};
+use ow_entity::Limits;
 use ow_names::EntityName;
+use ow_several::{copied3, joined2, joined3};
 use ow_value::{Lines, NoMemory, PlainData, Scratch, Str};
 use std::alloc::Global;
 
@@ -48,12 +52,10 @@ pub fn record_of(
 {
     let action = task.action.get();
     let start = start_of(task.at, ending, started);
-    let name = action.name.name.copy(alloc)?;
-    let namespace = task.namespace.copy(alloc)?;
-    let subject = task.subject.copy(alloc)?;
-    let notes = notes_of(alloc, task, ending, start, begun)?;
-    let logs = logs_of(alloc, ending, action.limits.logs.get())?;
-    let response = outcome_in(alloc, scratch, ending, &action.limits)?;
+    let texts = copied3(alloc, &action.name.name, &task.namespace, &task.subject);
+    let told = told_of(alloc, scratch, ending, &action.limits);
+    let notes = notes_of(alloc, task, ending, start, begun);
+    let ((name, namespace, subject), notes, (logs, response)) = joined3(texts, notes, told)?;
     Ok(Record {
         id: task.id,
         name,
@@ -66,6 +68,20 @@ pub fn record_of(
         logs,
         response,
     })
+}
+
+// The logs and the response.
+fn told_of(
+    alloc: Global,
+    scratch: &mut Scratch,
+    ending: &Ending,
+    limits: &Limits,
+) -> Result<(Lines, Response), NoMemory>
+    ensures { IfOk result (λ t. t ≡ (kept_lines limits.now.logs (lines_of ending.now), outcome ending.now limits.now)) }
+{
+    let logs = logs_of(alloc, ending, limits.logs.get());
+    let response = outcome_in(alloc, scratch, ending, limits);
+    joined2(logs, response)
 }
 
 fn start_of(accepted: u64, ending: &Ending, started: Option<u64>) -> u64
@@ -134,12 +150,9 @@ impl PlainData for Record {
     }
 
     fn copy(&self, alloc: Global) -> Result<Record, NoMemory> {
-        let name = self.name.copy(alloc)?;
-        let namespace = self.namespace.copy(alloc)?;
-        let subject = self.subject.copy(alloc)?;
-        let notes = self.notes.copy(alloc)?;
-        let logs = self.logs.copy(alloc)?;
-        let response = self.response.copy(alloc)?;
+        let texts = copied3(alloc, &self.name, &self.namespace, &self.subject);
+        let told = copied3(alloc, &self.notes, &self.logs, &self.response);
+        let ((name, namespace, subject), (notes, logs, response)) = joined2(texts, told)?;
         Ok(Record {
             id: self.id,
             name,

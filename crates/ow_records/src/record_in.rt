@@ -3,7 +3,7 @@ ghost use Rattle.std.specs.Prelude.{◌≡◌, ◌≢◌, codes, Some, None, IfO
 ghost use Rattle.ow_value.specs.Value.{members_of, object};
 ghost use Rattle.ow_value.specs.Field.{field};
 ghost use Rattle.ow_value.specs.View.{view};
-ghost use Rattle.ow_records.specs.RecordIn.{as_response, confirmed, head_in, joined, record_from, record_in, record_with, span_in, texts_in, told_in};
+ghost use Rattle.ow_records.specs.RecordIn.{as_response, confirmed, head_in, joined, record_from, record_in, record_with, span_in, texts_in, texts_with, told_in, told_with};
 ghost use Rattle.ow_records.specs.SameValue.{same_value};
 ghost use Rattle.ow_records.specs.Written.{record_value};
 
@@ -11,6 +11,7 @@ use crate::fields_in::{cause_in, id_in, lines_in, name_in, number_in, text_in, v
 use crate::notes_in::notes_in;
 use crate::{Id, Notes, Record, RecordRefusal, Response, Span, write_record};
 use ow_names::EntityName;
+use ow_several::{joined2, joined3};
 use ow_value::{Lines, NoMemory, Params, PlainData, Str, Val};
 use std::alloc::Global;
 
@@ -54,11 +55,9 @@ fn confirmed(alloc: Global, found: Record, value: &Val) -> Result<Record, Record
     ensures { MatchResult result (λ r. confirmed (view value.now) found ≡ Some r)
         (λ e. e ≢ RecordRefusal.NoMemory → (e ≡ RecordRefusal.BadRecord) × (confirmed (view value.now) found ≡ None)) }
 {
-    match is_written(alloc, &found, value) {
-        Ok(true) => Ok(found),
-        Ok(false) => Err(RecordRefusal::BadRecord),
-        Err(NoMemory) => Err(RecordRefusal::NoMemory),
-    }
+    let fits = is_written(alloc, &found, value);
+    let (found, fits) = joined2(Ok(found), fits)?;
+    fits.then_some(found).ok_or(RecordRefusal::BadRecord)
 }
 
 fn is_written(alloc: Global, found: &Record, value: &Val) -> Result<bool, NoMemory>
@@ -84,9 +83,8 @@ pub fn read_fields(alloc: Global, value: &Val) -> Result<Option<Record>, NoMemor
 fn record_with(head: Option<Head>, texts: Option<Texts>, told: Option<Told>) -> Option<Record>
     ensures { result ≡ record_with head texts told }
 {
-    let head = head?;
-    let texts = texts?;
-    Some(joined(head, texts, told?))
+    let (head, (texts, told)) = head.zip(texts.zip(told))?;
+    Some(joined(head, texts, told))
 }
 
 fn joined(head: Head, texts: Texts, told: Told) -> Record
@@ -124,40 +122,51 @@ fn head_in(fields: &Params) -> Option<Head>
 fn texts_in(alloc: Global, fields: &Params) -> Result<Option<Texts>, NoMemory>
     ensures { IfOk result (λ t. t ≡ texts_in (object (members_of fields.now))) }
 {
-    let Some(name) = name_in(alloc, fields, "name")? else {
-        return Ok(None);
-    };
-    let Some(namespace) = name_in(alloc, fields, "namespace")? else {
-        return Ok(None);
-    };
     let Some(subject) = text_in(fields, "subject") else {
         return Ok(None);
     };
-    let subject = subject.copy(alloc)?;
-    Ok(Some(Texts {
+    let name = name_in(alloc, fields, "name");
+    let namespace = name_in(alloc, fields, "namespace");
+    let (name, namespace, subject) = joined3(name, namespace, subject.copy(alloc))?;
+    Ok(texts_with(name, namespace, Some(subject)))
+}
+
+// All three texts, if each is there.
+fn texts_with(
+    name: Option<EntityName>,
+    namespace: Option<EntityName>,
+    subject: Option<Str>,
+) -> Option<Texts>
+    ensures { result ≡ texts_with name namespace subject }
+{
+    let (name, (namespace, subject)) = name.zip(namespace.zip(subject))?;
+    Some(Texts {
         name,
         namespace,
         subject,
-    }))
+    })
 }
 
 fn told_in(alloc: Global, fields: &Params) -> Result<Option<Told>, NoMemory>
     ensures { IfOk result (λ t. t ≡ told_in (object (members_of fields.now))) }
 {
-    let Some(notes) = notes_in(alloc, fields, "annotations")? else {
-        return Ok(None);
-    };
-    let Some(logs) = lines_in(alloc, fields, "logs")? else {
-        return Ok(None);
-    };
-    match response_in(alloc, fields)? {
-        Some(response) => Ok(Some(Told {
-            notes,
-            logs,
-            response,
-        })),
-        None => Ok(None),
-    }
+    let notes = notes_in(alloc, fields, "annotations");
+    let logs = lines_in(alloc, fields, "logs");
+    let response = response_in(alloc, fields);
+    let (notes, logs, response) = joined3(notes, logs, response)?;
+    Ok(told_with(notes, logs, response))
+}
+
+// All three parts, if each is there.
+fn told_with(notes: Option<Notes>, logs: Option<Lines>, response: Option<Response>) -> Option<Told>
+    ensures { result ≡ told_with notes logs response }
+{
+    let (notes, (logs, response)) = notes.zip(logs.zip(response))?;
+    Some(Told {
+        notes,
+        logs,
+        response,
+    })
 }
 
 fn span_in(fields: &Params) -> Option<Span>

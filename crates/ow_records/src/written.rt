@@ -1,11 +1,11 @@
 // Records as clients see them.
-ghost use Rattle.std.specs.Prelude.{◌≡◌, None, pos, map, IfOk, OnOk};
+ghost use Rattle.std.specs.Prelude.{◌≡◌, [], None, codes, pos, map, IfOk, OnOk};
 ghost use Rattle.ow_value.specs.Find.{with_pair};
-ghost use Rattle.ow_value.specs.Value.{text, whole};
+ghost use Rattle.ow_value.specs.Value.{members_of, object, text, whole};
 ghost use Rattle.ow_value.specs.View.{view};
 ghost use Rattle.ow_entity.specs.Written.{shown_version};
 ghost use Rattle.ow_records.specs.Id.{id_text};
-ghost use Rattle.ow_records.specs.Written.{logs_value, record_members, record_value, response_value, status_text, summary_value};
+ghost use Rattle.ow_records.specs.Written.{lines_value, logs_value, record_members, record_value, response_value, status_text, summary_value};
 
 use crate::written_notes::notes_value;
 use crate::{Id, Record, Response};
@@ -16,9 +16,10 @@ use std::alloc::Global;
 pub fn write_record(alloc: Global, ended: &Record) -> Result<Val, NoMemory>
     ensures { IfOk result (λ v. view v ≡ record_value ended.now) }
 {
-    let mut fields = record_members(alloc, ended)?;
+    let mut fields = Fields::new(alloc);
+    put_record(alloc, &mut fields, ended)?;
     if let Some(cause) = ended.cause {
-        put(alloc, &mut fields, "cause", id_value(alloc, cause)?)?;
+        put_id(alloc, &mut fields, "cause", cause)?;
     }
     Ok(Val::Object(fields.into_params()?))
 }
@@ -27,18 +28,8 @@ pub fn write_record(alloc: Global, ended: &Record) -> Result<Val, NoMemory>
 pub fn write_response(alloc: Global, response: &Response) -> Result<Val, NoMemory>
     ensures { IfOk result (λ v. view v ≡ response_value response.now) }
 {
-    let code = response.code();
     let mut fields = Fields::new(alloc);
-    let shown = response.result().copy(alloc)?;
-    put(alloc, &mut fields, "result", Val::Object(shown))?;
-    put(
-        alloc,
-        &mut fields,
-        "status",
-        text(alloc, status_text(code))?,
-    )?;
-    put(alloc, &mut fields, "statusCode", number(code as u64))?;
-    put(alloc, &mut fields, "success", Val::Bool(code == 0))?;
+    put_response(alloc, &mut fields, response)?;
     Ok(Val::Object(fields.into_params()?))
 }
 
@@ -47,8 +38,7 @@ pub fn write_logs(alloc: Global, ended: &Record) -> Result<Val, NoMemory>
     ensures { IfOk result (λ v. view v ≡ logs_value ended.now) }
 {
     let mut fields = Fields::new(alloc);
-    let lines = texts(alloc, &ended.logs)?;
-    put(alloc, &mut fields, "logs", Val::List(lines))?;
+    put_logs(alloc, &mut fields, &ended.logs)?;
     Ok(Val::Object(fields.into_params()?))
 }
 
@@ -57,57 +47,57 @@ pub fn write_summary(alloc: Global, ended: &Record) -> Result<Val, NoMemory>
     ensures { IfOk result (λ v. view v ≡ summary_value ended.now) }
 {
     let mut fields = Fields::new(alloc);
-    put(
-        alloc,
-        &mut fields,
-        "activationId",
-        id_value(alloc, ended.id)?,
-    )?;
-    put(
-        alloc,
-        &mut fields,
-        "duration",
-        number(ended.span.duration()),
-    )?;
-    put(alloc, &mut fields, "end", number(ended.span.end()))?;
-    let name = text(alloc, ended.name.as_str())?;
-    put(alloc, &mut fields, "name", name)?;
-    let namespace = text(alloc, ended.namespace.as_str())?;
-    put(alloc, &mut fields, "namespace", namespace)?;
-    put(alloc, &mut fields, "start", number(ended.span.start()))?;
-    let code = number(ended.response.code() as u64);
-    put(alloc, &mut fields, "statusCode", code)?;
-    let version = version_value(alloc, ended.version)?;
-    put(alloc, &mut fields, "version", version)?;
+    put_summary(alloc, &mut fields, ended)?;
     Ok(Val::Object(fields.into_params()?))
 }
 
-// The members of the record, but for its cause.
-fn record_members(alloc: Global, ended: &Record) -> Result<Fields, NoMemory>
-    ensures { IfOk result (λ ps. ps ≡ record_members None ended.now) }
+// Puts the members of the record, but for its cause, where none are.
+fn put_record(alloc: Global, fields: &mut Fields, ended: &Record) -> Result<(), NoMemory>
+    requires { fields.old ≡ [] }
+    ensures { OnOk result (fields.new ≡ record_members None ended.now) }
 {
-    let mut fields = Fields::new(alloc);
-    let id = id_value(alloc, ended.id)?;
-    put(alloc, &mut fields, "activationId", id)?;
+    put_id(alloc, fields, "activationId", ended.id)?;
     let notes = notes_value(alloc, &ended.notes)?;
-    put(alloc, &mut fields, "annotations", notes)?;
-    let duration = number(ended.span.duration());
-    put(alloc, &mut fields, "duration", duration)?;
-    put(alloc, &mut fields, "end", number(ended.span.end()))?;
-    let lines = texts(alloc, &ended.logs)?;
-    put(alloc, &mut fields, "logs", Val::List(lines))?;
-    let name = text(alloc, ended.name.as_str())?;
-    put(alloc, &mut fields, "name", name)?;
-    let namespace = text(alloc, ended.namespace.as_str())?;
-    put(alloc, &mut fields, "namespace", namespace)?;
+    put(alloc, fields, "annotations", notes)?;
+    put(alloc, fields, "duration", number(ended.span.duration()))?;
+    put(alloc, fields, "end", number(ended.span.end()))?;
+    put_logs(alloc, fields, &ended.logs)?;
+    put_text(alloc, fields, "name", ended.name.as_str())?;
+    put_text(alloc, fields, "namespace", ended.namespace.as_str())?;
     let response = write_response(alloc, &ended.response)?;
-    put(alloc, &mut fields, "response", response)?;
-    put(alloc, &mut fields, "start", number(ended.span.start()))?;
-    let subject = text(alloc, ended.subject.as_str())?;
-    put(alloc, &mut fields, "subject", subject)?;
-    let version = version_value(alloc, ended.version)?;
-    put(alloc, &mut fields, "version", version)?;
-    Ok(fields)
+    put(alloc, fields, "response", response)?;
+    put(alloc, fields, "start", number(ended.span.start()))?;
+    put_text(alloc, fields, "subject", ended.subject.as_str())?;
+    put_version(alloc, fields, ended.version)
+}
+
+// Puts what lists show of the record, where nothing is.
+fn put_summary(alloc: Global, fields: &mut Fields, ended: &Record) -> Result<(), NoMemory>
+    requires { fields.old ≡ [] }
+    ensures { OnOk result (object (members_of fields.new) ≡ summary_value ended.now) }
+{
+    put_id(alloc, fields, "activationId", ended.id)?;
+    put(alloc, fields, "duration", number(ended.span.duration()))?;
+    put(alloc, fields, "end", number(ended.span.end()))?;
+    put_text(alloc, fields, "name", ended.name.as_str())?;
+    put_text(alloc, fields, "namespace", ended.namespace.as_str())?;
+    put(alloc, fields, "start", number(ended.span.start()))?;
+    let code = number(ended.response.code() as u64);
+    put(alloc, fields, "statusCode", code)?;
+    put_version(alloc, fields, ended.version)
+}
+
+// Puts the parts of the response, where none are.
+fn put_response(alloc: Global, fields: &mut Fields, response: &Response) -> Result<(), NoMemory>
+    requires { fields.old ≡ [] }
+    ensures { OnOk result (object (members_of fields.new) ≡ response_value response.now) }
+{
+    let code = response.code();
+    let shown = response.result().copy(alloc)?;
+    put(alloc, fields, "result", Val::Object(shown))?;
+    put_text(alloc, fields, "status", status_text(code))?;
+    put(alloc, fields, "statusCode", number(code as u64))?;
+    put(alloc, fields, "success", Val::Bool(code == 0))
 }
 
 /// What a code of a response is called.
@@ -132,17 +122,27 @@ fn texts(alloc: Global, lines: &Lines) -> Result<Vals, NoMemory>
     Vals::from_vec(values)
 }
 
-fn id_value(alloc: Global, id: Id) -> Result<Val, NoMemory>
-    ensures { IfOk result (λ v. view v ≡ text (id_text id)) }
+// Puts the lines as `logs`.
+fn put_logs(alloc: Global, fields: &mut Fields, lines: &Lines) -> Result<(), NoMemory>
+    ensures { OnOk result (fields.new ≡ with_pair fields.old (codes "logs") (lines_value lines.now)) }
 {
-    Ok(Val::Text(id.text(alloc)?))
+    put(alloc, fields, "logs", Val::List(texts(alloc, lines)?))
 }
 
-fn version_value(alloc: Global, version: u32) -> Result<Val, NoMemory>
-    ensures { IfOk result (λ v. view v ≡ text (shown_version version)) }
+// Puts the text of the id.
+fn put_id(alloc: Global, fields: &mut Fields, name: &str, id: Id) -> Result<(), NoMemory>
+    ensures { OnOk result (fields.new ≡ with_pair fields.old name.now (text (id_text id))) }
+{
+    put(alloc, fields, name, Val::Text(id.text(alloc)?))
+}
+
+// Puts the text of the version.
+fn put_version(alloc: Global, fields: &mut Fields, version: u32) -> Result<(), NoMemory>
+    ensures { OnOk result (fields.new ≡ with_pair fields.old (codes "version") (text (shown_version version))) }
 {
     let shown = format!(in alloc; "0.0.{version}")?;
-    Ok(Val::Text(Str::from_string(shown)?))
+    let shown = Val::Text(Str::from_string(shown)?);
+    put(alloc, fields, "version", shown)
 }
 
 pub(crate) fn number(n: u64) -> Val
@@ -166,4 +166,11 @@ pub(crate) fn put(
     ensures { OnOk result (fields.new ≡ with_pair fields.old name.now (view value)) }
 {
     fields.set(Str::of(alloc, name)?, value)
+}
+
+// Puts a copy of the text.
+fn put_text(alloc: Global, fields: &mut Fields, name: &str, s: &str) -> Result<(), NoMemory>
+    ensures { OnOk result (fields.new ≡ with_pair fields.old name.now (text s.now)) }
+{
+    put(alloc, fields, name, text(alloc, s)?)
 }

@@ -16,15 +16,12 @@ use Rattle.ow_packages.specs.Effective.{Behind, behind, behind_bare, behind_in, 
 use Rattle.ow_packages.specs.declared.effective_action.Effective.{Effective}
 use Rattle.ow_tables.specs.Rows.{is_row, standing}
 use Rattle.ow_reopen.specs.Lasting.{AreWritable, IsLastingRow}
+use Rattle.ow_reopen.proofs.Each.{all_found, some_weaken}
 use Rattle.ow_reopen.proofs.Names.{some_if, some_mapped, some_then}
-
-found_by : (p : Row → Bool) (x : Row) (xs : List Row) (b : Bool) → IsLastingRow x → IfSome (find p xs) IsLastingRow → IfSome (cond b (Some x) (find p xs)) IsLastingRow
-found_by p x xs true h rest = h
-found_by p x xs false h rest = rest
+use Rattle.ow_reopen.proofs.Tests.{both_true}
 
 found_lasts : (p : Row → Bool) (rs : List Row) → AreWritable rs → IfSome (find p rs) IsLastingRow
-found_lasts p [] all = tt
-found_lasts p (x ∷ xs) all = found_by p x xs (p x) all.0 (found_lasts p xs all.1)
+found_lasts p rs all = some_weaken (λ (r : Row). IsLastingRow r × (p r ≡ true)) IsLastingRow (find p rs) (λ r h. h.0) (all_found IsLastingRow p rs all)
 
 abbrev IsGoodAction : Action → Type 0
 IsGoodAction a = is_version a.version ≡ true
@@ -52,16 +49,8 @@ abbrev IsGoodBehind : Behind → Type 0
 IsGoodBehind b = (is_version b.action.version ≡ true) × IfSome b.binding IsGoodPackage
 
 called_good : (a : Action) (o : Option Package) → is_version a.version ≡ true → IfSome o IsGoodPackage → is_called None a.version (option_map (λ p. p.name) o) ≡ true
-called_good a None h k = both (is_version a.version) true h refl
-  where
-    both : (x y : Bool) → x ≡ true → y ≡ true → x && y ≡ true
-    both true y h k = k
-    both false y h k = h
-called_good a (Some p) h k = both (is_version a.version) (stands_alone p.name) h k
-  where
-    both : (x y : Bool) → x ≡ true → y ≡ true → x && y ≡ true
-    both true y h k = k
-    both false y h k = h
+called_good a None h k = both_true (is_version a.version) true h refl
+called_good a (Some p) h k = both_true (is_version a.version) (stands_alone p.name) h k
 
 module _ (rs : List Row) (all : AreWritable rs) where
   action_good : (name : FullName) → IfSome (action_at (standing rs) name) IsGoodAction

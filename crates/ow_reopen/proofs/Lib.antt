@@ -1,3 +1,5 @@
+pub mod Tests
+pub mod Each
 pub mod Writable
 pub mod Bodies
 pub mod Names

@@ -2,7 +2,6 @@
 use Rattle.std.proofs.Common.{◌≡◌, ◌≤◌, ◌&&◌, ℕ, List, [], ◌∷◌, Bool, true, false, cond, codes, filter, find, map, nat_le, not, IfSome, IfOk, Option, Some, None, Result, Ok, Err, Ordering, Less, Equal, Greater, refl, sym, ◌∙◌, subst, arith}
 use Rattle.std.specs.List.{AllByRecursion}
 use Rattle.std.specs.Ordering.{match_ordering}
-use Rattle.std.proofs.lemmas.Bool.Decides.{nat_tests}
 use Rattle.std.proofs.lemmas.Slice.Eq.{bytes_eq-Decides}
 use Rattle.ow_value.specs.Nesting.{most_nested}
 use Rattle.ow_value.specs.Read.{json_of, reading, whole_of}
@@ -73,7 +72,9 @@ use Rattle.ow_reopen.specs.Bodies.{RowsOfBodies}
 use Rattle.ow_reopen.specs.RowsKept.{IsPlaced}
 use Rattle.ow_reopen.specs.Lasting.{AreHomes, AreWritable, IsLasting, IsLastingRow}
 use Rattle.ow_reopen.specs.Laws.{RowsLast}
+use Rattle.ow_reopen.proofs.Each.{all_found, all_kept, some_weaken}
 use Rattle.ow_reopen.proofs.Names.{IsNamedItem, after, after_any, entity_named, finished_named, from_ok, judged_items, named_in_full, same_name, some_if}
+use Rattle.ow_reopen.proofs.Tests.{le_of}
 
 -- ---- the rows from the start
 
@@ -104,14 +105,6 @@ with_by P r x xs Greater h k all rest = (k, rest)
 all_with : (P : Row → Type 0) (r : Row) (rs : List Row) → P r → AllByRecursion P rs → AllByRecursion P (with_row r rs)
 all_with P r [] h all = (h, tt)
 all_with P r (x ∷ xs) h all = with_by P r x xs (text_cmp (key_of r) (key_of x)) h all.0 all.1 (all_with P r xs h all.1)
-
-kept_by : (P : Row → Type 0) (p : Row → Bool) (x : Row) (xs : List Row) (b : Bool) → P x → AllByRecursion P (filter p xs) → AllByRecursion P (cond b (x ∷ filter p xs) (filter p xs))
-kept_by P p x xs true h rest = (h, rest)
-kept_by P p x xs false h rest = rest
-
-all_kept : (P : Row → Type 0) (p : Row → Bool) (rs : List Row) → AllByRecursion P rs → AllByRecursion P (filter p rs)
-all_kept P p [] all = tt
-all_kept P p (x ∷ xs) all = kept_by P p x xs (p x) all.0 (all_kept P p xs all.1)
 
 -- each of these is put
 all_put : (es rs : List Row) → AreWritable es → AreWritable rs → AreWritable (all_changed (map put_of es) rs)
@@ -150,9 +143,6 @@ opened_rows at T (Ok is) rs h all =
 opened_rows at T (Err key) rs h all = all
 
 -- ---- what is read of a body
-
-le_of : (m n : ℕ) → nat_le m n ≡ true → m ≤ n
-le_of m n h = grind (arith, nat_tests)
 
 abbrev IsWithin : ℕ → Result V ValueRefusal → Type 0
 IsWithin limit r = IfOk r (λ (v : V). depth v ≤ limit)
@@ -299,18 +289,6 @@ tail_same a b s t e = cc
 found_named : (kind : EntityKind) (name : FullName) (r : Row) → IsFullName name → IsFullName (name_of r) → is_row kind name r ≡ true → name_of r ≡ name
 found_named kind name r full named e =
     same_name (name_of r) name named full (tail_same _ _ (full_text name) (full_text (name_of r)) ((bytes_eq-Decides (key kind name) (key_of r)).0 e))
-
-found_by : (P : Row → Type 0) (p : Row → Bool) (x : Row) (xs : List Row) (b : Bool) → p x ≡ b → P x → IfSome (find p xs) (λ (r : Row). P r × (p r ≡ true)) → IfSome (cond b (Some x) (find p xs)) (λ (r : Row). P r × (p r ≡ true))
-found_by P p x xs true e h rest = (h, e)
-found_by P p x xs false e h rest = rest
-
-all_found : (P : Row → Type 0) (p : Row → Bool) (rs : List Row) → AllByRecursion P rs → IfSome (find p rs) (λ (r : Row). P r × (p r ≡ true))
-all_found P p [] all = tt
-all_found P p (x ∷ xs) all = found_by P p x xs (p x) refl all.0 (all_found P p xs all.1)
-
-some_weaken : {A : Type 0} (P Q : A → Type 0) (o : Option A) → ((x : A) → P x → Q x) → IfSome o P → IfSome o Q
-some_weaken P Q None f h = tt
-some_weaken P Q (Some x) f h = f x h
 
 old_lasts : (d : Draft) (name : FullName) (rs : List Row) → IsFullName name → draft_name d ≡ name → AreWritable rs → IfSome (old_row d rs) (λ (o : Row). IsLasting (items.Row o) × (name_of o ≡ name))
 old_lasts d name rs full e all =

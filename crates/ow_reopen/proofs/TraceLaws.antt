@@ -3,7 +3,6 @@ use Rattle.std.proofs.Common.{◌≡◌, ◌≤◌, ◌+◌, ◌&&◌, ℕ, Bool
 use Rattle.std.specs.Prelude.{is_none}
 use Rattle.std.specs.List.{find, AllByRecursion}
 use Rattle.std.proofs.Math.Nat.{max-le}
-use Rattle.std.proofs.lemmas.Bool.Decides.{nat_tests}
 use Rattle.ow_value.specs.Decimal.{digits_of}
 use Rattle.ow_records.specs.declared.ids.Id.{Id}
 use Rattle.ow_records.specs.declared.outcomes.Ending.{Ending}
@@ -55,18 +54,9 @@ use Rattle.ow_decide.proofs.AcceptLaws.{IsAdmitted, IsAdmittedDone, asked_admitt
 use Rattle.ow_reopen.specs.Lasting.{AreEarly, AreWritable, IsDue, IsEarly, IsLasting}
 use Rattle.ow_reopen.specs.Laws.{TracesLast}
 use Rattle.ow_reopen.proofs.Callees.{callee_good}
+use Rattle.ow_reopen.proofs.Tests.{both_true, le_of, le_true}
 
--- ---- tests
-
-le_true : (m n : ℕ) → m ≤ n → nat_le m n ≡ true
-le_true m n h = grind (arith, nat_tests)
-
-le_of : (m n : ℕ) → nat_le m n ≡ true → m ≤ n
-le_of m n h = grind (arith, nat_tests)
-
-both_true : (a b : Bool) → a ≡ true → b ≡ true → a && b ≡ true
-both_true true b h k = k
-both_true false b h k = h
+-- ---- ids that were drawn
 
 -- an id that was drawn counts from 1
 count_some : (id : Id) (o : Option ℕ) → is_counted id o ≡ true → nat_le 1 id.count ≡ true

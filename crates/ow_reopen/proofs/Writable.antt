@@ -43,6 +43,7 @@ use Rattle.ow_entity.specs.declared.rows.Row.TheVariants as rows
 use Rattle.ow_keep.specs.Allowed.{is_binding, is_version, stands_alone}
 use Rattle.ow_keep.proofs.Packages.{ands}
 use Rattle.ow_reopen.specs.RowsKept.{IsPlaced, IsWritable}
+use Rattle.ow_reopen.proofs.Tests.{both_true, le_true}
 
 -- ---- what holds of what is made, if anything is made
 
@@ -375,9 +376,6 @@ most_within = 97
 le_from : (d limit : ℕ) → nat_le d limit ≡ true → d ≤ limit
 le_from d limit h = grind arith
 
-le_true : (d limit : ℕ) → d ≤ limit → nat_le d limit ≡ true
-le_true d limit h = grind arith
-
 action_written : (a : Action) → IsGoodAction most_within a → depth (action_value a) ≤ most_nested
 action_written a h = action_within most_within (nested a.notes) (nested a.params) (nested_within most_within a.notes h.notes) (nested_within most_within a.params h.params)
 
@@ -396,10 +394,6 @@ package_read p h =
     (within_nested most_within p.params parts.1, within_nested most_within p.notes parts.0)
 
 -- ---- a row that is writable, as what it holds
-
-both_true : (a b : Bool) → a ≡ true → b ≡ true → a && b ≡ true
-both_true true b h k = k
-both_true false b h k = h
 
 good_from : (name : FullName) (r : Row) → IsWritable r → name_of r ≡ name → IsGoodRow most_within name r
 unfolding row_value

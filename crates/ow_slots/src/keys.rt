@@ -4,6 +4,7 @@ ghost use Rattle.ow_slots.specs.Key.{kind_of, same_key, same_kind};
 
 use ow_entity::Exec;
 use ow_names::{EntityName, FullName};
+use ow_several::copied3;
 use ow_traits::Kind;
 use ow_value::{NoMemory, PlainData};
 use std::alloc::Global;
@@ -59,9 +60,7 @@ impl PlainData for Key {
     }
 
     fn copy(&self, alloc: Global) -> Result<Key, NoMemory> {
-        let namespace = self.namespace.copy(alloc)?;
-        let action = self.action.copy(alloc)?;
-        let exec = self.exec.copy(alloc)?;
+        let (namespace, action, exec) = copied3(alloc, &self.namespace, &self.action, &self.exec)?;
         Ok(Key {
             namespace,
             action,

@@ -13,6 +13,7 @@ use ow_traits::Kind;
 use ow_value::NoMemory;
 use std::alloc::Global;
 use std::marker::Model;
+use std::mem;
 
 /// Slots, numbered from 0. Contracts see the list of them. Only to make them takes memory.
 #[derive(Drop)]
@@ -190,7 +191,7 @@ impl Slots {
         requires { slot < length self.old }
         ensures { self.new ≡ change slot (λ s. old) self.old }
     {
-        self.slots[slot as usize] = old;
+        drop(mem::replace(&mut self.slots[slot as usize], old));
     }
 }
 

@@ -307,7 +307,7 @@ impl Slot {
         ensures { self.new ≡ assigned run key start at self.old }
     {
         self.generation = self.generation_after(start);
-        self.state = State::Busy(Work {
+        self.put(State::Busy(Work {
             run,
             key,
             start,
@@ -315,7 +315,7 @@ impl Slot {
             recorded: None,
             begun: None,
             gone: false,
-        });
+        }));
     }
 
     // The generation of the container from which a run starts.
@@ -334,14 +334,14 @@ impl Slot {
         ensures { self.new ≡ opened run kind memory self.old }
     {
         self.generation += 1;
-        self.state = State::Opening { run, kind, memory };
+        self.put(State::Opening { run, kind, memory });
     }
 
     pub(crate) fn begin(&mut self, at: u64)
         ensures { self.new ≡ with_state (begun_state at) self.old }
     {
         let state = self.take();
-        self.state = state.begun(at);
+        self.put(state.begun(at));
     }
 
     // Tells the moment at which the run was recorded as overrun.
@@ -351,7 +351,7 @@ impl Slot {
     {
         let recorded = self.state.recorded();
         let state = self.take();
-        self.state = state.answered(alive, at);
+        self.put(state.answered(alive, at));
         recorded
     }
 
@@ -362,7 +362,7 @@ impl Slot {
     {
         let recorded = self.state.recorded();
         let state = self.take();
-        self.state = state.lost();
+        self.put(state.lost());
         recorded
     }
 
@@ -373,7 +373,7 @@ impl Slot {
     {
         if self.goes(generation) {
             let state = self.take();
-            self.state = state.gone();
+            self.put(state.gone());
             Ok(())
         } else {
             Err(SlotRefusal::NoSlot {
@@ -387,14 +387,14 @@ impl Slot {
         ensures { self.new ≡ with_state (overrun_state at) self.old }
     {
         let state = self.take();
-        self.state = state.overrun(at);
+        self.put(state.overrun(at));
     }
 
     pub(crate) fn remove(&mut self)
         ensures { self.new ≡ with_state removed_state self.old }
     {
         let state = self.take();
-        self.state = state.removed();
+        self.put(state.removed());
     }
 
     // The state, in whose place none is left.
@@ -403,6 +403,13 @@ impl Slot {
         ensures slot { self.new ≡ record self.old { state = Vacant } }
     {
         mem::replace(&mut self.state, State::Vacant)
+    }
+
+    // What it held is let go of by one call.
+    fn put(&mut self, state: State)
+        ensures { self.new ≡ record self.old { state = state } }
+    {
+        drop(mem::replace(&mut self.state, state));
     }
 }
 

@@ -33,20 +33,17 @@ impl FileKeeper {
         ensures unopened { IfErr result.inner.conn (λ e. IsTrue (is_open_error e)) }
         ensures faults { result.inner.faults ≡ 0 }
     {
-        match Connection::open(rt, path) {
-            Ok(conn) => FileKeeper {
-                inner: SqliteKeeper::over(conn),
-            },
-            Err(error) => FileKeeper {
-                inner: SqliteKeeper::unopened(error),
-            },
+        let conn = Connection::open(rt, path);
+        FileKeeper {
+            inner: SqliteKeeper { conn, faults: 0 },
         }
     }
 
     /// Copies the log into the file and closes both. Without it the next open reads the log.
     pub fn close(self) -> Result<(), Error> {
         let FileKeeper { inner } = self;
-        inner.into_connection()?.close()
+        let SqliteKeeper { conn, .. } = inner;
+        conn?.close()
     }
 }
 
@@ -56,7 +53,7 @@ impl Keeper for FileKeeper {
     ghost faults = { λ k. k.inner.faults };
 
     fn faults(&self) -> u64 {
-        self.inner.faults()
+        self.inner.faults
     }
 
     fn load(&mut self, alloc: Global) -> Result<Rows, KeeperError>

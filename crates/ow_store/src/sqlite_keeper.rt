@@ -16,8 +16,8 @@ use std::alloc::Global;
 /// Keeps rows in the table `kept` of a database. A commit is one transaction.
 #[derive(Drop)]
 pub struct SqliteKeeper<S: Alter> {
-    conn: Result<Connection<S>, Error>,
-    faults: u64,
+    pub(crate) conn: Result<Connection<S>, Error>,
+    pub(crate) faults: u64,
 }
 
 impl<S: Alter> SqliteKeeper<S> {

@@ -24,26 +24,32 @@ pub fn is_builtin(row: &Row) -> bool
 pub(crate) fn echo(alloc: Global) -> Result<Action, NoMemory>
     ensures { IfOk result (λ a. a ≡ echo) }
 {
-    let namespace = name(alloc, "whisk.system")?;
-    let package = name(alloc, "utils")?;
-    let name = name(alloc, "echo")?;
+    let code = plain_code(
+        alloc,
+        "{\"cases\":[{\"give\":{\"$all\":true},\"when\":{}}]}",
+    )?;
+    let name = echo_name(alloc)?;
     Ok(Action {
-        name: FullName {
-            namespace,
-            package: Some(package),
-            name,
-        },
+        name,
         version: FIRST_VERSION,
         publish: false,
         params: EntityParams::new(),
         notes: EntityParams::new(),
-        exec: Exec::Plain {
-            code: plain_code(
-                alloc,
-                "{\"cases\":[{\"give\":{\"$all\":true},\"when\":{}}]}",
-            )?,
-        },
+        exec: Exec::Plain { code },
         limits: Limits::DEFAULT,
+    })
+}
+
+fn echo_name(alloc: Global) -> Result<FullName, NoMemory>
+    ensures { IfOk result (λ n. n ≡ echo.name) }
+{
+    let namespace = name(alloc, "whisk.system")?;
+    let package = name(alloc, "utils")?;
+    let name = name(alloc, "echo")?;
+    Ok(FullName {
+        namespace,
+        package: Some(package),
+        name,
     })
 }
 

@@ -17,6 +17,7 @@ use crate::refusal::TenantRefusal;
 use crate::rights::{Right, Rights};
 use crate::table::Draft;
 use ow_names::EntityName;
+use ow_several::copied4;
 use ow_traits::{Prewarms, Source};
 use ow_value::{NoMemory, Pairs, PlainData, Shared, Str, Val, Vals};
 use std::alloc::Global;
@@ -230,10 +231,13 @@ impl PlainData for Tenants {
     }
 
     fn copy(&self, alloc: Global) -> Result<Tenants, NoMemory> {
-        let namespaces = self.namespaces.copy(alloc)?;
-        let keys = self.keys.copy(alloc)?;
-        let wants = self.wants.copy(alloc)?;
-        let programs = self.programs.copy(alloc)?;
+        let (namespaces, keys, wants, programs) = copied4(
+            alloc,
+            &self.namespaces,
+            &self.keys,
+            &self.wants,
+            &self.programs,
+        )?;
         Ok(Tenants {
             namespaces,
             keys,

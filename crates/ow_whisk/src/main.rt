@@ -26,7 +26,7 @@ use crate::serving::{System, served};
 use crate::unkept::Unkept;
 use ow_day::{Status, office, report};
 use ow_store::FileKeeper;
-use ow_traits::{Keeper, MemoryKeeper, MemorySource, ReaderSource, Source, WriterSink};
+use ow_traits::{Keeper, MemorySource, ReaderSource, Source, WriterSink};
 use ow_value::{NoMemory, Str};
 use ow_words::{Command, ServeWords, WordsRefusal, read_words};
 use std::alloc::Global;
@@ -107,32 +107,14 @@ fn told(rt: &HostRuntime, status: Status) -> Status
     status
 }
 
-// What rows are kept by.
-#[derive(Drop)]
-enum Store {
-    File(Str),
-    Memory,
-    Nothing,
-}
-
-// The file of the table that the words name, and what rows are to be kept by: a file, memory for a day, and nothing for a service. Words
-// that name none are read by the office again, which says what they are. Where memory is wanted to read them, that is told: they may name
-// a file.
-fn named(alloc: Global, words: &[String]) -> Result<(Option<Str>, Store), NoMemory> {
+// The files of the table and of the store that the words name. Words that name none are read by the office again, which says what they are.
+// Where memory is wanted to read them, that is told: they may name a store.
+fn named(alloc: Global, words: &[String]) -> Result<(Option<Str>, Option<Str>), NoMemory> {
     match read_words(alloc, words) {
-        Ok(Command::Day { table, store }) => Ok((table, store_named(store, Store::Memory))),
-        Ok(Command::Serve(ServeWords { table, store, .. })) => {
-            Ok((table, store_named(store, Store::Nothing)))
-        }
+        Ok(Command::Day { table, store }) => Ok((table, store)),
+        Ok(Command::Serve(ServeWords { table, store, .. })) => Ok((table, store)),
         Err(WordsRefusal::NoMemory) => Err(NoMemory),
-        _ => Ok((None, Store::Memory)),
-    }
-}
-
-fn store_named(file: Option<Str>, without: Store) -> Store {
-    match file {
-        Some(name) => Store::File(name),
-        None => without,
+        _ => Ok((None, None)),
     }
 }
 
@@ -169,20 +151,15 @@ fn main(rt: HostRuntime) -> ExitCode {
         return code_of(&told(&rt, Status::NoMemory));
     };
     match store {
-        Store::File(name) => {
+        Some(name) => {
             let keeper = FileKeeper::open(&rt, name.as_str());
             let (status, store) = run_over(&rt, &words, table.as_ref(), keeper);
             let (code, store) = ended(&rt, status, store);
             close(store);
             code
         }
-        Store::Memory => {
-            let keeper = MemoryKeeper::new(rt.alloc());
-            let (status, store) = run_over(&rt, &words, table.as_ref(), keeper);
-            ended(&rt, status, store).0
-        }
-        Store::Nothing => {
-            let (status, store) = run_over(&rt, &words, table.as_ref(), Unkept);
+        None => {
+            let (status, store) = run_over(&rt, &words, table.as_ref(), Unkept::new());
             ended(&rt, status, store).0
         }
     }

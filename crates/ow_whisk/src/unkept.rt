@@ -1,15 +1,36 @@
-// A keeper of nothing.
-ghost use Rattle.std.specs.Prelude.{None};
+// A keeper for a day or a service without a store.
+ghost use Rattle.std.specs.Prelude.{◌≡◌, Some, false, []};
+ghost use Rattle.ow_whisk.specs.Unkept.{rows_behind};
 
-use ow_traits::{Changes, Keeper, KeeperError, Rows};
+use http_server::Log;
+use ow_traits::{Change, Changes, Keeper, KeeperError, Rows};
+use ow_value::Items;
 use std::alloc::Global;
 
-/// Keeps no rows, and tells none: what a service without a store would keep ends with it. It has none to load, and no call fails.
+/// Holds no row in memory: what a day or a service without a store would keep ends with it. The rows that it tells are those that its
+/// commits make of none. There is no row to load before the first commit, and behind it a load is answered with want of memory. No call fails.
 #[derive(Drop)]
-pub struct Unkept;
+pub struct Unkept {
+    committed: bool,
+    commits: Log<Items<Change>, ()>,
+    ghost none: { committed ≡ false → commits.items ≡ [] },
+}
+
+impl Unkept {
+    /// A keeper of no rows.
+    pub fn new() -> Unkept
+        ensures rows { ⟦<Unkept as Keeper>⟧.rows result ≡ Some [] }
+        ensures faults { ⟦<Unkept as Keeper>⟧.faults result ≡ 0 }
+    {
+        Unkept {
+            committed: false,
+            commits: Log::new(),
+        }
+    }
+}
 
 impl Keeper for Unkept {
-    ghost rows = { λ k. None };
+    ghost rows = { λ k. Some (rows_behind k.commits.items []) };
 
     ghost faults = { λ k. 0 };
 
@@ -18,10 +39,17 @@ impl Keeper for Unkept {
     }
 
     fn load(&mut self, alloc: Global) -> Result<Rows, KeeperError> {
+        if self.committed {
+            return Err(KeeperError::NoMemory);
+        }
         Ok(Rows::new(alloc))
     }
 
-    fn commit(&mut self, _alloc: Global, _changes: &Changes) -> Result<(), KeeperError> {
+    #[tactic(auto, using(crate::proofs::Behind::rows_behind_one))]
+    fn commit(&mut self, _alloc: Global, changes: &Changes) -> Result<(), KeeperError> {
+        let commits = self.commits.and(changes, &());
+        self.committed = true;
+        self.commits = commits;
         Ok(())
     }
 }
