@@ -112,7 +112,9 @@ impl<P: Keeper + Drop> Session<P> {
         let Ok(done) = self.perform(alloc, said) else {
             return Step::NoMemory;
         };
-        match push_done(alloc, answers, &done) {
+        let pushed = push_done(alloc, answers, &done);
+        drop(done);
+        match pushed {
             Ok(()) => Step::Done,
             Err(NoMemory) => Step::NoMemory,
         }

@@ -172,8 +172,15 @@ fn changed(
 {
     match act {
         Act::Puts => put(alloc, keeping, tables, call),
-        Act::Removes(kind) => removed(alloc, keeping, tables, kind, &call),
-        Act::Reads(_) => Ok(Done::Refused(Reason::Http(HttpRefusal::NoRoute))),
+        Act::Removes(kind) => {
+            let done = removed(alloc, keeping, tables, kind, &call);
+            drop(call);
+            done
+        }
+        Act::Reads(_) => {
+            drop(call);
+            Ok(Done::Refused(Reason::Http(HttpRefusal::NoRoute)))
+        }
         Act::Invokes => unreachable!(),
     }
 }

@@ -190,9 +190,15 @@ impl Book {
     {
         match posting {
             Posting::Booked => self.add(at, event, told, bytes),
-            Posting::Quiet => self.note_quiet(),
-            Posting::Denied => self.note_denied(),
-            Posting::Unbooked => {}
+            Posting::Quiet => {
+                drop((event, told));
+                self.note_quiet();
+            }
+            Posting::Denied => {
+                drop((event, told));
+                self.note_denied();
+            }
+            Posting::Unbooked => drop((event, told)),
         }
     }
 

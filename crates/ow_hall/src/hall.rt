@@ -1,5 +1,5 @@
 // The hall and its calls: each answers, and is posted.
-ghost use Rattle.std.specs.Prelude.{◌≡◌, ◌≤◌, [], true, false, Ok, Err, IfOk, IfErr, OnErr};
+ghost use Rattle.std.specs.Prelude.{if◌then◌else◌, ◌≡◌, ◌≤◌, [], true, false, Ok, Err, IfOk, IfErr, OnErr};
 ghost use Rattle.ow_floor.specs.Laws.{Stands};
 ghost use Rattle.ow_floor.specs.Owed.{owed};
 ghost use Rattle.ow_floor.specs.Trace.{Trace};
@@ -26,6 +26,7 @@ use ow_http::Request;
 use ow_kept::Commit;
 use ow_names::FullName;
 use ow_records::Id;
+use ow_several::{copied2, kept_beside};
 use ow_tenant::Tenants;
 use ow_traits::{Keeper, KeeperError, RunReply};
 use ow_value::{NoMemory, Params, PlainData, Shared};
@@ -71,6 +72,17 @@ pub struct Undone {
     pub failed: bool,
 }
 
+impl Undone {
+    // Whether the store failed. The event is let go of.
+    fn has_failed(self) -> bool
+        ensures { result ≡ self.failed }
+    {
+        let failed = self.failed;
+        drop(self);
+        failed
+    }
+}
+
 impl<P: Keeper + Drop> Hall<P> {
     /// The book so far.
     pub fn book(&self) -> &Book
@@ -88,7 +100,14 @@ impl<P: Keeper + Drop> Hall<P> {
         ensures legal { IsLegal self.tenants self.ledger.entries }
         ensures kept { HoldsBook (P.rows self.store) self.tenants self.ledger }
     {
-        let Hall { book, store, .. } = self;
+        let Hall {
+            tenants,
+            state,
+            book,
+            store,
+            failed,
+        } = self;
+        drop((tenants, state, failed));
         (store, book)
     }
 
@@ -96,12 +115,20 @@ impl<P: Keeper + Drop> Hall<P> {
     pub fn ask(&mut self, alloc: Global, at: u64, request: &Request) -> Result<Reply, NoMemory>
         ensures { (o : Outcome) × Replies result o × Comes P.rows P.faults self.old self.new at (events.Asked request.now) o }
     {
-        let failed = self.failed.reply(alloc)?;
         let request = Shared::new(alloc, request.copy(alloc)?)?;
+        let (request, failed) = kept_beside(request, self.failed.reply(alloc))?;
         match self.tell(alloc, at, Event::Asked(request)) {
-            Ok(told) => Ok(reply_in(told)),
-            Err(Undone { failed: true, .. }) => Ok(failed),
-            Err(_) => Err(NoMemory),
+            Ok(told) => {
+                drop(failed);
+                Ok(reply_in(told))
+            }
+            Err(undone) => {
+                if undone.has_failed() {
+                    return Ok(failed);
+                }
+                drop(failed);
+                Err(NoMemory)
+            }
         }
     }
 
@@ -121,8 +148,13 @@ impl<P: Keeper + Drop> Hall<P> {
         };
         match self.tell(alloc, at, Event::Called { name, params }) {
             Ok(told) => Ok(called_in(told)),
-            Err(Undone { failed: true, .. }) => Ok(store_called()),
-            Err(_) => Err(NoMemory),
+            Err(undone) => {
+                if undone.has_failed() {
+                    Ok(store_called())
+                } else {
+                    Err(NoMemory)
+                }
+            }
         }
     }
 
@@ -132,7 +164,10 @@ impl<P: Keeper + Drop> Hall<P> {
     {
         match self.tell(alloc, at, Event::Next) {
             Ok(told) => Ok(order_in(told)),
-            Err(_) => Err(NoMemory),
+            Err(undone) => {
+                drop(undone);
+                Err(NoMemory)
+            }
         }
     }
 
@@ -166,8 +201,7 @@ impl<P: Keeper + Drop> Hall<P> {
     {
         match self.tell(alloc, at, Event::Sweep) {
             Ok(told) => Ok(swept_in(told)),
-            Err(Undone { failed: true, .. }) => Err(SweepRefusal::StoreFault),
-            Err(_) => Err(SweepRefusal::NoMemory),
+            Err(undone) => Err(sweep_refusal(undone.has_failed())),
         }
     }
 
@@ -178,8 +212,7 @@ impl<P: Keeper + Drop> Hall<P> {
     {
         match self.tell(alloc, at, Event::Reopened) {
             Ok(told) => Ok(reopened_in(told)),
-            Err(Undone { failed: true, .. }) => Err(SweepRefusal::StoreFault),
-            Err(_) => Err(SweepRefusal::NoMemory),
+            Err(undone) => Err(sweep_refusal(undone.has_failed())),
         }
     }
 
@@ -207,7 +240,10 @@ impl<P: Keeper + Drop> Hall<P> {
     {
         match self.tell(alloc, at, Event::Collected(*id)) {
             Ok(told) => Ok(collected_in(told)),
-            Err(_) => Err(NoMemory),
+            Err(undone) => {
+                drop(undone);
+                Err(NoMemory)
+            }
         }
     }
 
@@ -217,7 +253,10 @@ impl<P: Keeper + Drop> Hall<P> {
     {
         match self.tell(alloc, at, Event::Drain) {
             Ok(told) => Ok(drain_in(told)),
-            Err(_) => Err(NoMemory),
+            Err(undone) => {
+                drop(undone);
+                Err(NoMemory)
+            }
         }
     }
 }
@@ -357,6 +396,17 @@ pub fn unanswered(reply: RunReply, failed: bool) -> AnswerRefusal
     }
 }
 
+// Why nothing is swept.
+fn sweep_refusal(failed: bool) -> SweepRefusal
+    ensures { result ≡ (if failed then SweepRefusal.StoreFault else SweepRefusal.NoMemory) }
+{
+    if failed {
+        SweepRefusal::StoreFault
+    } else {
+        SweepRefusal::NoMemory
+    }
+}
+
 // Makes room in the book for what is told, where it is booked, and for what is owed behind it. It gives what is told twice more, and
 // how many bytes the entry counts beside its 64.
 fn prepare(
@@ -374,6 +424,6 @@ fn prepare(
         → IsReady book.old.ledger.entries book.new.room (owed T) event.now told.now r.2) }
 {
     let bytes = book.reserve(state.owed(), event, told)?;
-    let copied = told.copy(alloc)?;
-    Ok((copied, told.copy(alloc)?, bytes))
+    let (first, second) = copied2(alloc, told, told)?;
+    Ok((first, second, bytes))
 }

@@ -29,6 +29,7 @@ use ow_floor::{Floor, Happened, Happening};
 use ow_keep::{KeepRefusal, Kept, kept_rows};
 use ow_kept::{Commit, Keeping};
 use ow_records::{Id, Record, Unrecorded, abandoned};
+use ow_several::{joined2, kept_beside};
 use ow_tables::Tables;
 use ow_tenant::Tenants;
 use ow_traits::{Keeper, KeeperError, Rows};
@@ -128,10 +129,12 @@ fn take_over(
     ensures ready { IfOk result (λ r. IsReadied tenants.now rows at r) }
 {
     let at = first_moment(alloc, &kept, at);
-    let commit = Keeping::opening(alloc, at, &rows, &kept)?;
-    let book = book_over(alloc, rows, &kept.unrecorded, at)?;
-    let state = state_over(alloc, tenants, kept, at)?;
-    let failed = StoreAnswer::new(alloc)?;
+    let opening = Keeping::opening(alloc, at, &rows, &kept)?;
+    let entries = book_over(alloc, rows, &kept.unrecorded, at);
+    let stands = state_over(alloc, tenants, kept, at);
+    let first = kept_beside(opening, entries);
+    let second = joined2(stands, StoreAnswer::new(alloc));
+    let ((commit, book), (state, failed)) = joined2(first, second)?;
     Ok(Ready {
         opened: Opened {
             state,
@@ -153,10 +156,13 @@ fn first_moment(alloc: Global, kept: &Kept, at: u64) -> u64
 fn book_over(alloc: Global, rows: Rows, left: &[Unrecorded], at: u64) -> Result<Book, NoMemory>
     ensures ledger { IfOk result (λ b. b.ledger ≡ posted no_entries at (events.Opened rows) (told.Opened (abandoned_told left.now))) }
 {
-    let told = Told::Opened(abandoned_told(alloc, left)?);
+    let (rows, told) = kept_beside(rows, abandoned_told(alloc, left))?;
     let event = Event::Opened(rows);
+    let told = Told::Opened(told);
     let mut book = Book::new(alloc);
-    let bytes = book.reserve(0, &event, &told)?;
+    let bytes = book.reserve(0, &event, &told);
+    let ((event, told, book), bytes) = kept_beside((event, told, book), bytes)?;
+    let mut book = book;
     book.post(at, event, told, bytes);
     Ok(book)
 }
@@ -174,11 +180,14 @@ fn state_over(alloc: Global, tenants: &Tenants, kept: Kept, at: u64) -> Result<H
         entities,
         ..
     } = kept;
-    let records = with_abandoned(alloc, records, &unrecorded, at)?;
-    let floor = floor_over(alloc, tenants, counts, records)?;
-    let tables = tables_over(alloc, entities)?;
-    let limits = Counts::new(alloc)?;
-    let keeping = roomy(alloc)?;
+    let recorded = with_abandoned(alloc, records, &unrecorded, at);
+    drop(unrecorded);
+    let ((counts, entities), records) = kept_beside((counts, entities), recorded)?;
+    let resumed = floor_over(alloc, tenants, counts, records);
+    let (entities, floor) = kept_beside(entities, resumed)?;
+    let (floor, tables) = kept_beside(floor, tables_over(alloc, entities))?;
+    let ((floor, tables), limits) = kept_beside((floor, tables), Counts::new(alloc))?;
+    let ((floor, tables, limits), keeping) = kept_beside((floor, tables, limits), roomy(alloc))?;
     Ok(HallState::of(alloc, floor, tables, limits, keeping))
 }
 

@@ -86,8 +86,9 @@ fn abandon(
 {
     drop_open(alloc, gathered, activation)?;
     let ended = abandoned(alloc, activation, at)?;
-    let done = done_row(alloc, &ended)?;
-    gathered.put(done, 0)?;
+    let done = done_row(alloc, &ended);
+    drop(ended);
+    gathered.put(done?, 0)?;
     Ok(())
 }
 

@@ -13,5 +13,5 @@ returns-in-Puts-clause-done c = subst (λ (a : Act). IfOk c.put.result (λ d. (S
     → done_of d ≡ change_done S h a c.args.call)) (sym c.in-Puts.is) c.put.ensures.done
 
 pub returns-in-Removes-clause-done : goal.returns-in-Removes-clause-done
-returns-in-Removes-clause-done c = subst (λ (a : Act). IfOk c.removed.result (λ d. (S : Sight) (h : Holder) → S.rows ≡ c.args.tables.now.rows → StandsForKept c.args.keeping.now S.rows S.trace
-    → done_of d ≡ change_done S h a c.args.call)) (sym c.in-Removes.is) (if_ok_map c.removed.result _ _ (λ d h S holder rows keeps. h S holder rows) c.removed.ensures.done)
+returns-in-Removes-clause-done c = subst (λ (a : Act). IfOk c.removed-done.result (λ d. (S : Sight) (h : Holder) → S.rows ≡ c.args.tables.now.rows → StandsForKept c.args.keeping.now S.rows S.trace
+    → done_of d ≡ change_done S h a c.args.call)) (sym c.in-Removes.is) (if_ok_map c.removed-done.result _ _ (λ d h S holder rows keeps. h S holder rows) c.removed-done.ensures.done)
