@@ -80,9 +80,18 @@ impl<P: Keeper + Drop> Receipts<P> {
                     answer: told,
                 },
             }),
-            Posting::Quiet => self.note_quiet(),
-            Posting::Denied => self.note_denied(&event),
-            Posting::Unbooked => self.note_full(before.counted, &told, &event),
+            Posting::Quiet => {
+                drop((event, told));
+                self.note_quiet();
+            }
+            Posting::Denied => {
+                self.note_denied(&event);
+                drop((event, told));
+            }
+            Posting::Unbooked => {
+                self.note_full(before.counted, &told, &event);
+                drop((event, told));
+            }
         }
     }
 

@@ -2,5 +2,7 @@ use Rattle.ow_day.proofs.Sessions.{end_is}
 use Rattle.ow_day.proofs.session.Session.carry_out.Goals as goal
 
 pub returns-in-Ok-pushed : goal.returns-in-Ok-pushed
-returns-in-Ok-pushed g c = (λ e. c.in_default.not-End (end_is c.args.said e),
-    (c.in-Ok.done, (c.in-Ok.ensures, rw c.in-Ok-pushed.is at c.push_done-pushed.ensures.ok)))
+returns-in-Ok-pushed g c = (
+  λ e. c.in_default.not-End (end_is c.args.said e),
+  (c.in-Ok.done, (c.in-Ok.ensures, rw c.in-Ok-pushed.is at c.push_done-pushed.ensures.ok)),
+)
