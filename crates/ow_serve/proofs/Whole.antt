@@ -1,23 +1,29 @@
 -- The end of a service, by its peers.
-use Rattle.std.proofs.Common.{◌≡◌, ◌++◌, ◌⊎◌, ℕ, Bool, List, [], ◌∷◌, Option, Some, None, Result, Ok, Err, IfOk, IfSome, IsOk, OnErr, OnOk, length, map, refl, sym, ap, subst, ◌∙◌, inl, inr, ⊎_elim}
+use Rattle.std.proofs.Common.{◌≡◌, ◌++◌, ◌⊎◌, ℕ, Bool, List, [], ◌∷◌, Option, Some, None, Result, Ok, Err, IfOk, IfSome, IsOk, OnErr, OnOk, length, map, refl, reverse, slice_get, sym, ap, subst, ◌∙◌, inl, inr, ⊎_elim}
 use Rattle.std.specs.Prelude.{IsOkAnd}
+use Rattle.std.specs.Option.{option_to_list}
+use Rattle.std.proofs.lemmas.List.{reverse-append, reverse-reverse}
 use Rattle.ow_threads.specs.Tasks.{AllEnd, Joined, pending}
 use Rattle.ow_audit.specs.Differs.{Matches}
+use Rattle.ow_audit.specs.Places.{placed, standing_at}
 use Rattle.ow_tenant.specs.Table.{Table}
 use Rattle.ow_hall.specs.declared.entry.Entry.{Entry}
 use Rattle.ow_keep.specs.Judged.{judged}
 use Rattle.ow_keep.specs.Split.{Parts}
 use Rattle.ow_decide.specs.Opening.{opened_decision, parts_taken}
+use Rattle.ow_decide.specs.declared.events.Event.{Event}
 use Rattle.ow_decide.specs.declared.events.Event.TheVariants as events
 use Rattle.ow_decide.specs.declared.events.Told.TheVariants as told
-use Rattle.ow_hall.specs.Comes.{Answers, KeptRows, drain_outcome}
+use Rattle.ow_hall.specs.Comes.{Answers, Fails, KeptRows, Outcome, Wants, drain_outcome}
 use Rattle.ow_value.specs.declared.memory.NoMemory.{NoMemory as Want}
 use Rattle.ow_hall.specs.History.{answer, posting, seen}
-use Rattle.ow_hall.specs.declared.posting.Posting.TheVariants.{Booked}
+use Rattle.ow_hall.specs.declared.posting.Posting.{Posting}
+use Rattle.ow_hall.specs.declared.posting.Posting.TheVariants.{Booked, Denied, Quiet, Unbooked}
 use Rattle.ow_hall.specs.Ledger.{BookView, Ledger, no_entries, opened, opening_moment, posted_as}
 use Rattle.ow_hall.specs.declared.refusals.StartFault.{StartFault}
 use Rattle.ow_hall.specs.declared.refusals.StartFault.TheVariants as starts
-use Rattle.ow_desk.specs.Notes.{HasNoted, Notes}
+use Rattle.ow_desk.specs.Notes.{HasNoted, Notes, ReceiptsView, no_notes, noted, noted_as}
+use Rattle.ow_desk.specs.declared.placed.Placed.{Placed}
 use Rattle.ow_floor.specs.declared.answers.Drain.{Drain}
 use Rattle.ow_floor.specs.declared.answers.Drain.TheVariants as drains
 use Rattle.ow_peer.specs.declared.ending.Ending.{Ending}
@@ -26,7 +32,7 @@ use Rattle.ow_serve.specs.declared.accepting.Stopped.TheVariants as stops
 use Rattle.ow_serve.specs.declared.served.ServedEnd.{ServedEnd}
 use Rattle.ow_serve.specs.declared.served.ServedEnd.TheVariants as ends
 use Rattle.ow_serve.specs.Duties.{IsServed, TalksAlone}
-use Rattle.ow_serve.specs.Ended.{Closes, DrainedBy, IsOpenedEnd, IsOpenedOver, IsWhole, KeepsBook, Leaves, LeavesStore, Left, Serves, unopened}
+use Rattle.ow_serve.specs.Ended.{BeginsWith, BookBegins, BookOpens, Closes, DrainedBy, IsEnd, IsFirst, IsOpenedEnd, IsOpenedOver, IsWhole, KeepsBook, KeepsFirst, Leaves, LeavesStore, Left, OpensOver, Serves, unopened}
 use Rattle.ow_serve.specs.Peers.{AcceptsPeers, AllTalk, Seated, endings_in, filled}
 use Rattle.ow_serve.proofs.Seating.{all_served, all_talk, as_many, pending_behind, talk_count}
 
@@ -191,6 +197,25 @@ pub drained_if : (r : Result Drain Want) (n m : Notes) → HasNoted events.Drain
 drained_if (Ok d) n m noted = drained_so d n m noted
 drained_if (Err e) n m noted = tt
 
+-- entries come behind those that are there
+appended : (first : Entry) (n m : Notes) (more : List Placed) → m.entries ≡ n.entries ++ more → BeginsWith first n → BeginsWith first m
+appended first n m more is begins = (begins.0 ++ more, is ∙ ap (λ ps. ps ++ more) begins.1)
+
+keeps_posted : (p : Posting) (B : List Entry) (e : Entry) (n : Notes) → KeepsFirst n (noted_as p B e n)
+keeps_posted Booked B e n first begins = appended first n (noted_as Booked B e n) (record { place = length B; entry = e } ∷ []) refl begins
+keeps_posted Quiet B e n first begins = begins
+keeps_posted Denied B e n first begins = begins
+keeps_posted Unbooked B e n first begins = begins
+
+keeps_noted : (B : List Entry) (at : ℕ) (event : Event) (o : Outcome) (n : Notes) → KeepsFirst n (noted B at event o n)
+keeps_noted B at event (Answers t) n = keeps_posted (posting B t) B (record { at = at; event = event; answer = t }) n
+keeps_noted B at event Wants n = λ first begins. begins
+keeps_noted B at event Fails n = λ first begins. begins
+
+-- a drain is noted behind what is there
+pub keeps_first : (r : Result Drain Want) (n m : Notes) → HasNoted events.Drain (drain_outcome r) n m → KeepsFirst n m
+keeps_first r n m has = subst (λ x. KeepsFirst n x) (sym has.2) (keeps_noted has.0 has.1 events.Drain (drain_outcome r) n)
+
 -- where all is there, the drain has ended
 pub has_drained : {A B E F : Type 0} (all : Result A E) (drained : Result B F) (X : Type 0) → (IsOk all → IsOk drained) → OnOk drained X → IsOk all → X
 has_drained all (Ok b) X both told is = told
@@ -198,14 +223,123 @@ has_drained all (Err e) X both told is = let never = both is in cc
 
 -- ---- the opening
 
+-- what is true of a result where it is there
+pub ok_of : {A F : Type 0} (P : A → Type 0) (r : Result A F) (x : A) → r ≡ Ok x → IfOk r P → P x
+ok_of P r x is h = subst (λ q. IfOk q P) is h
+
+-- what is all that a hall holds at its opening
+abbrev IsOpening : List Entry → ReceiptsView → Type 0
+IsOpening entries v = (e : Entry) × (entries ≡ e ∷ []) × (v.notes ≡ record no_notes { entries = record { place = 0; entry = e } ∷ [] })
+
+-- receipts of it begin with it
+pub begins_laid : {F : Type 0} (r : Result ReceiptsView F) (x : ReceiptsView) (hall desk : List Entry) → IfOk r (IsOpening desk) → r ≡ Ok x → desk ≡ hall
+    → (e : Entry) × (hall ≡ e ∷ []) × BeginsWith e x.notes
+begins_laid r x hall desk opens is same =
+    let o : IsOpening desk x = subst (λ q. IfOk q (IsOpening desk)) is opens in
+    (o.0, sym same ∙ o.1, ([], ap (λ (n : Notes). n.entries) o.2))
+
+-- what stands at the first place of receipts that begin so
+first_standing : (first : Entry) (own : Notes) (rest : List Notes) → BeginsWith first own → (more : List Entry) × (standing_at 0 (placed (own ∷ rest)) ≡ first ∷ more)
+first_standing first own rest begins = (standing_at 0 (begins.0 ++ placed rest), ap (λ ps. standing_at 0 (ps ++ placed rest)) begins.1)
+
+only_one : (o : Option Entry) (first : Entry) (more : List Entry) → option_to_list o ≡ first ∷ more → o ≡ Some first
+only_one None first more is = cc
+only_one (Some e) first more is = cc
+
+at_first : (xs : List Entry) (first : Entry) → slice_get xs 0 ≡ Some first → (ys : List Entry) × (xs ≡ first ∷ ys)
+at_first [] first is = cc
+at_first (x ∷ ys) first is = (ys, cc)
+
+-- a book that matches receipts begins with what the first ones begin with
+begins_so : (first : Entry) (own : Notes) (rest : List Notes) (book : Ledger) → Matches (own ∷ rest) book → BeginsWith first own → IsFirst first book
+begins_so first own rest book matches begins =
+    let standing = first_standing first own rest begins in
+    let there : slice_get (reverse book.entries) 0 ≡ Some first = only_one (slice_get (reverse book.entries) 0) first standing.0 (sym (matches.entries 0) ∙ standing.1) in
+    let found = at_first (reverse book.entries) first there in
+    (reverse found.0, sym (reverse-reverse book.entries) ∙ ap reverse found.1 ∙ reverse-append (first ∷ []) found.0)
+
+pub book_begins : (own : Notes) (rest : List Notes) (receipts : List Notes) (stopped : Stopped) (end : ServedEnd) (book : BookView) (told : Option BookView) → receipts ≡ own ∷ rest → IsEnd stopped receipts book.ledger end
+    → told ≡ Some book → BookBegins own end told
+book_begins own rest receipts stopped end book told are is_end given =
+    subst (λ o. BookBegins own end o) (sym given) (by_end end (subst (λ ns. IsEnd stopped ns book.ledger end) are is_end))
+  where
+    by_end : (e : ServedEnd) → IsEnd stopped (own ∷ rest) book.ledger e → BookBegins own e (Some book)
+    by_end ends.Closed at = λ first begins. begins_so first own rest book.ledger at.1 begins
+    by_end ends.ListenFault at = λ first begins. begins_so first own rest book.ledger at.1 begins
+    by_end ends.NoWorker at = tt
+    by_end ends.StoreFault at = tt
+    by_end (ends.BadKept key) at = tt
+    by_end ends.NoMemory at = tt
+    by_end (ends.Unmatched difference) at = tt
+
+-- where memory was wanted nothing is said
+pub begins_wanting : (own : Notes) (end : ServedEnd) (book : Option BookView) → end ≡ ends.NoMemory → BookBegins own end book
+begins_wanting own end book is = subst (λ e. BookBegins own e book) (sym is) tt
+
+-- as receipts go on
+pub begins_on : (n m : Notes) (end : ServedEnd) (book : Option BookView) → KeepsFirst n m → BookBegins m end book → BookBegins n end book
+begins_on n m ends.Closed (Some book) keeps begins = λ first at. begins first (keeps first at)
+begins_on n m ends.ListenFault (Some book) keeps begins = λ first at. begins first (keeps first at)
+begins_on n m ends.Closed None keeps begins = tt
+begins_on n m ends.ListenFault None keeps begins = tt
+begins_on n m ends.NoWorker book keeps begins = tt
+begins_on n m ends.StoreFault book keeps begins = tt
+begins_on n m (ends.BadKept key) book keeps begins = tt
+begins_on n m ends.NoMemory book keeps begins = tt
+begins_on n m (ends.Unmatched difference) book keeps begins = tt
+
+-- one that is ended before anybody was accepted
+pub begins_not : (n : Notes) (end : ServedEnd) (book : Option BookView) → (end ≡ ends.NoMemory) ⊎ (end ≡ ends.NoWorker) → BookBegins n end book
+begins_not n end book (inl is) = subst (λ e. BookBegins n e book) (sym is) tt
+begins_not n end book (inr is) = subst (λ e. BookBegins n e book) (sym is) tt
+
 -- at the opening the book has one entry
 booked_so : (at : ℕ) (parts : Option Parts) → posting [] (opened_decision at parts).told ≡ Booked
 booked_so at None = refl
 booked_so at (Some parts) = refl
 
-pub one_entry : (t : Table) (loaded : List (List ℕ × List ℕ)) (at : ℕ) (entries : List Entry) → entries ≡ (opened t loaded at).entries → (e : Entry) × (entries ≡ e ∷ [])
-one_entry t loaded at entries is =
+pub opening_entry : (t : Table) (loaded : List (List ℕ × List ℕ)) (at : ℕ) (entries : List Entry) → entries ≡ (opened t loaded at).entries
+    → (e : Entry) × (entries ≡ e ∷ []) × (e.event ≡ events.Opened loaded)
+opening_entry t loaded at entries is =
     let m = opening_moment loaded at in
     let e : Entry = record { at = m; event = events.Opened loaded; answer = answer t [] m (events.Opened loaded) } in
     let booked : posting [] (answer t [] m (events.Opened loaded)) ≡ Booked = booked_so m (parts_taken m (seen t []).trace (judged loaded)) in
-    (e, is ∙ ap (λ q. (posted_as q e no_entries).entries) booked)
+    (e, is ∙ ap (λ q. (posted_as q e no_entries).entries) booked, refl)
+
+pub one_entry : (t : Table) (loaded : List (List ℕ × List ℕ)) (at : ℕ) (entries : List Entry) → entries ≡ (opened t loaded at).entries → (e : Entry) × (entries ≡ e ∷ [])
+one_entry t loaded at entries is = let one = opening_entry t loaded at entries is in (one.0, one.1)
+
+same_one : (d e : Entry) → d ∷ [] ≡ e ∷ [] → d ≡ e
+same_one d e is = cc
+
+-- with the rows that the store told
+pub opens_so : (told : KeptRows) (t : Table) (loaded : List (List ℕ × List ℕ)) (at : ℕ) (entries : List Entry) (n : Notes) (end : ServedEnd) (book : Option BookView) → entries ≡ (opened t loaded at).entries
+    → IfSome told (λ kept. loaded ≡ kept) → (e : Entry) × (entries ≡ e ∷ []) × BeginsWith e n → BookBegins n end book → BookOpens told end book
+opens_so told t loaded at entries n end book is same begun begins = by_end end book begins
+  where
+    over : (told' : KeptRows) → IfSome told' (λ kept. loaded ≡ kept) → (L : Ledger) → ((first : Entry) → BeginsWith first n → IsFirst first L) → OpensOver told' L
+    over None none L h = tt
+    over (Some kept) same' L h =
+        let one = opening_entry t loaded at entries is in
+        let is_e : begun.0 ≡ one.0 = same_one begun.0 one.0 (sym begun.1 ∙ one.1) in
+        (begun.0, subst (λ (e : Entry). e.event ≡ events.Opened kept) (sym is_e) (one.2 ∙ ap events.Opened same'), h begun.0 begun.2)
+
+    by_end : (e : ServedEnd) (b : Option BookView) → BookBegins n e b → BookOpens told e b
+    by_end ends.Closed (Some b) h = over told same b.ledger h
+    by_end ends.ListenFault (Some b) h = over told same b.ledger h
+    by_end ends.Closed None h = tt
+    by_end ends.ListenFault None h = tt
+    by_end ends.NoWorker b h = tt
+    by_end ends.StoreFault b h = tt
+    by_end (ends.BadKept key) b h = tt
+    by_end ends.NoMemory b h = tt
+    by_end (ends.Unmatched difference) b h = tt
+
+-- nothing is said of one that wasn't opened
+pub opens_none : (told : KeptRows) (why : StartFault) (end : ServedEnd) (book : Option BookView) → end ≡ unopened why → BookOpens told end book
+opens_none told why end book is = subst (λ e. BookOpens told e book) (sym is) (by_why why)
+  where
+    by_why : (w : StartFault) → BookOpens told (unopened w) book
+    by_why (starts.BadKept key) = tt
+    by_why starts.StoreFault = tt
+    by_why starts.NoMemory = tt

@@ -6,11 +6,13 @@ use Rattle.ow_floor.specs.declared.answers.Drain.{Drain}
 use Rattle.ow_floor.specs.declared.answers.Drain.TheVariants as drains
 use Rattle.ow_hall.specs.Comes.{HoldsBook, KeptRows}
 use Rattle.ow_hall.specs.Openings.{HasStartCause}
+use Rattle.ow_hall.specs.declared.entry.Entry.{Entry}
 use Rattle.ow_hall.specs.declared.refusals.StartFault.{StartFault}
 use Rattle.ow_hall.specs.declared.refusals.StartFault.TheVariants as starts
 use Rattle.ow_hall.specs.History.{IsLegal}
 use Rattle.ow_hall.specs.Ledger.{BookView, Ledger}
 use Rattle.ow_keep.specs.Judged.{judged}
+use Rattle.ow_decide.specs.declared.events.Event.TheVariants as events
 use Rattle.ow_desk.specs.Notes.{Notes}
 use Rattle.ow_desk.specs.declared.placed.Placed.{Placed}
 use Rattle.ow_audit.specs.Drains.{is_drained}
@@ -36,6 +38,26 @@ DrainedBy (drains.StillOpen n) m = Unit {0}
 -- the first receipts do
 abbrev pub HasDrained : List Notes → Type 0
 HasDrained receipts = (own : Notes) × (others : List Notes) × (receipts ≡ own ∷ others) × EndsDrained own
+
+-- ---- the opening, among them
+
+-- they begin with this entry, at the first place of a book
+abbrev pub BeginsWith : Entry → Notes → Type 0
+BeginsWith first n = (rest : List Placed) × (n.entries ≡ record { place = 0; entry = first } ∷ rest)
+
+-- they begin with whatever they began with before
+abbrev pub KeepsFirst : Notes → Notes → Type 0
+KeepsFirst n m = (first : Entry) → BeginsWith first n → BeginsWith first m
+
+-- it is the oldest entry of a book
+abbrev pub IsFirst : Entry → Ledger → Type 0
+IsFirst first book = (later : List Entry) × (book.entries ≡ later ++ first ∷ [])
+
+-- where the receipts match the book, the oldest entry of that is the one with which these began
+abbrev pub BookBegins : Notes → ServedEnd → Option BookView → Type 0
+BookBegins n ends.Closed (Some book) = (first : Entry) → BeginsWith first n → IsFirst first book.ledger
+BookBegins n ends.ListenFault (Some book) = (first : Entry) → BeginsWith first n → IsFirst first book.ledger
+BookBegins n end book = Unit {0}
 
 -- ---- what is left
 
@@ -95,6 +117,16 @@ IsOpenedOver told ends.StoreFault = Unit {0}
 IsOpenedOver told (ends.BadKept key) = Unit {0}
 IsOpenedOver told ends.NoMemory = Unit {0}
 IsOpenedOver told end = IfSome told (λ rows. IsOk (judged rows))
+
+-- the oldest entry of a book is the opening over the rows that the store told, where it tells them
+abbrev pub OpensOver : KeptRows → Ledger → Type 0
+OpensOver told book = IfSome told (λ rows. (first : Entry) × (first.event ≡ events.Opened rows) × IsFirst first book)
+
+-- where the receipts match the book, it begins so: a service goes on from what its store keeps
+abbrev pub BookOpens : KeptRows → ServedEnd → Option BookView → Type 0
+BookOpens told ends.Closed (Some book) = OpensOver told book.ledger
+BookOpens told ends.ListenFault (Some book) = OpensOver told book.ledger
+BookOpens told end book = Unit {0}
 
 -- ---- the store
 

@@ -51,6 +51,7 @@ where
     R::Container: Send + 'static,
     ensures accepted { AcceptsPeers (λ t k. (t.work ≡ Serves k) × (t.notes.notes ≡ no_notes)) (λ k d. IsServed K.left K.taken k d.notes.notes d.ending)
         (L.peers listener.old) (L.peers listener.new) crew.old.tasks crew.new.tasks most result.0.items result.1 }
+    ensures notes { house.new.notes.notes ≡ house.old.notes.notes }
     ensures later { L.faults listener.old ≤ L.faults listener.new }
     ensures fault { result.1 ≡ Stopped.Fault → Rose (L.faults listener.old) (L.faults listener.new) }
 {

@@ -31,6 +31,7 @@ pub(crate) fn begin_all<
 where
     R::Container: Send + 'static,
     ensures worker { IfErr result (λ e. (e ≡ ServedEnd.NoMemory) ⊎ ((e ≡ ServedEnd.NoWorker) × (0 < crew.new.faults))) }
+    ensures notes { house.new.notes.notes ≡ house.old.notes.notes }
 {
     let mut runners = runners;
     let last = runners.pop();
@@ -62,6 +63,7 @@ fn begin<
 where
     R::Container: Send + 'static,
     ensures worker { IfErr result (λ e. (e ≡ ServedEnd.NoMemory) ⊎ ((e ≡ ServedEnd.NoWorker) × (0 < crew.new.faults))) }
+    ensures notes { house.new.notes.notes ≡ house.old.notes.notes }
 {
     let Ok(duty) = house.duty(rt, alloc, work) else {
         return Err(ServedEnd::NoMemory);

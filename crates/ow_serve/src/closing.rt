@@ -4,7 +4,7 @@ ghost use Rattle.ow_tenant.specs.Table.{Table};
 ghost use Rattle.ow_board.specs.Board.{IsPassOf, size};
 ghost use Rattle.ow_hall.specs.Comes.{HoldsBook};
 ghost use Rattle.ow_hall.specs.History.{IsLegal};
-ghost use Rattle.ow_serve.specs.Ended.{DrainedBy, EndsDrained, KeepsBook};
+ghost use Rattle.ow_serve.specs.Ended.{DrainedBy, EndsDrained, KeepsBook, KeepsFirst};
 ghost use Rattle.ow_serve.specs.Peers.{endings_in, filled};
 
 use crate::duty::Done;
@@ -31,7 +31,8 @@ pub(crate) fn drain<H: Wait, P: Keeper + Drop, R: Runner + Drop, C: Clock + Drop
     alloc: Global,
     house: &mut House<P, R, C, G>,
 ) -> Result<(), NoMemory>
-    ensures { OnOk result (EndsDrained house.new.notes.notes) }
+    ensures drained { OnOk result (EndsDrained house.new.notes.notes) }
+    ensures first { KeepsFirst house.old.notes.notes house.new.notes.notes }
 {
     for _ in rt.forever() {
         match drain_once(rt, alloc, house) {
@@ -49,7 +50,8 @@ fn drain_once<H: Wait, P: Keeper + Drop, R: Runner + Drop, C: Clock + Drop, G: G
     alloc: Global,
     house: &mut House<P, R, C, G>,
 ) -> Result<Drain, NoMemory>
-    ensures { IfOk result (λ d. DrainedBy d house.new.notes.notes) }
+    ensures drained { IfOk result (λ d. DrainedBy d house.new.notes.notes) }
+    ensures first { KeepsFirst house.old.notes.notes house.new.notes.notes }
 {
     let at = house.clock.now();
     house

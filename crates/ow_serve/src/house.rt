@@ -1,16 +1,18 @@
 // What the service itself holds while its threads work.
-ghost use Rattle.std.specs.Prelude.{◌≡◌, [], ◌∷◌, IfOk};
+ghost use Rattle.std.specs.Prelude.{◌≡◌, ◌≤◌, [], ◌∷◌, IfOk};
 ghost use Rattle.ow_tenant.specs.Table.{IsPoolSized};
-ghost use Rattle.ow_board.specs.Board.{IsPassOf};
+ghost use Rattle.ow_board.specs.Board.{IsPassOf, size};
 ghost use Rattle.ow_hall.specs.declared.entry.Entry.{Entry};
 ghost use Rattle.ow_desk.specs.Notes.{no_notes};
+ghost use Rattle.ow_serve.specs.Ended.{BeginsWith};
 
 use crate::duty::{Duty, Work};
 use crate::place::{Place, SLOTS};
-use ow_board::{Pass, board};
+use ow_board::{Board, Pass, board};
 use ow_desk::{Desk, Issuer, Receipts};
 use ow_hall::Hall;
 use ow_links::Link;
+use ow_several::kept_beside;
 use ow_threads::{Clock, Gate};
 use ow_traits::{Keeper, Runner};
 use ow_value::NoMemory;
@@ -41,11 +43,12 @@ impl<P: Keeper + Drop, R: Runner + Drop, C: Clock + Drop, G: Gate + Drop> House<
     ) -> Result<Self, NoMemory>
         requires pool { IsPoolSized hall.tenants.pool }
         requires one { (e : Entry) × (hall.ledger.entries ≡ e ∷ []) }
+        ensures first { IfOk result (λ h. (e : Entry) × (hall.ledger.entries ≡ e ∷ []) × BeginsWith e h.notes.notes) }
     {
-        let (desk, issuer) = Desk::of(hall);
-        let notes = Receipts::opening(alloc, &issuer, &desk)?;
-        let (board, pass) = board(alloc, SLOTS)?;
-        let place = Arc::new(alloc, Place::new(desk, board))?;
+        let ((clock, gate), (place, issuer, pass, notes)) = kept_beside(
+            (clock, gate),
+            laid(alloc, hall),
+        )?;
         Ok(House {
             place,
             issuer,
@@ -64,7 +67,8 @@ impl<P: Keeper + Drop, R: Runner + Drop, C: Clock + Drop, G: Gate + Drop> House<
         alloc: Global,
         work: Work<K, R>,
     ) -> Result<Duty<H, K, R, P, C, G>, NoMemory>
-        ensures { IfOk result (λ d. (d.work ≡ work) × (d.notes.notes ≡ no_notes)) }
+        ensures duty { IfOk result (λ d. (d.work ≡ work) × (d.notes.notes ≡ no_notes)) }
+        ensures notes { self.new.notes.notes ≡ self.old.notes.notes }
     {
         let pass = self.place.board.split(&mut self.pass);
         Ok(Duty {
@@ -79,4 +83,44 @@ impl<P: Keeper + Drop, R: Runner + Drop, C: Clock + Drop, G: Gate + Drop> House<
             notes: Receipts::new(alloc, &self.issuer)?,
         })
     }
+}
+
+// What is shared and what is the service's own: the hall on its desk, over an empty board, and the receipts of the opening.
+fn laid<P: Keeper + Drop, B: Drop>(
+    alloc: Global,
+    hall: Hall<P>,
+) -> Result<(Arc<Place<P, B>, Global>, Issuer<P>, Pass<B>, Receipts<P>), NoMemory>
+    requires pool { IsPoolSized hall.tenants.pool }
+    requires one { (e : Entry) × (hall.ledger.entries ≡ e ∷ []) }
+    ensures own { IfOk result (λ l. IsPassOf l.0.value.board l.2) }
+    ensures first { IfOk result (λ l. (e : Entry) × (hall.ledger.entries ≡ e ∷ []) × BeginsWith e l.3.notes) }
+{
+    match board(alloc, SLOTS) {
+        Ok((board, pass)) => laid_over(alloc, hall, board, pass),
+        Err(_) => {
+            drop(hall);
+            Err(NoMemory)
+        }
+    }
+}
+
+fn laid_over<P: Keeper + Drop, B: Drop>(
+    alloc: Global,
+    hall: Hall<P>,
+    board: Board<B>,
+    pass: Pass<B>,
+) -> Result<(Arc<Place<P, B>, Global>, Issuer<P>, Pass<B>, Receipts<P>), NoMemory>
+    requires pool { IsPoolSized hall.tenants.pool }
+    requires one { (e : Entry) × (hall.ledger.entries ≡ e ∷ []) }
+    requires wide { 512 ≤ size board }
+    requires pass { IsPassOf board pass }
+    ensures own { IfOk result (λ l. IsPassOf l.0.value.board l.2) }
+    ensures first { IfOk result (λ l. (e : Entry) × (hall.ledger.entries ≡ e ∷ []) × BeginsWith e l.3.notes) }
+{
+    let (desk, issuer) = Desk::of(hall);
+    let noted = Receipts::opening(alloc, &issuer, &desk);
+    let ((desk, issuer), notes) = kept_beside((desk, issuer), noted)?;
+    let shared = Arc::new(alloc, Place::new(desk, board));
+    let ((issuer, notes), place) = kept_beside((issuer, notes), shared)?;
+    Ok((place, issuer, pass, notes))
 }

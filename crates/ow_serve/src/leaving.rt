@@ -4,7 +4,7 @@ ghost use Rattle.ow_threads.specs.Tasks.{Joined, pending};
 ghost use Rattle.ow_board.specs.Board.{IsPassOf};
 ghost use Rattle.ow_audit.specs.Places.{notes_of};
 ghost use Rattle.ow_serve.specs.Duties.{Ends};
-ghost use Rattle.ow_serve.specs.Ended.{Closes, EndsDrained, IsEnd, KeepsBook, Left};
+ghost use Rattle.ow_serve.specs.Ended.{BookBegins, Closes, EndsDrained, IsEnd, KeepsBook, Left};
 ghost use Rattle.ow_serve.specs.Peers.{filled};
 
 use crate::accepting::Stopped;
@@ -74,6 +74,7 @@ where
     R::Container: Send + 'static,
     ensures closes { Closes (λ t d. Ends K.left K.taken t.work t.notes.notes d.notes.notes d.ending) (λ d. d.notes.notes) (λ d. d.ending) (pending first crew.old.tasks) seats.items stopped result.end result.book (map (λ r. r.notes) result.receipts.items) result.endings.items }
     ensures faults { crew.new.faults ≡ crew.old.faults }
+    ensures begins { BookBegins house.notes.notes result.end result.book }
     ensures store { IfSome result.store (λ s. KeepsBook (P.rows s) result.book) }
 {
     let mut house = house;
@@ -113,6 +114,7 @@ fn leave<H: Wait, R: Runner + Drop, P: Keeper + Drop, C: Clock + Drop, G: Gate +
     requires drained { IsOk all → EndsDrained house.notes.notes }
     ensures left { IfOk all (λ a. Left (map (λ d. d.notes.notes) a.0.items) (map (λ d. d.ending) a.0.items) stopped result.end result.book (map (λ r. r.notes) result.receipts.items) result.endings.items) }
     ensures none { OnErr all (result.end ≡ ServedEnd.NoMemory) }
+    ensures begins { BookBegins house.notes.notes result.end result.book }
     ensures store { IfSome result.store (λ s. KeepsBook (P.rows s) result.book) }
 {
     let House {

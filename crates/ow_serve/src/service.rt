@@ -2,7 +2,7 @@
 ghost use Rattle.std.specs.Prelude.{◌≡◌, ◌≤◌, ◌<◌, ◌-◌, length, map, unwrap_or, IfSome};
 ghost use Rattle.ow_traits.specs.Streams.{Rose};
 ghost use Rattle.ow_serve.specs.Duties.{TalksAlone};
-ghost use Rattle.ow_serve.specs.Ended.{IsOpenedEnd, IsOpenedOver, IsUnopened, KeepsBook, LeavesStore, Serves, unopened};
+ghost use Rattle.ow_serve.specs.Ended.{BookBegins, BookOpens, IsOpenedEnd, IsOpenedOver, IsUnopened, KeepsBook, LeavesStore, Serves, unopened};
 ghost use Rattle.ow_tenant.specs.Table.{IsPoolSized};
 ghost use Rattle.ow_pool.specs.Rules.{AreWantsSized};
 
@@ -60,6 +60,7 @@ where
     ensures worker { result.end ≡ ServedEnd.NoWorker → 0 < result.spawner_faults }
     ensures unopened { IsUnopened P.rows P.faults store result.end result.store }
     ensures allowed { IsOpenedOver (P.rows store) result.end }
+    ensures opens { BookOpens (P.rows store) result.end result.book }
     ensures store { LeavesStore P.rows store result.end result.store result.book }
 {
     let opened = clock.now();
@@ -112,6 +113,7 @@ where
     ensures fault { result.end ≡ ServedEnd.ListenFault → Rose (L.faults listener.old) (L.faults listener.new) }
     ensures worker { result.end ≡ ServedEnd.NoWorker → 0 < result.spawner_faults }
     ensures opened { IsOpenedEnd result.end }
+    ensures begins { BookBegins house.notes.notes result.end result.book }
     ensures store { IfSome result.store (λ s. KeepsBook (P.rows s) result.book) }
 {
     let mut crew: Crew<V, Duty<H, K, R, P, C, G>> = Crew::new(alloc, leave);
@@ -148,6 +150,7 @@ where
     ensures fault { result.end ≡ ServedEnd.ListenFault → Rose (L.faults listener.old) (L.faults listener.new) }
     ensures worker { result.end ≡ ServedEnd.NoWorker → 0 < crew.new.faults }
     ensures opened { IsOpenedEnd result.end }
+    ensures begins { BookBegins house.notes.notes result.end result.book }
     ensures store { IfSome result.store (λ s. KeepsBook (P.rows s) result.book) }
 {
     let mut house = house;

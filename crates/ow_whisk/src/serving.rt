@@ -8,11 +8,13 @@ use ow_edge::{Always, Bells, SocketListener, SystemClock};
 use ow_links::{Link, Listener};
 use ow_runners::ProgramRunner;
 use ow_serve::{Served, ServedEnd, serve};
+use ow_several::{joined3, kept_beside};
 use ow_tenant::Tenants;
 use ow_threads::OpenGate;
 use ow_traits::Keeper;
 use ow_value::{NoMemory, PlainData};
 use ow_words::ServeWords;
+use std::alloc::Global;
 use std::net::{Net, TcpListener, TcpStream};
 use std::process::{ExitCode, Processes, SystemProcess};
 use std::sync::{Arc, Wait};
@@ -88,10 +90,15 @@ fn serve_at<
     requires pool { IsPoolSized tenants.pool }
 {
     let alloc = rt.alloc();
-    let runners = runners_of(rt, words.workers, &tenants)?;
-    let bells = Arc::new(alloc, Bells::new())?;
-    let clock = Arc::new(alloc, SystemClock::new(rt.clone()?, bells))?;
-    let gate = Arc::new(alloc, OpenGate::new())?;
+    let made = joined3(
+        runners_of(rt, words.workers, &tenants),
+        clock_of(rt),
+        gate_of(rt),
+    );
+    let ((words, tenants, store), (runners, clock, gate)) = kept_beside(
+        (words, tenants, store),
+        made,
+    )?;
     Ok(serve(
         rt,
         alloc,
@@ -104,6 +111,19 @@ fn serve_at<
         gate,
         Always::new(),
     ))
+}
+
+// The system's clock, with bells that end its pauses.
+fn clock_of<H: System>(rt: &H) -> Result<Arc<SystemClock<H>, Global>, NoMemory> {
+    let alloc = rt.alloc();
+    let bells = Arc::new(alloc, Bells::new())?;
+    let (bells, rt) = kept_beside(bells, rt.clone())?;
+    Ok(Arc::new(alloc, SystemClock::new(rt, bells))?)
+}
+
+// A gate that holds nobody.
+fn gate_of<H: System>(rt: &H) -> Result<Arc<OpenGate, Global>, NoMemory> {
+    Ok(Arc::new(rt.alloc(), OpenGate::new())?)
 }
 
 // Listens on the port of all addresses of the machine. Where it can't, the listener's first accept fails.
@@ -133,10 +153,14 @@ pub fn served<
     requires pool { IsPoolSized tenants.pool }
 {
     match serve_port(rt, words, tenants, store) {
-        Ok(served) => {
-            let Served { end, store, .. } = served;
-            (code_of(&end), store)
-        }
+        Ok(served) => ended(served),
         Err(_) => (code_of(&ServedEnd::NoMemory), None),
     }
+}
+
+// The exit status of a service that has ended, and its store.
+fn ended<P: Keeper + Drop>(served: Served<P>) -> (ExitCode, Option<P>) {
+    let code = code_of(&served.end);
+    let Served { store, .. } = served;
+    (code, store)
 }

@@ -1,5 +1,5 @@
 use denote.Param.Send.{sendable}
-use Rattle.std.proofs.Common.{◌++◌, ◌∷◌, [], length, inl, ap, sym, ◌∙◌, arith}
+use Rattle.std.proofs.Common.{◌++◌, ◌∷◌, [], length, inl, ap, refl, sym, ◌∙◌, arith}
 use Rattle.std.proofs.lemmas.List.{length-append}
 use Rattle.ow_serve.specs.Duties.{Ends}
 use Rattle.ow_serve.proofs.Seating.{failed, no_more, one_came, seated_more, seated_none, seated_still, served_by}
@@ -7,7 +7,7 @@ use Rattle.ow_serve.proofs.Crossing.{done_send, duty_send}
 use Rattle.ow_serve.proofs.accepting.accept_all.Goals as goal
 
 pub loop-init : goal.loop-init
-loop-init g c = record { seated = seated_none _ _ _ _ _ c.new-seats.ensures.items; count = ap length c.new-seats.ensures.items; later = omega arith }
+loop-init g c = record { seated = seated_none _ _ _ _ _ c.new-seats.ensures.items; notes = refl; count = ap length c.new-seats.ensures.items; later = omega arith }
 
 pub returns-in-Ok-Closed-clause-accepted : goal.returns-in-Ok-Closed-clause-accepted
 returns-in-Ok-Closed-clause-accepted g c =
@@ -25,7 +25,8 @@ loop-preserved g c =
       seated = seated_more _ _ (λ t d. Ends g.K.Link.left g.K.Link.taken t.work t.notes.notes d.notes.notes d.ending)
           (λ t k d mine e. served_by g.K.Link.left g.K.Link.taken t.work k t.notes.notes d.notes.notes d.ending mine.0 mine.1 e)
           _ _ _ _ _ _ _ _ _ _ c.in-Ok.duty c.in-Ok-Peer.link c.begin.result c.in-Some.seat
-          (one_came _ _ c.in-Ok-Peer.link (rw c.in-Ok-Peer.field-0-is at c.in-Ok-Peer.ensures.told)) c.in-Ok.ensures c.begin.ensures (sym c.seat_of.ensures ∙ c.in-Some.is) put before.seated;
+          (one_came _ _ c.in-Ok-Peer.link (rw c.in-Ok-Peer.field-0-is at c.in-Ok-Peer.ensures.told)) c.in-Ok.ensures.duty c.begin.ensures (sym c.seat_of.ensures ∙ c.in-Some.is) put before.seated;
+      notes = c.duty.ensures.notes ∙ before.notes;
       count = (let longer = ap length put in let one = length-append c.loop.seats.items (c.in-Some.seat ∷ []) in let count = before.count in omega (arith, longer, one, count));
       later = (let old = before.later in let now = c.in-Ok-Peer.ensures.cause.later in omega (arith, old, now));
     }

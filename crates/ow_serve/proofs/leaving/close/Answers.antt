@@ -1,11 +1,14 @@
 use denote.Param.Send.{sendable}
-use Rattle.ow_serve.proofs.Whole.{closes_by}
+use Rattle.ow_serve.proofs.Whole.{begins_on, closes_by}
 use Rattle.ow_serve.proofs.Crossing.{done_send, duty_send}
 use Rattle.ow_serve.proofs.leaving.close.Goals as goal
 
 pub returns-clause-closes : goal.returns-clause-closes
 returns-clause-closes g c =
     closes_by _ _ _ _ _ _ _ _ _ _ _ _ c.args.first c.join-joined.result c.all_of-all.result c.join-joined.ensures.joined c.all_of-all.ensures.peers c.leave.ensures.left c.leave.ensures.none
+
+pub returns-clause-begins : goal.returns-clause-begins
+returns-clause-begins g c = begins_on c.args.house.notes.notes c.drain-drained.new.house.notes.notes c.leave.result.end c.leave.result.book c.drain-drained.ensures.first c.leave.ensures.begins
 
 pub join-joined-requires-send-T : goal.join-joined-requires-send-T
 join-joined-requires-send-T g c κs within = search (sendable, duty_send, c.type_bounds)

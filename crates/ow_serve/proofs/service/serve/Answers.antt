@@ -1,5 +1,5 @@
 use Rattle.std.proofs.Common.{ap, ◌∙◌}
-use Rattle.ow_serve.proofs.Whole.{one_entry, over_allowed, over_none, unserved_by}
+use Rattle.ow_serve.proofs.Whole.{one_entry, opens_none, opens_so, over_allowed, over_none, unserved_by}
 use Rattle.ow_serve.proofs.service.serve.Goals as goal
 
 pub new-requires-clause-one : goal.new-requires-clause-one
@@ -14,3 +14,11 @@ returns-in-Ok-new-clause-allowed g c = over_allowed _ c.in-Ok.ensures.opens.load
 
 pub returns-clause-allowed : goal.returns-clause-allowed
 returns-clause-allowed g c = over_none _ c.in-Err.refusal.why _ (c.nothing-in-Err.ensures.end ∙ c.unopened.ensures)
+
+pub returns-in-Ok-new-clause-opens : goal.returns-in-Ok-new-clause-opens
+returns-in-Ok-new-clause-opens g c =
+    opens_so _ c.args.tenants c.in-Ok.ensures.opens.loaded c.now-opened.result _ c.in-Ok-new.house.notes.notes c.run.result.end c.run.result.book (ap (λ l. l.entries) c.in-Ok.ensures.opens.ledger) c.in-Ok.ensures.opens.told
+    c.in-Ok-new.ensures.first c.run.ensures.begins
+
+pub returns-clause-opens : goal.returns-clause-opens
+returns-clause-opens g c = opens_none _ c.in-Err.refusal.why _ _ (c.nothing-in-Err.ensures.end ∙ c.unopened.ensures)
