@@ -1,5 +1,5 @@
 -- What is told by what the words ask for.
-use Rattle.std.proofs.Common.{◌≡◌, ◌⊎◌, ◌||◌, ℕ, Bool, true, false, codes, cond, List, [], ◌∷◌, Option, Some, None, Result, Ok, Err, ap, inl, inr, refl, subst}
+use Rattle.std.proofs.Common.{◌≡◌, ◌⊎◌, ◌||◌, ℕ, Bool, true, false, codes, cond, List, [], ◌∷◌, Option, Some, None, Result, Ok, Err, ap, inl, inr, refl, subst, sym, ◌∙◌}
 use Rattle.std.specs.Option.{option_and_then, option_map}
 use Rattle.std.proofs.lemmas.Bool.{false≢true}
 use Rattle.ow_words.specs.Words.{Values, alone, command_named, command_of, connections_of, day_options, day_with, is_day, is_serve, port_of, serve_by, serve_options, serve_with, takes_options, values_of, workers_of}
@@ -16,8 +16,8 @@ use Rattle.ow_tenant.specs.Reading.{Tells as TellsRows}
 use Rattle.ow_tenant.specs.Table.{Table, table_of}
 use Rattle.ow_tenant.specs.declared.refusal.TenantRefusal.{TenantRefusal}
 use Rattle.ow_tenant.specs.declared.refusal.TenantRefusal.TheVariants as refusals
-use Rattle.ow_day.specs.Office.{EndsDay, PassesOn, StoreView, TellsCommand, TellsOver, TellsServe, TellsTable, TellsText, unread, unread_words}
-use Rattle.ow_day.specs.Words.{asked_by, asked_of}
+use Rattle.ow_day.specs.Office.{EndsDay, LeavesTable, PassesOn, StoreView, TellsCommand, TellsOver, TellsServe, TellsTable, TellsText, unread, unread_words}
+use Rattle.ow_day.specs.Words.{asked_by, asked_of, names_table}
 use Rattle.ow_day.proofs.Tables.{IsToldBy, untouched}
 
 -- a command asks for something
@@ -90,6 +90,16 @@ pub unread_refused : (ws : List (List ℕ)) (refusal : WordsRefusal) → (refusa
     → (unread_words refusal ≡ statuses.BadWords) ⊎ ((unread_words refusal ≡ statuses.NoMemory) × (takes_options ws ≡ true))
 unread_refused ws words.BadWords memory = inl refl
 unread_refused ws words.NoMemory memory = inr (refl, memory refl)
+
+wanted_leaves : (text left : Option (List ℕ)) → LeavesTable text left statuses.NoMemory
+wanted_leaves None left = tt
+wanted_leaves (Some text) left = inl refl
+
+-- words that aren't read name no table, where it isn't memory that was wanted
+pub unread_leaves_table : (ws : List (List ℕ)) (text left : Option (List ℕ)) (refusal : WordsRefusal) → (refusal ≡ words.BadWords → command_of ws ≡ None) → names_table (asked_by ws) ≡ true
+    → LeavesTable text left (unread_words refusal)
+unread_leaves_table ws text left words.BadWords bad named = absurd (false≢true (sym (ap names_table (asked_none (command_of ws) (bad refl))) ∙ named))
+unread_leaves_table ws text left words.NoMemory bad named = wanted_leaves text left
 
 -- ---- what is passed on
 

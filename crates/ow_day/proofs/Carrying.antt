@@ -1,5 +1,5 @@
 -- Statements that are carried out one after the other.
-use Rattle.std.proofs.Common.{◌≡◌, ◌+◌, ◌++◌, ℕ, List, [], ◌∷◌, refl, sym, ap, subst, ◌∙◌, append_assoc, append-nil, arith}
+use Rattle.std.proofs.Common.{◌+◌, ◌++◌, ℕ, List, [], ◌∷◌, refl, sym, ap, subst, ◌∙◌, append_assoc, append-nil, arith}
 use Rattle.ow_day.specs.declared.done.Done.{Done}
 use Rattle.ow_day.specs.Statement.{Statement}
 use Rattle.ow_day.specs.Machine.{Machine, Does, CarriesOut}

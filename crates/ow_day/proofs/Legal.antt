@@ -1,20 +1,16 @@
 -- The book of a day is legal.
-use Rattle.std.proofs.Common.{◌≡◌, ◌≤◌, ℕ, pos, Bool, true, false, List, [], ◌∷◌, None, Result, Ok, Err, inl, inr, refl, ◌∙◌, arith, take}
+use Rattle.std.proofs.Common.{◌≡◌, ◌≤◌, ℕ, Bool, true, false, List, [], ◌∷◌, None, refl, ◌∙◌, arith, take}
 use Rattle.std.proofs.Math.Nat.{le-max_left, max-le, min-le_right}
 use Rattle.ow_floor.specs.declared.answers.Idle.{Idle}
 use Rattle.ow_floor.specs.declared.answers.Order.TheVariants as orders
-use Rattle.ow_http.specs.declared.http_refusal.HttpRefusal.{HttpRefusal}
 use Rattle.ow_http.specs.declared.reason.Reason.{Reason}
-use Rattle.ow_http.specs.declared.request.Request.{Request}
-use Rattle.ow_traits.specs.declared.replies.RunReply.TheVariants as runs
-use Rattle.ow_hall.specs.Comes.{Answers, Comes, Fails, Outcome, Wants}
-use Rattle.ow_hall.specs.History.{AreAnswered, History, IsLegal, answer, counted, greatest_moment, is_idle, last_moment, least_moment, moment, opens_here}
+use Rattle.ow_hall.specs.Comes.{Answers, Comes}
+use Rattle.ow_hall.specs.History.{AreAnswered, History, IsLegal, answer, greatest_moment, is_idle, last_moment, least_moment, moment, opens_here}
 use Rattle.ow_hall.specs.Ledger.{Ledger, posted}
 use Rattle.ow_hall.proofs.OpenLaws.{opened_legal}
 use Rattle.ow_items.specs.Sorted.{Entries}
 use Rattle.ow_decide.specs.Decisions.{is_opening}
 use Rattle.ow_decide.specs.Reasons.{tells_full}
-use Rattle.ow_decide.specs.Sight.{is_full}
 use Rattle.ow_decide.specs.declared.events.Event.{Event}
 use Rattle.ow_decide.specs.declared.events.Event.TheVariants as events
 use Rattle.ow_decide.specs.declared.events.Told.{Told}
@@ -23,17 +19,11 @@ use Rattle.ow_decide.specs.declared.events.Told.TheVariants as told
 use Rattle.ow_decide.specs.declared.replies.HallCollected.TheVariants as collected
 use Rattle.ow_decide.specs.declared.replies.Called.TheVariants as called
 use Rattle.ow_tenant.specs.Table.{Table}
-use Rattle.ow_invoker.specs.Turns.{Exchange}
-use Rattle.ow_invoker.specs.declared.turn.Turned.{Turned}
-use Rattle.ow_day.specs.declared.call_words.CallWords.{CallWords}
-use Rattle.ow_day.specs.declared.call_words.CallWords.TheVariants as calls
 use Rattle.ow_day.specs.declared.done.Done.{Done}
-use Rattle.ow_day.specs.CallWords.{called as words_of}
-use Rattle.ow_day.specs.Statement.{Statement, At, Call, Ask, Next, Begun, Answer, Logged, Exit, NoStart, Fault, Lost, Gone, Sweep, Turn, Collect, Drain, Reopen, End}
-use Rattle.ow_day.specs.Machine.{Machine, Asks, Calls, CarriesOut, Does, Ends, Exchanges, ExchangesAll, FailsAt, Meets, Rests, Turns, done_of, hall_of, start}
+use Rattle.ow_day.specs.Statement.{Statement}
+use Rattle.ow_day.specs.Machine.{Machine, CarriesOut, Does, hall_of, start}
 use Rattle.ow_day.specs.Day.{day_of}
 use Rattle.ow_day.specs.Office.{HasLegalBooks}
-use Rattle.ow_day.proofs.Turning.{NoneOpens, offered_opens, turn_opens}
 
 abbrev HasLegalBook : Machine → Type 0
 HasLegalBook M = IsLegal M.tenants M.ledger.entries
@@ -120,69 +110,22 @@ posted_so t L at event (told.Drain drain) n = booked t L.entries _ n (n.is, refl
 
 -- ---- the book behind a statement
 
-met_by : (M N : Machine) (event : Event) (failed : ℕ) (done : Done) (o : Outcome) (before after : ℕ) → is_opening event ≡ false → Ends event o failed done
-    → Comes {P = ℕ} (λ n. None) (λ n. n) (hall_of M before) (hall_of N after) M.given event o → HasLegalBook M → HasLegalBook N
-met_by M N event failed done (Answers t) before after later ends (told_is, ledger, tenants, holds) legal =
+stays : (M N : Machine) → N.tenants ≡ M.tenants → N.ledger.entries ≡ M.ledger.entries → HasLegalBook M → HasLegalBook N
+stays M N tenants entries legal = rw (tenants, entries) legal
+
+joins : (M K N : Machine) → (HasLegalBook M → HasLegalBook K) → (HasLegalBook K → HasLegalBook N) → HasLegalBook M → HasLegalBook N
+joins M K N first second legal = second (first legal)
+
+answers : (M N : Machine) (before after : ℕ) (event : Event) (t : Told) → is_opening event ≡ false
+    → Comes {P = ℕ} (λ n. None) (λ n. n) (hall_of M before) (hall_of N after) M.given event (Answers t) → HasLegalBook M → HasLegalBook N
+answers M N before after event t later (told_is, ledger, tenants, holds) legal =
     let L = M.ledger in
     let most : moment L.entries M.given ≤ greatest_moment = max-le (newest_small M.tenants L.entries legal.answered) (min-le_right M.given greatest_moment) in
     rw (tenants, ledger) (posted_so M.tenants L (moment L.entries M.given) event t
     (record { is = told_is; late = le-max_left _ _; most = most; later = later; legal = legal }))
-met_by M N event failed done Wants before after later never comes legal = absurd never
-met_by M N event failed done Fails before after later ends (changes, ledger, tenants, stays, count, rose) legal = rw (tenants, ledger) legal
-
-met : (M N : Machine) (event : Event) (failed : ℕ) (done : Done) → is_opening event ≡ false → Meets M event failed done N → HasLegalBook M → HasLegalBook N
-met M N event failed done later (o, before, after, ends, given, shelf, comes) legal = met_by M N event failed done o before after later ends comes legal
-
--- ---- turns
-
-exchanged : (M N : Machine) (x : Exchange) → is_opening x.event ≡ false → Exchanges M x N → HasLegalBook M → HasLegalBook N
-exchanged M N x later (before, after, given, comes) legal = met_by M N x.event 0 (done_of x.answer) (Answers x.answer) before after later (refl, refl) comes legal
-
-turned_so : (M N : Machine) (xs : List Exchange) → NoneOpens xs → ExchangesAll M xs N → HasLegalBook M → HasLegalBook N
-turned_so M N [] none same legal = rw same legal
-turned_so M N (x ∷ xs) (later, none) (K, first, rest) legal = turned_so K N xs none rest (exchanged M K x later first legal)
-
--- a fault of the store books nothing
-failed_so : (M N : Machine) (event : Event) → FailsAt M event N → HasLegalBook M → HasLegalBook N
-failed_so M N event (before, after, given, (changes, ledger, tenants, stays, count, rose)) legal = rw (tenants, ledger) legal
-
-turn_so : (M N : Machine) (turned : Turned) (failed : ℕ) → Turns M turned failed N → HasLegalBook M → HasLegalBook N
-turn_so M N turned failed (inl (none, t)) legal = turned_so M N t.exchanges (turn_opens M.shelf turned.order t.exchanges N.shelf t.turn) t.met legal
-turn_so M N turned failed (inr (one, t)) legal =
-    failed_so t.middle N t.event t.fails (turned_so M t.middle t.exchanges (offered_opens M.shelf turned.order t.exchanges t.event N.shelf t.turn) t.met legal)
-
--- ---- statements
-
-rested_so : (M N : Machine) (known : Done) (failed : ℕ) (done : Done) → Rests M known failed done N → HasLegalBook M → HasLegalBook N
-rested_so M N known failed done (none, is, same) legal = rw same legal
-
-called_so : (M N : Machine) (words : CallWords) (failed : ℕ) (done : Done) → Calls M words failed done N → HasLegalBook M → HasLegalBook N
-called_so M N (calls.Refused reason) failed done rests legal = rested_so M N _ failed done rests legal
-called_so M N (calls.Calls name params) failed done meets legal = met M N (events.Called name params) failed done refl meets legal
-
-asked_so : (M N : Machine) (read : Result Request HttpRefusal) (failed : ℕ) (done : Done) → Asks M read failed done N → HasLegalBook M → HasLegalBook N
-asked_so M N (Ok request) failed done meets legal = met M N (events.Asked request) failed done refl meets legal
-asked_so M N (Err e) failed done rests legal = rested_so M N _ failed done rests legal
 
 done_so : (M N : Machine) (s : Statement) (failed : ℕ) (done : Done) → Does M s failed done N → HasLegalBook M → HasLegalBook N
-done_so M N (At moment) failed done (none, is, same) legal = rw same legal
-done_so M N (Call name text) failed done does legal = called_so M N (words_of (is_full (counted M.ledger.entries) 0) name text) failed done does legal
-done_so M N (Ask bytes) failed done (read, is, asks) legal = asked_so M N read failed done asks legal
-done_so M N Next failed done meets legal = met M N events.Next failed done refl meets legal
-done_so M N (Begun run) failed done meets legal = met M N (events.Begun run) failed done refl meets legal
-done_so M N (Answer run text) failed done meets legal = met M N (events.Answered run (runs.Answer text [])) failed done refl meets legal
-done_so M N (Logged run text logs) failed done meets legal = met M N (events.Answered run (runs.Answer text logs)) failed done refl meets legal
-done_so M N (Exit run code) failed done meets legal = met M N (events.Answered run (runs.Exit (pos code) [])) failed done refl meets legal
-done_so M N (NoStart run text) failed done meets legal = met M N (events.Answered run (runs.NoStart text)) failed done refl meets legal
-done_so M N (Fault run) failed done meets legal = met M N (events.Answered run runs.Fault) failed done refl meets legal
-done_so M N (Lost run) failed done meets legal = met M N (events.Lost run) failed done refl meets legal
-done_so M N (Gone slot generation) failed done meets legal = met M N (events.Gone slot generation) failed done refl meets legal
-done_so M N Sweep failed done meets legal = met M N events.Sweep failed done refl meets legal
-done_so M N (Collect id) failed done meets legal = met M N (events.Collected id) failed done refl meets legal
-done_so M N Turn failed done (turned, is, turns) legal = turn_so M N turned failed turns legal
-done_so M N Drain failed done meets legal = met M N events.Drain failed done refl meets legal
-done_so M N Reopen failed done meets legal = met M N events.Reopened failed done refl meets legal
-done_so M N End failed done rests legal = rested_so M N _ failed done rests legal
+done_so M N s failed done does = each_statement (λ M N. HasLegalBook M → HasLegalBook N) stays joins answers M N s failed done does
 
 all_so : (M : Machine) (ss : List Statement) (lines : List ℕ) (failed : ℕ) (N : Machine) → CarriesOut M ss lines failed N → HasLegalBook M → HasLegalBook N
 all_so M [] lines failed N (none, no_fault, same) legal = rw same legal

@@ -1,5 +1,5 @@
 -- What comes of a statement where the hall meets an event.
-use Rattle.std.proofs.Common.{◌≡◌, ◌≤◌, ℕ, List, [], ◌∷◌, Some, None, Result, Ok, Err, IfOk, IsErr, inl, inr, refl, sym, ap, subst, arith}
+use Rattle.std.proofs.Common.{◌≡◌, ℕ, List, [], ◌∷◌, Some, None, Result, Ok, Err, IfOk, IsErr, inl, inr, refl, sym, ap, subst, arith}
 use Rattle.std.proofs.lemmas.Bool.{false≢true}
 use Rattle.ow_value.specs.Value.{Pairs}
 use Rattle.ow_value.specs.declared.memory.NoMemory.{NoMemory as Want}
@@ -33,8 +33,9 @@ use Rattle.ow_day.specs.declared.done.Done.TheVariants as dones
 use Rattle.ow_day.specs.declared.done.Done.TheVariants.{Asked}
 use Rattle.ow_day.specs.declared.session.Session.{Session}
 use Rattle.ow_day.specs.Machine.{Asks, Does, ExchangesAll, Machine, Meets, done_of, fault_of, hall_of, unread}
-use Rattle.ow_day.specs.Session.{ComesTo, Denies, GoesTo, machine_of, told_of}
+use Rattle.ow_day.specs.Session.{ComesTo, Denies, GoesTo, IsLater, machine_of, told_of}
 use Rattle.ow_day.specs.Statement.{Ask, Turn}
+use Rattle.ow_day.proofs.Behind.{chain_behind, chain_to_behind, comes_behind, undone_behind}
 use Rattle.ow_day.proofs.Rising.{rose_none, rose_once, rose_then}
 
 -- the session over a hall
@@ -49,15 +50,18 @@ behind_turn s hall runner left = record { hall = hall; given = s.given; scratch 
 abbrev with_shelf : {P : Type 0} → Session P → HallView P → List (Laid PlainContainer) → Machine
 with_shelf s hall left = record { tenants = hall.tenants; ledger = hall.ledger; given = s.given; shelf = left }
 
--- whatever comes of a statement, the store's count of faults doesn't fall
-pub comes_to_later : {P : Type 0} (faults : P → ℕ) (old new : Session P) (Is : ℕ → Done → Machine → Type 0) (r : Result Done Want) → ComesTo faults old new Is r → faults old.hall.store ≤ faults new.hall.store
-comes_to_later faults old new Is (Ok done) (n, (is, rose)) = rose.0
-comes_to_later faults old new Is (Err e) later = later
+-- a session goes on from itself
+pub same_session : {P : Type 0} (faults : P → ℕ) (s : Session P) → IsLater faults s s
+same_session faults s = record { behind = (refl, ([], refl)); count = omega arith }
 
 -- memory was wanted
-pub wants_so : {P : Type 0} (faults : P → ℕ) (old new : Session P) (Is : ℕ → Done → Machine → Type 0) (r : Result Done Want) → IsErr r → faults old.hall.store ≤ faults new.hall.store → ComesTo faults old new Is r
+pub wants_so : {P : Type 0} (faults : P → ℕ) (old new : Session P) (Is : ℕ → Done → Machine → Type 0) (r : Result Done Want) → IsErr r → IsLater faults old new → ComesTo faults old new Is r
 wants_so faults old new Is (Ok done) never later = absurd (false≢true never)
 wants_so faults old new Is (Err e) is later = later
+
+-- before anything was done
+pub stays_so : {P : Type 0} (faults : P → ℕ) (s : Session P) (Is : ℕ → Done → Machine → Type 0) (r : Result Done Want) → IsErr r → ComesTo faults s s Is r
+stays_so faults s Is r is = wants_so faults s s Is r is (same_session faults s)
 
 -- ---- bytes of requests
 
@@ -70,7 +74,7 @@ asking faults old new bytes read (Err e) is later = later
 pub unread_bytes : {P : Type 0} (faults : P → ℕ) (old : Session P) (bytes : List ℕ) (e : HttpRefusal) (r : Result Done Want) → IsRead bytes (Err e) → IfOk r (λ done. done ≡ unread e)
     → ComesTo faults old old (Does (machine_of old) (Ask bytes)) r
 unread_bytes faults old bytes e (Ok done) is same = (0, ((Err e, is, (refl, same, refl)), rose_none (faults old.hall.store) (faults old.hall.store) (omega arith)))
-unread_bytes faults old bytes e (Err none) is same = omega arith
+unread_bytes faults old bytes e (Err none) is same = same_session faults old
 
 module _ {P : Type 0} (rows : P → KeptRows) (faults : P → ℕ) where
   -- over a store that tells no rows
@@ -108,13 +112,16 @@ module _ {P : Type 0} (rows : P → KeptRows) (faults : P → ℕ) where
     ),
   )
 
-  -- or memory is wanted
-  pub wanted : (old : Session P) (hall : HallView P) (event : Event) → Comes rows faults old.hall hall old.given event Wants → faults old.hall.store ≤ faults hall.store
-  wanted old hall event comes = comes_later rows faults old.hall hall old.given event Wants comes
+  -- or memory is wanted: whatever comes of the event, the session goes on
+  gone_on : (old : Session P) (hall : HallView P) (event : Event) (o : Outcome) → Comes rows faults old.hall hall old.given event o → IsLater faults old (over old hall)
+  gone_on old hall event o comes = record { behind = comes_behind rows faults old.hall hall old.given event o comes; count = comes_later rows faults old.hall hall old.given event o comes }
+
+  pub wanted : (old : Session P) (hall : HallView P) (event : Event) → Comes rows faults old.hall hall old.given event Wants → IsLater faults old (over old hall)
+  wanted old hall event comes = gone_on old hall event Wants comes
 
   pub wanted_so : (old : Session P) (hall : HallView P) (event : Event) (o : Outcome) (r : Result Done Want) → IsErr r → Comes rows faults old.hall hall old.given event o
       → ComesTo faults old (over old hall) (Meets (machine_of old) event) r
-  wanted_so old hall event o r is comes = wants_so faults old (over old hall) (Meets (machine_of old) event) r is (comes_later rows faults old.hall hall old.given event o comes)
+  wanted_so old hall event o r is comes = wants_so faults old (over old hall) (Meets (machine_of old) event) r is (gone_on old hall event o comes)
 
   -- ---- requests
 
@@ -146,9 +153,6 @@ module _ {P : Type 0} (rows : P → KeptRows) (faults : P → ℕ) where
       → (o : Outcome) × Replies (Ok reply) o × Comes rows faults old.hall hall old.given (events.Asked q) o → GoesTo faults old (over old hall) (Meets (machine_of old) (events.Asked q)) (Asked reply)
   asked old hall q reply (o, replies, comes) = asked_by old hall q reply o replies comes
 
-  pub unasked : (old : Session P) (hall : HallView P) (event : Event) (e : Want) → (o : Outcome) × Replies (Err e) o × Comes rows faults old.hall hall old.given event o → faults old.hall.store ≤ faults hall.store
-  unasked old hall event e (o, is, comes) = comes_later rows faults old.hall hall old.given event o comes
-
   -- ---- calls
 
   called_by : (old : Session P) (hall : HallView P) (name : FullName) (params : Pairs) (c : Called) (o : Outcome) → IsCalled (Ok c) o
@@ -163,9 +167,6 @@ module _ {P : Type 0} (rows : P → KeptRows) (faults : P → ℕ) where
       → (o : Outcome) × IsCalled (Ok c) o × Comes rows faults old.hall hall old.given (events.Called name params) o → GoesTo faults old (over old hall) (Meets (machine_of old) (events.Called name params)) (dones.Called c)
   called old hall name params c (o, is, comes) = called_by old hall name params c o is comes
 
-  pub uncalled : (old : Session P) (hall : HallView P) (event : Event) (e : Want) → (o : Outcome) × IsCalled (Err e) o × Comes rows faults old.hall hall old.given event o → faults old.hall.store ≤ faults hall.store
-  uncalled old hall event e (o, is, comes) = comes_later rows faults old.hall hall old.given event o comes
-
   -- ---- replies that aren't taken
 
   pub denied : (old : Session P) (hall : HallView P) (run : ℕ) (reply : RunReply) (refused : AnswerRefusal) (r : Result Done Want)
@@ -176,7 +177,7 @@ module _ {P : Type 0} (rows : P → KeptRows) (faults : P → ℕ) where
   denied old hall run reply (NoMemory back) (Ok done) comes never = absurd never
   denied old hall run reply (StoreFault back) (Ok done) comes is =
       subst (λ d. GoesTo faults old (over old hall) (Meets (machine_of old) (events.Answered run reply)) d) (sym is) (failed old hall (events.Answered run reply) comes)
-  denied old hall run reply refused (Err e) comes is = comes_later rows faults old.hall hall old.given (events.Answered run reply) (reply_outcome (Err refused)) comes
+  denied old hall run reply refused (Err e) comes is = gone_on old hall (events.Answered run reply) (reply_outcome (Err refused)) comes
 
   -- ---- what is told of containers
 
@@ -231,13 +232,18 @@ module _ {P : Type 0} (rows : P → KeptRows) (faults : P → ℕ) where
         ),
       )
 
-  pub stopped : (old : Session P) (hall : HallView P) (left : List (Laid PlainContainer)) (r : Result Turned Want)
-      → TurnsTo rows faults plain_giving 0 0 old.hall hall old.given old.shelf left r → faults old.hall.store ≤ faults hall.store
-  stopped old hall left (Ok t) (inl (xs, (turn, chain, steps))) = chain_later rows faults old.hall hall old.given xs chain
-  stopped old hall left (Ok t) (inr (xs, (event, (turn, chain, steps)))) = chain_to_later rows faults old.hall hall old.given xs event Fails chain
-  stopped old hall left (Err e) (inl (xs, (begins, chain))) = chain_later rows faults old.hall hall old.given xs chain
-  stopped old hall left (Err e) (inr (order, (xs, (event, (offers, undone))))) = undone_later rows faults old.hall hall old.given xs event undone
+  -- the turn ends early
+  stopped : (old : Session P) (hall : HallView P) (runner : PlainRunner) (left : List (Laid PlainContainer)) (r : Result Turned Want)
+      → TurnsTo rows faults plain_giving 0 0 old.hall hall old.given old.shelf left r → IsLater faults old (behind_turn old hall runner left)
+  stopped old hall runner left (Ok t) (inl (xs, (turn, chain, steps))) =
+      record { behind = chain_behind rows faults old.hall hall old.given xs chain; count = chain_later rows faults old.hall hall old.given xs chain }
+  stopped old hall runner left (Ok t) (inr (xs, (event, (turn, chain, steps)))) =
+      record { behind = chain_to_behind rows faults old.hall hall old.given xs event Fails chain; count = chain_to_later rows faults old.hall hall old.given xs event Fails chain }
+  stopped old hall runner left (Err e) (inl (xs, (begins, chain))) =
+      record { behind = chain_behind rows faults old.hall hall old.given xs chain; count = chain_later rows faults old.hall hall old.given xs chain }
+  stopped old hall runner left (Err e) (inr (order, (xs, (event, (offers, undone))))) =
+      record { behind = undone_behind rows faults old.hall hall old.given xs event undone; count = undone_later rows faults old.hall hall old.given xs event undone }
 
   pub stopped_so : (old : Session P) (hall : HallView P) (runner : PlainRunner) (left : List (Laid PlainContainer)) (t : Result Turned Want) (r : Result Done Want) → IsErr r
       → TurnsTo rows faults plain_giving 0 0 old.hall hall old.given old.shelf left t → ComesTo faults old (behind_turn old hall runner left) (Does (machine_of old) Turn) r
-  stopped_so old hall runner left t r is turns = wants_so faults old (behind_turn old hall runner left) (Does (machine_of old) Turn) r is (stopped old hall left t turns)
+  stopped_so old hall runner left t r is turns = wants_so faults old (behind_turn old hall runner left) (Does (machine_of old) Turn) r is (stopped old hall runner left t turns)

@@ -11,7 +11,9 @@ use Rattle.ow_day.specs.declared.status.Status.TheVariants as statuses
 use Rattle.ow_day.specs.Office.{IsCarriedOut, IsOpenedOver, IsOpeningFault, IsOverTable, StoreView, TellsDay, store_of}
 use Rattle.ow_day.specs.Reads.{IsAnsweredOver, LeavesRest}
 use Rattle.ow_day.specs.Run.{IsOfDay, IsUnderWay, Opening, Turns}
-use Rattle.ow_day.specs.Session.{Begins, machine_of}
+use Rattle.ow_day.specs.Machine.{Machine, IsBehind, start}
+use Rattle.ow_day.specs.Session.{Begins, IsLater, machine_of}
+use Rattle.ow_day.proofs.Behind.{behind_then}
 use Rattle.ow_day.proofs.Rising.{rose_none}
 use Rattle.ow_day.proofs.Runs.{begins}
 
@@ -51,27 +53,30 @@ module _ {P : Type 0} (rows : P → KeptRows) (faults : P → ℕ) (t : Table) (
   pub record IsBegun (day before left taken : Option (List ℕ)) (r : Run P) : Type 0 where
     pub loaded : Entries
     pub opened : IsOpenedOver (store_of rows faults store) loaded
+    pub behind : IsBehind (start t loaded) (machine_of r.session)
     pub later : faults store ≤ faults r.session.hall.store
     pub under_way : (bytes : List ℕ) → day ≡ Some bytes → IsUnderWay faults (opening loaded) bytes before left taken r
 
   pub begun : (day taken : Option (List ℕ)) (s : Session P) (r : Run P) → Begins rows faults store t s → r.session ≡ s → r.input.pending ≡ [] → r.input.taken ≡ 0 → r.answers.items ≡ []
       → r.number ≡ 1 → r.ended ≡ false → IsBegun day taken day taken r
   begun day taken s r b same pending read answers number unended =
-      let at : machine_of r.session ≡ machine_of s = ap machine_of same in
+      let at : machine_of r.session ≡ start t b.loaded = ap machine_of same ∙ b.machine in
       let count : faults store ≤ faults r.session.hall.store = rw same b.later in
       record {
         loaded = b.loaded;
         opened = record { told = b.told; allowed = b.allowed };
+        behind = (ap (λ (M : Machine). M.tenants) at, ([], ap (λ (M : Machine). M.ledger.entries) at));
         later = count;
-        under_way = λ bytes told. begins faults bytes day taken r told (at ∙ b.machine) count pending read answers number unended;
+        under_way = λ bytes told. begins faults bytes day taken r told at count pending read answers number unended;
       }
 
-  pub begun_on : (day before left left' taken taken' : Option (List ℕ)) (old new : Run P) → faults old.session.hall.store ≤ faults new.session.hall.store → Turns faults left left' taken taken' old new None
+  pub begun_on : (day before left left' taken taken' : Option (List ℕ)) (old new : Run P) → IsLater faults old.session new.session → Turns faults left left' taken taken' old new None
       → IsBegun day before left taken old → IsBegun day before left' taken' new
-  begun_on day before left left' taken taken' old new count turns b = record {
+  begun_on day before left left' taken taken' old new on turns b = record {
     loaded = b.loaded;
     opened = b.opened;
-    later = let first = b.later in omega (arith, first, count);
+    behind = behind_then (start t b.loaded) (machine_of old.session) (machine_of new.session) b.behind on.behind;
+    later = let first = b.later in let count = on.count in omega (arith, first, count);
     under_way = λ bytes told. turns (opening b.loaded) bytes before (b.under_way bytes told);
   }
 
@@ -81,21 +86,23 @@ module _ {P : Type 0} (rows : P → KeptRows) (faults : P → ℕ) (t : Table) (
       → Turns faults left left' taken taken' old new (Some status) → IsLegal new.session.hall.tenants new.session.hall.ledger.entries
       → HoldsBook (rows new.session.hall.store) new.session.hall.tenants new.session.hall.ledger → IsBegun day before left taken old
       → IsCarriedOut t (store_of rows faults store) (store_of rows faults new.session.hall.store) day' before taken' status
-  carried_by day None before left left' taken taken' old new status is count turns legal holds b = record {
+  carried_by day None before left left' taken taken' old new status is on turns legal holds b = record {
     rows = b.loaded;
     opened = b.opened;
     failed = 0;
     last = machine_of new.session;
+    behind = behind_then (start t b.loaded) (machine_of old.session) (machine_of new.session) b.behind on.behind;
     tells = tt;
-    leaves = record { rose = rose_none (faults store) (faults new.session.hall.store) (let first = b.later in omega (arith, first, count)); legal = legal; holds = holds };
+    leaves = record { rose = rose_none (faults store) (faults new.session.hall.store) (let first = b.later in let count = on.count in omega (arith, first, count)); legal = legal; holds = holds };
   }
-  carried_by day (Some bytes) before left left' taken taken' old new status is count turns legal holds b =
+  carried_by day (Some bytes) before left left' taken taken' old new status is on turns legal holds b =
       let h = turns (opening b.loaded) bytes before (b.under_way bytes (sym is)) in
       record {
         rows = b.loaded;
         opened = b.opened;
         failed = h.told.failed;
         last = machine_of new.session;
+        behind = behind_then (start t b.loaded) (machine_of old.session) (machine_of new.session) b.behind on.behind;
         tells = h.told.tells;
         leaves = record { rose = h.told.rose; legal = legal; holds = holds };
       }
@@ -114,13 +121,13 @@ module _ {P : Type 0} (rows : P → KeptRows) (faults : P → ℕ) (t : Table) (
   tells_of before after day old new (statuses.Passed words tenants) never c = absurd never
 
   -- what is told, by the status
-  pub day_told : (day before left left' taken taken' : Option (List ℕ)) (old new : Run P) (status : Status) (back : P) → back ≡ new.session.hall.store → IsOfDay status → faults old.session.hall.store ≤ faults new.session.hall.store
+  pub day_told : (day before left left' taken taken' : Option (List ℕ)) (old new : Run P) (status : Status) (back : P) → back ≡ new.session.hall.store → IsOfDay status → IsLater faults old.session new.session
       → Turns faults left left' taken taken' old new (Some status) → IsLegal new.session.hall.tenants new.session.hall.ledger.entries
       → HoldsBook (rows new.session.hall.store) new.session.hall.tenants new.session.hall.ledger → IsBegun day before left taken old
       → TellsDay t (store_of rows faults store) (store_of rows faults back) day before taken' status
-  day_told day before left left' taken taken' old new status back is of count turns legal holds b =
+  day_told day before left left' taken taken' old new status back is of on turns legal holds b =
       subst (λ s. TellsDay t (store_of rows faults store) (store_of rows faults s) day before taken' status) (sym is)
-      (tells_of _ _ day before taken' status of (carried_by day day before left left' taken taken' old new status refl count turns legal holds b))
+      (tells_of _ _ day before taken' status of (carried_by day day before left left' taken taken' old new status refl on turns legal holds b))
 
   leaves_by : (day day' before left left' taken taken' : Option (List ℕ)) (old new : Run P) (status : Status) → day' ≡ day → Turns faults left left' taken taken' old new (Some status) → IsBegun day before left taken old
       → IfSome day' (λ bytes. LeavesRest bytes left')

@@ -1,5 +1,5 @@
 -- Counts of a store's faults.
-use Rattle.std.proofs.Common.{◌≡◌, ◌+◌, ◌<◌, ◌≤◌, ℕ, arith}
+use Rattle.std.proofs.Common.{◌+◌, ◌<◌, ◌≤◌, ℕ, arith}
 use Rattle.ow_traits.specs.Streams.{Rose}
 use Rattle.ow_day.specs.Faults.{RoseBy}
 

@@ -388,7 +388,7 @@ module _ {P : Type 0} (faults : P → ℕ) where
   step_tells old new left taken taken' steps.Cut result not_done not_cut on closes = absurd (not_cut refl)
   step_tells old new left taken taken' steps.End result not_done not_cut on closes = λ t bytes before u. tells_ok bytes before taken taken' new result closes (on t bytes before left taken u)
   step_tells old new left taken taken' steps.Bad result not_done not_cut on closes = λ t bytes before u. tells_bad bytes before taken taken' new new.number result closes (on t bytes before left taken u)
-  step_tells old new left taken taken' steps.NoMemory result not_done not_cut on closes = λ t bytes before u. tells_none bytes before left taken taken' old new result on closes u
+  step_tells old new left taken taken' steps.NoMemory result not_done not_cut on closes = λ t bytes before u. tells_none bytes before left taken taken' old new result on.count closes u
 
   some_left : (left : Option (List ℕ)) (rest : List ℕ) → left ≡ Some rest → IfSome left (λ bytes. 0 < length bytes) → 0 < length rest
   some_left None rest told some = cc

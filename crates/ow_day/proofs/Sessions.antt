@@ -1,13 +1,17 @@
 -- A session between statements: how a day goes on by it.
-use Rattle.std.proofs.Common.{◌≡◌, ◌≤◌, ℕ, List, refl, arith}
+use Rattle.std.proofs.Common.{◌≡◌, ℕ, List, refl}
 use Rattle.ow_day.specs.declared.line.Statement as code
 use Rattle.ow_day.specs.declared.line.Statement.TheVariants as statements
 use Rattle.ow_day.specs.declared.session.Session.{Session}
 use Rattle.ow_day.specs.declared.session.Step.{Step}
 use Rattle.ow_day.specs.declared.session.Step.TheVariants as steps
 use Rattle.ow_day.specs.Line.{statement}
-use Rattle.ow_day.specs.Session.{CarriesOut}
+use Rattle.ow_day.specs.declared.done.Done.{Done}
+use Rattle.ow_day.specs.Machine.{Does}
+use Rattle.ow_day.specs.Session.{CarriesOut, GoesTo, IsLater, machine_of}
 use Rattle.ow_day.specs.Statement.{Statement, End}
+use Rattle.ow_day.proofs.Behind.{done_behind}
+use Rattle.ow_day.proofs.Meeting.{same_session}
 
 -- a statement of the code that stands for `end` is it
 pub end_is : (s : code.Statement) → statement s ≡ End → s ≡ statements.End
@@ -30,14 +34,18 @@ end_is statements.Drain e = cc
 end_is statements.Reopen e = cc
 end_is statements.End e = refl
 
--- the store's count of faults doesn't fall
-pub carries_later : {P : Type 0} (faults : P → ℕ) (old new : Session P) (s : Statement) (before now : List ℕ) (step : Step) → CarriesOut faults old new s before now step → faults old.hall.store ≤ faults new.hall.store
-carries_later faults old new s before now steps.Done (not_end, (done, ((n, (is, rose)), lines))) = rose.0
-carries_later faults old new s before now steps.End (end, lines, same) = rw same (omega arith)
+-- what comes of a statement lies behind what stood before
+pub goes_later : {P : Type 0} (faults : P → ℕ) (old new : Session P) (s : Statement) (done : Done) → GoesTo faults old new (Does (machine_of old) s) done → IsLater faults old new
+goes_later faults old new s done (failed, (does, rose)) = record { behind = done_behind (machine_of old) (machine_of new) s failed done does; count = rose.0 }
+
+-- whatever comes of it, the session goes on
+pub carries_later : {P : Type 0} (faults : P → ℕ) (old new : Session P) (s : Statement) (before now : List ℕ) (step : Step) → CarriesOut faults old new s before now step → IsLater faults old new
+carries_later faults old new s before now steps.Done (not_end, (done, (goes, lines))) = goes_later faults old new s done goes
+carries_later faults old new s before now steps.End (end, lines, same) = rw same (same_session faults old)
 carries_later faults old new s before now steps.Bad never = absurd never
 carries_later faults old new s before now steps.Cut never = absurd never
 carries_later faults old new s before now steps.NoMemory later = later
 
--- nor where the session stays
-pub later_same : {P : Type 0} (faults : P → ℕ) (old mid new : Session P) → faults old.hall.store ≤ faults mid.hall.store → new ≡ mid → faults old.hall.store ≤ faults new.hall.store
+-- and where it then stays
+pub later_same : {P : Type 0} (faults : P → ℕ) (old mid new : Session P) → IsLater faults old mid → new ≡ mid → IsLater faults old new
 later_same faults old mid new later same = rw same later

@@ -1,10 +1,10 @@
 -- What is told where the office table isn't read.
-use Rattle.std.proofs.Common.{◌≡◌, ◌≤◌, ℕ, List, Option, Some, None, IfSome, IfOk, Result, Ok, Err, inl, inr, refl, sym, arith}
-use Rattle.ow_tenant.specs.Reading.{Tells as TellsRows}
+use Rattle.std.proofs.Common.{ℕ, List, Option, Some, None, IfSome, IfOk, Result, Ok, Err, inl, inr, refl, sym, arith}
+use Rattle.ow_tenant.specs.Reading.{Tells as TellsRows, TellsTable as TellsBytes}
 use Rattle.ow_tenant.specs.Table.{Table, table_of}
 use Rattle.ow_tenant.specs.declared.refusal.TenantRefusal.{TenantRefusal}
 use Rattle.ow_tenant.specs.declared.refusal.TenantRefusal.TheVariants as refusals
-use Rattle.ow_day.specs.Office.{IsOverTable, IsUnopened, StoreView, TellsDay, TellsOver, TellsTable, unread}
+use Rattle.ow_day.specs.Office.{IsOverTable, IsUnopened, LeavesTable, StoreView, TellsDay, TellsOver, TellsTable, unread}
 use Rattle.ow_day.specs.declared.status.Status.{Status}
 use Rattle.ow_day.specs.declared.status.Status.TheVariants as statuses
 use Rattle.ow_day.specs.Reads.{AnswersTable, IsAnsweredOver}
@@ -62,3 +62,17 @@ day_answered (Ok t) store (Some bytes) taken = inl (refl, refl)
 pub unread_answers : (rows : Option (List ℕ)) (store : StoreView) (day taken : Option (List ℕ)) → AnswersTable rows store day day taken taken
 unread_answers None store day taken = tt
 unread_answers (Some text) store day taken = day_answered (table_of text) store day taken
+
+-- ---- what is left of it
+
+pub read_leaves : (text left : Option (List ℕ)) (t : Table) (status : Status) → TellsBytes text left (Ok t) → LeavesTable text left status
+read_leaves None left t status told = tt
+read_leaves (Some text) left t status told = inr (inr told.1)
+
+pub unread_leaves : (text left : Option (List ℕ)) (refusal : TenantRefusal) → TellsBytes text left (Err refusal) → LeavesTable text left (unread refusal)
+unread_leaves None left refusal told = tt
+unread_leaves (Some text) left (refusals.BadRow row) told = inr (inr told.1)
+unread_leaves (Some text) left refusals.ReadFault told = inr (inl refl)
+unread_leaves (Some text) left refusals.NoMemory told = inl refl
+unread_leaves (Some text) left refusals.UnknownKey told = inl refl
+unread_leaves (Some text) left refusals.NotGranted told = inl refl

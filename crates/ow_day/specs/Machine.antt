@@ -44,6 +44,10 @@ pub record Machine : Type 0 where
 abbrev pub start : Table → Entries → Machine
 start t rows = record { tenants = t; ledger = opened t rows 0; given = 0; shelf = [] }
 
+-- it stands behind another: over the same office table, and its book goes on from the other's
+abbrev pub IsBehind : Machine → Machine → Type 0
+IsBehind M N = (N.tenants ≡ M.tenants) × ((later : List Entry) × (N.ledger.entries ≡ later ++ M.ledger.entries))
+
 -- ---- what the hall meets
 
 -- its hall, over a store that tells no rows, and how many faults it has met

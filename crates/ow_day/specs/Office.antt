@@ -1,5 +1,5 @@
 -- What the office answers and writes.
-use Rattle.std.specs.Prelude.{◌≡◌, ◌≤◌, ◌⊎◌, ℕ, Bool, true, false, List, [], Option, Some, None, Result, Ok, Err, IfSome, IsOk, take}
+use Rattle.std.specs.Prelude.{◌≡◌, ◌≤◌, ◌⊎◌, ℕ, Bool, true, false, List, [], Option, Some, None, Result, Ok, Err, IfSome, IsOk, drop, take}
 use Rattle.ow_traits.specs.Streams.{Rose, Takes, TakesFront}
 use Rattle.ow_items.specs.Sorted.{Entries}
 use Rattle.ow_keep.specs.Judged.{judged}
@@ -8,6 +8,7 @@ use Rattle.ow_hall.specs.Comes.{HoldsBook, KeptRows}
 use Rattle.ow_hall.specs.History.{IsLegal}
 use Rattle.ow_hall.specs.declared.refusals.StartFault.{StartFault}
 use Rattle.ow_hall.specs.declared.refusals.StartFault.TheVariants as starts
+use Rattle.ow_tenant.specs.Reading.{most_read}
 use Rattle.ow_tenant.specs.Table.{Table, table_of}
 use Rattle.ow_tenant.specs.declared.refusal.TenantRefusal.{TenantRefusal}
 use Rattle.ow_tenant.specs.declared.refusal.TenantRefusal.TheVariants as refusals
@@ -20,7 +21,7 @@ use Rattle.ow_day.specs.declared.words.Asked.{Asked}
 use Rattle.ow_day.specs.declared.words.Asked.TheVariants as asks
 use Rattle.ow_day.specs.Faults.{RoseBy}
 use Rattle.ow_day.specs.Statement.{Statement}
-use Rattle.ow_day.specs.Machine.{Machine, start, CarriesOut}
+use Rattle.ow_day.specs.Machine.{Machine, start, CarriesOut, IsBehind}
 use Rattle.ow_day.specs.Day.{Day, Finished, Bad, TooLong, day_of}
 
 -- ---- the store
@@ -81,12 +82,14 @@ Tells t rows old new statuses.ReadFault failed last day = WroteFront t rows old 
 Tells t rows old new statuses.WriteFault failed last day = WroteFront t rows old new day.statements failed last
 Tells t rows old new other failed last day = ⊥
 
--- the day was carried out so far over the service that was opened. `left` is what it had left, where that is told
+-- the day was carried out so far over the service that was opened: behind the machine at its opening, whatever the day tells of its
+-- bytes. `left` is what it had left, where that is told
 pub record IsCarriedOut (t : Table) (before after : StoreView) (left old new : Option (List ℕ)) (status : Status) : Type 0 where
   pub rows : Entries
   pub opened : IsOpenedOver before rows
   pub failed : ℕ
   pub last : Machine
+  pub behind : IsBehind (start t rows) last
   pub tells : IfSome left (λ bytes. Tells t rows old new status failed last (day_of bytes))
   pub leaves : LeavesStore before after failed last
 
@@ -117,6 +120,12 @@ TellsOver (Err row) before after left old new status = ⊥
 -- what was written, by the table and the status: over the table that the rows are, where they are told, and else over some table or bad row
 abbrev pub TellsTable : Option (List ℕ) → StoreView → StoreView → Option (List ℕ) → Option (List ℕ) → Option (List ℕ) → Status → Type 0
 TellsTable rows before after left old new status = (want : Result Table ℕ) × IfSome rows (λ text. want ≡ table_of text) × TellsOver want before after left old new status
+
+-- what is left of a table that tells its bytes: as many are read as a table may have, and one more. Where memory is wanted, or a read
+-- fails, nothing is said
+abbrev pub LeavesTable : Option (List ℕ) → Option (List ℕ) → Status → Type 0
+LeavesTable None left status = Unit {0}
+LeavesTable (Some text) left status = (status ≡ statuses.NoMemory) ⊎ ((status ≡ statuses.ReadFault) ⊎ (left ≡ Some (drop most_read text)))
 
 -- how it ends where the table isn't read
 abbrev pub unread : TenantRefusal → Status

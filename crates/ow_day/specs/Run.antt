@@ -11,7 +11,7 @@ use Rattle.ow_day.specs.Statement.{Statement}
 use Rattle.ow_items.specs.Sorted.{Entries}
 use Rattle.ow_day.specs.Faults.{RoseBy}
 use Rattle.ow_day.specs.Machine.{CarriesOut, Machine, start}
-use Rattle.ow_day.specs.Session.{machine_of}
+use Rattle.ow_day.specs.Session.{IsLater, machine_of}
 use Rattle.ow_day.specs.Limits.{most_bytes, most_piece}
 use Rattle.ow_day.specs.Day.{DayEnd, Finished, Bad, Cut, day_from, day_of, first_statement, has_more, with_statements}
 use Rattle.ow_day.specs.Office.{Tells}
@@ -82,7 +82,7 @@ StepsOn faults old new steps.Done =
 StepsOn faults old new steps.End = EndsSo faults old new Finished
 StepsOn faults old new steps.Bad = EndsSo faults old new (Bad new.number)
 StepsOn faults old new steps.Cut = (new ≡ old) × (old.ended ≡ false) × (first_statement true old.input.pending ≡ Cut)
-StepsOn faults old new steps.NoMemory = faults old.session.hall.store ≤ faults new.session.hall.store
+StepsOn faults old new steps.NoMemory = IsLater faults old.session new.session
 
 -- the lines were written, or a fault cut them
 abbrev pub ClosesSo : Option (List ℕ) → Option (List ℕ) → List ℕ → Status → Status → Type 0

@@ -16,7 +16,7 @@ use Rattle.ow_day.specs.declared.session.Unopened.{Unopened}
 use Rattle.ow_day.specs.declared.session.Step.{Step}
 use Rattle.ow_day.specs.declared.session.Step.TheVariants as steps
 use Rattle.ow_day.specs.Faults.{RoseBy}
-use Rattle.ow_day.specs.Machine.{Machine, Does, start}
+use Rattle.ow_day.specs.Machine.{Machine, Does, IsBehind, start}
 use Rattle.ow_day.specs.Statement.{Statement, End}
 use Rattle.ow_day.specs.Texts.{lines_of}
 
@@ -41,10 +41,15 @@ told_of (Err refusal) = Denied refusal
 abbrev pub GoesTo : {P : Type 0} → (P → ℕ) → Session P → Session P → (ℕ → Done → Machine → Type 0) → Done → Type 0
 GoesTo faults old new Is done = (failed : ℕ) × (Is failed done (machine_of new) × RoseBy failed (faults old.hall.store) (faults new.hall.store))
 
--- without memory the count didn't fall
+-- a session goes on from another: its machine stands behind the other's, and the store's count of faults didn't fall
+pub record IsLater {P : Type 0} (faults : P → ℕ) (old new : Session P) : Type 0 where
+  pub behind : IsBehind (machine_of old) (machine_of new)
+  pub count : faults old.hall.store ≤ faults new.hall.store
+
+-- without memory it goes on so
 abbrev pub ComesTo : {P : Type 0} → (P → ℕ) → Session P → Session P → (ℕ → Done → Machine → Type 0) → Result Done Want → Type 0
 ComesTo faults old new Is (Ok done) = GoesTo faults old new Is done
-ComesTo faults old new Is (Err e) = faults old.hall.store ≤ faults new.hall.store
+ComesTo faults old new Is (Err e) = IsLater faults old new
 
 -- a statement was carried out, and its lines stand behind what was written before
 abbrev pub Performs : {P : Type 0} → (P → ℕ) → Session P → Session P → Statement → List ℕ → List ℕ → Type 0
@@ -54,7 +59,7 @@ Performs faults old new s before now = (done : Done) × (GoesTo faults old new (
 abbrev pub CarriesOut : {P : Type 0} → (P → ℕ) → Session P → Session P → Statement → List ℕ → List ℕ → Step → Type 0
 CarriesOut faults old new s before now steps.Done = (s ≡ End → ⊥) × Performs faults old new s before now
 CarriesOut faults old new s before now steps.End = (s ≡ End) × (now ≡ before) × (new ≡ old)
-CarriesOut faults old new s before now steps.NoMemory = faults old.hall.store ≤ faults new.hall.store
+CarriesOut faults old new s before now steps.NoMemory = IsLater faults old new
 CarriesOut faults old new s before now other = ⊥
 
 -- ---- openings

@@ -1,7 +1,7 @@
 // The top call: what the words of the command line ask for, over what lies outside.
 ghost use Rattle.std.specs.Prelude.{◌≡◌, ◌≢◌, ◌⊎◌, ℕ, List, Some, None, Err, IfOk, IfSome, IsSome, false, is_some, map, string_bytes, true};
 ghost use Rattle.ow_traits.specs.Streams.{Rose, Takes, TakesFront};
-ghost use Rattle.ow_tenant.specs.Reading.{Tells};
+ghost use Rattle.ow_tenant.specs.Reading.{Tells, TellsTable as TellsBytes};
 ghost use Rattle.ow_tenant.specs.Table.{AreWantsSized, IsPoolSized, Table, table_of as table_of_text};
 ghost use Rattle.ow_hall.specs.Beginnings.{KeepsEach, KeepsLimits};
 ghost use Rattle.ow_hall.specs.History.{History, IsLegal};
@@ -10,7 +10,7 @@ ghost use Rattle.ow_words.specs.declared.command.Command.TheVariants as commands
 ghost use Rattle.ow_words.specs.declared.command.ServeWords.{ServeWords as Words};
 ghost use Rattle.ow_day.specs.Words.{asked_by, is_day, is_serve, names_table};
 ghost use Rattle.ow_day.specs.Status.{IsPassed, err_text};
-ghost use Rattle.ow_day.specs.Office.{EndsDay, HasBadRow, HasLegalBooks, IsOpeningFault, PassesOn, TellsCommand, TellsTable, TellsText, rows_named, store_of, unread, unread_words};
+ghost use Rattle.ow_day.specs.Office.{EndsDay, HasBadRow, HasLegalBooks, IsOpeningFault, LeavesTable, PassesOn, TellsCommand, TellsTable, TellsText, rows_named, store_of, unread, unread_words};
 ghost use Rattle.ow_day.specs.Reads.{AnswersTable, LeavesRest};
 
 use crate::run::run_day;
@@ -24,8 +24,9 @@ use std::alloc::Global;
 /// Does what the words say: for `day`, reads the office table that they name, opens the service over it and the store, carries
 /// out the statements of the day as they come, and writes their answers. That each is written before more of the day is asked for,
 /// or once a megabyte is ready, a clause says of days whose read fails. The words are looked at first, then the table, then the
-/// store: where they name no table it has no rows, and `table` isn't touched. For `serve` it reads the words and the table alone, and
-/// passes both on: the caller serves. The store is handed back in each case.
+/// store: where they name no table it has no rows, and `table` isn't touched. Of one that they name at most one byte more is read
+/// than a table may have. For `serve` it reads the words and the table alone, and passes both on: the caller serves. The store is
+/// handed back in each case.
 pub fn office<T: Source, S: Source, O: Sink, E: Sink, P: Keeper + Drop>(
     alloc: Global,
     words: &[String],
@@ -39,6 +40,7 @@ pub fn office<T: Source, S: Source, O: Sink, E: Sink, P: Keeper + Drop>(
     ensures back { IsSome result.1 }
     ensures told { IfSome result.1 (λ back. TellsCommand HELP.now VERSION.now (asked_by (map string_bytes words.now)) (rows_named (names_table (asked_by (map string_bytes words.now))) (T.left table.old)) (store_of P.rows P.faults store) (store_of P.rows P.faults back) (S.left day.old) (O.taken out.old) (O.taken out.new) result.0) }
     ensures reads { IfSome (S.left day.old) (λ bytes. LeavesRest bytes (S.left day.new)) }
+    ensures reads_table { names_table (asked_by (map string_bytes words.now)) ≡ true → LeavesTable (T.left table.old) (T.left table.new) result.0 }
     ensures answered { result.0 ≡ Status.ReadFault → AnswersTable (rows_named (names_table (asked_by (map string_bytes words.now))) (T.left table.old)) (store_of P.rows P.faults store) (S.left day.old) (S.left day.new) (O.taken out.old) (O.taken out.new) }
 
     // Each activation, and that no acceptance passes the limits of its namespace, by every legal book and each of its beginnings;
@@ -88,6 +90,7 @@ fn perform<T: Source, S: Source, O: Sink, P: Keeper + Drop>(
 ) -> (Status, P)
     ensures told { TellsCommand HELP.now VERSION.now (asked_by (map string_bytes words.now)) (rows_named (names_table (asked_by (map string_bytes words.now))) (T.left table.old)) (store_of P.rows P.faults store) (store_of P.rows P.faults result.1) (S.left day.old) (O.taken out.old) (O.taken out.new) result.0 }
     ensures reads { IfSome (S.left day.old) (λ bytes. LeavesRest bytes (S.left day.new)) }
+    ensures reads_table { names_table (asked_by (map string_bytes words.now)) ≡ true → LeavesTable (T.left table.old) (T.left table.new) result.0 }
     ensures answered { result.0 ≡ Status.ReadFault → AnswersTable (rows_named (names_table (asked_by (map string_bytes words.now))) (T.left table.old)) (store_of P.rows P.faults store) (S.left day.old) (S.left day.new) (O.taken out.old) (O.taken out.new) }
     ensures words { result.0 ≡ Status.BadWords → command_of (map string_bytes words.now) ≡ None }
     ensures refused { command_of (map string_bytes words.now) ≡ None → (result.0 ≡ Status.BadWords) ⊎ ((result.0 ≡ Status.NoMemory) × (takes_options (map string_bytes words.now) ≡ true)) }
@@ -134,6 +137,7 @@ fn day_over<T: Source, S: Source, O: Sink, P: Keeper + Drop>(
 ) -> (Status, P)
     ensures told { TellsTable (rows_named has_table (T.left table.old)) (store_of P.rows P.faults store) (store_of P.rows P.faults result.1) (S.left day.old) (O.taken out.old) (O.taken out.new) result.0 }
     ensures reads { IfSome (S.left day.old) (λ bytes. LeavesRest bytes (S.left day.new)) }
+    ensures reads_table { has_table ≡ true → LeavesTable (T.left table.old) (T.left table.new) result.0 }
     ensures answered { result.0 ≡ Status.ReadFault → AnswersTable (rows_named has_table (T.left table.old)) (store_of P.rows P.faults store) (S.left day.old) (S.left day.new) (O.taken out.old) (O.taken out.new) }
     ensures own { EndsDay result.0 }
     ensures read { result.0 ≡ Status.ReadFault → Rose (S.faults day.old) (S.faults day.new) ⊎ (Rose (T.faults table.old) (T.faults table.new) × (result.1 ≡ store) × (day.new ≡ day.old) × (out.new ≡ out.old)) }
@@ -154,6 +158,7 @@ fn day_over<T: Source, S: Source, O: Sink, P: Keeper + Drop>(
 fn passed<T: Source>(alloc: Global, asked: ServeWords, table: &mut T) -> Status
     ensures told { PassesOn asked (rows_named (is_some asked.table) (T.left table.old)) result }
     ensures own { (served : Words) (t : Table) → result ≡ Status.Passed served t → (served ≡ asked) × AreWantsSized t.wants × IsPoolSized t.pool }
+    ensures reads_table { is_some asked.table ≡ true → LeavesTable (T.left table.old) (T.left table.new) result }
     ensures read { result ≡ Status.ReadFault → Rose (T.faults table.old) (T.faults table.new) }
     ensures unnamed { is_some asked.table ≡ false → table.new ≡ table.old }
 {
@@ -170,6 +175,7 @@ fn tenants<T: Source>(
     table: &mut T,
 ) -> Result<Tenants, TenantRefusal>
     ensures told { IfSome (rows_named has_table (T.left table.old)) (λ text. Tells (table_of_text text) result) }
+    ensures reads { has_table ≡ true → TellsBytes (T.left table.old) (T.left table.new) result }
     ensures sized { IfOk result (λ t. AreWantsSized t.wants) }
     ensures pool { IfOk result (λ t. IsPoolSized t.pool) }
     ensures cause { result ≡ Err TenantRefusal.ReadFault → Rose (T.faults table.old) (T.faults table.new) }

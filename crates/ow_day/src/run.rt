@@ -9,6 +9,7 @@ ghost use Rattle.ow_day.specs.Day.{Cut as CutFirst, first_statement};
 ghost use Rattle.ow_day.specs.Limits.{most_ready};
 ghost use Rattle.ow_day.specs.Office.{IsOpeningFault, IsOverTable, TellsDay, not_opened, store_of};
 ghost use Rattle.ow_day.specs.Reads.{IsAnsweredOver, LeavesRest};
+ghost use Rattle.ow_day.specs.Session.{IsLater};
 ghost use Rattle.ow_day.specs.Run.{Closes, IsBounded, IsOfDay, StepsOn, Turns, WritesOn, work};
 
 use crate::first::{First, first_statement};
@@ -59,7 +60,7 @@ impl<P: Keeper + Drop> Run<P> {
         ensures steps { StepsOn P.faults self.old self.new result }
         ensures bounded { result ≡ Step.Done → IsBounded self.new }
         ensures falls { result ≡ Step.Done → work self.new < work self.old }
-        ensures store { P.faults self.old.session.hall.store ≤ P.faults self.new.session.hall.store }
+        ensures later { IsLater P.faults self.old.session self.new.session }
     {
         if self.input.len() == 0 {
             return self.without_bytes();
@@ -179,7 +180,7 @@ impl<P: Keeper + Drop> Run<P> {
         ensures falls { IfNone result (work self.new < work self.old) }
         ensures ready { IfNone result (length self.new.answers.items < most_ready) }
         ensures own { IfSome result IsOfDay }
-        ensures store { P.faults self.old.session.hall.store ≤ P.faults self.new.session.hall.store }
+        ensures later { IsLater P.faults self.old.session self.new.session }
         ensures read { result ≡ Some Status.ReadFault → Rose (S.faults day.old) (S.faults day.new) }
         ensures write { result ≡ Some Status.WriteFault → Rose (O.faults out.old) (O.faults out.new) }
         ensures day_later { S.faults day.old ≤ S.faults day.new }

@@ -127,6 +127,16 @@ fn gate_of<H: System>(rt: &H) -> Result<Arc<OpenGate, Global>, NoMemory> {
 }
 
 // Listens on the port of all addresses of the machine. Where it can't, the listener's first accept fails.
+fn listener_on<
+    H: System
+        + Net<Listener = TcpListener, Stream = TcpStream>
+        + Processes<Started = SystemProcess>,
+>(rt: &H, port: u16) -> Result<SocketListener<TcpListener, H>, NoMemory> {
+    let own = rt.clone()?;
+    let address = format!(in rt.alloc(); "0.0.0.0:{port}")?;
+    Ok(SocketListener::new(TcpListener::bind(rt, address.as_str()), own))
+}
+
 fn serve_port<
     H: System
         + Net<Listener = TcpListener, Stream = TcpStream>
@@ -136,9 +146,8 @@ fn serve_port<
     requires wants { AreWantsSized tenants.wants }
     requires pool { IsPoolSized tenants.pool }
 {
-    let port = words.port;
-    let address = format!(in rt.alloc(); "0.0.0.0:{port}")?;
-    let mut listener = SocketListener::new(TcpListener::bind(rt, address.as_str()), rt.clone()?);
+    let listener = listener_on(rt, words.port);
+    let ((words, tenants, store), mut listener) = kept_beside((words, tenants, store), listener)?;
     serve_at(rt, words, tenants, store, &mut listener)
 }
 
@@ -160,7 +169,15 @@ pub fn served<
 
 // The exit status of a service that has ended, and its store.
 fn ended<P: Keeper + Drop>(served: Served<P>) -> (ExitCode, Option<P>) {
-    let code = code_of(&served.end);
-    let Served { store, .. } = served;
+    let Served {
+        end,
+        store,
+        book,
+        receipts,
+        endings,
+        ..
+    } = served;
+    let code = code_of(&end);
+    drop((end, book, receipts, endings));
     (code, store)
 }

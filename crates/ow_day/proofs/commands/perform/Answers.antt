@@ -3,7 +3,7 @@ use Rattle.std.proofs.lemmas.Bool.{false≢true}
 use Rattle.ow_day.specs.declared.words.TheConstants.{HELP, VERSION}
 use Rattle.ow_day.specs.Office.{rows_named, store_of}
 use Rattle.ow_day.specs.Words.{asked_by, is_day, is_serve, names_table}
-use Rattle.ow_day.proofs.Asking.{asks_none, command_is, day_not_bad, day_not_passed, text_not_passed, unread_bad, unread_refused, unread_told, words_not_passed}
+use Rattle.ow_day.proofs.Asking.{asks_none, command_is, day_not_bad, day_not_passed, text_not_passed, unread_bad, unread_leaves_table, unread_refused, unread_told, words_not_passed}
 use Rattle.ow_day.proofs.SoFar.{leaves_unread}
 use Rattle.ow_day.proofs.Tables.{unread_answers, untouched}
 use Rattle.ow_day.proofs.commands.perform.Goals as goal
@@ -112,3 +112,18 @@ returns-in-Err-clause-refused g c = λ none. rw c.unread_words.ensures (unread_r
 
 pub returns-in-Err-clause-passed : goal.returns-in-Err-clause-passed
 returns-in-Err-clause-passed g c = λ served t is. absurd (words_not_passed c.in-Err.refusal served t (sym c.unread_words.ensures ∙ is))
+
+pub returns-in-Ok-Day-clause-reads_table : goal.returns-in-Ok-Day-clause-reads_table
+returns-in-Ok-Day-clause-reads_table g c = let asked = rw c.in-Ok-Day.field-0-is at c.in-Ok-Day.ensures.asked in rw asked c.day_over.ensures.reads_table
+
+pub returns-in-Ok-Serve-clause-reads_table : goal.returns-in-Ok-Serve-clause-reads_table
+returns-in-Ok-Serve-clause-reads_table g c = let asked = rw c.in-Ok-Serve.field-0-is at c.in-Ok-Serve.ensures.asked in rw asked c.passed.ensures.reads_table
+
+pub returns-in-Ok-Help-clause-reads_table : goal.returns-in-Ok-Help-clause-reads_table
+returns-in-Ok-Help-clause-reads_table g c = let asked = rw c.in-Ok-Help.field-0-is at c.in-Ok-Help.ensures.asked in λ named. absurd (false≢true (sym (ap names_table asked) ∙ named))
+
+pub returns-in-Ok-Version-clause-reads_table : goal.returns-in-Ok-Version-clause-reads_table
+returns-in-Ok-Version-clause-reads_table g c = let asked = rw c.in-Ok-Version.field-0-is at c.in-Ok-Version.ensures.asked in λ named. absurd (false≢true (sym (ap names_table asked) ∙ named))
+
+pub returns-in-Err-clause-reads_table : goal.returns-in-Err-clause-reads_table
+returns-in-Err-clause-reads_table g c = λ named. rw c.unread_words.ensures (unread_leaves_table (map string_bytes c.args.words.now) _ _ c.in-Err.refusal c.in-Err.ensures.asked named)

@@ -17,7 +17,7 @@ returns-in-Err-clause-reads g c = if_some _ _ (λ bytes told. leaves_all bytes _
 
 pub returns-in-Some-clause-told : goal.returns-in-Some-clause-told
 returns-in-Some-clause-told g c =
-    day_told g.P.Keeper.rows g.P.Keeper.faults c.args.tenants c.args.store _ _ _ _ _ _ c.turns.run c.turn.new.self c.in-Some.status c.finish.result c.finish.ensures.store c.in-Some.ensures.own c.turn.ensures.store c.in-Some.ensures.told
+    day_told g.P.Keeper.rows g.P.Keeper.faults c.args.tenants c.args.store _ _ _ _ _ _ c.turns.run c.turn.new.self c.in-Some.status c.finish.result c.finish.ensures.store c.in-Some.ensures.own c.turn.ensures.later c.in-Some.ensures.told
     c.finish.ensures.legal c.finish.ensures.kept c.turns.invariant.begun
 
 pub returns-in-Some-clause-reads : goal.returns-in-Some-clause-reads
@@ -49,7 +49,7 @@ turns-init g c =
 
 pub turns-preserved : goal.turns-preserved
 turns-preserved g c = record {
-  begun = begun_on g.P.Keeper.rows g.P.Keeper.faults c.args.tenants c.args.store _ _ _ _ _ _ c.turns.run c.turn.new.self c.turn.ensures.store c.in_default-turn.ensures.told c.turns.invariant.begun;
+  begun = begun_on g.P.Keeper.rows g.P.Keeper.faults c.args.tenants c.args.store _ _ _ _ _ _ c.turns.run c.turn.new.self c.turn.ensures.later c.in_default-turn.ensures.told c.turns.invariant.begun;
   bounded = c.in_default-turn.ensures.bounded;
   day_later = omega arith;
   out_later = omega arith;

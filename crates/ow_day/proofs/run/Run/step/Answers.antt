@@ -1,6 +1,7 @@
 use Rattle.std.proofs.Common.{◌<◌, length, ap, sym, refl, ◌∙◌, arith}
 use Rattle.ow_day.specs.Input.{InputView}
 use Rattle.ow_day.specs.Line.{statement}
+use Rattle.ow_day.proofs.Meeting.{same_session}
 use Rattle.ow_day.proofs.Runs.{cut_steps, found_steps, idle_steps, wrong_ends}
 use Rattle.ow_day.proofs.Sessions.{carries_later}
 use Rattle.ow_day.proofs.run.Run.step.Goals as goal
@@ -28,7 +29,7 @@ returns-in_default g c =
           (λ done. absurd (c.in_default.not-Done done)) (ap (λ (i : InputView). i.taken) same) refl;
       bounded = λ done. absurd (c.in_default.not-Done done);
       falls = λ done. absurd (c.in_default.not-Done done);
-      store = carries_later g.P.Keeper.faults c.args.self.now.session c.carry_out-step.new.self (statement c.in-Found.statement) c.args.self.now.answers.items c.carry_out-step.new.answers.items c.carry_out-step.result c.carry_out-step.ensures;
+      later = carries_later g.P.Keeper.faults c.args.self.now.session c.carry_out-step.new.self (statement c.in-Found.statement) c.args.self.now.answers.items c.carry_out-step.new.answers.items c.carry_out-step.result c.carry_out-step.ensures;
     }
 
 pub returns-in-Wrong-clause-steps : goal.returns-in-Wrong-clause-steps
@@ -57,5 +58,20 @@ returns-in-Awaits-clause-steps g c =
     cut_steps g.P.Keeper.faults r _ (rw (c.pending.ensures, same) at c.in-Awaits.ensures.first)
     (ap (λ (i : InputView). record { session = r.session; input = i; ended = r.ended; answers = r.answers; number = r.number }) (c.await_lines.ensures.same ∙ same))
 
-pub returns-in-Done-clause-store : goal.returns-in-Done-clause-store
-returns-in-Done-clause-store g c = carries_later g.P.Keeper.faults c.args.self.now.session c.carry_out-step.new.self (statement c.in-Found.statement) c.args.self.now.answers.items c.carry_out-step.new.answers.items c.carry_out-step.result c.carry_out-step.ensures
+pub returns-in-Done-clause-later : goal.returns-in-Done-clause-later
+returns-in-Done-clause-later g c = carries_later g.P.Keeper.faults c.args.self.now.session c.carry_out-step.new.self (statement c.in-Found.statement) c.args.self.now.answers.items c.carry_out-step.new.answers.items c.carry_out-step.result c.carry_out-step.ensures
+
+pub returns-then-len-eq0-clause-later : goal.returns-then-len-eq0-clause-later
+returns-then-len-eq0-clause-later g c = same_session g.P.Keeper.faults c.args.self.now.session
+
+pub returns-in-Wrong-clause-later : goal.returns-in-Wrong-clause-later
+returns-in-Wrong-clause-later g c = same_session g.P.Keeper.faults c.args.self.now.session
+
+pub returns-then-is_cut-clause-later : goal.returns-then-is_cut-clause-later
+returns-then-is_cut-clause-later g c = same_session g.P.Keeper.faults c.args.self.now.session
+
+pub returns-in-Cut-clause-later : goal.returns-in-Cut-clause-later
+returns-in-Cut-clause-later g c = same_session g.P.Keeper.faults c.args.self.now.session
+
+pub returns-in-Awaits-clause-later : goal.returns-in-Awaits-clause-later
+returns-in-Awaits-clause-later g c = same_session g.P.Keeper.faults c.args.self.now.session

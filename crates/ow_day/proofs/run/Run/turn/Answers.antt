@@ -11,7 +11,7 @@ returns-in-Done g c = record {
   falls = if_none c.write_ready.result (omega (arith, c.write_ready.ensures.work, c.in-Done.ensures.falls refl));
   ready = c.write_ready.ensures.ready;
   own = of_day c.write_ready.result c.write_ready.ensures.fault;
-  store = later_same g.P.Keeper.faults c.args.self.now.session c.step.new.self.session c.write_ready.new.self.session c.step.ensures.store c.write_ready.ensures.session;
+  later = later_same g.P.Keeper.faults c.args.self.now.session c.step.new.self.session c.write_ready.new.self.session c.step.ensures.later c.write_ready.ensures.session;
   read = λ e. absurd (unread c.write_ready.result c.write_ready.ensures.fault e);
   write = λ e. was_written c.write_ready.result c.write_ready.ensures.write e;
   day_later = omega arith;
@@ -26,12 +26,12 @@ returns-in_default g c = record {
   falls = tt;
   ready = tt;
   own = c.close.ensures.own;
-  store = c.step.ensures.store;
+  later = c.step.ensures.later;
   read = λ e. absurd (c.close.ensures.read cc);
   write = λ e. c.close.ensures.write cc;
   day_later = omega arith;
   out_later = c.close.ensures.later;
 }
 
-pub returns-in-Cut-clause-store : goal.returns-in-Cut-clause-store
-returns-in-Cut-clause-store g c = later_same g.P.Keeper.faults c.args.self.now.session c.step.new.self.session c.read_on.new.self.session c.step.ensures.store c.read_on.ensures.session
+pub returns-in-Cut-clause-later : goal.returns-in-Cut-clause-later
+returns-in-Cut-clause-later g c = later_same g.P.Keeper.faults c.args.self.now.session c.step.new.self.session c.read_on.new.self.session c.step.ensures.later c.read_on.ensures.session
