@@ -17,6 +17,9 @@ pub mod Lines
 pub mod Statements
 pub mod Carrying
 pub mod Rising
+pub mod Turning
+pub mod Each
+pub mod Behind
 pub mod Meeting
 pub mod Objects
 pub mod Pushing
@@ -27,5 +30,4 @@ pub mod Ended
 pub mod Tables
 pub mod Opened
 pub mod Asking
-pub mod Turning
 pub mod Legal
