@@ -12,4 +12,8 @@ mod read;
 mod tests;
 
 pub use command::{Command, ServeWords, WordsRefusal};
+pub use laws::{
+    days_are_taken, options_stand_in_any_order, options_stand_once, services_are_taken,
+    services_have_bounds, words_are_commands,
+};
 pub use read::read_words;
