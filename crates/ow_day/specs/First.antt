@@ -1,4 +1,4 @@
--- What stands at the front of bytes, of the code as the day's definition has it.
+-- For private clauses: what stands at the front of bytes, of the code as the day's definition has it.
 use Rattle.std.specs.Prelude.{◌≡◌, ◌<◌, ◌≤◌, ℕ, Bool, true, List, Option, Some, length, drop}
 use Rattle.ow_day.specs.declared.first.First as code
 use Rattle.ow_day.specs.declared.first.First.TheVariants as firsts

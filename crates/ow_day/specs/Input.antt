@@ -1,4 +1,4 @@
--- What was read of a day and isn't carried out yet.
+-- For private clauses: what was read of a day and isn't carried out yet.
 use Rattle.std.specs.Prelude.{◌≡◌, ◌≤◌, ◌<◌, ◌+◌, ◌-◌, ◌++◌, ℕ, List, [], Option, Some, None, Result, Ok, Err, IfSome, length, drop}
 use Rattle.std.specs.Option.{option_map}
 use Rattle.ow_day.specs.Limits.{most_bytes, most_piece}

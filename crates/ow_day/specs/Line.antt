@@ -1,4 +1,4 @@
--- A line and a statement of the code as the day's definition has them.
+-- For private clauses: a line and a statement of the code as the day's definition has them.
 use Rattle.std.specs.Prelude.{ℕ, List, [], false}
 use Rattle.ow_day.specs.declared.line.Statement as code
 use Rattle.ow_day.specs.declared.line.Statement.TheVariants as statements

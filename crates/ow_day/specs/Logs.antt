@@ -1,4 +1,4 @@
--- Lines of logs of the code as the day's definition has them.
+-- For private clauses: lines of logs of the code as the day's definition has them.
 use Rattle.std.specs.Prelude.{◌≡◌, ◌++◌, ◌<◌, ◌≤◌, ℕ, Bool, List, length, drop}
 use Rattle.ow_day.specs.Day.{FirstLine, LineIs, NoLine, CutLine, Lines, LinesAre, NoLines, CutLines, lines_in}
 use Rattle.ow_day.specs.declared.logs.LogLine.{LogLine}

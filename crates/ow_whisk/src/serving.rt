@@ -168,7 +168,10 @@ pub fn served<
 }
 
 // The exit status of a service that has ended, and its store.
-fn ended<P: Keeper + Drop>(served: Served<P>) -> (ExitCode, Option<P>) {
+fn ended<P: Keeper + Drop>(served: Served<P>) -> (ExitCode, Option<P>)
+    ensures code { exit_status result.0 ≡ served_number served.end }
+    ensures store { result.1 ≡ served.store }
+{
     let Served {
         end,
         store,

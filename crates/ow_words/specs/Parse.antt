@@ -1,4 +1,4 @@
--- The options of a command, as `clap` sees them.
+-- For private clauses: the options of a command, as `clap` sees them.
 use Rattle.std.specs.Prelude.{◌≡◌, ℕ, List, [], Option, Some, None, Result, MatchResult, codes, map, true}
 use Rattle.clap.specs.Words.{App, Rule, first_value, found_of, new_rule}
 use Rattle.clap.specs.Simple.{new_shape}
