@@ -55,10 +55,10 @@ module _ (Is : Machine → Machine → Type 0) (stays : (M N : Machine) → N.te
   failed_at : (M N : Machine) (event : Event) → FailsAt M event N → Is M N
   failed_at M N event (before, after, given, (changes, ledger, tenants, stay, count, rose)) = stays M N tenants (ap entries ledger)
 
-  turned : (M N : Machine) (turned : Turned) (failed : ℕ) → Turns M turned failed N → Is M N
-  turned M N turned failed (inl (none, t)) = exchanged M N t.exchanges (turn_opens M.shelf turned.order t.exchanges N.shelf t.turn) t.met
-  turned M N turned failed (inr (one, t)) =
-      joins M t.middle N (exchanged M t.middle t.exchanges (offered_opens M.shelf turned.order t.exchanges t.event N.shelf t.turn) t.met) (failed_at t.middle N t.event t.fails)
+  turns_so : (M N : Machine) (turn : Turned) (failed : ℕ) → Turns M turn failed N → Is M N
+  turns_so M N turn failed (inl (none, t)) = exchanged M N t.exchanges (turn_opens M.shelf turn.order t.exchanges N.shelf t.turn) t.met
+  turns_so M N turn failed (inr (one, t)) =
+      joins M t.middle N (exchanged M t.middle t.exchanges (offered_opens M.shelf turn.order t.exchanges t.event N.shelf t.turn) t.met) (failed_at t.middle N t.event t.fails)
 
   -- ---- statements
 
@@ -88,7 +88,7 @@ module _ (Is : Machine → Machine → Type 0) (stays : (M N : Machine) → N.te
   each_statement M N (Gone slot generation) failed done meets = met M N (events.Gone slot generation) failed done refl meets
   each_statement M N Sweep failed done meets = met M N events.Sweep failed done refl meets
   each_statement M N (Collect id) failed done meets = met M N (events.Collected id) failed done refl meets
-  each_statement M N Turn failed done (turned_is, is, turns) = turned M N turned_is failed turns
+  each_statement M N Turn failed done (turn, is, turns) = turns_so M N turn failed turns
   each_statement M N Drain failed done meets = met M N events.Drain failed done refl meets
   each_statement M N Reopen failed done meets = met M N events.Reopened failed done refl meets
   each_statement M N End failed done rests = rested M N _ failed done rests

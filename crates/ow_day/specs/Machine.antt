@@ -9,6 +9,7 @@ use Rattle.ow_http.specs.declared.request.Request.{Request}
 use Rattle.ow_hall.specs.Comes.{Answers, Comes, Fails, HallView, Outcome, Wants, store_failed, store_reply}
 use Rattle.ow_hall.specs.History.{counted}
 use Rattle.ow_hall.specs.Ledger.{Ledger, opened}
+use Rattle.ow_hall.specs.declared.entry.Entry.{Entry}
 use Rattle.ow_decide.specs.Sight.{is_full}
 use Rattle.ow_decide.specs.declared.events.Event.{Event}
 use Rattle.ow_decide.specs.declared.events.Event.TheVariants as events

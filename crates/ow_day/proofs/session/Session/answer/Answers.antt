@@ -2,8 +2,9 @@ use Rattle.std.proofs.Common.{◌≡◌, [], refl, subst}
 use Rattle.ow_traits.specs.declared.replies.RunReply.{RunReply}
 use Rattle.ow_traits.specs.declared.replies.RunReply.TheVariants as runs
 use Rattle.ow_decide.specs.declared.events.Event.TheVariants as events
-use Rattle.ow_day.specs.Machine.{Meets}
+use Rattle.ow_day.specs.Machine.{Does, Meets}
 use Rattle.ow_day.specs.Session.{ComesTo, machine_of}
+use Rattle.ow_day.specs.Statement.{Answer}
 use Rattle.ow_day.proofs.Meeting.{stays_so}
 use Rattle.ow_day.proofs.session.Session.answer.Goals as goal
 
@@ -13,4 +14,4 @@ returns g c =
     subst (λ (r : RunReply). ComesTo g.P.Keeper.faults c.args.self.now c.reply.new.self (Meets (machine_of c.args.self.now) (events.Answered c.args.run r)) c.reply.result) same c.reply.ensures
 
 pub returns-in_err-text : goal.returns-in_err-text
-returns-in_err-text g c = stays_so g.P.Keeper.faults c.args.self.now _ c.from_residual.result c.from_residual.ensures.0
+returns-in_err-text g c = stays_so g.P.Keeper.faults c.args.self.now (Does (machine_of c.args.self.now) (Answer c.args.run c.args.text.now)) c.from_residual.result c.from_residual.ensures.0

@@ -6,6 +6,3 @@ returns-in-Ok-pushed g c = (
   λ e. c.in_default.not-End (end_is c.args.said e),
   (c.in-Ok.done, (c.in-Ok.ensures, rw c.in-Ok-pushed.is at c.push_done-pushed.ensures.ok)),
 )
-
-pub returns-in-Err-pushed : goal.returns-in-Err-pushed
-returns-in-Err-pushed g c = goes_later g.P.Keeper.faults c.args.self.now c.perform.new.self _ c.in-Ok.done c.in-Ok.ensures
