@@ -129,7 +129,7 @@ Below each statement stand the forms of its answer.
 Where the store fails, nothing is done, and a statement that would have changed what it keeps is answered
   store fault        below turn, behind its order; an ask and a call are refused instead
 
-exit status, and its line on standard error:
+exit status, and its line on standard error, where a service writes none at 5 and 9:
   0  none            all was carried out, or the service has closed
   1  bad day at N    what stands at the Nth place is no statement; an ask and its bytes are one,
                      as are a logged and its lines
