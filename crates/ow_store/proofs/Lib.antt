@@ -1,4 +1,5 @@
 pub mod Counting
 pub mod Loading
 pub mod Making
+pub mod Reading
 pub mod Stopping

@@ -2,7 +2,7 @@
 ghost use Rattle.std.specs.Prelude.{◌≡◌, [], IfOk, OnOk};
 ghost use Rattle.sqlite_value.specs.Order.{column};
 ghost use Rattle.sqlite_value.specs.declared.value.Value.TheVariants.{Text};
-ghost use Rattle.ow_store.specs.Load.{AreTexts, EndsLoad, PutsRow, rows_after};
+ghost use Rattle.ow_store.specs.Load.{AreTexts, EndsLoad, PutsRow, SurvivesLoad, rows_after};
 
 use ow_traits::Rows;
 use ow_value::Str;
@@ -49,7 +49,8 @@ fn put_rows(alloc: Global, shown: Vec<Row>) -> Result<Rows, Error>
 }
 
 pub(crate) fn load_rows<S: Alter>(alloc: Global, conn: &mut Connection<S>) -> Result<Rows, Error>
-    ensures { EndsLoad S.Store result conn.old conn.new }
+    ensures end { EndsLoad S.Store result conn.old conn.new }
+    ensures stop { SurvivesLoad S.Store conn.old conn.new }
 {
     conn.execute(CREATE, &[])?;
     let shown = conn.query_all(SELECT, &[])?;

@@ -4,7 +4,7 @@ ghost use Rattle.ow_traits.specs.Keeper.{Commits, KeepsCause, Loads};
 ghost use Rattle.ow_traits.specs.Streams.{Rose};
 ghost use Rattle.ow_store.specs.Commit.{EndsCommit, SurvivesCommit};
 ghost use Rattle.ow_store.specs.Faults.{faults_after, keeper_error};
-ghost use Rattle.ow_store.specs.Load.{EndsLoad};
+ghost use Rattle.ow_store.specs.Load.{EndsLoad, SurvivesLoad};
 ghost use Rattle.ow_store.specs.Through.{Through};
 
 use crate::kept_changes::commit_changes;
@@ -53,6 +53,7 @@ impl<S: Alter> SqliteKeeper<S> {
     // The kept rows, before a failure is counted.
     fn read(&mut self, alloc: Global) -> Result<Rows, Error>
         ensures database { Through (EndsLoad S.Store result) self.old.conn self.new.conn }
+        ensures stop { Through (SurvivesLoad S.Store) self.old.conn self.new.conn }
         ensures unopened { IfErr self.old.conn (λ e. result ≡ Err e) }
         ensures faults { self.new.faults ≡ self.old.faults }
     {
@@ -107,6 +108,7 @@ impl<S: Alter> Keeper for SqliteKeeper<S> {
         ensures failed { IfErr result (λ e. self.new.faults ≡ faults_after e self.old.faults) }
         ensures cause { KeepsCause self.old.faults self.new.faults result }
         ensures database { Through (EndsLoad S.Store result) self.old.conn self.new.conn }
+        ensures stop { Through (SurvivesLoad S.Store) self.old.conn self.new.conn }
         ensures unopened { IfErr self.old.conn (λ e. result ≡ Err (keeper_error e)) }
     {
         match self.read(alloc) {
