@@ -51,13 +51,39 @@ EndsBy bytes left old new n m endings.Ended = (bytes ≡ []) × IsAtEnd left × 
 EndsBy bytes left old new n m endings.CutShort = (answer : Answer) × TellsCut bytes left n m answer × Takes old new (reply_bytes answer)
 EndsBy bytes left old new n m endings.Closed =
     (answer : Answer) × (AnswersFront bytes n m true answer ⊎ RefusesFront bytes n m answer) × Takes old new (reply_bytes answer)
-EndsBy bytes left old new n m endings.ReadFault = (m ≡ n) × (new ≡ old)
+EndsBy bytes left old new n m endings.ReadFault = IsRead bytes (Err https.CutShort) × (m ≡ n) × (new ≡ old)
 EndsBy bytes left old new n m endings.WriteFault =
     (answer : Answer) × (((close : Bool) × AnswersFront bytes n m close answer) ⊎ (RefusesFront bytes n m answer ⊎ (TellsCut bytes left n m answer ⊎ (IsWant bytes n m × (answer ≡ refused https.NoMemory)))))
     × TakesFront old new (reply_bytes answer)
 EndsBy bytes left old new n m endings.NoMemory = IsWant bytes n m × ((new ≡ old) ⊎ Takes old new (reply_bytes (refused https.NoMemory)))
 
--- ---- one exchange
+-- ---- the whole
+
+pub record Exchange : Type 0 where
+  pub request : Request
+  pub answer : Answer
+
+-- requests that the bytes begin with, each answered behind the one before, with what was written
+abbrev pub Chats : List Exchange → List ℕ → List ℕ → Notes → Notes → List ℕ → Type 0
+Chats [] bytes rest n m written = (rest ≡ bytes) × (m ≡ n) × (written ≡ [])
+Chats (x ∷ xs) bytes rest n m written = IsRead bytes (Ok x.request) × (x.request.close ≡ false)
+    × ((middle : Notes) × (more : List ℕ) × AnsweredBy x.request x.answer n middle × (written ≡ reply_bytes x.answer ++ more)
+    × Chats xs (drop x.request.size bytes) rest middle m more)
+
+-- the bytes that came of the peer, the exchanges, and the ending
+pub record Talks (left_old left_new taken_old taken_new : Option (List ℕ)) (n m : Notes) (ending : Ending) : Type 0 where
+  pub heard : List ℕ
+  pub gives : Gives left_old left_new heard
+  pub exchanges : List Exchange
+  pub rest : List ℕ
+  pub middle : Notes
+  pub written : List ℕ
+  pub chats : Chats exchanges heard rest n middle written
+  pub before : Option (List ℕ)
+  pub takes : Takes taken_old before written
+  pub ends : EndsBy rest left_new before taken_new middle m ending
+
+-- ---- for private clauses: one exchange
 
 -- some bytes come behind those that are held, the request at their front is answered, and the link takes the reply
 pub record GoesOn (left_old left_new taken_old taken_new : Option (List ℕ)) (held now : List ℕ) (n m : Notes) : Type 0 where
@@ -80,7 +106,7 @@ abbrev pub Exchanges : Option (List ℕ) → Option (List ℕ) → Option (List 
 Exchanges left_old left_new taken_old taken_new held now n m None = GoesOn left_old left_new taken_old taken_new held now n m
 Exchanges left_old left_new taken_old taken_new held now n m (Some ending) = Stops left_old left_new taken_old taken_new held n m ending
 
--- ---- parts of an exchange
+-- ---- for private clauses: parts of an exchange
 
 -- by what became of a reply
 abbrev pub ending_of : Sent → Ending → Ending
@@ -111,29 +137,3 @@ Serves old new request n m (Some endings.WriteFault) = (answer : Answer)
     × (AnsweredBy request answer n m ⊎ (IsWanting request n m × (answer ≡ refused https.NoMemory))) × TakesFront old new (reply_bytes answer)
 Serves old new request n m (Some endings.NoMemory) = IsWanting request n m × ((new ≡ old) ⊎ Takes old new (reply_bytes (refused https.NoMemory)))
 Serves old new request n m (Some ending) = ⊥
-
--- ---- the whole
-
-pub record Exchange : Type 0 where
-  pub request : Request
-  pub answer : Answer
-
--- requests that the bytes begin with, each answered behind the one before, with what was written
-abbrev pub Chats : List Exchange → List ℕ → List ℕ → Notes → Notes → List ℕ → Type 0
-Chats [] bytes rest n m written = (rest ≡ bytes) × (m ≡ n) × (written ≡ [])
-Chats (x ∷ xs) bytes rest n m written = IsRead bytes (Ok x.request) × (x.request.close ≡ false)
-    × ((middle : Notes) × (more : List ℕ) × AnsweredBy x.request x.answer n middle × (written ≡ reply_bytes x.answer ++ more)
-    × Chats xs (drop x.request.size bytes) rest middle m more)
-
--- the bytes that came of the peer, the exchanges, and the ending
-pub record Talks (left_old left_new taken_old taken_new : Option (List ℕ)) (n m : Notes) (ending : Ending) : Type 0 where
-  pub heard : List ℕ
-  pub gives : Gives left_old left_new heard
-  pub exchanges : List Exchange
-  pub rest : List ℕ
-  pub middle : Notes
-  pub written : List ℕ
-  pub chats : Chats exchanges heard rest n middle written
-  pub before : Option (List ℕ)
-  pub takes : Takes taken_old before written
-  pub ends : EndsBy rest left_new before taken_new middle m ending

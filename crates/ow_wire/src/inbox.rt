@@ -39,13 +39,14 @@ pub struct Inbox {
 }
 
 impl Model for Inbox {
-    ghost use Rattle.std.specs.Prelude.{◌<◌, List, ℕ, length};
+    ghost use Rattle.std.specs.Prelude.{◌≡◌, List, ℕ, length};
+    ghost use Rattle.ow_wire.specs.declared.inbox.TheConstants.{PIECE};
 
     ghost Value = { List ℕ };
 
     ghost view = { λ i. i.held.items };
 
-    ghost invariant = { λ i. 0 < length i.room.items };
+    ghost invariant = { λ i. length i.room.items ≡ PIECE };
 }
 
 // What a read found.

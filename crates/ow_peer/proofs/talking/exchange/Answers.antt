@@ -21,3 +21,8 @@ pub returns-in-NoMemory-clause-exchanged : goal.returns-in-NoMemory-clause-excha
 returns-in-NoMemory-clause-exchanged g c =
     let r = c.in-NoMemory.ensures.received in
     stop _ _ _ _ _ _ c.args.reader.now.inbox r.0 _ _ _ _ r.1 (gave_up _ _ _ _ _ _ c.give_up.result (inl refl) c.give_up.ensures.gives_up) c.give_up.ensures.left c.receive.ensures.taken refl
+
+pub returns-in-Fault-clause-exchanged : goal.returns-in-Fault-clause-exchanged
+returns-in-Fault-clause-exchanged g c =
+    let r = c.in-Fault.ensures.received in
+    record { came = r.0; gives = r.1; ends = (r.2, refl, c.receive.ensures.taken) }
