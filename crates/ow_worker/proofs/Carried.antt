@@ -1,5 +1,5 @@
 -- What a turn's parts make of it.
-use Rattle.std.proofs.Common.{◌∙◌, ℕ, inl, inr, ⊎_elim, refl}
+use Rattle.std.proofs.Common.{◌∙◌, ℕ, inl, inr, ⊎_elim, refl, subst, sym}
 use Rattle.std.specs.Prelude.{Some, None}
 use Rattle.ow_traits.specs.Runner.{Giving, Steady}
 use Rattle.ow_floor.specs.declared.answers.RunOrder.{RunOrder}
@@ -16,8 +16,8 @@ use Rattle.ow_worker.specs.Shown.{WasHad}
 use Rattle.ow_worker.specs.Turned.{Carried, Performs, RunTurn}
 
 -- a run that came to a booking is neither lost nor given up
-pub carried_turns : {gives : Giving} {before now : ℕ} {is_second : ℕ → Type 0} {order : RunOrder} {n m : Notes} {start : ℕ} {w : View} (turn : Turn)
-    → Carried gives before now is_second order n m start w turn → Performs gives before now is_second order n m start w turn
+pub carried_turns : {gives : Giving} {before now : ℕ} {is_second : ℕ → Type 0} {order : RunOrder} {n m : Notes} {v w : View} (turn : Turn)
+    → Carried gives before now is_second order n m v w turn → Performs gives before now is_second order n m v w turn
 carried_turns turns.Ran t = t
 carried_turns turns.Removed t = t
 carried_turns turns.Warmed t = t
@@ -27,8 +27,8 @@ carried_turns (turns.StoreFault job) t = t
 carried_turns (turns.NoMemory None) t = absurd t.settles.books
 carried_turns (turns.NoMemory (Some job)) t = t
 
-carried_within : {f g h : Giving} {a b c : ℕ} {is_second : ℕ → Type 0} {order : RunOrder} {n m : Notes} {k : ℕ} {w : View} (turn : Turn) → Steady f g a b → Steady g h b c
-    → Carried g b c is_second order n m k w turn → Carried f a c is_second order n m k w turn
+carried_within : {f g h : Giving} {a b c : ℕ} {is_second : ℕ → Type 0} {order : RunOrder} {n m : Notes} {v w : View} (turn : Turn) → Steady f g a b → Steady g h b c
+    → Carried g b c is_second order n m v w turn → Carried f a c is_second order n m v w turn
 carried_within {order = order} turn s t x = record {
   reply = x.reply;
   replies = replied_from order.kind order.code order.params x.reply s t x.replies;
@@ -38,28 +38,28 @@ carried_within {order = order} turn s t x = record {
 }
 
 -- a run behind its container, which it had before
-pub run_turned : (gives : Giving) (before now : ℕ) (is_second : ℕ → Type 0) (order : RunOrder) (n m : Notes) (start : ℕ) (w ready : View) (turn : Turn) → WasHad order start ready
-    → Performs gives before now is_second order n m ready.steps w turn → RunTurn gives before now is_second order n m start w turn
-run_turned gives before now is_second order n m start w ready turns.Ran had x = (ready, had, x)
-run_turned gives before now is_second order n m start w ready turns.Removed had x = (ready, had, x)
-run_turned gives before now is_second order n m start w ready turns.Warmed had x = (ready, had, x)
-run_turned gives before now is_second order n m start w ready (turns.Lost seen) had x = absurd x
-run_turned gives before now is_second order n m start w ready turns.Idle had x = (ready, had, x)
-run_turned gives before now is_second order n m start w ready (turns.StoreFault job) had x = (ready, had, x)
-run_turned gives before now is_second order n m start w ready (turns.NoMemory None) had x = x
-run_turned gives before now is_second order n m start w ready (turns.NoMemory (Some job)) had x = (ready, had, x)
+pub run_turned : (gives : Giving) (before now : ℕ) (is_second : ℕ → Type 0) (order : RunOrder) (n m : Notes) (v w ready : View) (turn : Turn) → WasHad order v ready
+    → Performs gives before now is_second order n m ready w turn → RunTurn gives before now is_second order n m v w turn
+run_turned gives before now is_second order n m v w ready turns.Ran had x = (ready, had, x)
+run_turned gives before now is_second order n m v w ready turns.Removed had x = (ready, had, x)
+run_turned gives before now is_second order n m v w ready turns.Warmed had x = (ready, had, x)
+run_turned gives before now is_second order n m v w ready (turns.Lost seen) had x = absurd x
+run_turned gives before now is_second order n m v w ready turns.Idle had x = (ready, had, x)
+run_turned gives before now is_second order n m v w ready (turns.StoreFault job) had x = (ready, had, x)
+run_turned gives before now is_second order n m v w ready (turns.NoMemory None) had x = (subst (λ (y : View). WasHad order v y) (sym x.1) had, x.0)
+run_turned gives before now is_second order n m v w ready (turns.NoMemory (Some job)) had x = (ready, had, x)
 
 -- the calls of the runner before count too
-pub performs_within : {f g h : Giving} {a b c : ℕ} (is_second : ℕ → Type 0) (order : RunOrder) (n m : Notes) (k : ℕ) (w : View) (turn : Turn) → Steady f g a b → Steady g h b c
-    → Performs g b c is_second order n m k w turn → Performs f a c is_second order n m k w turn
-performs_within is_second order n m k w turns.Ran s t x = carried_within turns.Ran s t x
-performs_within is_second order n m k w turns.Removed s t x = carried_within turns.Removed s t x
-performs_within is_second order n m k w turns.Warmed s t x = carried_within turns.Warmed s t x
-performs_within is_second order n m k w (turns.Lost seen) s t x = x
-performs_within is_second order n m k w turns.Idle s t x = carried_within turns.Idle s t x
-performs_within is_second order n m k w (turns.StoreFault job) s t x = carried_within (turns.StoreFault job) s t x
-performs_within is_second order n m k w (turns.NoMemory None) s t x = x
-performs_within is_second order n m k w (turns.NoMemory (Some job)) s t x = carried_within (turns.NoMemory (Some job)) s t x
+pub performs_within : {f g h : Giving} {a b c : ℕ} (is_second : ℕ → Type 0) (order : RunOrder) (n m : Notes) (v w : View) (turn : Turn) → Steady f g a b → Steady g h b c
+    → Performs g b c is_second order n m v w turn → Performs f a c is_second order n m v w turn
+performs_within is_second order n m v w turns.Ran s t x = carried_within turns.Ran s t x
+performs_within is_second order n m v w turns.Removed s t x = carried_within turns.Removed s t x
+performs_within is_second order n m v w turns.Warmed s t x = carried_within turns.Warmed s t x
+performs_within is_second order n m v w (turns.Lost seen) s t x = x
+performs_within is_second order n m v w turns.Idle s t x = carried_within turns.Idle s t x
+performs_within is_second order n m v w (turns.StoreFault job) s t x = carried_within (turns.StoreFault job) s t x
+performs_within is_second order n m v w (turns.NoMemory None) s t x = x
+performs_within is_second order n m v w (turns.NoMemory (Some job)) s t x = carried_within (turns.NoMemory (Some job)) s t x
 
 -- ---- other slots
 

@@ -18,7 +18,7 @@ use Rattle.ow_worker.specs.declared.outcome.Readiness.TheVariants.{Up, Early, No
 use Rattle.ow_worker.specs.Shown.{WasHad, WasNotHad, WasPut, WasTaken, WordTaken}
 use Rattle.ow_worker.specs.Noted.{FaultNoted, GoneNoted, ReplyNoted}
 
--- ---- getting a container up and initialised
+-- ---- for private clauses: getting a container up and initialised
 
 module _ (gives : Giving) (before now : ℕ) where
   -- of a started container, or one in hand: it is up, or the code is refused
@@ -35,20 +35,21 @@ module _ (gives : Giving) (before now : ℕ) where
   UpStarts order (NotHad seen) = Unit {0}
   UpStarts order Unready = Unit {0}
 
-  abbrev pub Readied : {B : Type 0} → RunOrder → ℕ → View → Readiness B → Type 0
-  Readied order start w (Up living) = IsStarted gives order × WasHad order start w
-  Readied order start w (Early held reply) = (is_warm order.start ≡ false) × RefusesCode gives before now order.kind order.code reply × WasHad order start w
-  Readied order start w (NotHad seen) = (is_cold order.start ≡ false) × WasNotHad order.slot order.generation seen start w
-  Readied order start w Unready = is_warm order.start ≡ false
+  -- it is had, and is up, or the code is refused, or memory was wanted behind that; or it isn't had
+  abbrev pub Readied : {B : Type 0} → RunOrder → View → View → Readiness B → Type 0
+  Readied order v w (Up living) = IsStarted gives order × WasHad order v w
+  Readied order v w (Early held reply) = (is_warm order.start ≡ false) × RefusesCode gives before now order.kind order.code reply × WasHad order v w
+  Readied order v w (NotHad seen) = (is_cold order.start ≡ false) × WasNotHad order.slot order.generation seen v.steps w
+  Readied order v w Unready = (is_warm order.start ≡ false) × WasHad order v w
 
 -- ---- what becomes of it
 
 -- where there is a reply: a container that answered was put on the board at a second of its put, or its slot's word was taken and it is
--- gone; any other was stopped
-abbrev pub LaidDown : (ℕ → Type 0) → RunOrder → RunReply → Notes → Notes → ℕ → View → Laid → Type 0
-LaidDown is_second order reply n m start w Put = (is_answer reply ≡ true) × (m ≡ n) × ((second : ℕ) × is_second second × WasPut order.slot order.generation second start w)
-LaidDown is_second order reply n m start w Taken = (is_answer reply ≡ true) × WordTaken order.slot start w × GoneNoted order.slot order.generation n m
-LaidDown is_second order reply n m start w Stopped = (is_answer reply ≡ false) × (m ≡ n)
+-- gone; for any other, which is stopped, the pass made no step
+abbrev pub LaidDown : (ℕ → Type 0) → RunOrder → RunReply → Notes → Notes → View → View → Laid → Type 0
+LaidDown is_second order reply n m v w Put = (is_answer reply ≡ true) × (m ≡ n) × ((second : ℕ) × is_second second × WasPut order.slot order.generation second v.steps w)
+LaidDown is_second order reply n m v w Taken = (is_answer reply ≡ true) × WordTaken order.slot v.steps w × GoneNoted order.slot order.generation n m
+LaidDown is_second order reply n m v w Stopped = (is_answer reply ≡ false) × (m ≡ n) × (w ≡ v)
 
 -- a container that still lay on the board was taken, and is gone
 abbrev pub TakenBack : ℕ → ℕ → Notes → Notes → ℕ → View → Type 0
@@ -85,9 +86,9 @@ Booked order reply laid n m start v w (turns.NoMemory (Some job)) = (m ≡ n) ×
 Booked order reply laid n m start v w turn = ⊥
 
 -- a container is laid down, and then the reply is booked
-pub record Settled (is_second : ℕ → Type 0) (order : RunOrder) (reply : RunReply) (n m : Notes) (start : ℕ) (w : View) (turn : Turn) : Type 0 where
+pub record Settled (is_second : ℕ → Type 0) (order : RunOrder) (reply : RunReply) (n m : Notes) (v w : View) (turn : Turn) : Type 0 where
   pub laid : Laid
   pub down : Notes
   pub middle : View
-  pub lays : LaidDown is_second order reply n down start middle laid
-  pub books : Booked order reply laid down m start middle w turn
+  pub lays : LaidDown is_second order reply n down v middle laid
+  pub books : Booked order reply laid down m v.steps middle w turn

@@ -25,10 +25,6 @@ IsSecond tells opened second = (now : ℕ) × IfSome tells (λ t. now ≡ t) × 
 
 -- ---- steps
 
--- the pass made more steps, or none
-abbrev pub GoesOn : View → View → Type 0
-GoesOn old new = old.steps ≤ new.steps
-
 -- the last step on the slot is one of this call: its number is greater than this
 pub record StepOfCall (slot start : ℕ) (w : View) (step : LastStep) : Type 0 where
   pub is_last : last_on slot w.last ≡ Some step
@@ -49,14 +45,14 @@ pub record WasPut (slot generation second start : ℕ) (w : View) : Type 0 where
   pub kind : step.kind ≡ Publish
   pub left : step.left ≡ full_word generation second
 
--- a run has its container: the one that lay there was taken, unless a new one was started
-abbrev pub HadBy : Start → ℕ → ℕ → ℕ → View → Type 0
-HadBy starts.Cold slot generation start w = Unit {0}
-HadBy starts.Prewarmed slot generation start w = WasTaken slot generation start w
-HadBy starts.Warm slot generation start w = WasTaken slot generation start w
+-- a run has its container: the one that lay there was taken, unless a new one is to be started, for which the pass makes no step
+abbrev pub HadBy : Start → ℕ → ℕ → View → View → Type 0
+HadBy starts.Cold slot generation v w = w ≡ v
+HadBy starts.Prewarmed slot generation v w = WasTaken slot generation v.steps w
+HadBy starts.Warm slot generation v w = WasTaken slot generation v.steps w
 
-abbrev pub WasHad : RunOrder → ℕ → View → Type 0
-WasHad order start w = HadBy order.start order.slot order.generation start w
+abbrev pub WasHad : RunOrder → View → View → Type 0
+WasHad order v w = HadBy order.start order.slot order.generation v w
 
 -- a load saw no full word of this generation
 abbrev pub SawNone : ℕ → ℕ → LastStep → Type 0
@@ -80,3 +76,9 @@ pub record WordTaken (slot start : ℕ) (w : View) : Type 0 where
   pub of_call : StepOfCall slot start w step
   pub kind : step.kind ≡ ClaimEmpty
   pub saw : step.saw ≢ 0
+
+-- ---- for private clauses
+
+-- the pass made more steps, or none
+abbrev pub GoesOn : View → View → Type 0
+GoesOn old new = old.steps ≤ new.steps

@@ -45,18 +45,18 @@ module _ (gives : Giving) (before now : ℕ) where
 
   module _ (is_second : ℕ → Type 0) where
     -- behind its container a run has a reply: one that the runner gives, or a fault where its count rose
-    pub record Carried (order : RunOrder) (n m : Notes) (start : ℕ) (w : View) (turn : Turn) : Type 0 where
+    pub record Carried (order : RunOrder) (n m : Notes) (v w : View) (turn : Turn) : Type 0 where
       pub reply : RunReply
       pub replies : Replies gives before now order.kind order.code order.params reply
       pub opened : Notes
       pub opens : Opens order reply n opened
-      pub settles : Settled is_second order reply opened m start w turn
+      pub settles : Settled is_second order reply opened m v w turn
 
-    -- a container that was taken has left its slot before
-    abbrev pub RunTurn : RunOrder → Notes → Notes → ℕ → View → Turn → Type 0
-    RunTurn order n m start w (turns.Lost seen) = NotCarried order seen n m start w
-    RunTurn order n m start w (turns.NoMemory None) = Abandoned order n m
-    RunTurn order n m start w turn = (ready : View) × WasHad order start ready × Carried order n m ready.steps w turn
+    -- its container isn't had; or it is had, and the run goes on from there, or is given up with no later step on that slot
+    abbrev pub RunTurn : RunOrder → Notes → Notes → View → View → Turn → Type 0
+    RunTurn order n m v w (turns.Lost seen) = NotCarried order seen n m v.steps w
+    RunTurn order n m v w (turns.NoMemory None) = WasHad order v w × Abandoned order n m
+    RunTurn order n m v w turn = (ready : View) × WasHad order v ready × Carried order n m ready w turn
 
   -- ---- containers ahead
 
@@ -64,27 +64,13 @@ module _ (gives : Giving) (before now : ℕ) where
   abbrev pub IsDown : PrewarmOrder → Type 0
   IsDown order = (reply : RunReply) × RefusesStart gives before now order.kind reply
 
-  abbrev pub Warms : PrewarmOrder → ℕ → View → Warming → Type 0
-  Warms order start w warmings.Up = gives.starts order.kind × WasPut order.slot order.generation prewarmed start w
-  Warms order start w warmings.Down = IsDown order
-  Warms order start w warmings.Taken = WordTaken order.slot start w
-  Warms order start w warmings.Wanting = Unit {0}
-
-  -- it lies on the board before its prewarming has begun, and is of a kind that the runner starts
-  abbrev pub WarmTurn : PrewarmOrder → Notes → Notes → ℕ → View → Turn → Type 0
-  WarmTurn order n m start w turns.Warmed = (BegunNoted order.run n m × gives.starts order.kind × WasPut order.slot order.generation prewarmed start w)
-      ⊎ (GivenUp order.run order.slot order.generation n m × (IsDown order ⊎ WordTaken order.slot start w))
-  WarmTurn order n m start w (turns.NoMemory None) = GivenUp order.run order.slot order.generation n m
-  WarmTurn order n m start w turn = ⊥
-
--- ---- behind a container, for private clauses
-
-module _ (gives : Giving) (before now : ℕ) (is_second : ℕ → Type 0) where
-  -- a run in its container
-  abbrev pub Performs : RunOrder → Notes → Notes → ℕ → View → Turn → Type 0
-  Performs order n m start w (turns.Lost seen) = ⊥
-  Performs order n m start w (turns.NoMemory None) = Abandoned order n m
-  Performs order n m start w turn = Carried gives before now is_second order n m start w turn
+  -- it has begun: it was put on the board, and is of a kind that the runner starts; or it is given up: its start is refused or memory is
+  -- wanted, and the pass made no step, or its slot wasn't empty
+  abbrev pub WarmTurn : PrewarmOrder → Notes → Notes → View → View → Turn → Type 0
+  WarmTurn order n m v w turns.Warmed = (BegunNoted order.run n m × gives.starts order.kind × WasPut order.slot order.generation prewarmed v.steps w)
+      ⊎ (GivenUp order.run order.slot order.generation n m × ((IsDown order × (w ≡ v)) ⊎ WordTaken order.slot v.steps w))
+  WarmTurn order n m v w (turns.NoMemory None) = GivenUp order.run order.slot order.generation n m × (w ≡ v)
+  WarmTurn order n m v w turn = ⊥
 
 -- ---- removals
 
@@ -99,8 +85,8 @@ Removes (c ∷ cs) n m v w = (between : View) × (middle : Notes) × TakenBack c
 module _ (gives : Giving) (before now : ℕ) (is_second : ℕ → Type 0) where
   -- what follows an order; a run and a prewarming leave what was shown of other slots
   abbrev pub Follows : Order → Notes → Notes → View → View → Turn → Type 0
-  Follows (orders.Run order) n m v w turn = RunTurn gives before now is_second order n m v.steps w turn × KeepsOthers order.slot v w
-  Follows (orders.Prewarm order) n m v w turn = WarmTurn gives before now order n m v.steps w turn × KeepsOthers order.slot v w
+  Follows (orders.Run order) n m v w turn = RunTurn gives before now is_second order n m v w turn × KeepsOthers order.slot v w
+  Follows (orders.Prewarm order) n m v w turn = WarmTurn gives before now order n m v w turn × KeepsOthers order.slot v w
   Follows (orders.Remove containers) n m v w turn = (turn ≡ turns.Removed) × Removes containers n m v w
   Follows (orders.Nothing why) n m v w turn = (turn ≡ turns.Idle) × (m ≡ n) × (w ≡ v)
 
@@ -113,3 +99,20 @@ module _ (gives : Giving) (before now : ℕ) (is_second : ℕ → Type 0) where
   -- no order for want of memory; or an order, and what follows it
   abbrev pub Turned : Notes → Notes → View → View → Turn → Type 0
   Turned n m v w turn = ((m ≡ n) × (w ≡ v) × (turn ≡ turns.NoMemory None)) ⊎ CarriesOut n m v w turn
+
+-- ---- for private clauses: a container ahead, and a run in its container
+
+module _ (gives : Giving) (before now : ℕ) where
+  -- it was put on the board, or its slot wasn't empty; else the pass made no step
+  abbrev pub Warms : PrewarmOrder → View → View → Warming → Type 0
+  Warms order v w warmings.Up = gives.starts order.kind × WasPut order.slot order.generation prewarmed v.steps w
+  Warms order v w warmings.Down = IsDown gives before now order × (w ≡ v)
+  Warms order v w warmings.Taken = WordTaken order.slot v.steps w
+  Warms order v w warmings.Wanting = w ≡ v
+
+  module _ (is_second : ℕ → Type 0) where
+    -- the run is given up, and the pass made no step; or it has a reply
+    abbrev pub Performs : RunOrder → Notes → Notes → View → View → Turn → Type 0
+    Performs order n m v w (turns.Lost seen) = ⊥
+    Performs order n m v w (turns.NoMemory None) = Abandoned order n m × (w ≡ v)
+    Performs order n m v w turn = Carried gives before now is_second order n m v w turn

@@ -40,7 +40,7 @@ pub(crate) fn lay_down<H: Wait, P: Keeper + Drop, R: Runner, C: Clock>(
     ensures runner { Steady (R.gives runner.old) (R.gives runner.new) (R.faults runner.old) (R.faults runner.new) }
     ensures room { notes.old.room ≤ notes.new.room + 1 }
     ensures others { KeepsOthers order.now.slot (view_of pass.old) (view_of pass.new) }
-    ensures laid { LaidDown (IsSecond (C.tells clock.now) opened) order.now reply.now notes.old.notes notes.new.notes (view_of pass.old).steps (view_of pass.new) result }
+    ensures laid { LaidDown (IsSecond (C.tells clock.now) opened) order.now reply.now notes.old.notes notes.new.notes (view_of pass.old) (view_of pass.new) result }
 {
     let Some(living) = held else {
         return Laid::Stopped;

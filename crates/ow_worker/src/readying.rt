@@ -32,7 +32,7 @@ pub(crate) fn make_ready<R: Runner, G: Gate>(
     ensures on { GoesOn (view_of pass.old) (view_of pass.new) }
     ensures runner { Steady (R.gives runner.old) (R.gives runner.new) (R.faults runner.old) (R.faults runner.new) }
     ensures others { KeepsOthers order.now.slot (view_of pass.old) (view_of pass.new) }
-    ensures ready { Readied (R.gives runner.old) (R.faults runner.old) (R.faults runner.new) order.now (view_of pass.old).steps (view_of pass.new) result }
+    ensures ready { Readied (R.gives runner.old) (R.faults runner.old) (R.faults runner.new) order.now (view_of pass.old) (view_of pass.new) result }
 {
     if order.start == Start::Cold {
         return open(alloc, runner, order);

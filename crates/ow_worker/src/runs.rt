@@ -43,7 +43,7 @@ pub(crate) fn carry<H: Wait, P: Keeper + Drop, R: Runner, C: Clock, G: Gate>(
     ensures pass { StaysPassOf board.now pass.old pass.new }
     ensures runner { Steady (R.gives runner.old) (R.gives runner.new) (R.faults runner.old) (R.faults runner.new) }
     ensures others { KeepsOthers order.slot (view_of pass.old) (view_of pass.new) }
-    ensures turned { RunTurn (R.gives runner.old) (R.faults runner.old) (R.faults runner.new) (IsSecond (C.tells clock.now) opened) order notes.old.notes notes.new.notes (view_of pass.old).steps (view_of pass.new) result }
+    ensures turned { RunTurn (R.gives runner.old) (R.faults runner.old) (R.faults runner.new) (IsSecond (C.tells clock.now) opened) order notes.old.notes notes.new.notes (view_of pass.old) (view_of pass.new) result }
 {
     match make_ready(alloc, board, pass, runner, gate, &order) {
         Readiness::Up(living) => perform(
@@ -93,7 +93,7 @@ fn perform<H: Wait, P: Keeper + Drop, R: Runner, C: Clock, G: Gate>(
     ensures pass { StaysPassOf board.now pass.old pass.new }
     ensures runner { Steady (R.gives runner.old) (R.gives runner.new) (R.faults runner.old) (R.faults runner.new) }
     ensures others { KeepsOthers order.slot (view_of pass.old) (view_of pass.new) }
-    ensures performs { Performs (R.gives runner.old) (R.faults runner.old) (R.faults runner.new) (IsSecond (C.tells clock.now) opened) order notes.old.notes notes.new.notes (view_of pass.old).steps (view_of pass.new) result }
+    ensures performs { Performs (R.gives runner.old) (R.faults runner.old) (R.faults runner.new) (IsSecond (C.tells clock.now) opened) order notes.old.notes notes.new.notes (view_of pass.old) (view_of pass.new) result }
 {
     tell_begun(rt, desk, clock, notes, &order);
     gate.pass(Stage::BeforeRun(order.run));
@@ -153,7 +153,7 @@ fn settle<H: Wait, P: Keeper + Drop, R: Runner, C: Clock>(
     ensures pass { StaysPassOf board.now pass.old pass.new }
     ensures runner { Steady (R.gives runner.old) (R.gives runner.new) (R.faults runner.old) (R.faults runner.new) }
     ensures others { KeepsOthers order.slot (view_of pass.old) (view_of pass.new) }
-    ensures settled { Settled (IsSecond (C.tells clock.now) opened) order reply notes.old.notes notes.new.notes (view_of pass.old).steps (view_of pass.new) result }
+    ensures settled { Settled (IsSecond (C.tells clock.now) opened) order reply notes.old.notes notes.new.notes (view_of pass.old) (view_of pass.new) result }
 {
     let laid = lay_down(
         rt, desk, board, pass, runner, clock, opened, notes, &order, &reply, held,

@@ -41,7 +41,7 @@ pub(crate) fn prewarm<H: Wait, P: Keeper + Drop, R: Runner, C: Clock>(
     ensures pass { StaysPassOf board.now pass.old pass.new }
     ensures runner { Steady (R.gives runner.old) (R.gives runner.new) (R.faults runner.old) (R.faults runner.new) }
     ensures others { KeepsOthers order.slot (view_of pass.old) (view_of pass.new) }
-    ensures warms { WarmTurn (R.gives runner.old) (R.faults runner.old) (R.faults runner.new) order notes.old.notes notes.new.notes (view_of pass.old).steps (view_of pass.new) result }
+    ensures warms { WarmTurn (R.gives runner.old) (R.faults runner.old) (R.faults runner.new) order notes.old.notes notes.new.notes (view_of pass.old) (view_of pass.new) result }
 {
     match warm(alloc, board, pass, runner, &order) {
         Warming::Up => {
@@ -88,7 +88,7 @@ fn warm<R: Runner>(
     ensures on { GoesOn (view_of pass.old) (view_of pass.new) }
     ensures runner { Steady (R.gives runner.old) (R.gives runner.new) (R.faults runner.old) (R.faults runner.new) }
     ensures others { KeepsOthers order.now.slot (view_of pass.old) (view_of pass.new) }
-    ensures warms { Warms (R.gives runner.old) (R.faults runner.old) (R.faults runner.new) order.now (view_of pass.old).steps (view_of pass.new) result }
+    ensures warms { Warms (R.gives runner.old) (R.faults runner.old) (R.faults runner.new) order.now (view_of pass.old) (view_of pass.new) result }
 {
     match runner.start(alloc, order.kind, order.memory) {
         Err(_) => Warming::Wanting,
