@@ -82,7 +82,7 @@ module _ {P : Type 0} (rows : P → KeptRows) (faults : P → ℕ) (t : Table) (
 
   -- ---- its end
 
-  carried_by : (day day' before left left' taken taken' : Option (List ℕ)) (old new : Run P) (status : Status) → day' ≡ day → faults old.session.hall.store ≤ faults new.session.hall.store
+  carried_by : (day day' before left left' taken taken' : Option (List ℕ)) (old new : Run P) (status : Status) → day' ≡ day → IsLater faults old.session new.session
       → Turns faults left left' taken taken' old new (Some status) → IsLegal new.session.hall.tenants new.session.hall.ledger.entries
       → HoldsBook (rows new.session.hall.store) new.session.hall.tenants new.session.hall.ledger → IsBegun day before left taken old
       → IsCarriedOut t (store_of rows faults store) (store_of rows faults new.session.hall.store) day' before taken' status

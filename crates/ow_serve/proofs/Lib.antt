@@ -1,3 +1,5 @@
+pub mod Begun
 pub mod Crossing
 pub mod Seating
+pub mod Turning
 pub mod Whole

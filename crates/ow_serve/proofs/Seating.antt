@@ -1,6 +1,7 @@
 -- Seats, and how they are filled.
 use Rattle.std.proofs.Common.{◌≡◌, ◌++◌, ℕ, zero, suc, Bool, true, false, Ok, Err, List, [], ◌∷◌, Option, Some, None, length, map, refl, sym, ap, subst, ◌∙◌, append_assoc, append-nil}
 use Rattle.std.proofs.lemmas.List.{map-append}
+use Rattle.ow_traits.specs.Runner.{Giving}
 use Rattle.ow_traits.specs.declared.streams.Failed.{Failed}
 use Rattle.ow_links.specs.Peers.{Accepts}
 use Rattle.ow_links.specs.declared.listeners.Accepted.TheVariants.{Peer, Closed}
@@ -12,6 +13,7 @@ use Rattle.ow_peer.specs.declared.ending.Ending.{Ending}
 use Rattle.ow_serve.specs.declared.duty.Work.{Work}
 use Rattle.ow_serve.specs.declared.duty.Work.TheVariants as works
 use Rattle.ow_serve.specs.Duties.{Ends, IsServed, TalksAlone, TalksFrom}
+use Rattle.ow_serve.specs.Ended.{earlier}
 use Rattle.ow_serve.specs.Peers.{AcceptsAll, AllServed, AllTalk, HasNoPeer, Seated, Seats, endings_in, filled, seat_of}
 
 -- ---- listeners
@@ -159,14 +161,24 @@ pub pending_behind : {T : Type 0} (before : List (T × Bool)) (ts : List T) → 
 pending_behind [] ts = pending_all ts
 pending_behind (b ∷ before) ts = pending_behind before ts
 
+earlier_all : {T : Type 0} (ts : List T) → earlier zero (map (λ t. (t, false)) ts) ≡ []
+earlier_all [] = refl
+earlier_all (t ∷ ts) = earlier_all ts
+
+-- those that were started before stay to be joined
+pub earlier_behind : {T : Type 0} (before : List (T × Bool)) (ts : List T) → earlier (length before) (before ++ map (λ t. (t, false)) ts) ≡ pending zero before
+earlier_behind [] ts = earlier_all ts
+earlier_behind ((b, true) ∷ before) ts = earlier_behind before ts
+earlier_behind ((b, false) ∷ before) ts = ap (λ us. b ∷ us) (earlier_behind before ts)
+
 -- ---- who serves a peer
 
-pub served_by : {K R : Type 0} (left taken : K → Option (List ℕ)) (work : Work K R) (k : K) (n m : Notes) (told : Option Ending)
-    → work ≡ works.Serves k → n ≡ no_notes → Ends left taken work n m told → IsServed left taken k m told
-served_by left taken work k n m (Some ending) is none e =
-    let mine = subst (λ w. Ends left taken w n m (Some ending)) is e in
+pub served_by : {K R : Type 0} (left taken : K → Option (List ℕ)) (gives : R → Giving) (faults : R → ℕ) (work : Work K R) (k : K) (n m : Notes) (told : Option Ending)
+    → work ≡ works.Serves k → n ≡ no_notes → Ends left taken gives faults work n m told → IsServed left taken k m told
+served_by left taken gives faults work k n m (Some ending) is none e =
+    let mine = subst (λ w. Ends left taken gives faults w n m (Some ending)) is e in
     (ending, refl, subst (λ o. TalksFrom left taken k o m ending) none mine)
-served_by left taken work k n m None is none e = absurd (subst (λ w. Ends left taken w n m None) is e)
+served_by left taken gives faults work k n m None is none e = absurd (subst (λ w. Ends left taken gives faults w n m None) is e)
 
 module _ {K D : Type 0} (left taken : K → Option (List ℕ)) (notes : D → Notes) (ending : D → Option Ending) where
   told_first : (k : K) (ks : List K) (d : D) (ds : List D) (told : Option Ending) → ending d ≡ told → IsServed left taken k (notes d) (ending d)

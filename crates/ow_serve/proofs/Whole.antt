@@ -1,5 +1,5 @@
 -- The end of a service, by its peers.
-use Rattle.std.proofs.Common.{◌≡◌, ◌++◌, ◌⊎◌, ℕ, Bool, List, [], ◌∷◌, Option, Some, None, Result, Ok, Err, IfOk, IfSome, IsOk, OnErr, OnOk, length, map, refl, reverse, slice_get, sym, ap, subst, ◌∙◌, inl, inr, ⊎_elim}
+use Rattle.std.proofs.Common.{◌≡◌, ◌++◌, ◌⊎◌, ℕ, zero, Bool, List, [], ◌∷◌, Option, Some, None, Result, Ok, Err, IfOk, IfSome, IsOk, OnErr, OnOk, length, map, refl, reverse, slice_get, sym, ap, subst, ◌∙◌, inl, inr, ⊎_elim}
 use Rattle.std.specs.Prelude.{IsOkAnd}
 use Rattle.std.specs.Option.{option_to_list}
 use Rattle.std.proofs.lemmas.List.{reverse-append, reverse-reverse}
@@ -16,7 +16,7 @@ use Rattle.ow_decide.specs.declared.events.Event.TheVariants as events
 use Rattle.ow_decide.specs.declared.events.Told.TheVariants as told
 use Rattle.ow_hall.specs.Comes.{Answers, Fails, KeptRows, Outcome, Wants, drain_outcome}
 use Rattle.ow_value.specs.declared.memory.NoMemory.{NoMemory as Want}
-use Rattle.ow_hall.specs.History.{answer, posting, seen}
+use Rattle.ow_hall.specs.History.{IsLegal, answer, posting, seen}
 use Rattle.ow_hall.specs.declared.posting.Posting.{Posting}
 use Rattle.ow_hall.specs.declared.posting.Posting.TheVariants.{Booked, Denied, Quiet, Unbooked}
 use Rattle.ow_hall.specs.Ledger.{BookView, Ledger, no_entries, opened, opening_moment, posted_as}
@@ -32,12 +32,12 @@ use Rattle.ow_serve.specs.declared.accepting.Stopped.TheVariants as stops
 use Rattle.ow_serve.specs.declared.served.ServedEnd.{ServedEnd}
 use Rattle.ow_serve.specs.declared.served.ServedEnd.TheVariants as ends
 use Rattle.ow_serve.specs.Duties.{IsServed, TalksAlone}
-use Rattle.ow_serve.specs.Ended.{BeginsWith, BookBegins, BookOpens, Closes, DrainedBy, IsEnd, IsFirst, IsOpenedEnd, IsOpenedOver, IsWhole, KeepsBook, KeepsFirst, Leaves, LeavesStore, Left, OpensOver, Serves, unopened}
+use Rattle.ow_serve.specs.Ended.{BeginsWith, BookBegins, BookOpens, Closes, DrainedBy, IsEnd, IsFirst, IsOpenedEnd, IsOpenedOver, IsWhole, KeepsBook, KeepsFirst, Leaves, LeavesStore, Left, OpensOver, Serves, earlier, unopened}
 use Rattle.ow_serve.specs.Peers.{AcceptsPeers, AllTalk, Seated, endings_in, filled}
-use Rattle.ow_serve.proofs.Seating.{all_served, all_talk, as_many, pending_behind, talk_count}
+use Rattle.ow_serve.proofs.Seating.{all_served, all_talk, as_many, earlier_behind, pending_behind, talk_count}
 
 module _ {T K D : Type 0} (left taken : K → Option (List ℕ)) (notes : D → Notes) (ending : D → Option Ending) (IsFor : T → K → Type 0) (task_ends : T → D → Type 0)
-    (serves : (t : T) (k : K) (d : D) → IsFor t k → task_ends t d → IsServed left taken k (notes d) (ending d)) where
+    (serves : (t : T) (k : K) (d : D) → IsFor t k → task_ends t d → IsServed left taken k (notes d) (ending d)) (Work : List Notes → Type 0) where
   abbrev Mine : K → D → Type 0
   Mine k d = IsServed left taken k (notes d) (ending d)
 
@@ -50,94 +50,113 @@ module _ {T K D : Type 0} (left taken : K → Option (List ℕ)) (notes : D → 
       let mine : AllEnd task_ends s.started joined = subst (λ ts. AllEnd task_ends ts joined) started all in
       all_talk left taken notes ending s.peers (filled seats joined) (all_served IsFor Mine task_ends serves s.started s.peers seats joined s.seated mine)
 
-  whole_by : (old new : Option (List K)) (before now : List (T × Bool)) (seats : List (Option D)) (joined : List D) (stopped : Stopped) (end : ServedEnd) (book : Ledger)
-      (receipts : List Notes) (endings : List Ending) → Seated IsFor Mine old new before now seats → AllEnd task_ends (pending (length before) now) joined
-      → Leaves (map notes (filled seats joined)) (map ending (filled seats joined)) stopped end book receipts endings → Matches receipts book
-      → IsWhole (TalksAlone left taken) old new book receipts endings
-  whole_by old new before now seats joined stopped end book receipts endings s all l matches = record {
-    matches = matches;
-    table = l.table;
-    legal = l.legal;
-    peers = s.peers;
-    accepts = s.accepts;
-    own = l.own;
-    served = map notes (filled seats joined);
-    others = l.others;
-    receipts_are = l.receipts_are;
-    drained = l.drained;
-    talk = subst (λ es. AllTalk (TalksAlone left taken) s.peers (map notes (filled seats joined)) es) (sym l.endings_are) (talk_by old new before now seats joined s all);
-  }
+  -- what the tasks came to that were started before
+  work_by : (old new : Option (List K)) (before now : List (T × Bool)) (seats : List (Option D)) (others : List D) (s : Seated IsFor Mine old new before now seats)
+      → ((os : List D) → AllEnd task_ends (pending zero before) os → Work (map notes os)) → AllEnd task_ends (earlier (length before) now) others → Work (map notes others)
+  work_by old new before now seats others s works all =
+      works others (subst (λ ts. AllEnd task_ends ts others) (ap (λ z. earlier (length before) z) s.tasks ∙ earlier_behind before s.started) all)
 
-  -- as many endings as seats
-  count_by : (old new : Option (List K)) (before now : List (T × Bool)) (seats : List (Option D)) (joined : List D) (stopped : Stopped) (end : ServedEnd) (book : Ledger)
-      (receipts : List Notes) (endings : List Ending) → Seated IsFor Mine old new before now seats → AllEnd task_ends (pending (length before) now) joined
-      → Leaves (map notes (filled seats joined)) (map ending (filled seats joined)) stopped end book receipts endings → length endings ≡ length seats
-  count_by old new before now seats joined stopped end book receipts endings s all l =
-      ap length l.endings_are ∙ talk_count (TalksAlone left taken) s.peers (map notes (filled seats joined)) (endings_in (map ending (filled seats joined))) (talk_by old new before now seats joined s all)
-      ∙ as_many IsFor Mine s.started s.peers seats s.seated
+  module _ (old new : Option (List K)) (before now : List (T × Bool)) (most : ℕ) (seats : List (Option D)) (joined others : List D) (receipts : List Notes) (endings : List Ending)
+      (all : AllEnd task_ends (pending (length before) now) joined) (earlier_all : AllEnd task_ends (earlier (length before) now) others)
+      (works : (os : List D) → AllEnd task_ends (pending zero before) os → Work (map notes os)) where
+    abbrev Out : Stopped → ServedEnd → Ledger → Type 0
+    Out stopped end book = Leaves (map notes (filled seats joined)) (map ending (filled seats joined)) (map notes others) stopped end book receipts endings
 
-  module _ (old new : Option (List K)) (before now : List (T × Bool)) (most : ℕ) (seats : List (Option D)) (joined : List D) (book : BookView) (receipts : List Notes) (endings : List Ending)
-      (all : AllEnd task_ends (pending (length before) now) joined) where
-    abbrev Out : Stopped → ServedEnd → Type 0
-    Out stopped end = Leaves (map notes (filled seats joined)) (map ending (filled seats joined)) stopped end book.ledger receipts endings
+    whole_by : (stopped : Stopped) (end : ServedEnd) (book : Ledger) → Seated IsFor Mine old new before now seats → Out stopped end book → Matches receipts book
+        → IsWhole (TalksAlone left taken) Work old new book receipts endings
+    whole_by stopped end book s l matches = record {
+      matches = matches;
+      table = l.table;
+      legal = l.legal;
+      peers = s.peers;
+      accepts = s.accepts;
+      own = l.own;
+      served = map notes (filled seats joined);
+      others = map notes others;
+      receipts_are = l.receipts_are;
+      drained = l.drained;
+      talk = subst (λ es. AllTalk (TalksAlone left taken) s.peers (map notes (filled seats joined)) es) (sym l.endings_are) (talk_by old new before now seats joined s all);
+      work = work_by old new before now seats others s works earlier_all;
+    }
 
-    closed_by : AcceptsPeers IsFor Mine old new before now most seats stops.Closed → Out stops.Closed ends.Closed → Matches receipts book.ledger
-        → Serves (TalksAlone left taken) old new most ends.Closed (Some book) receipts endings
-    closed_by a l matches = (
-      whole_by old new before now seats joined stops.Closed ends.Closed book.ledger receipts endings a.0 all l matches,
-      ⊎_elim (λ none. inl none)
-          (λ many. inr (count_by old new before now seats joined stops.Closed ends.Closed book.ledger receipts endings a.0 all l ∙ many)) a.1,
+    -- as many endings as seats
+    count_by : (stopped : Stopped) (end : ServedEnd) (book : Ledger) → Seated IsFor Mine old new before now seats → Out stopped end book → length endings ≡ length seats
+    count_by stopped end book s l =
+        ap length l.endings_are ∙ talk_count (TalksAlone left taken) s.peers (map notes (filled seats joined)) (endings_in (map ending (filled seats joined))) (talk_by old new before now seats joined s all)
+        ∙ as_many IsFor Mine s.started s.peers seats s.seated
+
+    closed_by : (book : BookView) → AcceptsPeers IsFor Mine old new before now most seats stops.Closed → Out stops.Closed ends.Closed book.ledger → Matches receipts book.ledger
+        → Serves (TalksAlone left taken) Work old new most ends.Closed (Some book) receipts endings
+    closed_by book a l matches = (
+      whole_by stops.Closed ends.Closed book.ledger a.0 l matches,
+      ⊎_elim (λ none. inl none) (λ many. inr (count_by stops.Closed ends.Closed book.ledger a.0 l ∙ many)) a.1,
     )
 
-    pub left_by : (stopped : Stopped) (end : ServedEnd) → AcceptsPeers IsFor Mine old new before now most seats stopped → Out stopped end
-        → Serves (TalksAlone left taken) old new most end (Some book) receipts endings
-    left_by stopped ends.Closed a l =
+    left_by : (book : BookView) (stopped : Stopped) (end : ServedEnd) → AcceptsPeers IsFor Mine old new before now most seats stopped → Out stopped end book.ledger
+        → Serves (TalksAlone left taken) Work old new most end (Some book) receipts endings
+    left_by book stopped ends.Closed a l =
         let same = l.is_end.0 in
-        closed_by (subst (λ s. AcceptsPeers IsFor Mine old new before now most seats s) same a) (subst (λ s. Out s ends.Closed) same l) l.is_end.1
-    left_by stopped ends.ListenFault a l =
-        let same = l.is_end.0 in
-        whole_by old new before now seats joined stopped ends.ListenFault book.ledger receipts endings
-        (subst (λ s. AcceptsPeers IsFor Mine old new before now most seats s) same a) all l l.is_end.1
-    left_by stopped ends.NoWorker a l = absurd l.is_end
-    left_by stopped ends.StoreFault a l = absurd l.is_end
-    left_by stopped (ends.BadKept key) a l = absurd l.is_end
-    left_by stopped ends.NoMemory a l = tt
-    left_by stopped (ends.Unmatched difference) a l = (l.is_end, (l.own, map notes (filled seats joined) ++ l.others, l.receipts_are, l.drained))
+        closed_by book (subst (λ s. AcceptsPeers IsFor Mine old new before now most seats s) same a) (subst (λ s. Out s ends.Closed book.ledger) same l) l.is_end.1
+    left_by book stopped ends.ListenFault a l =
+        whole_by stopped ends.ListenFault book.ledger (subst (λ s. AcceptsPeers IsFor Mine old new before now most seats s) l.is_end.0 a) l l.is_end.1
+    left_by book stopped ends.NoWorker a l = absurd l.is_end
+    left_by book stopped ends.StoreFault a l = absurd l.is_end
+    left_by book stopped (ends.BadKept key) a l = absurd l.is_end
+    left_by book stopped ends.NoMemory a l = tt
+    left_by book stopped (ends.Unmatched difference) a l = (l.is_end, (l.own, map notes (filled seats joined) ++ map notes others, l.receipts_are, l.drained))
 
-  wanting : (old new : Option (List K)) (most : ℕ) (end : ServedEnd) (book : Option BookView) (receipts : List Notes) (endings : List Ending) → end ≡ ends.NoMemory
-      → Serves (TalksAlone left taken) old new most end book receipts endings
-  wanting old new most end book receipts endings is = subst (λ e. Serves (TalksAlone left taken) old new most e book receipts endings) (sym is) tt
+    wanting : (end : ServedEnd) (book : Option BookView) → end ≡ ends.NoMemory → Serves (TalksAlone left taken) Work old new most end book receipts endings
+    wanting end book is = subst (λ e. Serves (TalksAlone left taken) Work old new most e book receipts endings) (sym is) tt
 
-  left_so : (old new : Option (List K)) (before now : List (T × Bool)) (most : ℕ) (seats : List (Option D)) (joined : List D) (stopped : Stopped) (end : ServedEnd) (book : Option BookView)
-      (receipts : List Notes) (endings : List Ending) → AllEnd task_ends (pending (length before) now) joined → AcceptsPeers IsFor Mine old new before now most seats stopped
-      → Left (map notes (filled seats joined)) (map ending (filled seats joined)) stopped end book receipts endings → Serves (TalksAlone left taken) old new most end book receipts endings
-  left_so old new before now most seats joined stopped end None receipts endings all a l = wanting old new most end None receipts endings l
-  left_so old new before now most seats joined stopped end (Some book) receipts endings all a l = left_by old new before now most seats joined book receipts endings all stopped end a l
+    left_so : (stopped : Stopped) (end : ServedEnd) (book : Option BookView) → AcceptsPeers IsFor Mine old new before now most seats stopped
+        → Left (map notes (filled seats joined)) (map ending (filled seats joined)) (map notes others) stopped end book receipts endings
+        → Serves (TalksAlone left taken) Work old new most end book receipts endings
+    left_so stopped end None a l = wanting end None l
+    left_so stopped end (Some book) a l = left_by book stopped end a l
 
   pub serves_by : (old new : Option (List K)) (before now : List (T × Bool)) (most first : ℕ) (seats : List (Option D)) (stopped : Stopped) (end : ServedEnd) (book : Option BookView)
-      (receipts : List Notes) (endings : List Ending) → first ≡ length before → AcceptsPeers IsFor Mine old new before now most seats stopped
-      → Closes task_ends notes ending (pending first now) seats stopped end book receipts endings → Serves (TalksAlone left taken) old new most end book receipts endings
-  serves_by old new before now most first seats stopped end book receipts endings is a (inl none) = wanting old new most end book receipts endings none
-  serves_by old new before now most first seats stopped end book receipts endings is a (inr x) =
-      left_so old new before now most seats x.0 stopped end book receipts endings (subst (λ n. AllEnd task_ends (pending n now) x.0) is x.1) a x.2
+      (receipts : List Notes) (endings : List Ending) → ((os : List D) → AllEnd task_ends (pending zero before) os → Work (map notes os)) → first ≡ length before
+      → AcceptsPeers IsFor Mine old new before now most seats stopped → Closes task_ends notes ending first now seats stopped end book receipts endings
+      → Serves (TalksAlone left taken) Work old new most end book receipts endings
+  serves_by old new before now most first seats stopped end book receipts endings works is a (inl none) =
+      subst (λ e. Serves (TalksAlone left taken) Work old new most e book receipts endings) (sym none) tt
+  serves_by old new before now most first seats stopped end book receipts endings works is a (inr x) =
+      left_so old new before now most seats x.0 x.1 receipts endings (subst (λ n. AllEnd task_ends (pending n now) x.0) is x.2) (subst (λ n. AllEnd task_ends (earlier n now) x.1) is x.3) works stopped end book a x.4
 
--- what is left fills the seats with what the tasks came to that were joined
-pub closes_by : {T D V E A F : Type 0} (task_ends : T → D → Type 0) (items : V → List D) (notes : D → Notes) (ending : D → Option Ending) (old now : List (T × Bool))
-    (seats : List (Option D)) (stopped : Stopped) (end : ServedEnd) (book : Option BookView) (receipts : List Notes) (endings : List Ending) (first : ℕ) (joined : Result V E) (all : Result (V × A) F)
-    → Joined task_ends items old now first joined → IfOk all (λ a. IsOkAnd joined (λ js. items a.0 ≡ filled seats (items js)))
-    → IfOk all (λ a. Left (map notes (items a.0)) (map ending (items a.0)) stopped end book receipts endings) → OnErr all (end ≡ ends.NoMemory)
-    → Closes task_ends notes ending (pending first old) seats stopped end book receipts endings
-closes_by task_ends items notes ending old now seats stopped end book receipts endings first (Ok js) (Ok a) j same left none =
-    inr (items js, j.0, subst (λ ds. Left (map notes ds) (map ending ds) stopped end book receipts endings) same left)
-closes_by task_ends items notes ending old now seats stopped end book receipts endings first (Err e) (Ok a) j same left none = absurd same
-closes_by task_ends items notes ending old now seats stopped end book receipts endings first joined (Err e) j same left none = inl none
+-- what is left fills the seats with what the tasks came to that were joined first, and has behind it what the others came to
+pub closes_by : {T D V E F G : Type 0} (task_ends : T → D → Type 0) (items : V → List D) (notes : D → Notes) (ending : D → Option Ending) (old middle now : List (T × Bool))
+    (seats : List (Option D)) (stopped : Stopped) (end : ServedEnd) (book : Option BookView) (receipts : List Notes) (endings : List Ending) (first : ℕ)
+    (peers : Result V E) (others : Result V F) (all : Result (V × V) G)
+    → Joined task_ends items old middle first peers → Joined task_ends items middle now 0 others → IfOk all (λ a. IsOkAnd peers (λ ps. items a.0 ≡ filled seats (items ps))) → IfOk all (λ a. IsOkAnd others (λ os. items a.1 ≡ items os))
+    → IfOk all (λ a. Left (map notes (items a.0)) (map ending (items a.0)) (map notes (items a.1)) stopped end book receipts endings) → OnErr all (end ≡ ends.NoMemory)
+    → Closes task_ends notes ending first old seats stopped end book receipts endings
+closes_by task_ends items notes ending old middle now seats stopped end book receipts endings first (Ok ps) (Ok os) (Ok a) p o same kept left none =
+    inr (
+      items ps,
+      items os,
+      p.0,
+      subst (λ ts. AllEnd task_ends (pending 0 ts) (items os)) p.1 o.0,
+      subst (λ ds. Left (map notes (filled seats (items ps))) (map ending (filled seats (items ps))) (map notes ds) stopped end book receipts endings) kept
+          (subst (λ ds. Left (map notes ds) (map ending ds) (map notes (items a.1)) stopped end book receipts endings) same left),
+    )
+closes_by task_ends items notes ending old middle now seats stopped end book receipts endings first (Err e) others (Ok a) p o same kept left none = absurd same
+closes_by task_ends items notes ending old middle now seats stopped end book receipts endings first (Ok ps) (Err e) (Ok a) p o same kept left none = absurd kept
+closes_by task_ends items notes ending old middle now seats stopped end book receipts endings first peers others (Err e) p o same kept left none = inl none
 
 -- a service that wasn't opened has served nobody
-pub unserved_by : {K : Type 0} (Talks : K → Notes → Ending → Type 0) (old : Option (List K)) (most : ℕ) (why : StartFault) (end : ServedEnd) (book : Option BookView)
-    (receipts : List Notes) (endings : List Ending) → end ≡ unopened why → endings ≡ [] → Serves Talks old old most end book receipts endings
-unserved_by Talks old most (starts.BadKept key) end book receipts endings is none = subst (λ e. Serves Talks old old most e book receipts endings) (sym is) (refl, none)
-unserved_by Talks old most starts.StoreFault end book receipts endings is none = subst (λ e. Serves Talks old old most e book receipts endings) (sym is) (refl, none)
-unserved_by Talks old most starts.NoMemory end book receipts endings is none = subst (λ e. Serves Talks old old most e book receipts endings) (sym is) tt
+pub unserved_by : {K : Type 0} (Talks : K → Notes → Ending → Type 0) (Work : List Notes → Type 0) (old : Option (List K)) (most : ℕ) (why : StartFault) (end : ServedEnd) (book : Option BookView)
+    (receipts : List Notes) (endings : List Ending) → end ≡ unopened why → endings ≡ [] → Serves Talks Work old old most end book receipts endings
+unserved_by Talks Work old most (starts.BadKept key) end book receipts endings is none = subst (λ e. Serves Talks Work old old most e book receipts endings) (sym is) (refl, none)
+unserved_by Talks Work old most starts.StoreFault end book receipts endings is none = subst (λ e. Serves Talks Work old old most e book receipts endings) (sym is) (refl, none)
+unserved_by Talks Work old most starts.NoMemory end book receipts endings is none = subst (λ e. Serves Talks Work old old most e book receipts endings) (sym is) tt
+
+-- ---- the book
+
+-- a copy of a legal book is one
+pub legal_copied : {F : Type 0} (r : Result BookView F) (t : Table) (book hall : Ledger) → IsLegal t hall.entries → book ≡ hall → IfOk r (λ b. b.ledger ≡ book)
+    → IfOk r (λ b. (t : Table) × IsLegal t b.ledger.entries)
+legal_copied (Ok b) t book hall legal same is = (t, subst (λ (l : Ledger). IsLegal t l.entries) (sym (is ∙ same)) legal)
+legal_copied (Err e) t book hall legal same is = tt
 
 -- ---- the store
 
@@ -235,7 +254,7 @@ IsOpening entries v = (e : Entry) × (entries ≡ e ∷ []) × (v.notes ≡ reco
 pub begins_laid : {F : Type 0} (r : Result ReceiptsView F) (x : ReceiptsView) (hall desk : List Entry) → IfOk r (IsOpening desk) → r ≡ Ok x → desk ≡ hall
     → (e : Entry) × (hall ≡ e ∷ []) × BeginsWith e x.notes
 begins_laid r x hall desk opens is same =
-    let o : IsOpening desk x = subst (λ q. IfOk q (IsOpening desk)) is opens in
+    let o : IsOpening desk x = ok_of (IsOpening desk) r x is opens in
     (o.0, sym same ∙ o.1, ([], ap (λ (n : Notes). n.entries) o.2))
 
 -- what stands at the first place of receipts that begin so
@@ -309,24 +328,27 @@ opening_entry t loaded at entries is =
 pub one_entry : (t : Table) (loaded : List (List ℕ × List ℕ)) (at : ℕ) (entries : List Entry) → entries ≡ (opened t loaded at).entries → (e : Entry) × (entries ≡ e ∷ [])
 one_entry t loaded at entries is = let one = opening_entry t loaded at entries is in (one.0, one.1)
 
-same_one : (d e : Entry) → d ∷ [] ≡ e ∷ [] → d ≡ e
-same_one d e is = cc
-
--- with the rows that the store told
-pub opens_so : (told : KeptRows) (t : Table) (loaded : List (List ℕ × List ℕ)) (at : ℕ) (entries : List Entry) (n : Notes) (end : ServedEnd) (book : Option BookView) → entries ≡ (opened t loaded at).entries
-    → IfSome told (λ kept. loaded ≡ kept) → (e : Entry) × (entries ≡ e ∷ []) × BeginsWith e n → BookBegins n end book → BookOpens told end book
-opens_so told t loaded at entries n end book is same begun begins = by_end end book begins
+-- over the table, at the moment, and with the rows that the store told
+pub opens_so : (tells : Option ℕ) (told : KeptRows) (t : Table) (loaded : List (List ℕ × List ℕ)) (at : ℕ) (entries : List Entry) (n : Notes) (end : ServedEnd) (book : Option BookView)
+    → IfSome tells (λ m. at ≡ m) → entries ≡ (opened t loaded at).entries → IfSome told (λ kept. loaded ≡ kept) → (e : Entry) × (entries ≡ e ∷ []) × BeginsWith e n → BookBegins n end book
+    → BookOpens tells told t end book
+opens_so tells told t loaded at entries n end book clock is same begun begins = by_end end book begins
   where
-    over : (told' : KeptRows) → IfSome told' (λ kept. loaded ≡ kept) → (L : Ledger) → ((first : Entry) → BeginsWith first n → IsFirst first L) → OpensOver told' L
-    over None none L h = tt
-    over (Some kept) same' L h =
-        let one = opening_entry t loaded at entries is in
-        let is_e : begun.0 ≡ one.0 = same_one begun.0 one.0 (sym begun.1 ∙ one.1) in
-        (begun.0, subst (λ (e : Entry). e.event ≡ events.Opened kept) (sym is_e) (one.2 ∙ ap events.Opened same'), h begun.0 begun.2)
+    over : (L : Ledger) → ((first : Entry) → BeginsWith first n → IsFirst first L) → OpensOver tells told t L
+    over L h =
+        let first = h begun.0 begun.2 in
+        record {
+          rows = loaded;
+          told_are = same;
+          now = at;
+          moment = clock;
+          later = first.0;
+          entries = first.1 ∙ ap (λ es. first.0 ++ es) (sym begun.1 ∙ is);
+        }
 
-    by_end : (e : ServedEnd) (b : Option BookView) → BookBegins n e b → BookOpens told e b
-    by_end ends.Closed (Some b) h = over told same b.ledger h
-    by_end ends.ListenFault (Some b) h = over told same b.ledger h
+    by_end : (e : ServedEnd) (b : Option BookView) → BookBegins n e b → BookOpens tells told t e b
+    by_end ends.Closed (Some b) h = over b.ledger h
+    by_end ends.ListenFault (Some b) h = over b.ledger h
     by_end ends.Closed None h = tt
     by_end ends.ListenFault None h = tt
     by_end ends.NoWorker b h = tt
@@ -336,10 +358,10 @@ opens_so told t loaded at entries n end book is same begun begins = by_end end b
     by_end (ends.Unmatched difference) b h = tt
 
 -- nothing is said of one that wasn't opened
-pub opens_none : (told : KeptRows) (why : StartFault) (end : ServedEnd) (book : Option BookView) → end ≡ unopened why → BookOpens told end book
-opens_none told why end book is = subst (λ e. BookOpens told e book) (sym is) (by_why why)
+pub opens_none : (tells : Option ℕ) (told : KeptRows) (t : Table) (why : StartFault) (end : ServedEnd) (book : Option BookView) → end ≡ unopened why → BookOpens tells told t end book
+opens_none tells told t why end book is = subst (λ e. BookOpens tells told t e book) (sym is) (by_why why)
   where
-    by_why : (w : StartFault) → BookOpens told (unopened w) book
+    by_why : (w : StartFault) → BookOpens tells told t (unopened w) book
     by_why (starts.BadKept key) = tt
     by_why starts.StoreFault = tt
     by_why starts.NoMemory = tt

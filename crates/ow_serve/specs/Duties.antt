@@ -1,22 +1,26 @@
--- What a thread may come to.
-use Rattle.std.specs.Prelude.{◌≡◌, List, ℕ, Option, Some, None}
+-- What a thread may come to, and which threads are begun.
+use Rattle.std.specs.Prelude.{◌≡◌, ◌++◌, ℕ, Bool, false, List, [], ◌∷◌, Option, Some, None, map}
+use Rattle.ow_traits.specs.Runner.{Giving}
 use Rattle.ow_desk.specs.Notes.{Notes, no_notes}
 use Rattle.ow_peer.specs.Talk.{Talks}
 use Rattle.ow_peer.specs.declared.ending.Ending.{Ending}
+use Rattle.ow_serve.specs.Working.{MakesReapings, MakesSweeps, MakesTurns}
 use Rattle.ow_serve.specs.declared.duty.Work.{Work}
 use Rattle.ow_serve.specs.declared.duty.Work.TheVariants.{Turns, Sweeps, Reaps, Serves}
+
+-- ---- what a thread may come to
 
 -- a connection over the link that leaves these receipts, where it began with others, and this ending
 abbrev pub TalksFrom : {K : Type 0} → (K → Option (List ℕ)) → (K → Option (List ℕ)) → K → Notes → Notes → Ending → Type 0
 TalksFrom left taken link n m ending = (unread : Option (List ℕ)) × (written : Option (List ℕ)) × Talks (left link) unread (taken link) written n m ending
 
--- who serves a peer leaves its receipts and its ending; the others have no ending
-abbrev pub Ends : {K R : Type 0} → (K → Option (List ℕ)) → (K → Option (List ℕ)) → Work K R → Notes → Notes → Option Ending → Type 0
-Ends left taken (Serves link) n m (Some ending) = TalksFrom left taken link n m ending
-Ends left taken (Serves link) n m None = ⊥
-Ends left taken (Turns runner) n m ending = ending ≡ None
-Ends left taken Sweeps n m ending = ending ≡ None
-Ends left taken (Reaps runner) n m ending = ending ≡ None
+-- who serves a peer leaves its receipts and its ending; the others have no ending, and leave the receipts of their calls
+abbrev pub Ends : {K R : Type 0} → (K → Option (List ℕ)) → (K → Option (List ℕ)) → (R → Giving) → (R → ℕ) → Work K R → Notes → Notes → Option Ending → Type 0
+Ends left taken gives faults (Serves link) n m (Some ending) = TalksFrom left taken link n m ending
+Ends left taken gives faults (Serves link) n m None = ⊥
+Ends left taken gives faults (Turns runner) n m ending = (ending ≡ None) × MakesTurns (gives runner) (faults runner) n m
+Ends left taken gives faults Sweeps n m ending = (ending ≡ None) × MakesSweeps n m
+Ends left taken gives faults (Reaps runner) n m ending = (ending ≡ None) × MakesReapings n m
 
 -- a peer was served, from receipts of nothing on
 abbrev pub TalksAlone : {K : Type 0} → (K → Option (List ℕ)) → (K → Option (List ℕ)) → K → Notes → Ending → Type 0
@@ -24,3 +28,24 @@ TalksAlone left taken link m ending = TalksFrom left taken link no_notes m endin
 
 abbrev pub IsServed : {K : Type 0} → (K → Option (List ℕ)) → (K → Option (List ℕ)) → K → Notes → Option Ending → Type 0
 IsServed left taken link m told = (ending : Ending) × (told ≡ Some ending) × TalksAlone left taken link m ending
+
+-- ---- which threads are begun
+
+-- each task is for what stands at its place
+abbrev pub AllFor : {T W : Type 0} → (T → W → Type 0) → List T → List W → Type 0
+AllFor IsFor [] [] = Unit {0}
+AllFor IsFor (t ∷ ts) (w ∷ ws) = IsFor t w × AllFor IsFor ts ws
+AllFor IsFor ts ws = ⊥
+
+-- tasks were started for these, in order
+pub record AllStarted {T W : Type 0} (IsFor : T → W → Type 0) (works : List W) (old new : List (T × Bool)) : Type 0 where
+  pub started : List T
+  pub tasks : new ≡ old ++ map (λ t. (t, false)) started
+  pub all_for : AllFor IsFor started works
+
+-- for each runner but the last a task that makes turns, then one that sweeps, and one that reaps with the last runner
+pub record BeginsAll {T K R : Type 0} (IsFor : T → Work K R → Type 0) (runners : List R) (old new : List (T × Bool)) : Type 0 where
+  pub workers : List R
+  pub last : R
+  pub runners_are : runners ≡ workers ++ last ∷ []
+  pub begun : AllStarted IsFor (map (λ r. Turns r) workers ++ Sweeps ∷ Reaps last ∷ []) old new

@@ -1,7 +1,7 @@
 -- How a service ends, and what it leaves.
-use Rattle.std.specs.Prelude.{◌≡◌, ◌⊎◌, ◌++◌, ℕ, List, [], ◌∷◌, true, Option, Some, None, IfSome, IsOk, length, map}
+use Rattle.std.specs.Prelude.{◌≡◌, ◌⊎◌, ◌++◌, ℕ, Bool, List, [], ◌∷◌, true, Option, Some, None, IfSome, IsOk, length, map}
 use Rattle.ow_tenant.specs.Table.{Table}
-use Rattle.ow_threads.specs.Tasks.{AllEnd}
+use Rattle.ow_threads.specs.Tasks.{AllEnd, joined, pending}
 use Rattle.ow_floor.specs.declared.answers.Drain.{Drain}
 use Rattle.ow_floor.specs.declared.answers.Drain.TheVariants as drains
 use Rattle.ow_hall.specs.Comes.{HoldsBook, KeptRows}
@@ -10,9 +10,8 @@ use Rattle.ow_hall.specs.declared.entry.Entry.{Entry}
 use Rattle.ow_hall.specs.declared.refusals.StartFault.{StartFault}
 use Rattle.ow_hall.specs.declared.refusals.StartFault.TheVariants as starts
 use Rattle.ow_hall.specs.History.{IsLegal}
-use Rattle.ow_hall.specs.Ledger.{BookView, Ledger}
+use Rattle.ow_hall.specs.Ledger.{BookView, Ledger, opened}
 use Rattle.ow_keep.specs.Judged.{judged}
-use Rattle.ow_decide.specs.declared.events.Event.TheVariants as events
 use Rattle.ow_desk.specs.Notes.{Notes}
 use Rattle.ow_desk.specs.declared.placed.Placed.{Placed}
 use Rattle.ow_audit.specs.Drains.{is_drained}
@@ -70,9 +69,8 @@ IsEnd stopped receipts book ends.NoMemory = Unit {0}
 IsEnd stopped receipts book end = ⊥
 
 -- the receipts of the service, of the peers, and of the others; the peers' endings; and the book, which is a legal one
-pub record Leaves (served : List Notes) (told : List (Option Ending)) (stopped : Stopped) (end : ServedEnd) (book : Ledger) (receipts : List Notes) (endings : List Ending) : Type 0 where
+pub record Leaves (served : List Notes) (told : List (Option Ending)) (others : List Notes) (stopped : Stopped) (end : ServedEnd) (book : Ledger) (receipts : List Notes) (endings : List Ending) : Type 0 where
   pub own : Notes
-  pub others : List Notes
   pub receipts_are : receipts ≡ own ∷ (served ++ others)
   pub drained : EndsDrained own
   pub endings_are : endings ≡ endings_in told
@@ -81,14 +79,19 @@ pub record Leaves (served : List Notes) (told : List (Option Ending)) (stopped :
   pub is_end : IsEnd stopped receipts book end
 
 -- where there is a book; there is none only where memory was wanted
-abbrev pub Left : List Notes → List (Option Ending) → Stopped → ServedEnd → Option BookView → List Notes → List Ending → Type 0
-Left served told stopped end (Some book) receipts endings = Leaves served told stopped end book.ledger receipts endings
-Left served told stopped end None receipts endings = end ≡ ends.NoMemory
+abbrev pub Left : List Notes → List (Option Ending) → List Notes → Stopped → ServedEnd → Option BookView → List Notes → List Ending → Type 0
+Left served told others stopped end (Some book) receipts endings = Leaves served told others stopped end book.ledger receipts endings
+Left served told others stopped end None receipts endings = end ≡ ends.NoMemory
 
--- what the tasks that were still to be joined came to fills the seats; or memory was wanted
-abbrev pub Closes : {T D : Type 0} → (T → D → Type 0) → (D → Notes) → (D → Option Ending) → List T → List (Option D) → Stopped → ServedEnd → Option BookView → List Notes → List Ending → Type 0
-Closes task_ends notes ending tasks seats stopped end book receipts endings = (end ≡ ends.NoMemory)
-    ⊎ ((joined : List _) × AllEnd task_ends tasks joined × Left (map notes (filled seats joined)) (map ending (filled seats joined)) stopped end book receipts endings)
+-- the tasks numbered below `first` that aren't joined, once the later ones are
+abbrev pub earlier : {T : Type 0} → ℕ → List (T × Bool) → List T
+earlier first tasks = pending 0 (joined first tasks)
+
+-- what the tasks from `first` on came to fills the seats, and what the earlier ones came to stands behind it; or memory was wanted
+abbrev pub Closes : {T D : Type 0} → (T → D → Type 0) → (D → Notes) → (D → Option Ending) → ℕ → List (T × Bool) → List (Option D) → Stopped → ServedEnd → Option BookView → List Notes → List Ending → Type 0
+Closes task_ends notes ending first tasks seats stopped end book receipts endings = (end ≡ ends.NoMemory)
+    ⊎ ((peers : List _) × (others : List _) × AllEnd task_ends (pending first tasks) peers × AllEnd task_ends (earlier first tasks) others
+    × Left (map notes (filled seats peers)) (map ending (filled seats peers)) (map notes others) stopped end book receipts endings)
 
 -- ---- the opening
 
@@ -118,15 +121,21 @@ IsOpenedOver told (ends.BadKept key) = Unit {0}
 IsOpenedOver told ends.NoMemory = Unit {0}
 IsOpenedOver told end = IfSome told (λ rows. IsOk (judged rows))
 
--- the oldest entry of a book is the opening over the rows that the store told, where it tells them
-abbrev pub OpensOver : KeptRows → Ledger → Type 0
-OpensOver told book = IfSome told (λ rows. (first : Entry) × (first.event ≡ events.Opened rows) × IsFirst first book)
+-- a book goes on from that of the opening over this office table, at the moment of the clock, where it tells that, and over the rows that
+-- the store told, where it tells them
+pub record OpensOver (tells : Option ℕ) (told : KeptRows) (t : Table) (book : Ledger) : Type 0 where
+  pub rows : List (List ℕ × List ℕ)
+  pub told_are : IfSome told (λ kept. rows ≡ kept)
+  pub now : ℕ
+  pub moment : IfSome tells (λ m. now ≡ m)
+  pub later : List Entry
+  pub entries : book.entries ≡ later ++ (opened t rows now).entries
 
--- where the receipts match the book, it begins so: a service goes on from what its store keeps
-abbrev pub BookOpens : KeptRows → ServedEnd → Option BookView → Type 0
-BookOpens told ends.Closed (Some book) = OpensOver told book.ledger
-BookOpens told ends.ListenFault (Some book) = OpensOver told book.ledger
-BookOpens told end book = Unit {0}
+-- where the receipts match the book, it does: a service goes on from what its store keeps
+abbrev pub BookOpens : Option ℕ → KeptRows → Table → ServedEnd → Option BookView → Type 0
+BookOpens tells told t ends.Closed (Some book) = OpensOver tells told t book.ledger
+BookOpens tells told t ends.ListenFault (Some book) = OpensOver tells told t book.ledger
+BookOpens tells told t end book = Unit {0}
 
 -- ---- the store
 
@@ -144,8 +153,9 @@ LeavesStore rows store end back book = IfSome back (λ s. KeepsBook (rows s) boo
 
 -- ---- the service
 
--- behind the last peer: the receipts are the book, which is a legal one, and each peer that was accepted has its receipts and its ending
-pub record IsWhole {K : Type 0} (Talks : K → Notes → Ending → Type 0) (old new : Option (List K)) (book : Ledger) (receipts : List Notes) (endings : List Ending) : Type 0 where
+-- behind the last peer: the receipts are the book, which is a legal one; each peer that was accepted has its receipts and its ending; and
+-- the others did their work
+pub record IsWhole {K : Type 0} (Talks : K → Notes → Ending → Type 0) (Work : List Notes → Type 0) (old new : Option (List K)) (book : Ledger) (receipts : List Notes) (endings : List Ending) : Type 0 where
   pub matches : Matches receipts book
   pub table : Table
   pub legal : IsLegal table book.entries
@@ -157,17 +167,18 @@ pub record IsWhole {K : Type 0} (Talks : K → Notes → Ending → Type 0) (old
   pub receipts_are : receipts ≡ own ∷ (served ++ others)
   pub drained : EndsDrained own
   pub talk : AllTalk Talks peers served endings
+  pub work : Work others
 
 -- by the end
-abbrev pub Serves : {K : Type 0} → (K → Notes → Ending → Type 0) → Option (List K) → Option (List K) → ℕ → ServedEnd → Option BookView → List Notes → List Ending → Type 0
-Serves Talks old new most ends.Closed (Some book) receipts endings =
-    IsWhole Talks old new book.ledger receipts endings × (HasNoPeer new ⊎ (length endings ≡ most))
-Serves Talks old new most ends.Closed None receipts endings = ⊥
-Serves Talks old new most ends.ListenFault (Some book) receipts endings = IsWhole Talks old new book.ledger receipts endings
-Serves Talks old new most ends.ListenFault None receipts endings = ⊥
-Serves Talks old new most (ends.Unmatched difference) (Some book) receipts endings = Differs receipts book.ledger difference × HasDrained receipts
-Serves Talks old new most (ends.Unmatched difference) None receipts endings = ⊥
-Serves Talks old new most ends.NoWorker book receipts endings = (new ≡ old) × (endings ≡ [])
-Serves Talks old new most ends.StoreFault book receipts endings = (new ≡ old) × (endings ≡ [])
-Serves Talks old new most (ends.BadKept key) book receipts endings = (new ≡ old) × (endings ≡ [])
-Serves Talks old new most ends.NoMemory book receipts endings = Unit {0}
+abbrev pub Serves : {K : Type 0} → (K → Notes → Ending → Type 0) → (List Notes → Type 0) → Option (List K) → Option (List K) → ℕ → ServedEnd → Option BookView → List Notes → List Ending → Type 0
+Serves Talks Work old new most ends.Closed (Some book) receipts endings =
+    IsWhole Talks Work old new book.ledger receipts endings × (HasNoPeer new ⊎ (length endings ≡ most))
+Serves Talks Work old new most ends.Closed None receipts endings = ⊥
+Serves Talks Work old new most ends.ListenFault (Some book) receipts endings = IsWhole Talks Work old new book.ledger receipts endings
+Serves Talks Work old new most ends.ListenFault None receipts endings = ⊥
+Serves Talks Work old new most (ends.Unmatched difference) (Some book) receipts endings = Differs receipts book.ledger difference × HasDrained receipts
+Serves Talks Work old new most (ends.Unmatched difference) None receipts endings = ⊥
+Serves Talks Work old new most ends.NoWorker book receipts endings = (new ≡ old) × (endings ≡ [])
+Serves Talks Work old new most ends.StoreFault book receipts endings = (new ≡ old) × (endings ≡ [])
+Serves Talks Work old new most (ends.BadKept key) book receipts endings = (new ≡ old) × (endings ≡ [])
+Serves Talks Work old new most ends.NoMemory book receipts endings = Unit {0}

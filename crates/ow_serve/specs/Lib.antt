@@ -1,3 +1,4 @@
 pub mod Duties
 pub mod Ended
 pub mod Peers
+pub mod Working

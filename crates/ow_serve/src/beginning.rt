@@ -1,5 +1,7 @@
 // The threads that the service begins before it accepts anybody.
-ghost use Rattle.std.specs.Prelude.{◌≡◌, ◌⊎◌, ◌<◌, IfErr};
+ghost use Rattle.std.specs.Prelude.{◌≡◌, ◌⊎◌, ◌<◌, ◌≤◌, ◌∷◌, [], length, IfErr, OnOk};
+ghost use Rattle.ow_desk.specs.Notes.{no_notes};
+ghost use Rattle.ow_serve.specs.Duties.{AllStarted, BeginsAll};
 
 use crate::duty::{Duty, Work};
 use crate::house::House;
@@ -12,7 +14,7 @@ use std::alloc::Global;
 use std::sync::Wait;
 use std::thread::Threads;
 
-/// Begins the workers, the sweeper and the reaper.
+/// Begins the workers, the sweeper and the reaper. The last runner is the reaper's, each other one has a worker.
 pub(crate) fn begin_all<
     H: Wait + Threads + Clone + Drop + Send + 'static,
     K: Link + Drop + Send + 'static,
@@ -30,6 +32,8 @@ pub(crate) fn begin_all<
 ) -> Result<(), ServedEnd>
 where
     R::Container: Send + 'static,
+    requires runners { 2 ≤ length runners.items }
+    ensures begins { OnOk result (BeginsAll (λ t w. (t.work ≡ w) × (t.notes.notes ≡ no_notes)) runners.items crew.old.tasks crew.new.tasks) }
     ensures worker { IfErr result (λ e. (e ≡ ServedEnd.NoMemory) ⊎ ((e ≡ ServedEnd.NoWorker) × (0 < crew.new.faults))) }
     ensures notes { house.new.notes.notes ≡ house.old.notes.notes }
 {
@@ -39,12 +43,13 @@ where
         begin(rt, alloc, Work::Turns { runner }, house, crew)?;
     }
     begin(rt, alloc, Work::Sweeps, house, crew)?;
-    if let Some(runner) = last {
-        begin(rt, alloc, Work::Reaps { runner }, house, crew)?;
+    match last {
+        Some(runner) => begin(rt, alloc, Work::Reaps { runner }, house, crew),
+        None => Ok(()),
     }
-    Ok(())
 }
 
+// Begins a thread for this.
 fn begin<
     H: Wait + Threads + Clone + Drop + Send + 'static,
     K: Link + Drop + Send + 'static,
@@ -62,6 +67,7 @@ fn begin<
 ) -> Result<(), ServedEnd>
 where
     R::Container: Send + 'static,
+    ensures begins { OnOk result (AllStarted (λ t w. (t.work ≡ w) × (t.notes.notes ≡ no_notes)) (work ∷ []) crew.old.tasks crew.new.tasks) }
     ensures worker { IfErr result (λ e. (e ≡ ServedEnd.NoMemory) ⊎ ((e ≡ ServedEnd.NoWorker) × (0 < crew.new.faults))) }
     ensures notes { house.new.notes.notes ≡ house.old.notes.notes }
 {

@@ -3,6 +3,7 @@ ghost use Rattle.std.specs.Prelude.{◌≡◌, Some, None};
 ghost use Rattle.ow_board.specs.Board.{IsPassOf};
 ghost use Rattle.ow_peer.specs.declared.ending.Ending.{Ending};
 ghost use Rattle.ow_serve.specs.Duties.{Ends, TalksFrom};
+ghost use Rattle.ow_serve.specs.Working.{MakesReapings, MakesSweeps, MakesTurns};
 
 use crate::place::Place;
 use crate::working::{reap_on, sweep_on, work_on};
@@ -74,7 +75,7 @@ where
 {
     type Done = Done<R, P>;
 
-    ghost ends = { λ t d. Ends K.left K.taken t.work t.notes.notes d.notes.notes d.ending };
+    ghost ends = { λ t d. Ends K.left K.taken R.gives R.faults t.work t.notes.notes d.notes.notes d.ending };
 
     fn run(self) -> Done<R, P> {
         let Duty {
@@ -126,6 +127,7 @@ fn work_with<H: Wait + Drop, R: Runner + Drop, P: Keeper + Drop, C: Clock + Drop
     runner: R,
 ) -> Done<R, P>
     ensures ending { result.ending ≡ None }
+    ensures turns { MakesTurns (R.gives runner) (R.faults runner) hands.notes.notes result.notes.notes }
 {
     let (mut hands, mut runner) = (hands, runner);
     let (alloc, opened) = (hands.alloc, hands.opened);
@@ -152,6 +154,7 @@ fn sweep_with<H: Wait + Drop, R: Runner + Drop, P: Keeper + Drop, C: Clock + Dro
     hands: Hands<H, R::Container, P, C, G>,
 ) -> Done<R, P>
     ensures ending { result.ending ≡ None }
+    ensures sweeps { MakesSweeps hands.notes.notes result.notes.notes }
 {
     let mut hands = hands;
     let alloc = hands.alloc;
@@ -169,6 +172,7 @@ fn reap_with<H: Wait + Drop, R: Runner + Drop, P: Keeper + Drop, C: Clock + Drop
     runner: R,
 ) -> Done<R, P>
     ensures ending { result.ending ≡ None }
+    ensures reapings { MakesReapings hands.notes.notes result.notes.notes }
 {
     let (mut hands, mut runner) = (hands, runner);
     let (alloc, opened) = (hands.alloc, hands.opened);

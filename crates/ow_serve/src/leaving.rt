@@ -1,6 +1,6 @@
 // The end of the service: its threads are joined, and what they leave is compared.
 ghost use Rattle.std.specs.Prelude.{◌≡◌, Some, map, IfOk, IfSome, IsOk, OnErr, IsOkAnd};
-ghost use Rattle.ow_threads.specs.Tasks.{Joined, pending};
+ghost use Rattle.ow_threads.specs.Tasks.{Joined};
 ghost use Rattle.ow_board.specs.Board.{IsPassOf};
 ghost use Rattle.ow_audit.specs.Places.{notes_of};
 ghost use Rattle.ow_serve.specs.Duties.{Ends};
@@ -44,7 +44,7 @@ pub(crate) fn end_all<
 ) -> Result<Vec<Done<R, P>>, NoMemory>
 where
     R::Container: Send + 'static,
-    ensures joined { Joined (λ t d. Ends K.left K.taken t.work t.notes.notes d.notes.notes d.ending) (λ v. v.items) crew.old.tasks crew.new.tasks 0 result }
+    ensures joined { Joined (λ t d. Ends K.left K.taken R.gives R.faults t.work t.notes.notes d.notes.notes d.ending) (λ v. v.items) crew.old.tasks crew.new.tasks 0 result }
     ensures faults { crew.new.faults ≡ crew.old.faults }
 {
     house.place.end();
@@ -72,7 +72,7 @@ pub(crate) fn close<
 ) -> Served<P>
 where
     R::Container: Send + 'static,
-    ensures closes { Closes (λ t d. Ends K.left K.taken t.work t.notes.notes d.notes.notes d.ending) (λ d. d.notes.notes) (λ d. d.ending) (pending first crew.old.tasks) seats.items stopped result.end result.book (map (λ r. r.notes) result.receipts.items) result.endings.items }
+    ensures closes { Closes (λ t d. Ends K.left K.taken R.gives R.faults t.work t.notes.notes d.notes.notes d.ending) (λ d. d.notes.notes) (λ d. d.ending) first crew.old.tasks seats.items stopped result.end result.book (map (λ r. r.notes) result.receipts.items) result.endings.items }
     ensures faults { crew.new.faults ≡ crew.old.faults }
     ensures begins { BookBegins house.notes.notes result.end result.book }
     ensures store { IfSome result.store (λ s. KeepsBook (P.rows s) result.book) }
@@ -94,6 +94,7 @@ fn all_of<R: Runner + Drop, P: Keeper + Drop>(
     others: Result<Vec<Done<R, P>>, NoMemory>,
 ) -> Result<(Vec<Done<R, P>>, Vec<Done<R, P>>), NoMemory>
     ensures peers { IfOk result (λ a. IsOkAnd joined (λ js. a.0.items ≡ filled seats.items js.items)) }
+    ensures others { IfOk result (λ a. IsOkAnd others (λ os. a.1.items ≡ os.items)) }
     ensures drained { IsOk result → IsOk drained }
 {
     let joined = joined?;
@@ -112,7 +113,7 @@ fn leave<H: Wait, R: Runner + Drop, P: Keeper + Drop, C: Clock + Drop, G: Gate +
     stopped: Stopped,
 ) -> Served<P>
     requires drained { IsOk all → EndsDrained house.notes.notes }
-    ensures left { IfOk all (λ a. Left (map (λ d. d.notes.notes) a.0.items) (map (λ d. d.ending) a.0.items) stopped result.end result.book (map (λ r. r.notes) result.receipts.items) result.endings.items) }
+    ensures left { IfOk all (λ a. Left (map (λ d. d.notes.notes) a.0.items) (map (λ d. d.ending) a.0.items) (map (λ d. d.notes.notes) a.1.items) stopped result.end result.book (map (λ r. r.notes) result.receipts.items) result.endings.items) }
     ensures none { OnErr all (result.end ≡ ServedEnd.NoMemory) }
     ensures begins { BookBegins house.notes.notes result.end result.book }
     ensures store { IfSome result.store (λ s. KeepsBook (P.rows s) result.book) }

@@ -1,7 +1,8 @@
 // The service, from its opening to its end.
-ghost use Rattle.std.specs.Prelude.{◌≡◌, ◌≤◌, ◌<◌, ◌-◌, length, map, unwrap_or, IfSome};
+ghost use Rattle.std.specs.Prelude.{◌≡◌, ◌≤◌, ◌<◌, ◌-◌, [], length, map, unwrap_or, IfSome};
 ghost use Rattle.ow_traits.specs.Streams.{Rose};
 ghost use Rattle.ow_serve.specs.Duties.{TalksAlone};
+ghost use Rattle.ow_serve.specs.Working.{AllWork};
 ghost use Rattle.ow_serve.specs.Ended.{BookBegins, BookOpens, IsOpenedEnd, IsOpenedOver, IsUnopened, KeepsBook, LeavesStore, Serves, unopened};
 ghost use Rattle.ow_tenant.specs.Table.{IsPoolSized};
 ghost use Rattle.ow_pool.specs.Rules.{AreWantsSized};
@@ -54,13 +55,13 @@ where
     requires wants { AreWantsSized tenants.wants }
     requires pool { IsPoolSized tenants.pool }
     requires runners { 2 ≤ length runners.items }
-    ensures serves { Serves (TalksAlone K.left K.taken) (L.peers listener.old) (L.peers listener.new) (unwrap_or words.connections 18446744073709551615) result.end result.book (map (λ r. r.notes) result.receipts.items) result.endings.items }
+    ensures serves { Serves (TalksAlone K.left K.taken) (AllWork R.gives R.faults runners.items) (L.peers listener.old) (L.peers listener.new) (unwrap_or words.connections 18446744073709551615) result.end result.book (map (λ r. r.notes) result.receipts.items) result.endings.items }
     ensures listener { result.listener_faults ≡ L.faults listener.new - L.faults listener.old }
     ensures fault { result.end ≡ ServedEnd.ListenFault → Rose (L.faults listener.old) (L.faults listener.new) }
     ensures worker { result.end ≡ ServedEnd.NoWorker → 0 < result.spawner_faults }
     ensures unopened { IsUnopened P.rows P.faults store result.end result.store }
     ensures allowed { IsOpenedOver (P.rows store) result.end }
-    ensures opens { BookOpens (P.rows store) result.end result.book }
+    ensures opens { BookOpens (C.tells clock.value) (P.rows store) tenants result.end result.book }
     ensures store { LeavesStore P.rows store result.end result.store result.book }
 {
     let opened = clock.now();
@@ -108,7 +109,8 @@ fn run<
 ) -> Served<P>
 where
     R::Container: Send + 'static,
-    ensures serves { Serves (TalksAlone K.left K.taken) (L.peers listener.old) (L.peers listener.new) (unwrap_or words.now.connections 18446744073709551615) result.end result.book (map (λ r. r.notes) result.receipts.items) result.endings.items }
+    requires runners { 2 ≤ length runners.items }
+    ensures serves { Serves (TalksAlone K.left K.taken) (AllWork R.gives R.faults runners.items) (L.peers listener.old) (L.peers listener.new) (unwrap_or words.now.connections 18446744073709551615) result.end result.book (map (λ r. r.notes) result.receipts.items) result.endings.items }
     ensures listener { result.listener_faults ≡ L.faults listener.new - L.faults listener.old }
     ensures fault { result.end ≡ ServedEnd.ListenFault → Rose (L.faults listener.old) (L.faults listener.new) }
     ensures worker { result.end ≡ ServedEnd.NoWorker → 0 < result.spawner_faults }
@@ -145,7 +147,9 @@ fn serve_all<
 ) -> Served<P>
 where
     R::Container: Send + 'static,
-    ensures serves { Serves (TalksAlone K.left K.taken) (L.peers listener.old) (L.peers listener.new) (unwrap_or words.now.connections 18446744073709551615) result.end result.book (map (λ r. r.notes) result.receipts.items) result.endings.items }
+    requires runners { 2 ≤ length runners.items }
+    requires fresh { crew.old.tasks ≡ [] }
+    ensures serves { Serves (TalksAlone K.left K.taken) (AllWork R.gives R.faults runners.items) (L.peers listener.old) (L.peers listener.new) (unwrap_or words.now.connections 18446744073709551615) result.end result.book (map (λ r. r.notes) result.receipts.items) result.endings.items }
     ensures later { L.faults listener.old ≤ L.faults listener.new }
     ensures fault { result.end ≡ ServedEnd.ListenFault → Rose (L.faults listener.old) (L.faults listener.new) }
     ensures worker { result.end ≡ ServedEnd.NoWorker → 0 < crew.new.faults }

@@ -1,6 +1,9 @@
 // What workers, the sweeper and the reaper do until they are to end.
-ghost use Rattle.std.specs.Prelude.{◌≡◌, ◌≤◌};
-ghost use Rattle.ow_board.specs.Board.{IsPassOf, size};
+ghost use Rattle.std.specs.Prelude.{◌≡◌, ◌≤◌, Some, None};
+ghost use Rattle.ow_traits.specs.Runner.{Steady};
+ghost use Rattle.ow_board.specs.Board.{IsPassOf, size, view_of};
+ghost use Rattle.ow_worker.specs.Shown.{IsSecond};
+ghost use Rattle.ow_serve.specs.Working.{BooksOnce, Leads, MakesReapings, MakesSweeps, MakesTurns, WorksOnce, next_job, stand, to_book};
 
 use crate::place::Place;
 use ow_board::Pass;
@@ -40,29 +43,50 @@ pub(crate) fn work_on<H: Wait, P: Keeper + Drop, R: Runner, C: Clock, G: Gate>(
     notes: &mut Receipts<P>,
 )
     requires { IsPassOf place.now.board pass.old }
-    ensures { IsPassOf place.now.board pass.new }
+    ensures pass { IsPassOf place.now.board pass.new }
+    ensures turns { MakesTurns (R.gives runner.old) (R.faults runner.old) notes.old.notes notes.new.notes }
 {
     for _ in rt.forever() {
         if place.is_over() {
             return;
         }
-        let turned = turn(
-            rt,
-            alloc,
-            &place.desk,
-            &place.board,
-            pass,
-            runner,
-            clock,
-            gate,
-            opened,
-            notes,
-        );
-        match next_of(turned) {
-            Next::Turn => {}
-            Next::Pause => clock.pause(Bell::Work, PAUSE),
-            Next::Book(job) => book_on(rt, alloc, place, pass, runner, clock, notes, job),
-        }
+        work_once(rt, alloc, place, pass, runner, clock, gate, opened, notes);
+    }
+}
+
+// Makes one turn, and books the reply that it leaves.
+fn work_once<H: Wait, P: Keeper + Drop, R: Runner, C: Clock, G: Gate>(
+    rt: &H,
+    alloc: Global,
+    place: &Place<P, R::Container>,
+    pass: &mut Pass<R::Container>,
+    runner: &mut R,
+    clock: &C,
+    gate: &G,
+    opened: u64,
+    notes: &mut Receipts<P>,
+)
+    requires { IsPassOf place.now.board pass.old }
+    ensures pass { IsPassOf place.now.board pass.new }
+    ensures runner { Steady (R.gives runner.old) (R.gives runner.new) (R.faults runner.old) (R.faults runner.new) }
+    ensures works { WorksOnce (R.gives runner.old) (IsSecond (C.tells clock.now) opened) (stand notes.old.notes (view_of pass.old) (R.faults runner.old)) (stand notes.new.notes (view_of pass.new) (R.faults runner.new)) }
+{
+    let turned = turn(
+        rt,
+        alloc,
+        &place.desk,
+        &place.board,
+        pass,
+        runner,
+        clock,
+        gate,
+        opened,
+        notes,
+    );
+    match next_of(turned) {
+        Next::Turn => {}
+        Next::Pause => clock.pause(Bell::Work, PAUSE),
+        Next::Book(job) => book_on(rt, alloc, place, pass, runner, clock, notes, job),
     }
 }
 
@@ -78,7 +102,9 @@ fn book_on<H: Wait, P: Keeper + Drop, R: Runner, C: Clock>(
     job: Job,
 )
     requires { IsPassOf place.now.board pass.old }
-    ensures { IsPassOf place.now.board pass.new }
+    ensures pass { IsPassOf place.now.board pass.new }
+    ensures runner { Steady (R.gives runner.old) (R.gives runner.new) (R.faults runner.old) (R.faults runner.new) }
+    ensures books { Leads BooksOnce (Some job, stand notes.old.notes (view_of pass.old) (R.faults runner.old)) (None, stand notes.new.notes (view_of pass.new) (R.faults runner.new)) }
 {
     let mut job = job;
     for _ in rt.forever() {
@@ -103,7 +129,9 @@ fn book_on<H: Wait, P: Keeper + Drop, R: Runner, C: Clock>(
 }
 
 // What is done after a turn.
-fn next_of(turned: Turn) -> Next {
+fn next_of(turned: Turn) -> Next
+    ensures { next_job result ≡ to_book turned }
+{
     match turned {
         Turn::Ran | Turn::Removed => Next::Turn,
         Turn::Lost { seen: _ } => Next::Turn,
@@ -116,7 +144,9 @@ fn next_of(turned: Turn) -> Next {
 }
 
 // The reply that is still to be booked.
-fn left(turned: Turn) -> Option<Job> {
+fn left(turned: Turn) -> Option<Job>
+    ensures { result ≡ to_book turned }
+{
     match turned {
         Turn::StoreFault(job) => Some(job),
         Turn::NoMemory(job) => job,
@@ -132,7 +162,9 @@ pub(crate) fn sweep_on<H: Wait, P: Keeper + Drop, B: Drop, C: Clock>(
     place: &Place<P, B>,
     clock: &C,
     notes: &mut Receipts<P>,
-) {
+)
+    ensures { MakesSweeps notes.old.notes notes.new.notes }
+{
     for _ in rt.forever() {
         if place.is_over() {
             return;
@@ -155,7 +187,8 @@ pub(crate) fn reap_on<H: Wait, P: Keeper + Drop, R: Runner, C: Clock, G: Gate>(
     notes: &mut Receipts<P>,
 )
     requires { IsPassOf place.now.board pass.old }
-    ensures { IsPassOf place.now.board pass.new }
+    ensures pass { IsPassOf place.now.board pass.new }
+    ensures reapings { MakesReapings notes.old.notes notes.new.notes }
 {
     for _ in rt.forever() {
         if place.is_over() {

@@ -22,8 +22,8 @@ loop-preserved g c =
     let put = c.push_reserved.ensures.items ∙ ap (λ z. z ++ c.in-Some.seat ∷ []) c.reserve.ensures.items in
     let before = c.loop.invariant in
     record {
-      seated = seated_more _ _ (λ t d. Ends g.K.Link.left g.K.Link.taken t.work t.notes.notes d.notes.notes d.ending)
-          (λ t k d mine e. served_by g.K.Link.left g.K.Link.taken t.work k t.notes.notes d.notes.notes d.ending mine.0 mine.1 e)
+      seated = seated_more _ _ (λ t d. Ends g.K.Link.left g.K.Link.taken g.R.Runner.gives g.R.Runner.faults t.work t.notes.notes d.notes.notes d.ending)
+          (λ t k d mine e. served_by g.K.Link.left g.K.Link.taken g.R.Runner.gives g.R.Runner.faults t.work k t.notes.notes d.notes.notes d.ending mine.0 mine.1 e)
           _ _ _ _ _ _ _ _ _ _ c.in-Ok.duty c.in-Ok-Peer.link c.begin.result c.in-Some.seat
           (one_came _ _ c.in-Ok-Peer.link (rw c.in-Ok-Peer.field-0-is at c.in-Ok-Peer.ensures.told)) c.in-Ok.ensures.duty c.begin.ensures (sym c.seat_of.ensures ∙ c.in-Some.is) put before.seated;
       notes = c.duty.ensures.notes ∙ before.notes;

@@ -1,4 +1,5 @@
 use denote.Param.Send.{sendable}
+use Rattle.ow_serve.proofs.Begun.{started_one}
 use Rattle.ow_serve.proofs.Crossing.{done_send, duty_send}
 use Rattle.ow_serve.proofs.beginning.begin.Goals as goal
 
@@ -7,3 +8,6 @@ begin-requires-send-T g c κs within = search (sendable, duty_send, c.type_bound
 
 pub begin-requires-send-T-Done : goal.begin-requires-send-T-Done
 begin-requires-send-T-Done g c κs within = search (sendable, done_send, c.type_bounds)
+
+pub returns-in-Started-clause-begins : goal.returns-in-Started-clause-begins
+returns-in-Started-clause-begins g c = started_one _ c.in-Ok.duty c.args.work _ _ c.in-Started.ensures.0 c.in-Ok.ensures.duty

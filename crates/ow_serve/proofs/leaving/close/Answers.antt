@@ -5,7 +5,8 @@ use Rattle.ow_serve.proofs.leaving.close.Goals as goal
 
 pub returns-clause-closes : goal.returns-clause-closes
 returns-clause-closes g c =
-    closes_by _ _ _ _ _ _ _ _ _ _ _ _ c.args.first c.join-joined.result c.all_of-all.result c.join-joined.ensures.joined c.all_of-all.ensures.peers c.leave.ensures.left c.leave.ensures.none
+    closes_by _ _ _ _ _ _ _ _ _ _ _ _ _ c.args.first c.join-joined.result c.end_all-others.result c.all_of-all.result c.join-joined.ensures.joined c.end_all-others.ensures.joined
+    c.all_of-all.ensures.peers c.all_of-all.ensures.others c.leave.ensures.left c.leave.ensures.none
 
 pub returns-clause-begins : goal.returns-clause-begins
 returns-clause-begins g c = begins_on c.args.house.notes.notes c.drain-drained.new.house.notes.notes c.leave.result.end c.leave.result.book c.drain-drained.ensures.first c.leave.ensures.begins

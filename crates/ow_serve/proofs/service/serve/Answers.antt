@@ -7,7 +7,7 @@ new-requires-clause-one g c = one_entry c.args.tenants c.in-Ok.ensures.opens.loa
 
 pub returns-clause-serves : goal.returns-clause-serves
 returns-clause-serves g c =
-    unserved_by _ _ _ c.in-Err.refusal.why _ _ _ _ (c.nothing-in-Err.ensures.end ∙ c.unopened.ensures) c.nothing-in-Err.ensures.endings
+    unserved_by _ _ _ _ c.in-Err.refusal.why _ _ _ _ (c.nothing-in-Err.ensures.end ∙ c.unopened.ensures) c.nothing-in-Err.ensures.endings
 
 pub returns-in-Ok-new-clause-allowed : goal.returns-in-Ok-new-clause-allowed
 returns-in-Ok-new-clause-allowed g c = over_allowed _ c.in-Ok.ensures.opens.loaded c.run.result.end c.in-Ok.ensures.opens.told c.in-Ok.ensures.opens.allowed
@@ -17,8 +17,8 @@ returns-clause-allowed g c = over_none _ c.in-Err.refusal.why _ (c.nothing-in-Er
 
 pub returns-in-Ok-new-clause-opens : goal.returns-in-Ok-new-clause-opens
 returns-in-Ok-new-clause-opens g c =
-    opens_so _ c.args.tenants c.in-Ok.ensures.opens.loaded c.now-opened.result _ c.in-Ok-new.house.notes.notes c.run.result.end c.run.result.book (ap (λ l. l.entries) c.in-Ok.ensures.opens.ledger) c.in-Ok.ensures.opens.told
-    c.in-Ok-new.ensures.first c.run.ensures.begins
+    opens_so _ _ c.args.tenants c.in-Ok.ensures.opens.loaded c.now-opened.result _ c.in-Ok-new.house.notes.notes c.run.result.end c.run.result.book c.now-opened.ensures (ap (λ l. l.entries) c.in-Ok.ensures.opens.ledger)
+    c.in-Ok.ensures.opens.told c.in-Ok-new.ensures.first c.run.ensures.begins
 
 pub returns-clause-opens : goal.returns-clause-opens
-returns-clause-opens g c = opens_none _ c.in-Err.refusal.why _ _ (c.nothing-in-Err.ensures.end ∙ c.unopened.ensures)
+returns-clause-opens g c = opens_none _ _ c.args.tenants c.in-Err.refusal.why _ _ (c.nothing-in-Err.ensures.end ∙ c.unopened.ensures)

@@ -1,5 +1,9 @@
-use Rattle.ow_board.specs.Board.{IsPassOf}
+use Rattle.ow_board.specs.Board.{IsPassOf, view_of}
+use Rattle.ow_serve.specs.Working.{Leads, ReapsOnce}
 use Rattle.ow_serve.proofs.working.reap_on.Given as goal
 
 abbrev pub invariant-loop : goal.invariant-loop
-invariant-loop g l = IsPassOf l.place.board l.pass
+invariant-loop g l = record {
+  pass : IsPassOf l.place.board l.pass;
+  reaps : Leads (ReapsOnce (g.C.Clock.tells l.clock) l.opened) (l.fn.notes.notes, view_of l.fn.pass) (l.notes.notes, view_of l.pass);
+}

@@ -1,0 +1,131 @@
+-- The threads that are begun before anybody is accepted, and what they come to.
+use Rattle.std.proofs.Common.{◌≡◌, ◌++◌, ◌∙◌, ℕ, zero, Bool, false, List, [], ◌∷◌, Option, Some, None, Result, Ok, Err, OnOk, map, ap, refl, subst, sym, append_assoc, append-nil}
+use Rattle.std.proofs.lemmas.List.{map-append}
+use Rattle.ow_traits.specs.Runner.{Giving}
+use Rattle.ow_threads.specs.Tasks.{AllEnd, pending}
+use Rattle.ow_desk.specs.Notes.{Notes, no_notes}
+use Rattle.ow_peer.specs.declared.ending.Ending.{Ending}
+use Rattle.ow_serve.specs.declared.duty.Work.{Work}
+use Rattle.ow_serve.specs.declared.duty.Work.TheVariants.{Turns, Sweeps, Reaps}
+use Rattle.ow_serve.specs.Duties.{AllFor, AllStarted, BeginsAll, Ends}
+use Rattle.ow_serve.specs.Working.{AllWork}
+use Rattle.ow_serve.proofs.Seating.{pending_behind}
+
+-- ---- tasks that are started
+
+module _ {T W : Type 0} (IsFor : T → W → Type 0) where
+  all_for_both : (ts us : List T) (vs ws : List W) → AllFor IsFor ts vs → AllFor IsFor us ws → AllFor IsFor (ts ++ us) (vs ++ ws)
+  all_for_both [] us [] ws a b = b
+  all_for_both [] us (v ∷ vs) ws a b = absurd a
+  all_for_both (t ∷ ts) us [] ws a b = absurd a
+  all_for_both (t ∷ ts) us (v ∷ vs) ws a b = (a.0, all_for_both ts us vs ws a.1 b)
+
+  pub started_none : (old : List (T × Bool)) → AllStarted IsFor [] old old
+  started_none old = record { started = []; tasks = sym (append-nil old); all_for = tt }
+
+  pub started_one : (t : T) (w : W) (old new : List (T × Bool)) → new ≡ old ++ (t, false) ∷ [] → IsFor t w → AllStarted IsFor (w ∷ []) old new
+  started_one t w old new is mine = record { started = t ∷ []; tasks = is; all_for = (mine, tt) }
+
+  pub started_both : (vs ws : List W) (old middle new : List (T × Bool)) → AllStarted IsFor vs old middle → AllStarted IsFor ws middle new → AllStarted IsFor (vs ++ ws) old new
+  started_both vs ws old middle new a b = record {
+    started = a.started ++ b.started;
+    tasks = b.tasks ∙ ap (λ z. z ++ map (λ t. (t, false)) b.started) a.tasks ∙ append_assoc old (map (λ t. (t, false)) a.started) (map (λ t. (t, false)) b.started)
+        ∙ ap (λ z. old ++ z) (sym (map-append (λ t. (t, false)) a.started b.started));
+    all_for = all_for_both a.started b.started vs ws a.all_for b.all_for;
+  }
+
+-- ---- workers, sweeper and reaper
+
+module _ {T K R : Type 0} (IsFor : T → Work K R → Type 0) where
+  -- of all these runners the rest is still to get a worker
+  pub record Midway (all rest : List R) (old new : List (T × Bool)) : Type 0 where
+    pub workers : List R
+    pub all_are : all ≡ workers ++ rest
+    pub begun : AllStarted IsFor (map (λ r. Turns r) workers) old new
+
+  pub midway_start : (all : List R) (old : List (T × Bool)) → Midway all all old old
+  midway_start all old = record { workers = []; all_are = refl; begun = started_none IsFor old }
+
+  pub midway_one : (all rest : List R) (r : R) (old middle new : List (T × Bool)) → Midway all (r ∷ rest) old middle → AllStarted IsFor (Turns r ∷ []) middle new → Midway all rest old new
+  midway_one all rest r old middle new was one = record {
+    workers = was.workers ++ r ∷ [];
+    all_are = was.all_are ∙ sym (append_assoc was.workers (r ∷ []) rest);
+    begun = subst (λ ws. AllStarted IsFor ws old new) (sym (map-append (λ r. Turns r) was.workers (r ∷ [])))
+        (started_both IsFor (map (λ r. Turns r) was.workers) (Turns r ∷ []) old middle new was.begun one);
+  }
+
+  begins_so : (all runners : List R) (last : R) (old a b new : List (T × Bool)) → runners ≡ all ++ last ∷ [] → Midway all [] old a → AllStarted IsFor (Sweeps ∷ []) a b
+      → AllStarted IsFor (Reaps last ∷ []) b new → BeginsAll IsFor runners old new
+  begins_so all runners last old a b new are m sweeps reaps = record {
+    workers = m.workers;
+    last = last;
+    runners_are = are ∙ ap (λ z. z ++ last ∷ []) (m.all_are ∙ append-nil m.workers);
+    begun = started_both IsFor (map (λ r. Turns r) m.workers) (Sweeps ∷ Reaps last ∷ []) old a new m.begun (started_both IsFor (Sweeps ∷ []) (Reaps last ∷ []) a b new sweeps reaps);
+  }
+
+  -- behind the last call
+  pub begins_by : {A E : Type 0} (r : Result A E) (all runners : List R) (last : R) (old a b new : List (T × Bool)) → runners ≡ all ++ last ∷ [] → Midway all [] old a
+      → AllStarted IsFor (Sweeps ∷ []) a b → OnOk r (AllStarted IsFor (Reaps last ∷ []) b new) → OnOk r (BeginsAll IsFor runners old new)
+  begins_by (Ok x) all runners last old a b new are m sweeps reaps = begins_so all runners last old a b new are m sweeps reaps
+  begins_by (Err e) all runners last old a b new are m sweeps reaps = tt
+
+-- ---- what they come to
+
+all_end_by : {T W D : Type 0} (IsFor : T → W → Type 0) (ends : T → D → Type 0) (goes : W → D → Type 0) → ((t : T) (w : W) (d : D) → IsFor t w → ends t d → goes w d)
+    → (ts : List T) (ws : List W) (ds : List D) → AllFor IsFor ts ws → AllEnd ends ts ds → AllEnd goes ws ds
+all_end_by IsFor ends goes so [] [] [] f e = tt
+all_end_by IsFor ends goes so [] [] (d ∷ ds) f e = absurd e
+all_end_by IsFor ends goes so [] (w ∷ ws) ds f e = absurd f
+all_end_by IsFor ends goes so (t ∷ ts) [] ds f e = absurd f
+all_end_by IsFor ends goes so (t ∷ ts) (w ∷ ws) [] f e = absurd e
+all_end_by IsFor ends goes so (t ∷ ts) (w ∷ ws) (d ∷ ds) f e = (so t w d f.0 e.0, all_end_by IsFor ends goes so ts ws ds f.1 e.1)
+
+module _ {K R D : Type 0} (left taken : K → Option (List ℕ)) (gives : R → Giving) (faults : R → ℕ) (notes : D → Notes) (ending : D → Option Ending) where
+  abbrev Goes : Work K R → D → Type 0
+  Goes w d = Ends left taken gives faults w no_notes (notes d) (ending d)
+
+  work_so : (workers : List R) (last : R) (ds : List D) → AllEnd Goes (map (λ r. Turns r) workers ++ Sweeps ∷ Reaps last ∷ []) ds → AllWork gives faults (workers ++ last ∷ []) (map notes ds)
+  work_so [] last [] e = absurd e
+  work_so [] last (s ∷ []) e = absurd e.1
+  work_so [] last (s ∷ p ∷ []) e = record {
+    workers = [];
+    last = last;
+    runners_are = refl;
+    by_workers = [];
+    by_sweeper = notes s;
+    by_reaper = notes p;
+    others_are = refl;
+    worked = tt;
+    swept = e.0.1;
+    reaped = e.1.0.1;
+  }
+  work_so [] last (s ∷ p ∷ d ∷ ds) e = absurd e.1.1
+  work_so (r ∷ workers) last [] e = absurd e
+  work_so (r ∷ workers) last (d ∷ ds) e =
+      let rest = work_so workers last ds e.1 in
+      record {
+        workers = r ∷ rest.workers;
+        last = rest.last;
+        runners_are = ap (λ rs. r ∷ rs) rest.runners_are;
+        by_workers = notes d ∷ rest.by_workers;
+        by_sweeper = rest.by_sweeper;
+        by_reaper = rest.by_reaper;
+        others_are = ap (λ ns. notes d ∷ ns) rest.others_are;
+        worked = (e.0.1, rest.worked);
+        swept = rest.swept;
+        reaped = rest.reaped;
+      }
+
+  pub all_work : {T : Type 0} (work : T → Work K R) (start : T → Notes) (runners : List R) (old before : List (T × Bool)) (ds : List D)
+      → BeginsAll (λ t w. (work t ≡ w) × (start t ≡ no_notes)) runners old before → old ≡ []
+      → AllEnd (λ t d. Ends left taken gives faults (work t) (start t) (notes d) (ending d)) (pending zero before) ds → AllWork gives faults runners (map notes ds)
+  all_work work start runners old before ds b none all =
+      let fresh : before ≡ [] ++ map (λ t. (t, false)) b.begun.started = b.begun.tasks ∙ ap (λ z. z ++ map (λ t. (t, false)) b.begun.started) none in
+      let started : pending zero before ≡ b.begun.started = ap (λ z. pending zero z) fresh ∙ pending_behind [] b.begun.started in
+      let mine : AllEnd (λ t d. Ends left taken gives faults (work t) (start t) (notes d) (ending d)) b.begun.started ds =
+      subst (λ ts. AllEnd (λ t d. Ends left taken gives faults (work t) (start t) (notes d) (ending d)) ts ds) started all in
+      let went : AllEnd Goes (map (λ r. Turns r) b.workers ++ Sweeps ∷ Reaps b.last ∷ []) ds =
+      all_end_by (λ t w. (work t ≡ w) × (start t ≡ no_notes)) (λ t d. Ends left taken gives faults (work t) (start t) (notes d) (ending d)) Goes
+      (λ t w d f e. subst (λ n. Ends left taken gives faults w n (notes d) (ending d)) f.1 (subst (λ v. Ends left taken gives faults v (start t) (notes d) (ending d)) f.0 e))
+      b.begun.started (map (λ r. Turns r) b.workers ++ Sweeps ∷ Reaps b.last ∷ []) ds b.begun.all_for mine in
+      subst (λ rs. AllWork gives faults rs (map notes ds)) (sym b.runners_are) (work_so b.workers b.last ds went)

@@ -1,0 +1,41 @@
+use Rattle.std.proofs.Common.{refl}
+use Rattle.ow_invoker.proofs.Running.{steady_refl, steady_trans}
+use Rattle.ow_serve.specs.Working.{goes_on, stays}
+use Rattle.ow_serve.proofs.working.book_on.Goals as goal
+
+pub loop-init : goal.loop-init
+loop-init g c = record { pass = c.requires; runner = steady_refl _ _; books = stays }
+
+pub loop-preserved : goal.loop-preserved
+loop-preserved g c =
+    let was = c.loop.invariant in
+    let one = c.again-turned.ensures in
+    record {
+      pass = one.pass.0;
+      runner = steady_trans was.runner one.runner;
+      books = goes_on was.books (record {
+        job = c.loop.job;
+        turn = c.again-turned.result;
+        is_left = refl;
+        booked = one.booked;
+        others = one.others;
+        leaves = c.in-Some.ensures;
+        later = one.runner.later;
+      });
+    }
+
+pub returns-in-None-clause-runner : goal.returns-in-None-clause-runner
+returns-in-None-clause-runner g c = steady_trans c.loop.invariant.runner c.again-turned.ensures.runner
+
+pub returns-in-None-clause-books : goal.returns-in-None-clause-books
+returns-in-None-clause-books g c =
+    let one = c.again-turned.ensures in
+    goes_on c.loop.invariant.books (record {
+      job = c.loop.job;
+      turn = c.again-turned.result;
+      is_left = refl;
+      booked = one.booked;
+      others = one.others;
+      leaves = c.in-None.ensures;
+      later = one.runner.later;
+    })

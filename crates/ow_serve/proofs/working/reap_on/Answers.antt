@@ -1,0 +1,24 @@
+use Rattle.ow_board.specs.Board.{size, view_of}
+use Rattle.ow_serve.specs.Working.{goes_on, stays}
+use Rattle.ow_serve.proofs.Turning.{reaps_so}
+use Rattle.ow_serve.proofs.working.reap_on.Goals as goal
+
+pub loop-init : goal.loop-init
+loop-init g c = record { pass = c.requires; reaps = stays }
+
+pub loop-preserved : goal.loop-preserved
+loop-preserved g c =
+    let was = c.loop.invariant in
+    record {
+      pass = c.reap.ensures.pass.0;
+      reaps = goes_on was.reaps (reaps_so _ _ _ _ _ _ (size c.args.place.now.board) c.reap.result c.reap.ensures.ok c.reap.ensures.err);
+    }
+
+pub returns-then-is_over-clause-reapings : goal.returns-then-is_over-clause-reapings
+returns-then-is_over-clause-reapings g c = record {
+  tells = g.C.Clock.tells c.args.clock.now;
+  opened = c.args.opened;
+  old = view_of c.args.pass.now;
+  new = view_of c.loop.pass;
+  reaps = c.loop.invariant.reaps;
+}

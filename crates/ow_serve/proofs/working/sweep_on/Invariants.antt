@@ -1,0 +1,5 @@
+use Rattle.ow_serve.specs.Working.{MakesSweeps}
+use Rattle.ow_serve.proofs.working.sweep_on.Given as goal
+
+abbrev pub invariant-loop : goal.invariant-loop
+invariant-loop g l = MakesSweeps l.fn.notes.notes l.notes.notes
