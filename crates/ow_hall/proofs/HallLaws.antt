@@ -188,26 +188,13 @@ left t L new at event stands leaves =
       waits = subst (λ (w : Waits). new.waits ≡ waits_after w s.waits) leaves.2 stands.waits;
     }
 
-legal_by : (p : Posting) (t : Table) (L : Ledger) (at : ℕ) (event : Event) (told_is : Told) → posting L.entries told_is ≡ p → IsLegal t L.entries → last_moment L.entries ≤ at → at ≤ greatest_moment
-    → is_opening event ≡ false → told_is ≡ answer t L.entries at event → IsLegal t (posted_as p (record { at = at; event = event; answer = told_is }) L).entries
-legal_by Booked t L at event told_is booked legal late most later same =
-    record { answered = (same, booked, late, most, least_later event at later, legal.answered); opened = opens_so event L.entries _ later ∙ legal.opened }
-legal_by Quiet t L at event told_is booked legal late most later same = legal
-legal_by Denied t L at event told_is booked legal late most later same = legal
-legal_by Unbooked t L at event told_is booked legal late most later same = legal
-
--- behind a legal book the one answer leaves a legal book
-pub posted_legal : (t : Table) (L : Ledger) (at : ℕ) (event : Event) (told_is : Told) → IsLegal t L.entries → last_moment L.entries ≤ at → at ≤ greatest_moment → is_opening event ≡ false
-    → told_is ≡ answer t L.entries at event → IsLegal t (posted L at event told_is).entries
-posted_legal t L at event told_is legal late most later same = legal_by (posting L.entries told_is) t L at event told_is refl legal late most later same
-
 post_by : (p : Posting) (t : Table) (L : Ledger) (new : StateView) (at : ℕ) (event : Event) (told_is : Told) → posting L.entries told_is ≡ p → IsLegal t L.entries
     → last_moment L.entries ≤ at → at ≤ greatest_moment → is_opening event ≡ false → told_is ≡ answer t L.entries at event → new.floor.before ≡ None
     → IsAt new (after (decision t L.entries at event) (seen t L.entries)) → Unless p (Leaves (decision t L.entries at event))
     → Keeps new t (posted_as p (record { at = at; event = event; answer = told_is }) L)
 post_by Booked t L new at event told_is booked legal late most later same free stands leaves = record {
   stands = stands;
-  legal = legal_by Booked t L at event told_is booked legal late most later same;
+  legal = record { answered = (same, booked, late, most, least_later event at later, legal.answered); opened = opens_so event L.entries _ later ∙ legal.opened };
   free = free;
 }
 post_by Quiet t L new at event told_is booked legal late most later same free stands leaves = record { stands = left t L new at event stands leaves; legal = legal; free = free }

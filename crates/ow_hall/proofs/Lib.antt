@@ -1,7 +1,7 @@
 pub mod Beginnings
 pub mod KeepLaws
 pub mod OpenLaws
-pub mod HallLaws
+mod HallLaws
 mod Joined
 mod NoteLaws
 mod RoomLaws

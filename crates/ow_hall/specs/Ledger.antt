@@ -34,7 +34,7 @@ posted_as Quiet e L = record L { quiet = one_more L.quiet }
 posted_as Denied e L = record L { denied = one_more L.denied }
 posted_as Unbooked e L = L
 
--- how many entries it takes, for private clauses
+-- how many entries it takes
 abbrev pub cost : Posting → ℕ
 cost Booked = 1
 cost other = 0
@@ -55,7 +55,7 @@ opened t rows at = posted no_entries (opening_moment rows at) (events.Opened row
 abbrev pub faulted : Ledger → Ledger
 faulted L = record L { stored = one_more L.stored }
 
--- an entry has its bytes, room, and a count, with so many more entries behind it that count 64 each, for private clauses
+-- an entry has its bytes, room, and a count, with so many more entries behind it that count 64 each
 pub record IsReady (B : History) (room owed : ℕ) (event : Event) (t : Told) (bytes : ℕ) : Type 0 where
   pub bytes_are : bytes ≡ event_bytes event + told_bytes t
   pub within : owed + 1 ≤ room

@@ -3,7 +3,6 @@ use Rattle.std.specs.Prelude.{Bool, true, false, Result, Ok, Err}
 use Rattle.ow_traits.specs.declared.replies.RunReply.{RunReply}
 use Rattle.ow_floor.specs.declared.answers.AnswerRefusal.{AnswerRefusal}
 use Rattle.ow_floor.specs.declared.answers.AnswerRefusal.TheVariants.{NoMemory, StoreFault}
-use Rattle.ow_decide.specs.declared.events.Event.{Event}
 use Rattle.ow_decide.specs.declared.events.Told.{Told}
 use Rattle.ow_hall.specs.Comes.{Answers, Fails, Outcome, Wants}
 use Rattle.ow_hall.specs.declared.hall.Undone.{Undone}
@@ -11,10 +10,6 @@ use Rattle.ow_hall.specs.declared.hall.Undone.{Undone}
 abbrev pub undone : Bool → Outcome
 undone true = Fails
 undone false = Wants
-
--- memory was wanted for it
-abbrev pub unmade : Event → Undone
-unmade event = record { event = event; failed = false }
 
 -- it is told, or it is undone
 abbrev pub outcome : Result Told Undone → Outcome

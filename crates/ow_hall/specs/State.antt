@@ -1,4 +1,4 @@
--- For private clauses: what stands behind the book, as the code has it.
+-- What stands behind the book, as the code has it.
 use Rattle.std.specs.Prelude.{◌≡◌, ◌≤◌, ◌++◌, ℕ, List, [], ◌∷◌, true, is_some, IfSome, Option, Some, None}
 use Rattle.std.specs.List.{flat_map}
 use Rattle.ow_records.specs.declared.record.Record.{Record}

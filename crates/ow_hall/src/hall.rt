@@ -7,7 +7,7 @@ ghost use Rattle.ow_hall.specs.Comes.{Answers, Comes, HandsBack, HoldsBook, IsCa
 ghost use Rattle.ow_hall.specs.Commits.{CommitsTo, changes_in};
 ghost use Rattle.ow_hall.specs.History.{IsLegal, posting};
 ghost use Rattle.ow_hall.specs.Ledger.{IsReady};
-ghost use Rattle.ow_hall.specs.Performing.{outcome, outcome_twice, unanswered, unmade};
+ghost use Rattle.ow_hall.specs.Performing.{outcome, outcome_twice, unanswered};
 ghost use Rattle.ow_decide.specs.Decisions.{is_opening, wants_memory};
 ghost use Rattle.ow_decide.specs.declared.events.Event.TheVariants as events;
 
@@ -310,7 +310,10 @@ impl<P: Keeper + Drop> Hall<P> {
         };
         let before = self.state.ended();
         let Ok(step) = self.state.attempt(alloc, &self.tenants, now, &event) else {
-            return Err(unmade(event));
+            return Err(Undone {
+                event,
+                failed: false,
+            });
         };
         let Ok((copied, kept, bytes)) = prepare(
             alloc,
@@ -321,7 +324,10 @@ impl<P: Keeper + Drop> Hall<P> {
         ) else {
             drop(step);
             self.state.settle(false);
-            return Err(unmade(event));
+            return Err(Undone {
+                event,
+                failed: false,
+            });
         };
         match commit(alloc, &mut self.store, &step.commit) {
             Ok(()) => {}
@@ -359,16 +365,6 @@ impl<P: Keeper + Drop> Hall<P> {
         ensures { result ≡ P.faults self.now.store }
     {
         self.store.faults()
-    }
-}
-
-// Memory was wanted for an event.
-fn unmade(event: Event) -> Undone
-    ensures { result ≡ unmade event }
-{
-    Undone {
-        event,
-        failed: false,
     }
 }
 

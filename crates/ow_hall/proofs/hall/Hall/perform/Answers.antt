@@ -122,19 +122,15 @@ pub returns-in_default-clause-comes : goal.returns-in_default-clause-comes
 returns-in_default-clause-comes g c =
     let t = c.self.inside.tenants in
     let L = c.self.inside.book.ledger in
-    rw c.unmade.ensures (
     subst (λ (h : HallView _). (L ≡ h.ledger) × (t ≡ h.tenants) × Stays g.P.Keeper.rows g.P.Keeper.faults (commits (decided h c.args.at c.args.event)) h.store c.self.inside.store)
     c.self.view_is (refl, refl, stays_same g.P.Keeper.rows g.P.Keeper.faults (commits (decision t L.entries (moment L.entries c.args.at) c.args.event)) c.self.inside.store)
-    )
 
 pub returns-in_default-prepare-clause-comes : goal.returns-in_default-prepare-clause-comes
 returns-in_default-prepare-clause-comes g c =
     let t = c.self.inside.tenants in
     let L = c.self.inside.book.ledger in
-    rw c.unmade-in_default-prepare.ensures (
     subst (λ (h : HallView _). (c.prepare.new.book.ledger ≡ h.ledger) × (t ≡ h.tenants) × Stays g.P.Keeper.rows g.P.Keeper.faults (commits (decided h c.args.at c.args.event)) h.store c.self.inside.store)
     c.self.view_is (c.prepare.ensures.ledger, refl, stays_same g.P.Keeper.rows g.P.Keeper.faults (commits (decision t L.entries (moment L.entries c.args.at) c.args.event)) c.self.inside.store)
-    )
 
 pub returns-in-Err-clause-comes : goal.returns-in-Err-clause-comes
 returns-in-Err-clause-comes g c =
