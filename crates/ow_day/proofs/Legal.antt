@@ -24,6 +24,7 @@ use Rattle.ow_day.specs.Statement.{Statement}
 use Rattle.ow_day.specs.Machine.{Machine, CarriesOut, Does, hall_of, start}
 use Rattle.ow_day.specs.Day.{day_of}
 use Rattle.ow_day.specs.Office.{HasLegalBooks}
+use Rattle.ow_day.proofs.Each.{each_statement}
 
 abbrev HasLegalBook : Machine → Type 0
 HasLegalBook M = IsLegal M.tenants M.ledger.entries
