@@ -1,4 +1,5 @@
-// Cases: what workers do at an office, and what their receipts hold then. Few ways out of a function let go of what it made.
+// Cases: what workers do at an office, and what their receipts hold then. What was made is let go of by one call each, and not where a
+// function ends, since there each of its fields is.
 ghost use Rattle.ow_board.specs.Board.{IsPassOf};
 
 use crate::gates::{ActingGate, Between};
@@ -62,7 +63,9 @@ fn check_at<H: Wait + Abort, R: Runner + Drop>(
     requires { IsPassOf office.now.board pass }
 {
     let mut worker = Worker::of(alloc, office, pass, runner)?;
-    check_part(rt, alloc, &mut worker, &OpenGate::new(), part)
+    let checked = check_part(rt, alloc, &mut worker, &OpenGate::new(), part);
+    drop(worker);
+    checked
 }
 
 /// Checks what a worker with this runner does.
@@ -74,7 +77,9 @@ pub(crate) fn check<H: Wait + Abort, R: Runner + Drop>(
     part: Part,
 ) -> Result<(), Fail> {
     let (office, pass) = open_office(alloc, opening.table, &[], opening.calls)?;
-    check_at(rt, alloc, &office, pass, runner, part)
+    let checked = check_at(rt, alloc, &office, pass, runner, part);
+    drop(office);
+    checked
 }
 
 // The steps of the one, and then those of the other.
@@ -99,14 +104,23 @@ fn check_gated<H: Wait + Abort, R: Runner + Drop>(
     parts: (Part, Part),
 ) -> Result<(), Fail> {
     let mut worker = worker;
-    let other = worker.other(alloc, other)?;
-    let gate = ActingGate {
-        rt,
-        alloc,
-        between,
-        other: Mutex::new(other),
-    };
-    check_both(rt, alloc, &mut worker, &gate, parts)
+    match worker.other(alloc, other) {
+        Ok(other) => {
+            let gate = ActingGate {
+                rt,
+                alloc,
+                between,
+                other: Mutex::new(other),
+            };
+            let checked = check_both(rt, alloc, &mut worker, &gate, parts);
+            drop((worker, gate));
+            checked
+        }
+        Err(fail) => {
+            drop(worker);
+            Err(fail)
+        }
+    }
 }
 
 fn check_two_at<H: Wait + Abort, R: Runner + Drop>(
@@ -134,5 +148,7 @@ pub(crate) fn check_two<H: Wait + Abort, R: Runner + Drop>(
     parts: (Part, Part),
 ) -> Result<(), Fail> {
     let (office, pass) = open_office(alloc, opening.table, &[], opening.calls)?;
-    check_two_at(rt, alloc, &office, pass, runners, between, parts)
+    let checked = check_two_at(rt, alloc, &office, pass, runners, between, parts);
+    drop(office);
+    checked
 }

@@ -72,11 +72,15 @@ fn check_at<H: Wait + Abort>(
     requires { IsPassOf office.now.board pass }
 {
     let mut worker = Worker::of(alloc, office, pass, PlainRunner::new())?;
-    check_booked(rt, alloc, &mut worker)
+    let checked = check_booked(rt, alloc, &mut worker);
+    drop(worker);
+    checked
 }
 
 #[test]
 fn a_reply_at_which_the_store_fails_is_booked_again(rt: HostRuntime) -> Result<(), Fail> {
     let (office, pass) = open_office(rt.alloc(), TABLE, &[3], 1)?;
-    check_at(&rt, rt.alloc(), &office, pass)
+    let checked = check_at(&rt, rt.alloc(), &office, pass);
+    drop(office);
+    checked
 }

@@ -45,6 +45,11 @@ pub(crate) fn boxed<T: Drop, E: Debug + Drop>(
     }
 }
 
+/// Whether it was made.
+pub(crate) fn is_made<T: Drop, E: Drop>(made: Result<T, E>) -> bool {
+    made.is_ok()
+}
+
 fn name_of(alloc: Global, path: &str) -> Result<Box<FullName>, Fail> {
     let guest = boxed(alloc, read_name(alloc, b"guest"))?;
     boxed(alloc, resolve(alloc, path, &guest))
@@ -59,7 +64,10 @@ fn open_hall(alloc: Global, rows: &str, failing: &[u64]) -> Result<Hall<MemoryKe
     let store = MemoryKeeper::holding(Rows::new(alloc), failing);
     match Hall::start(alloc, store, tenants, 0) {
         Ok(hall) => Ok(hall),
-        Err(_) => Err("not opened")?,
+        Err(refusal) => {
+            drop(refusal);
+            Err("not opened")?
+        }
     }
 }
 
@@ -68,7 +76,7 @@ fn call(alloc: Global, hall: &mut Hall<MemoryKeeper>) -> Result<(), Fail>
     ensures { hall.new.tenants ≡ hall.old.tenants }
 {
     let name = name_of(alloc, "/whisk.system/utils/echo")?;
-    let _ = hall.call(alloc, 0, &name, Params::new())?;
+    boxed(alloc, hall.call(alloc, 0, &name, Params::new()))?;
     Ok(())
 }
 
@@ -92,7 +100,10 @@ fn called(
     let mut hall = open_hall(alloc, rows, failing)?;
     match call_often(alloc, &mut hall, calls) {
         Ok(()) => Ok(hall),
-        Err(fail) => Err(fail),
+        Err(fail) => {
+            drop(hall);
+            Err(fail)
+        }
     }
 }
 
@@ -130,8 +141,13 @@ pub(crate) fn open_office<C: Drop>(
     ensures { IfOk result (λ r. IsPassOf r.0.board r.1) }
 {
     let (board, pass) = empty_board(alloc)?;
-    let hall = called(alloc, rows, failing, calls)?;
-    Ok((office_of(hall, board), pass))
+    match called(alloc, rows, failing, calls) {
+        Ok(hall) => Ok((office_of(hall, board), pass)),
+        Err(fail) => {
+            drop((board, pass));
+            Err(fail)
+        }
+    }
 }
 
 // The body of a put of an action: one of 512 MB, or one of 256.
@@ -170,9 +186,7 @@ impl<C: Drop> Office<C> {
     fn ask_request<H: Wait>(&self, rt: &H, alloc: Global, request: &Request) -> Result<(), Fail> {
         let mut notes = boxed(alloc, Receipts::new(alloc, &self.issuer))?;
         let asked = notes.ask(alloc, &mut *self.desk.lock(rt), 0, request);
-        match asked {
-            Ok(_) => Ok(()),
-            Err(_) => Err("no memory")?,
-        }
+        boxed(alloc, asked)?;
+        Ok(())
     }
 }

@@ -2,7 +2,7 @@
 ghost use Rattle.std.specs.Prelude.{◌≡◌, ◌<◌};
 ghost use Rattle.ow_board.specs.Board.{IsPassOf};
 
-use crate::office::Office;
+use crate::office::{Office, is_made};
 use crate::texts::notes_text;
 use ow_board::Pass;
 use ow_desk::Receipts;
@@ -164,15 +164,16 @@ impl<'a, R: Runner + Drop> Worker<'a, R> {
     ) -> Result<bool, Fail>
         requires { (slot < 512) × (generation < 1073741824) }
     {
-        let started = self.runner.start(alloc, Kind::Plain, 256)?;
-        match started {
-            Started::Up(container) => Ok(
+        match self.runner.start(alloc, Kind::Plain, 256)? {
+            Started::Up(container) => Ok(is_made(
                 self.office
                     .board
-                    .put(&mut self.pass, slot, generation, second, container)
-                    .is_ok(),
-            ),
-            Started::Down(_) => Ok(false),
+                    .put(&mut self.pass, slot, generation, second, container),
+            )),
+            Started::Down(reply) => {
+                drop(reply);
+                Ok(false)
+            }
         }
     }
 
