@@ -2,7 +2,7 @@
 use crate::gates::Turnstile;
 use crate::peers::Peer;
 use crate::services::{Case, System, told};
-use ow_threads::OpenGate;
+use ow_threads::{Gate, OpenGate};
 use std::alloc::Global;
 use std::process::Abort;
 use std::sync::Arc;
@@ -87,12 +87,27 @@ fn joined(alloc: Global, parts: &[&str]) -> Result<String, Fail> {
     Ok(text)
 }
 
+// Checks that the text has these parts.
+fn check_text<H: Abort>(rt: &H, alloc: Global, text: &str, parts: &[&str]) -> Result<(), Fail> {
+    let wanted = joined(alloc, parts)?;
+    assert_eq!(rt; text, wanted.as_str());
+    Ok(())
+}
+
+fn check_by<H: System + Abort, G: Gate + Drop + Send + Sync + 'static>(
+    rt: &H,
+    alloc: Global,
+    case: Case,
+    gate: Arc<G, Global>,
+    parts: &[&str],
+) -> Result<(), Fail> {
+    let told = told(rt, alloc, case, gate)?;
+    check_text(rt, alloc, told.as_str(), parts)
+}
+
 fn check<H: System + Abort>(rt: &H, alloc: Global, case: Case, parts: &[&str]) -> Result<(), Fail> {
     let gate = Arc::new(alloc, OpenGate::new())?;
-    let told = told(rt, alloc, case, gate)?;
-    let wanted = joined(alloc, parts)?;
-    assert_eq!(rt; told.as_str(), wanted.as_str());
-    Ok(())
+    check_by(rt, alloc, case, gate, parts)
 }
 
 #[test]
@@ -158,11 +173,10 @@ fn runs_are_spread_over_threads(rt: HostRuntime) -> Result<(), Fail> {
         unheard: &[],
         refused: &[],
     };
-    let gate = Arc::new(alloc, Turnstile::new(rt.clone()?))?;
-    let told = told(&rt, alloc, case, Arc::try_clone(&gate)?)?;
     let first = "closed, 0 and 0 faults\nEnded\nClosed\n";
-    let wanted = joined(alloc, &[first, HELLO_TOLD, HOWDY_TOLD])?;
-    assert_eq!(rt; told.as_str(), wanted.as_str());
+    let parts = [first, HELLO_TOLD, HOWDY_TOLD];
+    let gate = Arc::new(alloc, Turnstile::new(rt.clone()?))?;
+    check_by(&rt, alloc, case, Arc::try_clone(&gate)?, &parts)?;
     assert!(rt; gate.have_met());
     Ok(())
 }

@@ -43,6 +43,14 @@ fn tenants(alloc: Global) -> Result<Tenants, Fail>
     Ok(Tenants::read(alloc, &mut source)?)
 }
 
+// The value, in a box, since each way out of a function lets go of what it holds: of a box by one call.
+fn held<T: Drop>(alloc: Global, value: T) -> Result<Box<T>, Fail> {
+    match Box::new(alloc, value) {
+        Ok(held) => Ok(held),
+        Err(_) => Err("no memory")?,
+    }
+}
+
 // Those of two workers, and that of the reaper.
 fn three_runners(alloc: Global) -> Result<Vec<PlainRunner>, NoMemory>
     ensures { IfOk result (λ runners. 2 ≤ length runners.items) }
@@ -55,8 +63,9 @@ fn three_runners(alloc: Global) -> Result<Vec<PlainRunner>, NoMemory>
 }
 
 fn clock_of<H: System>(rt: &H, alloc: Global) -> Result<Arc<SystemClock<H>, Global>, Fail> {
+    let rt = rt.clone()?;
     let bells = Arc::new(alloc, Bells::new())?;
-    Ok(Arc::new(alloc, SystemClock::new(rt.clone()?, bells))?)
+    Ok(Arc::new(alloc, SystemClock::new(rt, bells))?)
 }
 
 fn words() -> ServeWords {
@@ -123,10 +132,11 @@ pub(crate) fn told<H: System, G: Gate + Drop + Send + Sync + 'static>(
     case: Case,
     gate: Arc<G, Global>,
 ) -> Result<String, Fail> {
-    let runners = three_runners(alloc)?;
+    let listener = PeerListener::of(rt, alloc, case.peers, case.unheard)?;
+    let mut listener = held(alloc, listener)?;
     let clock = clock_of(rt, alloc)?;
     let leave = RefusingLeave::new(case.refused.to_vec(alloc)?);
-    let mut listener = PeerListener::of(rt, alloc, case.peers, case.unheard)?;
+    let runners = three_runners(alloc)?;
     let tenants = tenants(alloc)?;
     let store = MemoryKeeper::new(alloc);
     let served = serve(
@@ -134,12 +144,13 @@ pub(crate) fn told<H: System, G: Gate + Drop + Send + Sync + 'static>(
         alloc,
         words(),
         tenants,
-        &mut listener,
+        &mut *listener,
         runners,
         store,
         clock,
         gate,
         leave,
     );
-    text_of(rt, alloc, &served, &listener.heard)
+    let ended = held(alloc, served)?;
+    text_of(rt, alloc, &*ended, &listener.heard)
 }
