@@ -295,26 +295,25 @@ fn faults_and_bad_tables_have_their_status(rt: HostRuntime) -> Result<(), Fail> 
     Ok(())
 }
 
+// Whether these words are told to be bad, and the day isn't read.
+fn are_bad(alloc: Global, words: &[&str]) -> Result<bool, Fail> {
+    let given = Given {
+        words,
+        table: TABLE,
+        failing_table: &[],
+        day: b"next\n",
+        failing_reads: &[],
+        failing_writes: &[],
+    };
+    let told = office_over(alloc, given)?;
+    let is_told = told.err.bytes() == b"bad words\n".as_slice();
+    Ok(told.status.number() == 2 && told.left == 5 && is_told)
+}
+
 #[test]
 fn other_words_are_bad(rt: HostRuntime) -> Result<(), Fail> {
     for (number, words) in BAD_WORDS.iter().enumerate() {
-        let given = Given {
-            words,
-            table: TABLE,
-            failing_table: &[],
-            day: b"next\n",
-            failing_reads: &[],
-            failing_writes: &[],
-        };
-        let told = office_over(rt.alloc(), given)?;
-        assert!(rt;
-            told.status.number() == 2 && told.left == 5,
-            "words {number}"
-        );
-        assert!(rt;
-            told.err.bytes() == b"bad words\n".as_slice(),
-            "words {number}"
-        );
+        assert!(rt; are_bad(rt.alloc(), words)?, "words {number}");
     }
     Ok(())
 }
@@ -399,11 +398,19 @@ fn passed_over(alloc: Global, words: &[&str], table: &[u8]) -> Result<String, Fa
     passed_text(alloc, &told)
 }
 
+// Whether this is what the office passes on.
+fn is_passed(alloc: Global, words: &[&str], table: &[u8], text: &str) -> Result<bool, Fail> {
+    let passed = passed_over(alloc, words, table)?;
+    Ok(passed.as_str() == text)
+}
+
 #[test]
 fn services_are_passed_on(rt: HostRuntime) -> Result<(), Fail> {
     for (number, (words, table, text)) in SERVICES.iter().enumerate() {
-        let passed = passed_over(rt.alloc(), words, table)?;
-        assert!(rt; passed.as_str() == *text, "service {number}");
+        assert!(rt;
+            is_passed(rt.alloc(), words, table, text)?,
+            "service {number}"
+        );
     }
     Ok(())
 }

@@ -1,9 +1,10 @@
 // Days over stores: what one leaves stands in the next, and what comes of a store that fails.
-use crate::tests::{source_of, words_of};
+use crate::tests::{held, source_of, words_of};
 use ow_day::office;
-use ow_traits::{MemoryKeeper, MemorySink, Rows};
+use ow_traits::{MemoryKeeper, MemorySink, MemorySource, Rows};
 use ow_value::Str;
 use std::alloc::Global;
+use std::process::Abort;
 use std::test::Fail;
 
 // Two calls, one of which is recorded and the other left.
@@ -116,66 +117,106 @@ struct Left {
     store: Option<MemoryKeeper>,
 }
 
-fn day_over(alloc: Global, store: MemoryKeeper, day: &[u8]) -> Result<Left, Fail> {
-    let words = words_of(alloc, &["day"])?;
-    let mut table = source_of(alloc, b"", &[])?;
-    let mut day = source_of(alloc, day, &[])?;
+fn left_over(
+    alloc: Global,
+    words: &[String],
+    mut table: MemorySource,
+    mut day: MemorySource,
+    store: MemoryKeeper,
+) -> Left {
     let mut out = MemorySink::new(alloc, Vec::new(alloc));
     let mut err = MemorySink::new(alloc, Vec::new(alloc));
-    let (_, store) = office(
-        alloc, &words, &mut table, &mut day, &mut out, &mut err, store,
+    let (status, store) = office(
+        alloc, words, &mut table, &mut day, &mut out, &mut err, store,
     );
-    Ok(Left { out, err, store })
+    drop((status, table, day));
+    Left { out, err, store }
 }
 
-// The store, where the row at a key has this text.
-fn store_with(left: Left, key: &str, text: &str) -> Result<MemoryKeeper, Fail> {
-    let store = left.store.ok_or("no store")?;
-    match store.rows().find(key) {
-        Some(found) if found.as_str() == text => Ok(store),
-        _ => Err("no such row")?,
+fn day_over(alloc: Global, store: Box<MemoryKeeper>, day: &[u8]) -> Result<Box<Left>, Fail> {
+    let words = words_of(alloc, &["day"])?;
+    let table = source_of(alloc, b"", &[])?;
+    let day = source_of(alloc, day, &[])?;
+    held(
+        alloc,
+        left_over(alloc, &words, table, day, Box::into_inner(store)),
+    )
+}
+
+// The text of the row at a key of the store that is left.
+fn row_at<'a>(left: &'a Left, key: &str) -> Option<&'a str> {
+    match left.store.as_ref()?.rows().find(key) {
+        Some(found) => Some(found.as_str()),
+        None => None,
     }
+}
+
+// The store that is left.
+fn store_of(alloc: Global, left: Box<Left>) -> Result<Box<MemoryKeeper>, Fail> {
+    let Left { out, err, store } = Box::into_inner(left);
+    drop((out, err));
+    held(alloc, store.ok_or("no store")?)
+}
+
+fn check_first<H: Abort>(rt: &H, left: &Left) {
+    assert!(rt; left.out.bytes() == FIRST_OUT);
+    assert!(rt; row_at(left, "open/00000000000000000000000000000002") == Some(OPEN));
+}
+
+fn check_second<H: Abort>(rt: &H, left: &Left) {
+    assert!(rt; left.out.bytes() == SECOND_OUT);
+    assert!(rt; row_at(left, "done/00000000000000000000000000000002") == Some(ABANDONED));
+    assert!(rt; row_at(left, "open/00000000000000000000000000000002").is_none());
 }
 
 #[test]
 fn what_a_day_leaves_stands_in_the_next(rt: HostRuntime) -> Result<(), Fail> {
     let alloc = rt.alloc();
-    let left = day_over(alloc, MemoryKeeper::new(alloc), FIRST)?;
-    assert!(rt; left.out.bytes() == FIRST_OUT);
-    let store = store_with(left, "open/00000000000000000000000000000002", OPEN)?;
-    let left = day_over(alloc, store, SECOND)?;
-    assert!(rt; left.out.bytes() == SECOND_OUT);
-    let store = store_with(left, "done/00000000000000000000000000000002", ABANDONED)?;
-    assert!(rt;
-        store
-            .rows()
-            .find("open/00000000000000000000000000000002")
-            .is_none()
-    );
+    let left = day_over(alloc, held(alloc, MemoryKeeper::new(alloc))?, FIRST)?;
+    check_first(&rt, &left);
+    let left = day_over(alloc, store_of(alloc, left)?, SECOND)?;
+    check_second(&rt, &left);
     Ok(())
+}
+
+// Whether a day over a store whose call of this number fails writes this.
+fn is_written(alloc: Global, number: u64, out: &[u8], err: &[u8]) -> Result<bool, Fail> {
+    let failing = vec![in alloc; number]?;
+    let store = held(alloc, MemoryKeeper::holding(Rows::new(alloc), failing))?;
+    let left = day_over(alloc, store, DAY)?;
+    Ok(left.out.bytes() == out && left.err.bytes() == err)
 }
 
 #[test]
 fn a_failed_call_of_the_store_leaves_all_as_it_was(rt: HostRuntime) -> Result<(), Fail> {
-    let alloc = rt.alloc();
     for (number, out, err) in &FAILING {
-        let store = MemoryKeeper::holding(Rows::new(alloc), vec![in alloc; *number]?);
-        let left = day_over(alloc, store, DAY)?;
-        assert!(rt;
-            left.out.bytes() == *out && left.err.bytes() == *err,
-            "call {number}"
-        );
+        assert!(rt; is_written(rt.alloc(), *number, out, err)?, "call {number}");
     }
     Ok(())
 }
 
-#[test]
-fn a_bad_row_is_told_by_its_key(rt: HostRuntime) -> Result<(), Fail> {
-    let alloc = rt.alloc();
+fn bad_rows(alloc: Global) -> Result<Rows, Fail> {
+    let key = Str::of(alloc, "version")?;
+    let text = Str::of(alloc, "2")?;
     let mut rows = Rows::new(alloc);
-    rows.put(Str::of(alloc, "version")?, Str::of(alloc, "2")?)?;
-    let left = day_over(alloc, MemoryKeeper::holding(rows, Vec::new(alloc)), DAY)?;
+    rows.put(key, text)?;
+    Ok(rows)
+}
+
+fn left_by_a_bad_row(alloc: Global) -> Result<Box<Left>, Fail> {
+    let rows = bad_rows(alloc)?;
+    let store = held(alloc, MemoryKeeper::holding(rows, Vec::new(alloc)))?;
+    day_over(alloc, store, DAY)
+}
+
+fn check_bad_row<H: Abort>(rt: &H, left: &Left) {
     assert!(rt; left.err.bytes() == b"bad kept row version\n".as_slice());
     assert!(rt; left.out.bytes() == b"".as_slice());
+}
+
+#[test]
+fn a_bad_row_is_told_by_its_key(rt: HostRuntime) -> Result<(), Fail> {
+    let left = left_by_a_bad_row(rt.alloc())?;
+    check_bad_row(&rt, &left);
     Ok(())
 }

@@ -44,6 +44,14 @@ pub struct Told {
     pub err: MemorySink,
 }
 
+// The value, in a box, since each way out of a function lets go of what it holds: of a box by one call.
+pub fn held<T: Drop>(alloc: Global, value: T) -> Result<Box<T>, Fail> {
+    match Box::new(alloc, value) {
+        Ok(held) => Ok(held),
+        Err(_) => Err("no memory")?,
+    }
+}
+
 // The office over sources and sinks in memory.
 fn told_over(
     alloc: Global,
@@ -54,12 +62,14 @@ fn told_over(
 ) -> Told {
     let mut err = MemorySink::new(alloc, Vec::new(alloc));
     let store = MemoryKeeper::new(alloc);
-    let (status, _) = office(
+    let (status, store) = office(
         alloc, words, &mut table, &mut day, &mut out, &mut err, store,
     );
+    let left = day.bytes().len();
+    drop((store, table, day));
     Told {
         status,
-        left: day.bytes().len(),
+        left,
         out,
         err,
     }
@@ -79,12 +89,13 @@ pub fn source_of(alloc: Global, bytes: &[u8], failing: &[u64]) -> Result<MemoryS
 }
 
 // What comes of a call that is given this.
-pub fn office_over(alloc: Global, given: Given<'_>) -> Result<Told, Fail> {
+pub fn office_over(alloc: Global, given: Given<'_>) -> Result<Box<Told>, Fail> {
     let words = words_of(alloc, given.words)?;
+    let failing = given.failing_writes.to_vec(alloc)?;
     let table = source_of(alloc, given.table, given.failing_table)?;
     let day = source_of(alloc, given.day, given.failing_reads)?;
-    let out = MemorySink::new(alloc, given.failing_writes.to_vec(alloc)?);
-    Ok(told_over(alloc, &words, table, day, out))
+    let out = MemorySink::new(alloc, failing);
+    held(alloc, told_over(alloc, &words, table, day, out))
 }
 
 // Whether the day is answered by this text, and this line tells how it ends: none where all of it is carried out.
@@ -105,11 +116,17 @@ fn leaves(alloc: Global, day: &[u8], line: &[u8], left: usize) -> Result<bool, F
     Ok(told.err.bytes() == line && told.left == left)
 }
 
-// A day of this text, so many bytes behind it, and this end.
-fn long_day(alloc: Global, head: &[u8], size: usize, end: &[u8]) -> Result<Vec<u8>, Fail> {
+// A day of this text, a piece so often behind it, and this end.
+fn long_day(
+    alloc: Global,
+    head: &[u8],
+    piece: &[u8],
+    times: usize,
+    end: &[u8],
+) -> Result<Vec<u8>, Fail> {
     let mut day = Vec::from_slice(alloc, head)?;
-    for _ in 0..size {
-        day.push(b'x')?;
+    for _ in 0..times {
+        day.extend_from_slice(piece)?;
     }
     day.extend_from_slice(end)?;
     Ok(day)
@@ -573,75 +590,93 @@ fn runs_are_replied_to(rt: HostRuntime) -> Result<(), Fail> {
     Ok(())
 }
 
+const MANY_TOLD: &[u8] = b"refused 29 No run 1.\nnothing empty\n";
+
+fn many_lines_are_read(alloc: Global) -> Result<bool, Fail> {
+    let day = long_day(
+        alloc,
+        b"logged 1 100000 {}\n",
+        b"a line\n",
+        100_000,
+        b"next\n",
+    )?;
+    is_answered(alloc, &day, MANY_TOLD, b"")
+}
+
 #[test]
 fn many_lines_of_logs_are_read_in_pieces(rt: HostRuntime) -> Result<(), Fail> {
-    let mut day = Vec::from_slice(rt.alloc(), b"logged 1 100000 {}\n")?;
-    for _ in 0..100_000 {
-        day.extend_from_slice(b"a line\n")?;
-    }
-    day.extend_from_slice(b"next\n")?;
-    assert!(rt;
-        is_answered(
-            rt.alloc(),
-            &day,
-            b"refused 29 No run 1.\nnothing empty\n",
-            b""
-        )?
-    );
+    assert!(rt; many_lines_are_read(rt.alloc())?);
     Ok(())
 }
 
 // A runner's answer of eight bytes and those that are put into its text.
 const ANSWER: &[u8] = b"call /whisk.system/utils/echo {}\nnext\nanswer 1 {\"a\":\"";
 
+// Whether a day with an answer of so many bytes ends in this line.
+fn long_answer_ends_in(alloc: Global, size: usize, line: &[u8]) -> Result<bool, Fail> {
+    let day = long_day(alloc, ANSWER, b"x", size.saturating_sub(8), b"\"}")?;
+    ends_in(alloc, &day, line)
+}
+
 #[test]
 fn an_answer_has_at_most_a_megabyte(rt: HostRuntime) -> Result<(), Fail> {
-    let day = long_day(rt.alloc(), ANSWER, 1_048_576 - 8, b"\"}")?;
     let line = b"recorded 00000000000000000000000000000001 0\n";
-    assert!(rt; ends_in(rt.alloc(), &day, line)?);
+    assert!(rt; long_answer_ends_in(rt.alloc(), 1_048_576, line)?);
     Ok(())
 }
 
 #[test]
 fn a_longer_answer_is_none(rt: HostRuntime) -> Result<(), Fail> {
-    let day = long_day(rt.alloc(), ANSWER, 1_048_577 - 8, b"\"}")?;
     let line = b"recorded 00000000000000000000000000000001 2\n";
-    assert!(rt; ends_in(rt.alloc(), &day, line)?);
+    assert!(rt; long_answer_ends_in(rt.alloc(), 1_048_577, line)?);
     Ok(())
+}
+
+fn long_request_is_read(alloc: Global) -> Result<bool, Fail> {
+    let day = long_day(alloc, b"ask 200000\n", b"x", 200_000, b"")?;
+    ends_in(alloc, &day, MALFORMED)
 }
 
 #[test]
 fn a_long_request_is_read_in_pieces(rt: HostRuntime) -> Result<(), Fail> {
-    let day = long_day(rt.alloc(), b"ask 200000\n", 200_000, b"")?;
-    assert!(rt; ends_in(rt.alloc(), &day, MALFORMED)?);
+    assert!(rt; long_request_is_read(rt.alloc())?);
     Ok(())
+}
+
+// Whether the second write fails, with this many bytes written before it.
+fn fails_to_write_behind(alloc: Global, day: &[u8], written: usize) -> Result<bool, Fail> {
+    let mut given = over_table(day);
+    given.failing_writes = &[1];
+    let told = office_over(alloc, given)?;
+    Ok(told.status.number() == 4 && told.out.bytes().len() == written)
+}
+
+fn many_answers_are_written(alloc: Global) -> Result<bool, Fail> {
+    let day = long_day(alloc, b"", b"ask 0\n\n", 8_000, b"")?;
+    fails_to_write_behind(alloc, &day, 7_599 * 138)
 }
 
 // A reply to no bytes has 138 bytes with its line, and 8,000 such statements are one piece of a day.
 #[test]
 fn a_megabyte_of_answers_is_written_before_the_piece_ends(rt: HostRuntime) -> Result<(), Fail> {
-    let mut day = Vec::new(rt.alloc());
-    for _ in 0..8_000 {
-        day.extend_from_slice(b"ask 0\n\n")?;
-    }
-    let mut given = over_table(&day);
-    given.failing_writes = &[1];
-    let told = office_over(rt.alloc(), given)?;
-    assert!(rt; told.status.number() == 4);
-    assert!(rt; told.out.bytes().len() == 7_599 * 138);
+    assert!(rt; many_answers_are_written(rt.alloc())?);
     Ok(())
+}
+
+// Whether so many bytes are left of a day that ends with this line, of which 70,000 follow this head.
+fn leaves_behind(alloc: Global, head: &[u8], line: &[u8], left: usize) -> Result<bool, Fail> {
+    let day = long_day(alloc, head, b"x", 70_000, b"")?;
+    leaves(alloc, &day, line, left)
 }
 
 #[test]
 fn what_follows_the_end_is_left(rt: HostRuntime) -> Result<(), Fail> {
-    let day = long_day(rt.alloc(), b"end\n", 70_000, b"")?;
-    assert!(rt; leaves(rt.alloc(), &day, b"", 4_468)?);
+    assert!(rt; leaves_behind(rt.alloc(), b"end\n", b"", 4_468)?);
     Ok(())
 }
 
 #[test]
 fn what_follows_a_bad_statement_is_left(rt: HostRuntime) -> Result<(), Fail> {
-    let day = long_day(rt.alloc(), b"x\n", 70_000, b"")?;
-    assert!(rt; leaves(rt.alloc(), &day, b"bad day at 1\n", 4_466)?);
+    assert!(rt; leaves_behind(rt.alloc(), b"x\n", b"bad day at 1\n", 4_466)?);
     Ok(())
 }
