@@ -49,6 +49,12 @@ fn loaded(alloc: Global, keeper: &mut SqliteKeeper<MemStore>) -> Result<Rows, Ke
     keeper.load(alloc)
 }
 
+// What is loaded, as a text.
+fn kept(alloc: Global, keeper: &mut SqliteKeeper<MemStore>) -> Result<String, Fail> {
+    let rows = loaded(alloc, keeper)?;
+    Ok(shown(alloc, &rows)?)
+}
+
 fn commit(
     alloc: Global,
     keeper: &mut SqliteKeeper<MemStore>,
@@ -58,13 +64,24 @@ fn commit(
     keeper.commit(alloc, &changes)
 }
 
+const COMMITS: [&[(&str, &str)]; 3] = [
+    &[("b", "1"), ("a", "2")],
+    &[("b", "3"), ("c", "4")],
+    &[("c", ""), ("é", "5"), ("d", "")],
+];
+
+fn commit_all(alloc: Global, keeper: &mut SqliteKeeper<MemStore>) -> Result<(), KeeperError> {
+    loaded(alloc, keeper)?;
+    for rows in COMMITS.iter() {
+        commit(alloc, keeper, rows)?;
+    }
+    Ok(())
+}
+
 // Makes three commits over a new database.
 fn three_commits(alloc: Global) -> Result<Memory, Fail> {
     let mut keeper = SqliteKeeper::over(Connection::open_in_memory(alloc)?);
-    let _none = loaded(alloc, &mut keeper)?;
-    commit(alloc, &mut keeper, &[("b", "1"), ("a", "2")])?;
-    commit(alloc, &mut keeper, &[("b", "3"), ("c", "4")])?;
-    commit(alloc, &mut keeper, &[("c", ""), ("é", "5"), ("d", "")])?;
+    commit_all(alloc, &mut keeper)?;
     Ok(keeper.into_connection()?)
 }
 
@@ -72,34 +89,40 @@ fn three_commits(alloc: Global) -> Result<Memory, Fail> {
 fn loads_what_three_commits_left(rt: HostRuntime) -> Result<(), Fail> {
     let alloc = rt.alloc();
     let mut keeper = SqliteKeeper::over(three_commits(alloc)?);
-    let rows = loaded(alloc, &mut keeper)?;
-    assert!(rt; shown(alloc, &rows)?.as_str() == "a2b3é5");
+    assert_eq!(rt; kept(alloc, &mut keeper)?.as_str(), "a2b3é5");
     assert_eq!(rt; keeper.faults(), 0);
     Ok(())
 }
 
-// The second change breaks a rule of the table.
-#[test]
-fn a_commit_that_fails_changes_nothing_and_counts(rt: HostRuntime) -> Result<(), Fail> {
-    let alloc = rt.alloc();
+// A keeper over a table with a rule of its own.
+fn with_rule(alloc: Global) -> Result<SqliteKeeper<MemStore>, Fail> {
     let mut conn = Connection::open_in_memory(alloc)?;
     run(
         &mut conn,
         "CREATE TABLE kept (key TEXT PRIMARY KEY, text TEXT NOT NULL CHECK (text <> 'bad'))",
     )?;
-    let mut keeper = SqliteKeeper::over(conn);
-    for (text, committed, faults, kept) in [
-        ("bad", Err(KeeperError::Failed), 1, ""),
-        ("good", Ok(()), 1, "a1bgood"),
-        ("bad", Err(KeeperError::Failed), 2, "a1bgood"),
-    ] {
+    Ok(SqliteKeeper::over(conn))
+}
+
+// The text of the second row of a commit, what the commit is told, how many faults there are then, and the rows.
+const RULED: [(&str, Result<(), KeeperError>, u64, &str); 3] = [
+    ("bad", Err(KeeperError::Failed), 1, ""),
+    ("good", Ok(()), 1, "a1bgood"),
+    ("bad", Err(KeeperError::Failed), 2, "a1bgood"),
+];
+
+// The second change breaks a rule of the table.
+#[test]
+fn a_commit_that_fails_changes_nothing_and_counts(rt: HostRuntime) -> Result<(), Fail> {
+    let alloc = rt.alloc();
+    let mut keeper = with_rule(alloc)?;
+    for (text, committed, faults, rows) in RULED.iter() {
         assert_eq!(rt;
-            commit(alloc, &mut keeper, &[("a", "1"), ("b", text)]),
-            committed
+            commit(alloc, &mut keeper, &[("a", "1"), ("b", *text)]),
+            *committed
         );
-        let rows = loaded(alloc, &mut keeper)?;
-        assert!(rt; shown(alloc, &rows)?.as_str() == kept);
-        assert_eq!(rt; keeper.faults(), faults);
+        assert_eq!(rt; kept(alloc, &mut keeper)?.as_str(), *rows);
+        assert_eq!(rt; keeper.faults(), *faults);
     }
     Ok(())
 }
