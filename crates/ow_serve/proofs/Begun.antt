@@ -1,5 +1,5 @@
 -- The threads that are begun before anybody is accepted, and what they come to.
-use Rattle.std.proofs.Common.{◌≡◌, ◌++◌, ◌∙◌, ℕ, zero, Bool, false, List, [], ◌∷◌, Option, Some, None, Result, Ok, Err, OnOk, map, ap, refl, subst, sym, append_assoc, append-nil}
+use Rattle.std.proofs.Common.{◌≡◌, ◌++◌, ◌∙◌, ℕ, zero, Bool, false, List, [], ◌∷◌, Option, Result, Ok, Err, OnOk, length, map, ap, arith, refl, subst, sym, append_assoc, append-nil}
 use Rattle.std.proofs.lemmas.List.{map-append}
 use Rattle.ow_traits.specs.Runner.{Giving}
 use Rattle.ow_threads.specs.Tasks.{AllEnd, pending}
@@ -25,6 +25,10 @@ module _ {T W : Type 0} (IsFor : T → W → Type 0) where
 
   pub started_one : (t : T) (w : W) (old new : List (T × Bool)) → new ≡ old ++ (t, false) ∷ [] → IsFor t w → AllStarted IsFor (w ∷ []) old new
   started_one t w old new is mine = record { started = t ∷ []; tasks = is; all_for = (mine, tt) }
+
+  -- where that is what was told
+  pub started_if : {A E : Type 0} (w : W) (old new : List (T × Bool)) {r q : Result A E} → r ≡ q → OnOk q (AllStarted IsFor (w ∷ []) old new) → OnOk r (AllStarted IsFor (w ∷ []) old new)
+  started_if w old new is so = subst (λ x. OnOk x (AllStarted IsFor (w ∷ []) old new)) (sym is) so
 
   pub started_both : (vs ws : List W) (old middle new : List (T × Bool)) → AllStarted IsFor vs old middle → AllStarted IsFor ws middle new → AllStarted IsFor (vs ++ ws) old new
   started_both vs ws old middle new a b = record {
@@ -54,20 +58,25 @@ module _ {T K R : Type 0} (IsFor : T → Work K R → Type 0) where
         (started_both IsFor (map (λ r. Turns r) was.workers) (Turns r ∷ []) old middle new was.begun one);
   }
 
-  begins_so : (all runners : List R) (last : R) (old a b new : List (T × Bool)) → runners ≡ all ++ last ∷ [] → Midway all [] old a → AllStarted IsFor (Sweeps ∷ []) a b
-      → AllStarted IsFor (Reaps last ∷ []) b new → BeginsAll IsFor runners old new
-  begins_so all runners last old a b new are m sweeps reaps = record {
-    workers = m.workers;
+  -- behind the last of them
+  pub midway_end : (all runners rest : List R) (old new : List (T × Bool)) → all ≡ runners → Midway all rest old new → length rest ≡ 0 → AllStarted IsFor (map (λ r. Turns r) runners) old new
+  midway_end all runners [] old new same m h = subst (λ rs. AllStarted IsFor (map (λ r. Turns r) rs) old new) (sym (append-nil m.workers) ∙ sym m.all_are ∙ same) m.begun
+  midway_end all runners (r ∷ rest) old new same m h = absurd (omega arith)
+
+  begins_so : (workers runners : List R) (last : R) (old a b new : List (T × Bool)) → runners ≡ workers ++ last ∷ [] → AllStarted IsFor (map (λ r. Turns r) workers) old a
+      → AllStarted IsFor (Sweeps ∷ []) a b → AllStarted IsFor (Reaps last ∷ []) b new → BeginsAll IsFor runners old new
+  begins_so workers runners last old a b new are turns sweeps reaps = record {
+    workers = workers;
     last = last;
-    runners_are = are ∙ ap (λ z. z ++ last ∷ []) (m.all_are ∙ append-nil m.workers);
-    begun = started_both IsFor (map (λ r. Turns r) m.workers) (Sweeps ∷ Reaps last ∷ []) old a new m.begun (started_both IsFor (Sweeps ∷ []) (Reaps last ∷ []) a b new sweeps reaps);
+    runners_are = are;
+    begun = started_both IsFor (map (λ r. Turns r) workers) (Sweeps ∷ Reaps last ∷ []) old a new turns (started_both IsFor (Sweeps ∷ []) (Reaps last ∷ []) a b new sweeps reaps);
   }
 
   -- behind the last call
-  pub begins_by : {A E : Type 0} (r : Result A E) (all runners : List R) (last : R) (old a b new : List (T × Bool)) → runners ≡ all ++ last ∷ [] → Midway all [] old a
-      → AllStarted IsFor (Sweeps ∷ []) a b → OnOk r (AllStarted IsFor (Reaps last ∷ []) b new) → OnOk r (BeginsAll IsFor runners old new)
-  begins_by (Ok x) all runners last old a b new are m sweeps reaps = begins_so all runners last old a b new are m sweeps reaps
-  begins_by (Err e) all runners last old a b new are m sweeps reaps = tt
+  pub begins_by : {A E : Type 0} (r : Result A E) (workers runners : List R) (last : R) (old a b new : List (T × Bool)) → runners ≡ workers ++ last ∷ []
+      → AllStarted IsFor (map (λ r. Turns r) workers) old a → AllStarted IsFor (Sweeps ∷ []) a b → OnOk r (AllStarted IsFor (Reaps last ∷ []) b new) → OnOk r (BeginsAll IsFor runners old new)
+  begins_by (Ok x) workers runners last old a b new are turns sweeps reaps = begins_so workers runners last old a b new are turns sweeps reaps
+  begins_by (Err e) workers runners last old a b new are turns sweeps reaps = tt
 
 -- ---- what they come to
 

@@ -1,7 +1,8 @@
 // The threads that the service begins before it accepts anybody.
-ghost use Rattle.std.specs.Prelude.{◌≡◌, ◌⊎◌, ◌<◌, ◌≤◌, ◌∷◌, [], length, IfErr, OnOk};
+ghost use Rattle.std.specs.Prelude.{◌≡◌, ◌⊎◌, ◌<◌, ◌≤◌, ◌∷◌, [], length, map, IfErr, OnOk};
 ghost use Rattle.ow_desk.specs.Notes.{no_notes};
 ghost use Rattle.ow_serve.specs.Duties.{AllStarted, BeginsAll};
+ghost use Rattle.ow_serve.specs.declared.duty.Work.TheVariants.{Turns};
 
 use crate::duty::{Duty, Work};
 use crate::house::House;
@@ -39,14 +40,40 @@ where
 {
     let mut runners = runners;
     let last = runners.pop();
-    for runner in runners {
-        begin(rt, alloc, Work::Turns { runner }, house, crew)?;
-    }
+    begin_workers(rt, alloc, runners, house, crew)?;
     begin(rt, alloc, Work::Sweeps, house, crew)?;
     match last {
         Some(runner) => begin(rt, alloc, Work::Reaps { runner }, house, crew),
         None => Ok(()),
     }
+}
+
+// Begins a worker for each of these.
+fn begin_workers<
+    H: Wait + Threads + Clone + Drop + Send + 'static,
+    K: Link + Drop + Send + 'static,
+    R: Runner + Drop + Send + 'static,
+    P: Keeper + Drop + Send + 'static,
+    C: Clock + Drop + Send + Sync + 'static,
+    G: Gate + Drop + Send + Sync + 'static,
+    V: Leave + Drop,
+>(
+    rt: &H,
+    alloc: Global,
+    runners: Vec<R>,
+    house: &mut House<P, R, C, G>,
+    crew: &mut Crew<V, Duty<H, K, R, P, C, G>>,
+) -> Result<(), ServedEnd>
+where
+    R::Container: Send + 'static,
+    ensures begins { OnOk result (AllStarted (λ t w. (t.work ≡ w) × (t.notes.notes ≡ no_notes)) (map (λ r. Turns r) runners.items) crew.old.tasks crew.new.tasks) }
+    ensures worker { IfErr result (λ e. (e ≡ ServedEnd.NoMemory) ⊎ ((e ≡ ServedEnd.NoWorker) × (0 < crew.new.faults))) }
+    ensures notes { house.new.notes.notes ≡ house.old.notes.notes }
+{
+    for runner in runners {
+        begin(rt, alloc, Work::Turns { runner }, house, crew)?;
+    }
+    Ok(())
 }
 
 // Begins a thread for this.

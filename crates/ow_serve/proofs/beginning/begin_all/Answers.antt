@@ -1,15 +1,10 @@
-use Rattle.std.proofs.Common.{refl, ap, sym, ◌∙◌, ◌++◌}
-use Rattle.ow_serve.proofs.Begun.{begins_by, midway_one, midway_start}
+use Rattle.std.proofs.Common.{◌++◌, ◌∙◌, ap}
+use Rattle.std.specs.Option.{option_to_list}
+use Rattle.ow_serve.proofs.Begun.{begins_by}
 use Rattle.ow_serve.proofs.beginning.begin_all.Goals as goal
 
-pub loop-runner-init : goal.loop-runner-init
-loop-runner-init g c = record { notes = refl; begun = midway_start _ _ _ }
-
-pub loop-runner-preserved : goal.loop-runner-preserved
-loop-runner-preserved g c =
-    let was = c.loop-runner.invariant in
-    let step = c.in-Some.ensures.steps in
-    record {
-      notes = c.begin.ensures.notes ∙ was.notes;
-      begun = midway_one _ _ _ _ _ _ _ (rw step.0 at was.begun) c.in_ok-begin.ensures.begins;
-    }
+pub returns-in-Some-clause-begins : goal.returns-in-Some-clause-begins
+returns-in-Some-clause-begins g c =
+    begins_by _ c.begin-in-Some.result c.pop-last.new.self.items c.args.runners.items c.in-Some.runner _ _ _ _
+    (c.pop-last.ensures.items ∙ ap (λ o. c.pop-last.new.self.items ++ option_to_list o) c.in-Some.is)
+    c.in_ok-begin_workers.ensures.begins c.in_ok-begin.ensures.begins c.begin-in-Some.ensures.begins

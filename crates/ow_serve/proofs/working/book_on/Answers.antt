@@ -19,16 +19,16 @@ loop-preserved g c =
         is_left = refl;
         booked = one.booked;
         others = one.others;
-        leaves = c.in-Some.ensures;
+        leaves = c.in-Some-left.ensures;
         later = one.runner.later;
       });
     }
 
-pub returns-in-None-clause-runner : goal.returns-in-None-clause-runner
-returns-in-None-clause-runner g c = steady_trans c.loop.invariant.runner c.again-turned.ensures.runner
+pub returns-in-None-left-clause-runner : goal.returns-in-None-left-clause-runner
+returns-in-None-left-clause-runner g c = steady_trans c.loop.invariant.runner c.again-turned.ensures.runner
 
-pub returns-in-None-clause-books : goal.returns-in-None-clause-books
-returns-in-None-clause-books g c =
+pub returns-in-None-left-clause-books : goal.returns-in-None-left-clause-books
+returns-in-None-left-clause-books g c =
     let one = c.again-turned.ensures in
     goes_on c.loop.invariant.books (record {
       job = c.loop.job;
@@ -36,6 +36,6 @@ returns-in-None-clause-books g c =
       is_left = refl;
       booked = one.booked;
       others = one.others;
-      leaves = c.in-None.ensures;
+      leaves = c.in-None-left.ensures;
       later = one.runner.later;
     })

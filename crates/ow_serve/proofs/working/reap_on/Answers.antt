@@ -11,7 +11,7 @@ loop-preserved g c =
     let was = c.loop.invariant in
     record {
       pass = c.reap.ensures.pass.0;
-      reaps = goes_on was.reaps (reaps_so _ _ _ _ _ _ (size c.args.place.now.board) c.reap.result c.reap.ensures.ok c.reap.ensures.err);
+      reaps = goes_on was.reaps (reaps_so (g.C.Clock.tells c.args.clock.now) c.args.opened c.loop.notes.notes c.reap.new.notes.notes (view_of c.loop.pass) (view_of c.reap.new.pass) (size c.args.place.now.board) c.reap.result c.reap.ensures.ok c.reap.ensures.err);
     }
 
 pub returns-then-is_over-clause-reapings : goal.returns-then-is_over-clause-reapings

@@ -1,11 +1,12 @@
-use Rattle.std.proofs.Common.{◌≡◌}
-use Rattle.std.specs.Vec.Iter.{into_iter_items}
+use Rattle.std.proofs.Common.{◌≡◌, length}
+use Rattle.std.specs.Vec.Iter.{into_iter_items, into_iter_len}
 use Rattle.ow_desk.specs.Notes.{no_notes}
 use Rattle.ow_serve.proofs.Begun.{Midway}
-use Rattle.ow_serve.proofs.beginning.begin_all.Given as goal
+use Rattle.ow_serve.proofs.beginning.begin_workers.Given as goal
 
 abbrev pub invariant-loop-runner : goal.invariant-loop-runner
 invariant-loop-runner g l = record {
   notes : l.house.notes.notes ≡ l.fn.house.notes.notes;
   begun : Midway (λ t w. (t.work ≡ w) × (t.notes.notes ≡ no_notes)) (into_iter_items l.initial.runner-iterator) (into_iter_items l.runner-iterator) l.fn.crew.tasks l.crew.tasks;
+  left : into_iter_len l.runner-iterator ≡ length (into_iter_items l.runner-iterator);
 }
