@@ -34,31 +34,31 @@ module _ (f g : Giving) (a b before now : ℕ) (s : Steady f g a b) (le : before
   refused_by kind (Answer text logs) x = x
   refused_by kind (Exit status logs) x = x
 
-  warm_by : (order : PrewarmOrder) (n m : Notes) (start : ℕ) (w : View) (turn : Turn) → WarmTurn g before now order n m start w turn → WarmTurn f before now order n m start w turn
-  warm_by order n m start w turns.Warmed x =
-      ⊎_elim (λ y. inl (y.0, s.starts_back order.kind y.1, y.2)) (λ y. inr (y.0, ⊎_elim (λ d. inl (d.0, refused_by order.kind d.0 d.1)) (λ d. inr d) y.1)) x
-  warm_by order n m start w (turns.NoMemory None) x = x
-  warm_by order n m start w (turns.NoMemory (Some job)) x = x
-  warm_by order n m start w turns.Ran x = x
-  warm_by order n m start w turns.Removed x = x
-  warm_by order n m start w (turns.Lost seen) x = x
-  warm_by order n m start w turns.Idle x = x
-  warm_by order n m start w (turns.StoreFault job) x = x
+  warm_by : (order : PrewarmOrder) (n m : Notes) (v w : View) (turn : Turn) → WarmTurn g before now order n m v w turn → WarmTurn f before now order n m v w turn
+  warm_by order n m v w turns.Warmed x =
+      ⊎_elim (λ y. inl (y.0, s.starts_back order.kind y.1, y.2)) (λ y. inr (y.0, ⊎_elim (λ d. inl ((d.0.0, refused_by order.kind d.0.0 d.0.1), d.1)) (λ d. inr d) y.1)) x
+  warm_by order n m v w (turns.NoMemory None) x = x
+  warm_by order n m v w (turns.NoMemory (Some job)) x = x
+  warm_by order n m v w turns.Ran x = x
+  warm_by order n m v w turns.Removed x = x
+  warm_by order n m v w (turns.Lost seen) x = x
+  warm_by order n m v w turns.Idle x = x
+  warm_by order n m v w (turns.StoreFault job) x = x
 
   module _ (is_second : ℕ → Type 0) where
-    run_by : (order : RunOrder) (n m : Notes) (start : ℕ) (w : View) (turn : Turn) → RunTurn g before now is_second order n m start w turn → RunTurn f before now is_second order n m start w turn
-    run_by order n m start w (turns.Lost seen) x = x
-    run_by order n m start w (turns.NoMemory None) x = x
-    run_by order n m start w turns.Ran x = (x.0, x.1, performs_within is_second order n m x.0.steps w turns.Ran at_first at_last x.2)
-    run_by order n m start w turns.Removed x = (x.0, x.1, performs_within is_second order n m x.0.steps w turns.Removed at_first at_last x.2)
-    run_by order n m start w turns.Warmed x = (x.0, x.1, performs_within is_second order n m x.0.steps w turns.Warmed at_first at_last x.2)
-    run_by order n m start w turns.Idle x = (x.0, x.1, performs_within is_second order n m x.0.steps w turns.Idle at_first at_last x.2)
-    run_by order n m start w (turns.StoreFault job) x = (x.0, x.1, performs_within is_second order n m x.0.steps w (turns.StoreFault job) at_first at_last x.2)
-    run_by order n m start w (turns.NoMemory (Some job)) x = (x.0, x.1, performs_within is_second order n m x.0.steps w (turns.NoMemory (Some job)) at_first at_last x.2)
+    run_by : (order : RunOrder) (n m : Notes) (v w : View) (turn : Turn) → RunTurn g before now is_second order n m v w turn → RunTurn f before now is_second order n m v w turn
+    run_by order n m v w (turns.Lost seen) x = x
+    run_by order n m v w (turns.NoMemory None) x = x
+    run_by order n m v w turns.Ran x = (x.0, x.1, performs_within is_second order n m x.0 w turns.Ran at_first at_last x.2)
+    run_by order n m v w turns.Removed x = (x.0, x.1, performs_within is_second order n m x.0 w turns.Removed at_first at_last x.2)
+    run_by order n m v w turns.Warmed x = (x.0, x.1, performs_within is_second order n m x.0 w turns.Warmed at_first at_last x.2)
+    run_by order n m v w turns.Idle x = (x.0, x.1, performs_within is_second order n m x.0 w turns.Idle at_first at_last x.2)
+    run_by order n m v w (turns.StoreFault job) x = (x.0, x.1, performs_within is_second order n m x.0 w (turns.StoreFault job) at_first at_last x.2)
+    run_by order n m v w (turns.NoMemory (Some job)) x = (x.0, x.1, performs_within is_second order n m x.0 w (turns.NoMemory (Some job)) at_first at_last x.2)
 
     follows_by : (order : Order) (n m : Notes) (v w : View) (turn : Turn) → Follows g before now is_second order n m v w turn → Follows f before now is_second order n m v w turn
-    follows_by (orders.Run order) n m v w turn x = (run_by order n m v.steps w turn x.0, x.1)
-    follows_by (orders.Prewarm order) n m v w turn x = (warm_by order n m v.steps w turn x.0, x.1)
+    follows_by (orders.Run order) n m v w turn x = (run_by order n m v w turn x.0, x.1)
+    follows_by (orders.Prewarm order) n m v w turn x = (warm_by order n m v w turn x.0, x.1)
     follows_by (orders.Remove containers) n m v w turn x = x
     follows_by (orders.Nothing why) n m v w turn x = x
 
