@@ -2,6 +2,8 @@
 #![tactic(auto)]
 
 #[cfg(test)]
+mod held;
+#[cfg(test)]
 mod of_kept_rows;
 #[cfg(test)]
 mod of_names;

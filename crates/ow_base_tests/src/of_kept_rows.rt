@@ -1,8 +1,9 @@
 // Kept rows that are read as items, and items that are written as rows.
+use crate::held::held;
 use ow_items::{Item, row_text};
 use ow_keep::{KeepRefusal, kept_items};
 use ow_traits::Rows;
-use ow_value::Str;
+use ow_value::{NoMemory, Str};
 use std::alloc::Global;
 use std::test::Fail;
 
@@ -75,42 +76,80 @@ const CASES: [(&[(&str, &str)], &str); 14] = [
     (&[VERSION, ("zzz", "1")], "zzz"),
 ];
 
-fn rows_of(alloc: Global, pairs: &[(&str, &str)]) -> Result<Rows, Fail> {
-    let mut rows = Rows::new(alloc);
+fn put(alloc: Global, rows: &mut Rows, key: &str, text: &str) -> Result<(), NoMemory> {
+    let key = Str::of(alloc, key)?;
+    let text = Str::of(alloc, text)?;
+    rows.put(key, text)
+}
+
+fn rows_of(alloc: Global, pairs: &[(&str, &str)]) -> Result<Box<Rows>, Fail> {
+    let mut rows = held(alloc, Rows::new(alloc))?;
     for (key, text) in pairs {
-        rows.put(Str::of(alloc, key)?, Str::of(alloc, text)?)?;
+        put(alloc, &mut rows, key, text)?;
     }
     Ok(rows)
 }
 
+fn put_item(alloc: Global, rows: &mut Rows, item: &Item) -> Result<(), NoMemory> {
+    let (key, text) = row_text(alloc, item)?;
+    rows.put(key, text)
+}
+
+// The rows that the items are written as.
+fn written(alloc: Global, items: &[Item]) -> Result<Box<Rows>, Fail> {
+    let mut rows = held(alloc, Rows::new(alloc))?;
+    for item in items {
+        put_item(alloc, &mut rows, item)?;
+    }
+    Ok(rows)
+}
+
+fn has_text(rows: &Rows, key: &str, text: &str) -> bool {
+    match rows.find(key) {
+        Some(found) => found.as_str() == text,
+        None => false,
+    }
+}
+
+fn has_all(rows: &Rows, pairs: &[(&str, &str)]) -> bool {
+    for (key, text) in pairs {
+        if !has_text(rows, key, text) {
+            return false;
+        }
+    }
+    true
+}
+
 // Whether the items are written as these rows.
 fn are_written(alloc: Global, items: &[Item], pairs: &[(&str, &str)]) -> Result<bool, Fail> {
-    let mut rows = Rows::new(alloc);
-    for item in items {
-        let (key, text) = row_text(alloc, item)?;
-        rows.put(key, text)?;
-    }
-    let mut same = items.len() == pairs.len();
-    for (key, text) in pairs {
-        same = same && rows.find(key).is_some_and(|found| found.as_str() == *text);
-    }
-    Ok(same)
+    let rows = written(alloc, items)?;
+    Ok(items.len() == pairs.len() && has_all(&rows, pairs))
 }
 
 // Whether the rows are read as items that are written so, or this key is told.
 fn is_told(alloc: Global, pairs: &[(&str, &str)], bad: &str) -> Result<bool, Fail> {
     let rows = rows_of(alloc, pairs)?;
-    match kept_items(alloc, &rows) {
-        Ok(items) => Ok(bad.is_empty() && are_written(alloc, &items, pairs)?),
+    let read = kept_items(alloc, &rows);
+    match &read {
+        Ok(items) if bad.is_empty() => are_written(alloc, items, pairs),
+        Ok(_) => Ok(false),
         Err(KeepRefusal::BadKept { key }) => Ok(key.as_str() == bad),
         Err(KeepRefusal::NoMemory) => Err("no memory")?,
     }
 }
 
+// The first of the cases, from 0 on, that comes to something else.
+fn first_wrong(alloc: Global) -> Result<Option<usize>, Fail> {
+    for (number, (pairs, bad)) in CASES.iter().enumerate() {
+        if !is_told(alloc, pairs, bad)? {
+            return Ok(Some(number));
+        }
+    }
+    Ok(None)
+}
+
 #[test]
 fn kept_rows_are_read_as_items(rt: HostRuntime) -> Result<(), Fail> {
-    for (number, (pairs, bad)) in CASES.iter().enumerate() {
-        assert!(rt; is_told(rt.alloc(), pairs, bad)?, "rows {number}");
-    }
+    assert_eq!(rt; first_wrong(rt.alloc())?, None);
     Ok(())
 }

@@ -1,4 +1,5 @@
-// Ids, responses and outcomes.
+// Ids, responses, outcomes and records.
+use crate::held::{boxed, equals, held, holds};
 use ow_entity::{Action, EntityKind, EntityRefusal, Limits, Row, finish, read_entity};
 use ow_names::{EntityName, FullName, read_name, resolve};
 use ow_records::{
@@ -10,51 +11,127 @@ use ow_value::{
     Lines, NoMemory, Params, PlainData, Scratch, Shared, Str, Val, read_val, write_val,
 };
 use std::alloc::{AllocError, Global};
-use std::fmt::Debug;
+use std::mem;
 use std::test::Fail;
 
-fn answer(alloc: Global, text: &str) -> Result<RunReply, NoMemory> {
-    Ok(RunReply::Answer {
-        text: Str::of(alloc, text)?,
-        logs: Lines::new(),
-    })
+/// How an activation ends.
+#[derive(Clone, Copy, Drop)]
+enum End {
+    /// By an answer with this text, and with a line of logs.
+    Answer(&'static str),
+    /// By an exit with this code.
+    Exit(i32),
+    /// By an exit with this code, and with a line of logs.
+    ExitWithLine(i32),
+    NoStart,
+    Fault,
+    Overran,
+    Abandoned,
 }
 
-fn ending_equals_copy(alloc: Global, ending: &Ending) -> Result<bool, NoMemory> {
-    Ok(ending.same(&ending.copy(alloc)?))
-}
-
-fn response_equals_copy(alloc: Global, response: &Response) -> Result<bool, NoMemory> {
-    Ok(response.same(&response.copy(alloc)?))
-}
-
-// The response's code, a space, and the text of its object.
-fn shown(alloc: Global, response: &Response) -> Result<String, Fail> {
-    let code = response.code();
-    let object = write_val(alloc, &Val::Object(response.result().copy(alloc)?))?;
-    let object = String::from_utf8(object).map_err(|_| "no text")?;
-    Ok(format!(in alloc; "{code} {object}")?)
-}
-
-// The response to a run that ended so.
-fn responded(alloc: Global, reply: RunReply) -> Result<String, Fail> {
-    ended(alloc, Ending::Replied(reply))
-}
-
-// The response of an activation that ended so.
-fn ended(alloc: Global, ending: Ending) -> Result<String, Fail> {
-    if !ending_equals_copy(alloc, &ending)? {
-        return Err(Fail::from("a copy differs"));
+fn ending(alloc: Global, end: End) -> Result<Ending, NoMemory> {
+    match end {
+        End::Answer(text) => answer_with_line(alloc, text),
+        End::Exit(code) => Ok(exit(code)),
+        End::ExitWithLine(code) => exit_with_line(alloc, code),
+        End::NoStart => no_start(alloc),
+        End::Fault => Ok(Ending::Replied(RunReply::Fault)),
+        End::Overran => Ok(Ending::Overran),
+        End::Abandoned => Ok(Ending::Abandoned),
     }
-    let response = outcome(alloc, &ending, &Limits::DEFAULT)?;
-    if !response_equals_copy(alloc, &response)? {
-        return Err(Fail::from("a copy differs"));
-    }
-    shown(alloc, &response)
 }
 
-fn answered(alloc: Global, text: &str) -> Result<String, Fail> {
-    responded(alloc, answer(alloc, text)?)
+fn answer(alloc: Global, text: &str) -> Result<Ending, NoMemory> {
+    let text = Str::of(alloc, text)?;
+    let logs = Lines::new();
+    Ok(Ending::Replied(RunReply::Answer { text, logs }))
+}
+
+fn answer_with_line(alloc: Global, text: &str) -> Result<Ending, NoMemory> {
+    let logs = line(alloc)?;
+    let text = Str::of(alloc, text)?;
+    Ok(Ending::Replied(RunReply::Answer { text, logs }))
+}
+
+fn exit(code: i32) -> Ending {
+    let logs = Lines::new();
+    Ending::Replied(RunReply::Exit { code, logs })
+}
+
+fn exit_with_line(alloc: Global, code: i32) -> Result<Ending, NoMemory> {
+    let logs = line(alloc)?;
+    Ok(Ending::Replied(RunReply::Exit { code, logs }))
+}
+
+fn no_start(alloc: Global) -> Result<Ending, NoMemory> {
+    let text = Str::of(alloc, "no program runner")?;
+    Ok(Ending::Replied(RunReply::NoStart { text }))
+}
+
+fn line(alloc: Global) -> Result<Lines, NoMemory> {
+    let mut lines = Vec::new(alloc);
+    lines.push(Str::of(alloc, "x")?)?;
+    Lines::from_vec(lines)
+}
+
+// Whether an equal one is made of it.
+fn equals_copy<T: PlainData + Drop>(alloc: Global, value: &T) -> Result<bool, NoMemory> {
+    let copied = value.copy(alloc)?;
+    Ok(copied.same(value))
+}
+
+// The text of what was written.
+pub(crate) fn text_of(alloc: Global, written: Result<Val, NoMemory>) -> Result<String, Fail> {
+    let written = boxed(alloc, written)?;
+    let text = write_val(alloc, &written)?;
+    Ok(String::from_utf8(text)?)
+}
+
+// Fails where the response has another code or another object.
+fn shows(alloc: Global, response: &Response, code: u8, object: &str) -> Result<(), Fail> {
+    holds(equals_copy(alloc, response)?, "the copy of a response")?;
+    holds(response.code() == code, object)?;
+    let shown = text_of(alloc, response.result().copy(alloc).map(Val::Object))?;
+    equals(shown, object)
+}
+
+// Fails where the activation that ended so has another response.
+fn comes_to(alloc: Global, ending: &Ending, code: u8, object: &str) -> Result<(), Fail> {
+    holds(equals_copy(alloc, ending)?, "the copy of an ending")?;
+    let response = boxed(alloc, outcome(alloc, ending, &Limits::DEFAULT))?;
+    shows(alloc, &response, code, object)
+}
+
+fn answer_comes_to(alloc: Global, text: &str, code: u8, object: &str) -> Result<(), Fail> {
+    let ending = boxed(alloc, answer(alloc, text))?;
+    comes_to(alloc, &ending, code, object)
+}
+
+const NO_VALUE: &str = r#"{"error":"The result is no JSON value of whole numbers."}"#;
+
+const NO_OBJECT: &str = r#"{"error":"The result is no JSON object."}"#;
+
+// The text of an answer, and the code and the object of the response.
+const ANSWERS: [(&str, u8, &str); 10] = [
+    (r#"{"a":1}"#, 0, r#"{"a":1}"#),
+    ("{}", 0, "{}"),
+    (r#"{"Error":1}"#, 0, r#"{"Error":1}"#),
+    (r#"{"b":1,"error":null}"#, 1, r#"{"b":1,"error":null}"#),
+    (r#"{"error":{}}"#, 1, r#"{"error":{}}"#),
+    ("[1]", 2, NO_OBJECT),
+    ("null", 2, NO_OBJECT),
+    (r#"{"a":1.5}"#, 2, NO_VALUE),
+    (r#"{"a""#, 2, NO_VALUE),
+    ("", 2, NO_VALUE),
+];
+
+#[test]
+fn what_answers_come_to(rt: HostRuntime) -> Result<(), Fail> {
+    let alloc = rt.alloc();
+    for (text, code, object) in ANSWERS.iter() {
+        answer_comes_to(alloc, text, *code, object)?;
+    }
+    Ok(())
 }
 
 // A text of so many bytes that is an object.
@@ -66,127 +143,103 @@ fn padded(alloc: Global, bytes: usize) -> Result<String, AllocError> {
     Ok(text)
 }
 
-#[test]
-fn what_answers_come_to(rt: HostRuntime) -> Result<(), Fail> {
-    let alloc = rt.alloc();
-    let no_value = "2 {\"error\":\"The result is no JSON value of whole numbers.\"}";
-    let no_object = "2 {\"error\":\"The result is no JSON object.\"}";
-    for (text, want) in [
-        ("{\"a\":1}", "0 {\"a\":1}"),
-        ("{}", "0 {}"),
-        ("{\"Error\":1}", "0 {\"Error\":1}"),
-        ("{\"b\":1,\"error\":null}", "1 {\"b\":1,\"error\":null}"),
-        ("{\"error\":{}}", "1 {\"error\":{}}"),
-        ("[1]", no_object),
-        ("null", no_object),
-        ("{\"a\":1.5}", no_value),
-        ("{\"a\"", no_value),
-        ("", no_value),
-    ] {
-        assert_eq!(rt; answered(alloc, text)?.as_str(), want, "at {text}");
-    }
-    Ok(())
+fn padded_comes_to(alloc: Global, bytes: usize, code: u8, object: &str) -> Result<(), Fail> {
+    let text = padded(alloc, bytes)?;
+    answer_comes_to(alloc, text.as_str(), code, object)
 }
+
+const TOO_LARGE: &str = r#"{"error":"The result has too many bytes."}"#;
 
 #[test]
 fn an_answer_has_a_megabyte_at_most(rt: HostRuntime) -> Result<(), Fail> {
     let alloc = rt.alloc();
-    for (bytes, want) in [
-        (1_048_576, "0 {}"),
-        (
-            1_048_577,
-            "2 {\"error\":\"The result has too many bytes.\"}",
-        ),
-    ] {
-        let text = padded(alloc, bytes)?;
-        assert_eq!(rt; answered(alloc, text.as_str())?.as_str(), want);
+    padded_comes_to(alloc, 1_048_576, 0, "{}")?;
+    padded_comes_to(alloc, 1_048_577, 2, TOO_LARGE)
+}
+
+fn end_comes_to(alloc: Global, end: End, code: u8, object: &str) -> Result<(), Fail> {
+    let ending = boxed(alloc, ending(alloc, end))?;
+    comes_to(alloc, &ending, code, object)
+}
+
+fn all_come_to(alloc: Global, ends: &[(End, u8, &str)]) -> Result<(), Fail> {
+    for (end, code, object) in ends {
+        end_comes_to(alloc, *end, *code, object)?;
     }
     Ok(())
 }
 
+// How an activation ends, and the code and the object of its response.
+const ENDS: [(End, u8, &str); 5] = [
+    (
+        End::Exit(0),
+        2,
+        r#"{"error":"The program ended with status 0."}"#,
+    ),
+    (
+        End::Exit(-9),
+        2,
+        r#"{"error":"The program ended with status -9."}"#,
+    ),
+    (
+        End::Exit(i32::MIN),
+        2,
+        r#"{"error":"The program ended with status -2147483648."}"#,
+    ),
+    (End::NoStart, 3, r#"{"error":"The action did not start."}"#),
+    (End::Fault, 3, r#"{"error":"The runner failed."}"#),
+];
+
 #[test]
 fn what_other_endings_come_to(rt: HostRuntime) -> Result<(), Fail> {
-    let alloc = rt.alloc();
-    for (code, want) in [
-        (0, "2 {\"error\":\"The program ended with status 0.\"}"),
-        (-9, "2 {\"error\":\"The program ended with status -9.\"}"),
-        (
-            i32::MIN,
-            "2 {\"error\":\"The program ended with status -2147483648.\"}",
-        ),
-    ] {
-        let reply = RunReply::Exit {
-            code,
-            logs: Lines::new(),
-        };
-        assert_eq!(rt; responded(alloc, reply)?.as_str(), want);
-    }
-    let no_start = RunReply::NoStart {
-        text: Str::of(alloc, "no program runner")?,
-    };
-    assert_eq!(rt;
-        responded(alloc, no_start)?.as_str(),
-        "3 {\"error\":\"The action did not start.\"}"
-    );
-    assert_eq!(rt;
-        responded(alloc, RunReply::Fault)?.as_str(),
-        "3 {\"error\":\"The runner failed.\"}"
-    );
-    Ok(())
+    all_come_to(rt.alloc(), &ENDS)
+}
+
+const ENDS_WITHOUT_A_REPLY: [(End, u8, &str); 2] = [
+    (
+        End::Overran,
+        2,
+        r#"{"error":"The action exceeded its time limit of 60000 milliseconds."}"#,
+    ),
+    (
+        End::Abandoned,
+        3,
+        r#"{"error":"The activation was abandoned."}"#,
+    ),
+];
+
+#[test]
+fn what_endings_without_a_reply_come_to(rt: HostRuntime) -> Result<(), Fail> {
+    all_come_to(rt.alloc(), &ENDS_WITHOUT_A_REPLY)
+}
+
+fn id_text(alloc: Global, namespace: u64, count: u64) -> Result<String, Fail> {
+    let mut text = Vec::new(alloc);
+    Id { namespace, count }.push_text(&mut text)?;
+    Ok(String::from_utf8(text)?)
 }
 
 #[test]
 fn the_text_of_an_id(rt: HostRuntime) -> Result<(), Fail> {
     let alloc = rt.alloc();
-    for (namespace, count, want) in [
-        (0, 1, "00000000000000000000000000000001"),
-        (10, u64::MAX, "000000000000000affffffffffffffff"),
-    ] {
-        let mut text = Vec::new(alloc);
-        Id { namespace, count }.push_text(&mut text)?;
-        assert_eq!(rt; text.as_slice(), want.as_bytes());
-    }
-    Ok(())
+    equals(id_text(alloc, 0, 1)?, "00000000000000000000000000000001")?;
+    equals(
+        id_text(alloc, 10, u64::MAX)?,
+        "000000000000000affffffffffffffff",
+    )
 }
 
-#[test]
-fn what_endings_without_a_reply_come_to(rt: HostRuntime) -> Result<(), Fail> {
-    let alloc = rt.alloc();
-    assert_eq!(rt;
-        ended(alloc, Ending::Overran)?.as_str(),
-        "2 {\"error\":\"The action exceeded its time limit of 60000 milliseconds.\"}"
-    );
-    assert_eq!(rt;
-        ended(alloc, Ending::Abandoned)?.as_str(),
-        "3 {\"error\":\"The activation was abandoned.\"}"
-    );
-    Ok(())
-}
+/// The body of an action that may log ten MB.
+pub(crate) const TEN_MB: &str = r#"{"exec":{"kind":"program:1","code":"p"},"limits":{"logs":10}}"#;
 
-// What tests hold lies in boxes, since each way out of a function lets go of what it holds.
-pub(crate) fn boxed<T: Drop, E: Debug + Drop>(
-    alloc: Global,
-    made: Result<T, E>,
-) -> Result<Box<T>, Fail> {
-    match Box::new(alloc, made?) {
-        Ok(held) => Ok(held),
-        Err(_) => Err("no memory")?,
-    }
-}
+const ONE_MB: &str = r#"{"exec":{"kind":"program:1","code":"p"},"limits":{"logs":1}}"#;
 
-// The action of the path, in the namespace guest, that may log so many MB.
-fn action(alloc: Global, path: &str, logs: u8) -> Result<Box<Shared<Action>>, Fail> {
+const NO_LOGS: &str = r#"{"exec":{"kind":"program:1","code":"p"},"limits":{"logs":0}}"#;
+
+// The name of the path, with the namespace guest.
+fn name_of(alloc: Global, path: &str) -> Result<Box<FullName>, Fail> {
     let guest = boxed(alloc, read_name(alloc, b"guest"))?;
-    let name = boxed(alloc, resolve(alloc, path, &guest))?;
-    let body = format!(in alloc;
-        "{{\"exec\":{{\"kind\":\"program:1\",\"code\":\"p\"}},\"limits\":{{\"logs\":{logs}}}}}"
-    )?;
-    let body = boxed(alloc, read_val(alloc, body.as_str().as_bytes()))?;
-    let row = boxed(alloc, made(alloc, &name, &body))?;
-    match &*row {
-        Row::Action(action) => boxed(alloc, action.copy(alloc)),
-        Row::Package(_) => Err("no action")?,
-    }
+    boxed(alloc, resolve(alloc, path, &guest))
 }
 
 fn made(alloc: Global, name: &FullName, body: &Val) -> Result<Row, EntityRefusal> {
@@ -194,16 +247,31 @@ fn made(alloc: Global, name: &FullName, body: &Val) -> Result<Row, EntityRefusal
     finish(alloc, draft, None)
 }
 
-// The activation of the action, which was accepted at 5 with this id.
+fn row_of(alloc: Global, path: &str, body: &str) -> Result<Box<Row>, Fail> {
+    let name = name_of(alloc, path)?;
+    let body = boxed(alloc, read_val(alloc, body.as_bytes()))?;
+    boxed(alloc, made(alloc, &name, &body))
+}
+
+// The action that the body makes at the path, in the namespace guest.
+fn action(alloc: Global, path: &str, body: &str) -> Result<Box<Shared<Action>>, Fail> {
+    let row = row_of(alloc, path, body)?;
+    match &*row {
+        Row::Action(action) => boxed(alloc, action.copy(alloc)),
+        Row::Package(_) => Err("no action")?,
+    }
+}
+
+/// The activation of the action that the body makes, which was accepted at 5 with this id.
 pub(crate) fn task(
     alloc: Global,
     path: &str,
-    logs: u8,
-    namespace: &[u8],
+    body: &str,
+    namespace: &str,
     id: Id,
 ) -> Result<Box<Activation>, Fail> {
-    let action = action(alloc, path, logs)?;
-    let namespace = boxed(alloc, read_name(alloc, namespace))?;
+    let action = action(alloc, path, body)?;
+    let namespace = boxed(alloc, read_name(alloc, namespace.as_bytes()))?;
     boxed(alloc, activation(alloc, &action, &namespace, id))
 }
 
@@ -232,17 +300,18 @@ fn activation(
 fn record(
     alloc: Global,
     task: &Activation,
-    ending: &Ending,
+    end: End,
     started: Option<u64>,
     at: u64,
 ) -> Result<Box<Record>, Fail> {
+    let ending = boxed(alloc, ending(alloc, end))?;
     boxed(
         alloc,
         record_of(
             alloc,
             &mut Scratch::new(alloc),
             task,
-            ending,
+            &ending,
             started,
             None,
             at,
@@ -250,194 +319,213 @@ fn record(
     )
 }
 
-pub(crate) fn text_of(alloc: Global, shown: Result<Val, NoMemory>) -> Result<String, Fail> {
-    let shown = boxed(alloc, shown)?;
-    let text = write_val(alloc, &shown)?;
-    Ok(String::from_utf8(text).map_err(|_| "no text")?)
+/// The id of the first activation.
+pub(crate) const FIRST: Id = Id {
+    namespace: 1,
+    count: 1,
+};
+
+// Fails where the record of the activation that ended so is written otherwise.
+fn is_recorded(alloc: Global, end: End, text: &str) -> Result<(), Fail> {
+    let task = task(alloc, "tools/hello", TEN_MB, "guest", FIRST)?;
+    let kept = record(alloc, &task, end, Some(7), 12)?;
+    equals(text_of(alloc, write_record(alloc, &kept))?, text)
 }
 
-fn line(alloc: Global, text: &str) -> Result<Lines, NoMemory> {
-    let mut lines = Vec::new(alloc);
-    lines.push(Str::of(alloc, text)?)?;
-    Lines::from_vec(lines)
-}
+const ANSWER_RECORD: &str =
+    r#"{"activationId":"00000000000000010000000000000001","annotations":[{"key":"kind","value":"program:1"},{"key":"limits","value":{"logs":10,"memory":256,"timeout":60000}},{"key":"path","value":"guest/tools/hello"},{"key":"waitTime","value":2}],"duration":5,"end":12,"logs":["x"],"name":"hello","namespace":"guest","response":{"result":{"a":1},"status":"success","statusCode":0,"success":true},"start":7,"subject":"anna","version":"0.0.1"}"#;
 
-// What the record of an ending has as its logs and its response, where the action may log so many MB.
-fn kept_of(alloc: Global, logs: u8, ending: &Ending) -> Result<String, Fail> {
-    let id = Id {
-        namespace: 1,
-        count: 1,
-    };
-    let task = task(alloc, "hello", logs, b"guest", id)?;
-    let kept = record(alloc, &task, ending, None, 9)?;
-    if !kept.same(&*boxed(alloc, kept.copy(alloc))?) {
-        return Err(Fail::from("a copy differs"));
-    }
-    let logs = text_of(alloc, write_logs(alloc, &kept))?;
-    let response = text_of(alloc, write_response(alloc, &kept.response))?;
-    Ok(format!(in alloc; "{logs} {response}")?)
-}
-
-fn answer_with_line(alloc: Global, text: &str) -> Result<Ending, NoMemory> {
-    let logs = line(alloc, "x")?;
-    let text = Str::of(alloc, text)?;
-    Ok(Ending::Replied(RunReply::Answer { text, logs }))
-}
-
-fn exit_with_line(alloc: Global, code: i32) -> Result<Ending, NoMemory> {
-    let logs = line(alloc, "x")?;
-    Ok(Ending::Replied(RunReply::Exit { code, logs }))
-}
-
-fn no_start(alloc: Global) -> Result<Ending, NoMemory> {
-    let text = Str::of(alloc, "no program runner")?;
-    Ok(Ending::Replied(RunReply::NoStart { text }))
-}
+/// The record of an abandoned activation of the action that may log ten MB.
+pub(crate) const ABANDONED: &str =
+    r#"{"activationId":"00000000000000010000000000000001","annotations":[{"key":"kind","value":"program:1"},{"key":"limits","value":{"logs":10,"memory":256,"timeout":60000}},{"key":"path","value":"guest/tools/hello"}],"duration":7,"end":12,"logs":[],"name":"hello","namespace":"guest","response":{"result":{"error":"The activation was abandoned."},"status":"whisk internal error","statusCode":3,"success":false},"start":5,"subject":"anna","version":"0.0.1"}"#;
 
 #[test]
 fn the_text_of_a_record(rt: HostRuntime) -> Result<(), Fail> {
     let alloc = rt.alloc();
-    let id = Id {
-        namespace: 1,
-        count: 1,
-    };
-    let task = task(alloc, "tools/hello", 10, b"guest", id)?;
-    let ending = boxed(alloc, answer_with_line(alloc, "{\"a\":1}"))?;
-    let kept = record(alloc, &task, &ending, Some(7), 12)?;
-    assert_eq!(rt;
-        text_of(alloc, write_record(alloc, &kept))?.as_str(),
-        "{\"activationId\":\"00000000000000010000000000000001\",\"annotations\":[{\"key\":\"kind\",\"value\":\"program:1\"},{\"key\":\"limits\",\"value\":{\"logs\":10,\"memory\":256,\"timeout\":60000}},{\"key\":\"path\",\"value\":\"guest/tools/hello\"},{\"key\":\"waitTime\",\"value\":2}],\"duration\":5,\"end\":12,\"logs\":[\"x\"],\"name\":\"hello\",\"namespace\":\"guest\",\"response\":{\"result\":{\"a\":1},\"status\":\"success\",\"statusCode\":0,\"success\":true},\"start\":7,\"subject\":\"anna\",\"version\":\"0.0.1\"}"
-    );
-    let abandoned = record(alloc, &task, &Ending::Abandoned, Some(7), 12)?;
-    assert_eq!(rt;
-        text_of(alloc, write_record(alloc, &abandoned))?.as_str(),
-        "{\"activationId\":\"00000000000000010000000000000001\",\"annotations\":[{\"key\":\"kind\",\"value\":\"program:1\"},{\"key\":\"limits\",\"value\":{\"logs\":10,\"memory\":256,\"timeout\":60000}},{\"key\":\"path\",\"value\":\"guest/tools/hello\"}],\"duration\":7,\"end\":12,\"logs\":[],\"name\":\"hello\",\"namespace\":\"guest\",\"response\":{\"result\":{\"error\":\"The activation was abandoned.\"},\"status\":\"whisk internal error\",\"statusCode\":3,\"success\":false},\"start\":5,\"subject\":\"anna\",\"version\":\"0.0.1\"}"
-    );
-    Ok(())
+    is_recorded(alloc, End::Answer(r#"{"a":1}"#), ANSWER_RECORD)?;
+    is_recorded(alloc, End::Abandoned, ABANDONED)
 }
 
-#[test]
-fn the_text_of_all_annotations(rt: HostRuntime) -> Result<(), Fail> {
-    let alloc = rt.alloc();
-    let id = Id {
-        namespace: 1,
-        count: 2,
-    };
-    let task = task(alloc, "hello", 1, b"guest", id)?;
-    let mut kept = record(alloc, &task, &Ending::Overran, None, 9)?;
-    kept.cause = Some(Id {
-        namespace: 1,
-        count: 1,
-    });
-    kept.notes.binding = kept.notes.path.copy(alloc)?;
+// The record of an activation whose action may log one MB, and which ended so at 9.
+fn kept_of(
+    alloc: Global,
+    body: &str,
+    namespace: &str,
+    id: Id,
+    end: End,
+) -> Result<Box<Record>, Fail> {
+    let task = task(alloc, "hello", body, namespace, id)?;
+    record(alloc, &task, end, None, 9)
+}
+
+// Gives the record all annotations but its limits, and a cause.
+fn annotate(alloc: Global, kept: &mut Record) -> Result<(), NoMemory> {
+    let binding = kept.notes.path.copy(alloc)?;
+    drop(mem::replace(&mut kept.notes.binding, binding));
+    kept.cause = Some(FIRST);
     kept.notes.caused_by = true;
     kept.notes.init_time = Some(3);
     kept.notes.topmost = true;
     kept.notes.limits = None;
-    assert_eq!(rt;
-        text_of(alloc, write_record(alloc, &kept))?.as_str(),
-        "{\"activationId\":\"00000000000000010000000000000002\",\"annotations\":[{\"key\":\"binding\",\"value\":\"guest/hello\"},{\"key\":\"causedBy\",\"value\":\"sequence\"},{\"key\":\"initTime\",\"value\":3},{\"key\":\"kind\",\"value\":\"program:1\"},{\"key\":\"path\",\"value\":\"guest/hello\"},{\"key\":\"topmost\",\"value\":true},{\"key\":\"waitTime\",\"value\":0}],\"cause\":\"00000000000000010000000000000001\",\"duration\":4,\"end\":9,\"logs\":[],\"name\":\"hello\",\"namespace\":\"guest\",\"response\":{\"result\":{\"error\":\"The action exceeded its time limit of 60000 milliseconds.\"},\"status\":\"action developer error\",\"statusCode\":2,\"success\":false},\"start\":5,\"subject\":\"anna\",\"version\":\"0.0.1\"}"
-    );
     Ok(())
+}
+
+const SECOND: Id = Id {
+    namespace: 1,
+    count: 2,
+};
+
+const ANNOTATED: &str =
+    r#"{"activationId":"00000000000000010000000000000002","annotations":[{"key":"binding","value":"guest/hello"},{"key":"causedBy","value":"sequence"},{"key":"initTime","value":3},{"key":"kind","value":"program:1"},{"key":"path","value":"guest/hello"},{"key":"topmost","value":true},{"key":"waitTime","value":0}],"cause":"00000000000000010000000000000001","duration":4,"end":9,"logs":[],"name":"hello","namespace":"guest","response":{"result":{"error":"The action exceeded its time limit of 60000 milliseconds."},"status":"action developer error","statusCode":2,"success":false},"start":5,"subject":"anna","version":"0.0.1"}"#;
+
+#[test]
+fn the_text_of_all_annotations(rt: HostRuntime) -> Result<(), Fail> {
+    let alloc = rt.alloc();
+    let mut kept = kept_of(alloc, ONE_MB, "guest", SECOND, End::Overran)?;
+    annotate(alloc, &mut kept)?;
+    equals(text_of(alloc, write_record(alloc, &kept))?, ANNOTATED)
+}
+
+const DONE: &str = r#"{"result":{},"status":"success","statusCode":0,"success":true}"#;
+
+// The body of the action, how its activation ends, and what the record has as its logs and its response.
+const KEPT: [(&str, End, &str, &str); 6] = [
+    (ONE_MB, End::Answer("{}"), r#"{"logs":["x"]}"#, DONE),
+    (
+        NO_LOGS,
+        End::Answer("{}"),
+        r#"{"logs":["Logs were truncated."]}"#,
+        DONE,
+    ),
+    (
+        ONE_MB,
+        End::ExitWithLine(3),
+        r#"{"logs":["x"]}"#,
+        r#"{"result":{"error":"The program ended with status 3."},"status":"action developer error","statusCode":2,"success":false}"#,
+    ),
+    (
+        ONE_MB,
+        End::NoStart,
+        r#"{"logs":["no program runner"]}"#,
+        r#"{"result":{"error":"The action did not start."},"status":"whisk internal error","statusCode":3,"success":false}"#,
+    ),
+    (
+        ONE_MB,
+        End::Fault,
+        r#"{"logs":[]}"#,
+        r#"{"result":{"error":"The runner failed."},"status":"whisk internal error","statusCode":3,"success":false}"#,
+    ),
+    (
+        ONE_MB,
+        End::Overran,
+        r#"{"logs":[]}"#,
+        r#"{"result":{"error":"The action exceeded its time limit of 60000 milliseconds."},"status":"action developer error","statusCode":2,"success":false}"#,
+    ),
+];
+
+// Fails where the record has other logs or another response.
+fn keeps(alloc: Global, kept: &Record, logs: &str, response: &str) -> Result<(), Fail> {
+    holds(equals_copy(alloc, kept)?, "the copy of a record")?;
+    equals(text_of(alloc, write_logs(alloc, kept))?, logs)?;
+    equals(
+        text_of(alloc, write_response(alloc, &kept.response))?,
+        response,
+    )
 }
 
 #[test]
 fn what_records_keep(rt: HostRuntime) -> Result<(), Fail> {
     let alloc = rt.alloc();
-    let answer = boxed(alloc, answer_with_line(alloc, "{}"))?;
-    let done = "{\"result\":{},\"status\":\"success\",\"statusCode\":0,\"success\":true}";
-    let kept = format!(in alloc; "{{\"logs\":[\"x\"]}} {done}")?;
-    assert_eq!(rt; kept_of(alloc, 1, &answer)?.as_str(), kept.as_str());
-    let cut = format!(in alloc; "{{\"logs\":[\"Logs were truncated.\"]}} {done}")?;
-    assert_eq!(rt; kept_of(alloc, 0, &answer)?.as_str(), cut.as_str());
-    let exit = boxed(alloc, exit_with_line(alloc, 3))?;
-    assert_eq!(rt;
-        kept_of(alloc, 1, &exit)?.as_str(),
-        "{\"logs\":[\"x\"]} {\"result\":{\"error\":\"The program ended with status 3.\"},\"status\":\"action developer error\",\"statusCode\":2,\"success\":false}"
-    );
-    let no_start = boxed(alloc, no_start(alloc))?;
-    assert_eq!(rt;
-        kept_of(alloc, 1, &no_start)?.as_str(),
-        "{\"logs\":[\"no program runner\"]} {\"result\":{\"error\":\"The action did not start.\"},\"status\":\"whisk internal error\",\"statusCode\":3,\"success\":false}"
-    );
-    assert_eq!(rt;
-        kept_of(alloc, 1, &Ending::Replied(RunReply::Fault))?.as_str(),
-        "{\"logs\":[]} {\"result\":{\"error\":\"The runner failed.\"},\"status\":\"whisk internal error\",\"statusCode\":3,\"success\":false}"
-    );
-    assert_eq!(rt;
-        kept_of(alloc, 1, &Ending::Overran)?.as_str(),
-        "{\"logs\":[]} {\"result\":{\"error\":\"The action exceeded its time limit of 60000 milliseconds.\"},\"status\":\"action developer error\",\"statusCode\":2,\"success\":false}"
-    );
+    for (body, end, logs, response) in KEPT.iter() {
+        let kept = kept_of(alloc, body, "guest", FIRST, *end)?;
+        keeps(alloc, &kept, logs, response)?;
+    }
     Ok(())
 }
 
+fn ready(alloc: Global, kept: &Record) -> Result<ReadyRecord, NoMemory> {
+    match kept.copy(alloc) {
+        Ok(copied) => ReadyRecord::new(alloc, copied),
+        Err(refusal) => Err(refusal),
+    }
+}
+
 // Adds the record of an activation of the namespace with this count.
-fn add(alloc: Global, records: &mut Records, namespace: &[u8], count: u64) -> Result<(), Fail> {
+fn add(alloc: Global, records: &mut Records, namespace: &str, count: u64) -> Result<(), Fail> {
     let id = Id {
         namespace: namespace.len() as u64,
         count,
     };
-    let task = task(alloc, "hello", 1, namespace, id)?;
-    let kept = record(alloc, &task, &Ending::Overran, None, 9)?;
-    let ready = ReadyRecord::new(alloc, kept.copy(alloc)?)?;
-    match records.reserve() {
-        Ok(()) => {
-            records.add(ready);
-            Ok(())
-        }
-        Err(_) => Err("no memory")?,
+    let kept = kept_of(alloc, ONE_MB, namespace, id, End::Overran)?;
+    records.reserve()?;
+    let ready = ready(alloc, &kept)?;
+    records.add(ready);
+    Ok(())
+}
+
+// The namespaces and the counts of activations, in the order of their ends.
+const ADDED: [(&str, u64); 5] = [
+    ("guest", 2),
+    ("guests", 1),
+    ("anna", 3),
+    ("guest", 1),
+    ("guest", 3),
+];
+
+fn filled(alloc: Global) -> Result<Box<Records>, Fail> {
+    let mut records = held(alloc, Records::new(alloc))?;
+    for (namespace, count) in ADDED.iter() {
+        add(alloc, &mut records, namespace, *count)?;
     }
+    Ok(records)
 }
 
 // The text of a list of the records of guest.
 fn listed(alloc: Global, records: &Records, skip: u64, limit: u64) -> Result<String, Fail> {
     let guest = boxed(alloc, read_name(alloc, b"guest"))?;
-    let shown = boxed(alloc, records.list(alloc, &guest, skip, limit))?;
-    text_of(alloc, Ok(Val::List(shown.copy(alloc)?)))
+    let listed = records.list(alloc, &guest, skip, limit);
+    text_of(alloc, listed.map(Val::List))
 }
 
-// What a list shows of the record of guest with this count.
-fn entry(alloc: Global, count: u8) -> Result<String, AllocError> {
-    format!(in alloc;
-        "{{\"activationId\":\"0000000000000005000000000000000{count}\",\"duration\":4,\"end\":9,\"name\":\"hello\",\"namespace\":\"guest\",\"start\":5,\"statusCode\":2,\"version\":\"0.0.1\"}}"
-    )
+const ALL: &str =
+    r#"[{"activationId":"00000000000000050000000000000003","duration":4,"end":9,"name":"hello","namespace":"guest","start":5,"statusCode":2,"version":"0.0.1"},{"activationId":"00000000000000050000000000000002","duration":4,"end":9,"name":"hello","namespace":"guest","start":5,"statusCode":2,"version":"0.0.1"},{"activationId":"00000000000000050000000000000001","duration":4,"end":9,"name":"hello","namespace":"guest","start":5,"statusCode":2,"version":"0.0.1"}]"#;
+
+const SECOND_OF_GUEST: &str =
+    r#"[{"activationId":"00000000000000050000000000000002","duration":4,"end":9,"name":"hello","namespace":"guest","start":5,"statusCode":2,"version":"0.0.1"}]"#;
+
+// How many are passed over, how many are shown at most, and the list.
+const LISTS: [(u64, u64, &str); 3] = [(0, 30, ALL), (1, 1, SECOND_OF_GUEST), (3, 1, "[]")];
+
+const FIRST_OF_GUEST: Id = Id {
+    namespace: 5,
+    count: 1,
+};
+
+fn is_found(records: &Records, id: Id) -> bool {
+    match records.get(&id) {
+        Ok(kept) => kept.id == id,
+        Err(_) => false,
+    }
+}
+
+// The number of the refusal, where no record is found.
+fn refusal(records: &Records, id: Id) -> Option<u32> {
+    match records.get(&id) {
+        Ok(_) => None,
+        Err(refusal) => Some(refusal.number()),
+    }
 }
 
 #[test]
 fn records_by_their_ids(rt: HostRuntime) -> Result<(), Fail> {
     let alloc = rt.alloc();
-    let mut records = Box::new(alloc, Records::new(alloc)).map_err(|_| "no memory")?;
-    for (namespace, count) in [
-        (&b"guest"[..], 2),
-        (b"guests", 1),
-        (b"anna", 3),
-        (b"guest", 1),
-        (b"guest", 3),
-    ] {
-        add(alloc, &mut records, namespace, count)?;
+    let mut records = filled(alloc)?;
+    for (skip, limit, list) in LISTS.iter() {
+        equals(listed(alloc, &records, *skip, *limit)?, list)?;
     }
-    let one = entry(alloc, 1)?;
-    let two = entry(alloc, 2)?;
-    let three = entry(alloc, 3)?;
-    let all = format!(in alloc; "[{three},{two},{one}]")?;
-    assert_eq!(rt; listed(alloc, &records, 0, 30)?.as_str(), all.as_str());
-    let middle = format!(in alloc; "[{two}]")?;
-    assert_eq!(rt; listed(alloc, &records, 1, 1)?.as_str(), middle.as_str());
-    assert_eq!(rt; listed(alloc, &records, 3, 1)?.as_str(), "[]");
-    let id = Id {
-        namespace: 5,
-        count: 1,
-    };
-    match records.get(&id) {
-        Ok(kept) => assert_eq!(rt; kept.id, id),
-        Err(_) => Err("no record")?,
-    }
+    assert!(rt; is_found(&records, FIRST_OF_GUEST));
     records.cut(3);
     assert_eq!(rt; records.len(), 3);
-    assert_eq!(rt; listed(alloc, &records, 0, 30)?.as_str(), middle.as_str());
-    match records.get(&id) {
-        Ok(_) => Err("a record that was taken out")?,
-        Err(refusal) => assert_eq!(rt; refusal.number(), 14),
-    }
-    Ok(())
+    assert_eq!(rt; refusal(&records, FIRST_OF_GUEST), Some(14));
+    equals(listed(alloc, &records, 0, 30)?, SECOND_OF_GUEST)
 }

@@ -1,4 +1,5 @@
 // Sources, sinks, keepers and replies.
+use crate::held::{boxed, equals, held, holds, is_told_from};
 use ow_traits::{
     Change, Changes, Failed, Keeper, KeeperError, MemoryKeeper, MemorySink, MemorySource,
     ReaderSource, Rows, RunReply, Sink, Source, WriterSink, read_some, write_all,
@@ -47,32 +48,42 @@ impl io::Write for FailingWriter {
     }
 }
 
+// How many bytes a call gives or takes, and how many faults there are then.
+type Done = (Result<usize, Failed>, u64);
+
+const READ_BY_TWO: [Done; 3] = [(Ok(2), 0), (Err(Failed), 1), (Ok(2), 1)];
+
+const WRITTEN_BY_TWO: [Done; 4] = [(Ok(2), 0), (Err(Failed), 1), (Ok(2), 1), (Err(Failed), 2)];
+
 #[test]
 fn a_reader_and_a_writer_fail_in_mid_stream(rt: HostRuntime) {
     let mut source = ReaderSource::new(FailingReader { calls: 0 });
     let mut room = [0u8; 4];
-    for (read, faults) in [(Ok(2), 0), (Err(Failed), 1), (Ok(2), 1)] {
-        assert_eq!(rt; (source.read(&mut room), source.faults()), (read, faults));
+    for done in READ_BY_TWO.iter() {
+        assert_eq!(rt; (source.read(&mut room), source.faults()), *done);
     }
     let mut sink = WriterSink::new(FailingWriter { calls: 0 });
-    for (wrote, faults) in [(Ok(2), 0), (Err(Failed), 1), (Ok(2), 1), (Err(Failed), 2)] {
-        assert_eq!(rt; (sink.write(b"abc"), sink.faults()), (wrote, faults));
+    for done in WRITTEN_BY_TWO.iter() {
+        assert_eq!(rt; (sink.write(b"abc"), sink.faults()), *done);
     }
 }
+
+// What a read into a room of one byte gives, and the byte that is in it then.
+const BYTES: [(Result<usize, Failed>, u8); 5] = [
+    (Ok(1), b'a'),
+    (Ok(1), b'b'),
+    (Ok(1), b'c'),
+    (Ok(0), b'c'),
+    (Ok(0), b'c'),
+];
 
 // A room of one byte is where half of the room has no byte in it.
 #[test]
 fn a_reader_is_read_to_its_end_byte_by_byte(rt: HostRuntime) {
     let mut source = ReaderSource::new(b"abc".as_slice());
     let mut room = [0u8; 1];
-    for (read, byte) in [
-        (Ok(1), b'a'),
-        (Ok(1), b'b'),
-        (Ok(1), b'c'),
-        (Ok(0), b'c'),
-        (Ok(0), b'c'),
-    ] {
-        assert_eq!(rt; (source.read(&mut room), room[0]), (read, byte));
+    for read in BYTES.iter() {
+        assert_eq!(rt; (source.read(&mut room), room[0]), *read);
     }
     assert_eq!(rt; source.faults(), 0);
 }
@@ -82,57 +93,74 @@ fn only(alloc: Global, number: u64) -> Result<Vec<u64>, AllocError> {
     [number].to_vec(alloc)
 }
 
+// A source whose second call fails.
+fn source(alloc: Global, bytes: &[u8]) -> Result<Box<MemorySource>, Fail> {
+    let bytes = bytes.to_vec(alloc)?;
+    let failing = only(alloc, 1)?;
+    held(alloc, MemorySource::new(bytes, failing))
+}
+
+// What a read of three bytes gives, how many faults there are then, and what is left.
+const READS: [(Done, &str); 4] = [
+    ((Ok(3), 0), "lo"),
+    ((Err(Failed), 1), "lo"),
+    ((Ok(2), 1), ""),
+    ((Ok(0), 1), ""),
+];
+
 #[test]
 fn a_fault_of_a_source_loses_no_byte(rt: HostRuntime) -> Result<(), Fail> {
-    let alloc = rt.alloc();
-    let mut source = MemorySource::new(b"hello".to_vec(alloc)?, only(alloc, 1)?);
+    let mut source = source(rt.alloc(), b"hello")?;
     let mut room = [0u8; 4];
-    for (read, faults, left) in [
-        (Ok(3), 0, "lo"),
-        (Err(Failed), 1, "lo"),
-        (Ok(2), 1, ""),
-        (Ok(0), 1, ""),
-    ] {
-        assert_eq!(rt;
-            (read_some(&mut source, &mut room, 3), source.faults()),
-            (read, faults)
-        );
+    for (done, left) in READS.iter() {
+        let read = read_some(&mut *source, &mut room, 3);
+        assert_eq!(rt; (read, source.faults()), *done);
         assert!(rt; source.bytes() == left.as_bytes());
     }
     assert!(rt; room.as_slice() == b"lol\0".as_slice());
     Ok(())
 }
 
+// A sink whose second call fails.
+fn sink(alloc: Global) -> Result<Box<MemorySink>, Fail> {
+    let failing = only(alloc, 1)?;
+    held(alloc, MemorySink::new(alloc, failing))
+}
+
+// What is written, what that gives, how many faults there are then, and what was taken.
+const WRITES: [(&str, Result<(), Failed>, u64, &str); 4] = [
+    ("ab", Ok(()), 0, "ab"),
+    ("cd", Err(Failed), 1, "ab"),
+    ("", Ok(()), 1, "ab"),
+    ("ef", Ok(()), 1, "abef"),
+];
+
 #[test]
 fn a_fault_of_a_sink_loses_no_byte(rt: HostRuntime) -> Result<(), Fail> {
-    let alloc = rt.alloc();
-    let mut sink = MemorySink::new(alloc, only(alloc, 1)?);
-    for (piece, wrote, faults, taken) in [
-        ("ab", Ok(()), 0, "ab"),
-        ("cd", Err(Failed), 1, "ab"),
-        ("", Ok(()), 1, "ab"),
-        ("ef", Ok(()), 1, "abef"),
-    ] {
-        assert_eq!(rt;
-            (write_all(&mut sink, piece.as_bytes()), sink.faults()),
-            (wrote, faults)
-        );
+    let mut sink = sink(rt.alloc())?;
+    for (piece, wrote, faults, taken) in WRITES.iter() {
+        let done = write_all(&mut *sink, piece.as_bytes());
+        assert_eq!(rt; (done, sink.faults()), (*wrote, *faults));
         assert!(rt; sink.bytes() == taken.as_bytes());
     }
     Ok(())
 }
 
 fn put(alloc: Global, key: &str, text: &str) -> Result<Change, NoMemory> {
-    Ok(Change::Put(Str::of(alloc, key)?, Str::of(alloc, text)?))
+    let key = Str::of(alloc, key)?;
+    let text = Str::of(alloc, text)?;
+    Ok(Change::Put(key, text))
 }
 
 fn drop_of(alloc: Global, key: &str) -> Result<Change, NoMemory> {
     Ok(Change::Drop(Str::of(alloc, key)?))
 }
 
+const PUTS: [(&str, &str); 4] = [("b", "1"), ("a", "2"), ("b", "3"), ("c", "4")];
+
 fn sample(alloc: Global) -> Result<Changes, NoMemory> {
     let mut changes = Vec::new(alloc);
-    for (key, text) in [("b", "1"), ("a", "2"), ("b", "3"), ("c", "4")] {
+    for (key, text) in PUTS.iter() {
         changes.push(put(alloc, key, text)?)?;
     }
     changes.push(drop_of(alloc, "c")?)?;
@@ -150,33 +178,50 @@ fn shown(alloc: Global, rows: &Rows) -> Result<String, AllocError> {
     Ok(text)
 }
 
+// A keeper of no rows whose first call fails.
+fn keeper(alloc: Global) -> Result<Box<MemoryKeeper>, Fail> {
+    let failing = only(alloc, 0)?;
+    held(alloc, MemoryKeeper::holding(Rows::new(alloc), failing))
+}
+
+fn commit(alloc: Global, keeper: &mut MemoryKeeper) -> Result<Result<(), KeeperError>, Fail> {
+    let changes = boxed(alloc, sample(alloc))?;
+    Ok(keeper.commit(alloc, &changes))
+}
+
+fn loads(alloc: Global, keeper: &mut MemoryKeeper, count: usize) -> bool {
+    let loaded = keeper.load(alloc);
+    match &loaded {
+        Ok(rows) => rows.len() == count,
+        Err(_) => false,
+    }
+}
+
+// What a commit gives, how many faults there are then, and the rows.
+const COMMITS: [(Result<(), KeeperError>, u64, &str); 3] = [
+    (Err(KeeperError::Failed), 1, ""),
+    (Ok(()), 1, "a2b3"),
+    (Ok(()), 1, "a2b3"),
+];
+
 #[test]
 fn a_keeper_makes_all_changes_or_none(rt: HostRuntime) -> Result<(), Fail> {
     let alloc = rt.alloc();
-    let changes = sample(alloc)?;
-    let mut keeper = MemoryKeeper::holding(Rows::new(alloc), only(alloc, 0)?);
-    for (committed, faults, kept) in [
-        (Err(KeeperError::Failed), 1, ""),
-        (Ok(()), 1, "a2b3"),
-        (Ok(()), 1, "a2b3"),
-    ] {
-        assert_eq!(rt;
-            (keeper.commit(alloc, &changes), keeper.faults()),
-            (committed, faults)
-        );
-        assert!(rt; shown(alloc, keeper.rows())?.as_str() == kept);
+    let mut keeper = keeper(alloc)?;
+    for (committed, faults, rows) in COMMITS.iter() {
+        let done = commit(alloc, &mut keeper)?;
+        assert_eq!(rt; (done, keeper.faults()), (*committed, *faults));
+        equals(shown(alloc, keeper.rows())?, rows)?;
     }
-    assert!(rt; keeper.load(alloc).is_ok_and(|rows| rows.len() == 2));
+    assert!(rt; loads(alloc, &mut keeper, 2));
     Ok(())
 }
 
 #[test]
 fn changes_are_copied_and_told_apart(rt: HostRuntime) -> Result<(), Fail> {
     let alloc = rt.alloc();
-    let changes = sample(alloc)?;
-    assert!(rt; changes.same(&changes.copy(alloc)?));
-    assert!(rt; !changes.same(&Changes::new()));
-    Ok(())
+    let changes = boxed(alloc, sample(alloc))?;
+    holds(is_told_from(alloc, &*changes, &Changes::new())?, "changes")
 }
 
 fn sample_rows(alloc: Global) -> Result<Rows, NoMemory> {
@@ -188,17 +233,24 @@ fn sample_rows(alloc: Global) -> Result<Rows, NoMemory> {
 #[test]
 fn rows_are_copied_and_told_apart(rt: HostRuntime) -> Result<(), Fail> {
     let alloc = rt.alloc();
-    let rows = sample_rows(alloc)?;
-    assert!(rt; rows.same(&rows.copy(alloc)?));
-    assert!(rt; !rows.same(&Rows::new(alloc)));
-    assert!(rt;
-        rows.find("b").is_some_and(|text| text.as_str() == "3") && rows.find("c").is_none()
-    );
+    let rows = boxed(alloc, sample_rows(alloc))?;
+    let none = held(alloc, Rows::new(alloc))?;
+    holds(is_told_from(alloc, &*rows, &*none)?, "rows")?;
+    assert!(rt; has_text(&rows, "b", "3") && rows.find("c").is_none());
     Ok(())
 }
 
+fn has_text(rows: &Rows, key: &str, text: &str) -> bool {
+    match rows.find(key) {
+        Some(found) => found.as_str() == text,
+        None => false,
+    }
+}
+
 fn line(alloc: Global, text: &str) -> Result<Lines, NoMemory> {
-    Ok(Lines::from_vec(vec![in alloc; Str::of(alloc, text)?]?)?)
+    let mut lines = Vec::new(alloc);
+    lines.push(Str::of(alloc, text)?)?;
+    Lines::from_vec(lines)
 }
 
 fn reply(alloc: Global, number: u8) -> Result<RunReply, NoMemory> {
@@ -222,13 +274,20 @@ fn reply(alloc: Global, number: u8) -> Result<RunReply, NoMemory> {
     }
 }
 
+// Whether the copy of one reply is the same as another.
+fn is_copied_as(alloc: Global, one: u8, other: u8) -> Result<bool, Fail> {
+    let one = boxed(alloc, reply(alloc, one))?;
+    let copied = boxed(alloc, one.copy(alloc))?;
+    let other = boxed(alloc, reply(alloc, other))?;
+    Ok(copied.same(&other))
+}
+
 #[test]
 fn replies_are_copied_and_told_apart(rt: HostRuntime) -> Result<(), Fail> {
     let alloc = rt.alloc();
     for i in 0..5 {
-        let copied = reply(alloc, i)?.copy(alloc)?;
         for j in 0..5 {
-            assert!(rt; copied.same(&reply(alloc, j)?) == (i == j));
+            assert!(rt; is_copied_as(alloc, i, j)? == (i == j));
         }
     }
     Ok(())
