@@ -11,7 +11,7 @@ use Rattle.ow_floor.specs.Trace.{Trace, Item, End, Opened, Resumed, Accepted, Or
 use Rattle.ow_floor.specs.Laws.{IsSound, times}
 use Rattle.ow_floor.proofs.Tallies.{times_once}
 use Rattle.ow_tenant.specs.Queue.{with_one}
-use Rattle.ow_tenant.specs.Notes.{Note, Notes, counts_at, ended, invoked, is_ended, is_invoked, is_recent as is_recent_note, latest}
+use Rattle.ow_tenant.specs.Notes.{Note, Notes, ended, invoked, is_ended, is_invoked, is_recent as is_recent_note, latest}
 use Rattle.ow_tenant.specs.Notes as notes
 use Rattle.ow_counts.specs.Counts.{busy, concurrent, is_charged, is_open, is_uncaused, minute}
 use Rattle.ow_counts.specs.View.{AreUpTo, CountsView, StandsFor, is_end, is_invocation, noted_after, noted_if, notes_of}

@@ -1,5 +1,5 @@
 -- What a choice between two values tells of its test, and tests of numbers.
-use Rattle.std.proofs.Common.{◌≡◌, ◌<◌, ◌≤◌, ◌==◌, ℕ, Bool, true, false, nat_le, nat_lt, Option, Some, None, if◌then◌else◌, refl, arith}
+use Rattle.std.proofs.Common.{◌≡◌, ◌<◌, ◌≤◌, ◌==◌, ℕ, Bool, true, false, nat_lt, Option, Some, None, if◌then◌else◌, refl, arith}
 use Rattle.std.proofs.lemmas.Bool.Decides.{nat_tests}
 use Rattle.std.proofs.lemmas.Option.{none-some}
 
@@ -32,9 +32,6 @@ some_by n is = grind (arith, nat_tests)
 
 pub none_by : (n : ℕ) → (n == 0) ≡ true → n ≡ 0
 none_by n is = grind (arith, nat_tests)
-
-pub most_by : (m n : ℕ) → nat_le m n ≡ true → m ≤ n
-most_by m n is = grind (arith, nat_tests)
 
 pub more_by : (m n : ℕ) → nat_lt m n ≡ true → m < n
 more_by m n is = grind (arith, nat_tests)

@@ -9,12 +9,12 @@ use Rattle.std.proofs.lemmas.Str.{IsUtf8-from_is_utf8}
 use Rattle.ow_value.specs.Decimal.{decimal_of}
 use Rattle.ow_hall.specs.History.{greatest_moment}
 use Rattle.ow_records.specs.declared.ids.Id.{Id}
-use Rattle.ow_day.specs.Ids.{id_of}
+use Rattle.ow_records.specs.LowerId.{id_of_lower}
 use Rattle.ow_day.specs.Limits.{most_line}
 use Rattle.ow_day.specs.Statement.{Statement, At, Call, Next, Begun, Answer, Exit, NoStart, Fault, Lost, Gone, Sweep, Turn, Collect, Drain, Reopen, End, Reading, Whole, Asks, Logs, answer_in, answer_of, answered, ask_of, asks_for, at_moment, at_of, begun, begun_of, call_in, call_of, called, collect_of, collected, container_of, exit_in, exit_of, exited, failed, fault_of, gone, gone_in, gone_of, line_of, logged, logged_in, logged_of, logs_in, lost, lost_of, no_start_in, no_start_of, numbered, numbered_in, parted, reply_of, unstarted, with_number, worded, worded_in}
 use Rattle.ow_day.specs.Printed.{HasNo, IsLineText, IsPrintable, IsWord, logs_head, printed}
 use Rattle.ow_day.proofs.Choices.{either, fits_by, if_later, some_by}
-use Rattle.ow_day.proofs.Identifying.{id_known}
+use Rattle.ow_records.proofs.LowerIds.{lower_known}
 use Rattle.ow_day.proofs.Numbers.{decimal_read}
 use Rattle.ow_day.proofs.Parting.{none_in_back, none_in_front, parted_read}
 
@@ -251,16 +251,16 @@ ask_written rest r e = ask_by rest (decimal_of rest) r refl e
 
 -- ---- `collect`
 
-collect_by : (rest : List ℕ) (o : Option Id) (r : Reading) → id_of rest ≡ o → collected o ≡ Some r → IsWritten (codes "collect " ++ rest) r
+collect_by : (rest : List ℕ) (o : Option Id) (r : Reading) → id_of_lower rest ≡ o → collected o ≡ Some r → IsWritten (codes "collect " ++ rest) r
 unfolding printed
 collect_by rest None r is e = absurd (none-some r e)
 collect_by rest (Some id) r is e =
-    let k = id_known rest id is in
+    let k = lower_known rest id is in
     subst (λ s. IsWritten (codes "collect " ++ rest) s) (same_Some (Whole (Collect id)) r e) ((k.0, k.1), ap (λ d. codes "collect " ++ d) k.2)
 
 collect_written : (rest : List ℕ) (r : Reading) → collect_of rest ≡ Some r → IsWritten (codes "collect " ++ rest) r
 unfolding collect_of
-collect_written rest r e = collect_by rest (id_of rest) r refl e
+collect_written rest r e = collect_by rest (id_of_lower rest) r refl e
 
 -- ---- every line
 

@@ -1,47 +1,29 @@
 -- Numbers that were written as decimal digits are read back, and what is read as a number was written so.
-use Rattle.std.proofs.Common.{◌≡◌, ℕ, zero, suc, ◌==◌, ◌+◌, ◌*◌, ◌^◌, ◌<◌, ◌≤◌, List, [], ◌∷◌, false, length, get_or, ◌-◌, Some, option_and_then, refl, sym, ap, ◌∙◌, true≢false, arith}
+use Rattle.std.proofs.Common.{◌≡◌, ℕ, zero, suc, ◌==◌, ◌+◌, ◌*◌, ◌^◌, ◌<◌, List, [], ◌∷◌, false, length, get_or, ◌-◌, Some, refl, sym, ap, ◌∙◌, true≢false, arith}
 use Rattle.std.specs.Char.{digit_value}
 use Rattle.std.specs.Fmt.{decimal}
-use Rattle.std.specs.Str.Parse.{AllDigits, digits_value, digits_value_after, IsNumeral}
+use Rattle.std.specs.Str.Parse.{AllDigits, digits_value, digits_value_after}
 use Rattle.std.proofs.lemmas.Bool.{eq-eqb}
 use Rattle.std.proofs.lemmas.Bool.Decides.{nat_tests}
-use Rattle.std.proofs.lemmas.Fmt.{decimal-digits_value, decimal_is_IsNumeral, decimal_digit, first_decimal}
+use Rattle.std.proofs.lemmas.Fmt.{decimal-digits_value, decimal_digit, first_decimal}
 use Rattle.std.proofs.lemmas.Option.{cond_some, none-some, option_and_then_some, same_Some}
 use Rattle.std.proofs.lemmas.Str.Parse.{numerals_by_value, tells_digits}
-use Rattle.ow_value.specs.Decimal.{decimal_of, digit_after, number_after}
+use Rattle.ow_value.specs.Decimal.{decimal_of, digit_after, digits_of, number_after}
+use Rattle.ow_records.proofs.IdLaws.{digits_of-decimal}
 use Rattle.ow_day.proofs.Choices.{if_later}
-
-value_grows : (n : ℕ) (ds : List ℕ) → n ≤ digits_value_after 10 n ds
-value_grows n [] = omega arith
-value_grows n (d ∷ ds) = omega (arith, value_grows (n * 10 + digit_value d) ds)
-
-digit_known : (c : ℕ) → digit_value c < 10 → (48 ≤ c) × (c ≤ 57) × (digit_value c + 48 ≡ c)
-digit_known c h = grind (arith)
-
-one_digit : (n c v : ℕ) → (48 ≤ c) × (c ≤ 57) × (v + 48 ≡ c) → n * 10 + v < 2 ^ 64 → digit_after n c ≡ Some (n * 10 + v)
-one_digit n c v h small = grind (arith)
-
-number_after-value : (n : ℕ) (ds : List ℕ) → AllDigits 10 ds → digits_value_after 10 n ds < 2 ^ 64 → number_after n ds ≡ Some (digits_value_after 10 n ds)
-number_after-value n [] h small = refl
-number_after-value n (d ∷ ds) h small =
-    let grows = value_grows (n * 10 + digit_value d) ds in
-    ap (option_and_then (λ m. number_after m ds)) (one_digit n d (digit_value d) (digit_known d h.0) (omega (arith, grows)))
-    ∙ number_after-value (n * 10 + digit_value d) ds h.1 small
 
 not_zero : (c : ℕ) → 48 < c → (c == 48) ≡ false
 not_zero c more = grind (arith, nat_tests)
 
--- no 0 stands in front of other digits
-by_digits : (ds : List ℕ) → IsNumeral 10 ds → digits_value 10 ds < 2 ^ 64 → 48 < get_or ds 0 0 → decimal_of ds ≡ Some (digits_value 10 ds)
-by_digits [] h small first = absurd (omega (arith, h.0))
-by_digits (c ∷ []) h small first = number_after-value 0 (c ∷ []) h.1 small
-by_digits (c ∷ d ∷ cs) h small first = rw (not_zero c first) (number_after-value 0 (c ∷ d ∷ cs) h.1 small)
+-- where no 0 stands in front, they are digits like any others
+as_digits : (ds : List ℕ) → 48 < get_or ds 0 0 → decimal_of ds ≡ digits_of ds
+as_digits [] first = refl
+as_digits (c ∷ []) first = refl
+as_digits (c ∷ d ∷ cs) first = rw (not_zero c first) refl
 
 pub decimal_of-decimal : (n : ℕ) → n < 2 ^ 64 → decimal_of (decimal n) ≡ Some n
 decimal_of-decimal zero small = ap decimal_of (decimal_digit 0 (omega arith))
-decimal_of-decimal (suc n) small =
-    let k = decimal_is_IsNumeral (suc n) small in
-    by_digits (decimal (suc n)) k.0 (omega (arith, k.1)) (first_decimal (suc n) (omega arith) small) ∙ ap Some k.1
+decimal_of-decimal (suc n) small = as_digits (decimal (suc n)) (first_decimal (suc n) (omega arith) small) ∙ digits_of-decimal (suc n) small
 
 -- ---- what is read as a number
 

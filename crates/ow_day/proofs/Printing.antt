@@ -15,7 +15,8 @@ use Rattle.ow_day.proofs.Choices.{is_apart, is_short}
 use Rattle.ow_day.proofs.PrintedLogs.{logs_before, logs_last, rest_of, tail_of}
 use Rattle.ow_records.specs.Id.{id_text}
 use Rattle.ow_records.specs.declared.ids.Id.{Id}
-use Rattle.ow_day.proofs.Identifying.{id_back, length-id_text, no_newline}
+use Rattle.ow_records.proofs.LowerIds.{length-id_text, lower_back}
+use Rattle.ow_day.proofs.Identifying.{no_newline}
 use Rattle.ow_day.proofs.Numbers.{decimal_of-decimal}
 use Rattle.ow_day.proofs.Parting.{back_of, first_behind, front_of, is_itself, none_in_both, none_in_decimal, none_there, parted_word}
 
@@ -54,7 +55,7 @@ exit_back run code small most = rw (numbered_back run (decimal code) small, deci
 
 collect_back : (id : Id) → id.namespace < 2 ^ 64 → id.count < 2 ^ 64 → collect_of (id_text id) ≡ Some (Whole (Collect id))
 unfolding collect_of
-collect_back id small few = rw (id_back id small few) refl
+collect_back id small few = rw (lower_back id small few) refl
 
 fault_back : (run : ℕ) → run < 2 ^ 64 → fault_of (decimal run) ≡ Some (Whole (Fault run))
 unfolding fault_of

@@ -1,5 +1,4 @@
 pub mod Limits
-pub mod Ids
 pub mod Statement
 pub mod Day
 pub mod Line

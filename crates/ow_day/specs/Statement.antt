@@ -4,7 +4,7 @@ use Rattle.std.specs.Str.{bytes_eq, is_utf8}
 use Rattle.ow_value.specs.Decimal.{decimal_of}
 use Rattle.ow_hall.specs.History.{greatest_moment}
 use Rattle.ow_records.specs.declared.ids.Id.{Id}
-use Rattle.ow_day.specs.Ids.{id_of}
+use Rattle.ow_records.specs.LowerId.{id_of_lower}
 use Rattle.ow_day.specs.Limits.{most_line}
 
 pub data Statement : Type 0 where
@@ -185,7 +185,7 @@ collected (Some id) = Some (Whole (Collect id))
 
 -- `collect ID`
 unfoldable pub collect_of : List ℕ → Option Reading
-collect_of rest = collected (id_of rest)
+collect_of rest = collected (id_of_lower rest)
 
 -- the line that tells of a container
 unfoldable pub container_of : List ℕ → List ℕ → Option Reading

@@ -6,7 +6,6 @@ mod call_words;
 mod commands;
 mod done;
 mod first;
-mod ids;
 mod input;
 mod laws;
 mod line;

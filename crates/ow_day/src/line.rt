@@ -4,7 +4,6 @@ ghost use Rattle.std.specs.Option.{option_map};
 ghost use Rattle.ow_day.specs.Statement.{answer_of, ask_of, at_of, begun_of, call_of, collect_of, container_of, exit_of, fault_of, gone_of, line_of, logged_of, lost_of, no_start_of, numbered, parted, reply_of, utf8_text, worded};
 ghost use Rattle.ow_day.specs.Line.{reading};
 
-use crate::ids::id_of;
 use ow_hall::GREATEST_MOMENT;
 use ow_records::Id;
 use ow_value::decimal_of;
@@ -256,7 +255,7 @@ fn gone_of(rest: &[u8]) -> Option<Line<'_>>
 fn collect_of(rest: &[u8]) -> Option<Line<'_>>
     ensures { option_map reading result ≡ collect_of rest.now }
 {
-    let id = id_of(rest)?;
+    let id = Id::of_lower(rest)?;
     Some(Line::Whole(Statement::Collect(id)))
 }
 

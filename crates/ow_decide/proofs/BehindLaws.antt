@@ -1,6 +1,7 @@
 -- The action that stands behind a name in a binding, as it is read step by step, and how a package is shown with its actions.
 use Rattle.std.proofs.Common.{◌≡◌, ◌∙◌, ◌||◌, ℕ, Bool, true, if◌then◌else◌, List, [], ◌∷◌, Option, Some, None, is_some, option_map, option_and_then, refl, sym, ap}
 use Rattle.std.specs.Str.{bytes_eq}
+use Rattle.std.proofs.lemmas.Bool.{or_right}
 use Rattle.ow_value.specs.Value.{V, Pairs, object, members_of}
 use Rattle.ow_value.specs.Field.{pairs_in-members_of}
 use Rattle.ow_value.specs.Find.{merge, with_pair}
@@ -20,7 +21,7 @@ use Rattle.ow_floor.proofs.Firsts.{find_passes}
 use Rattle.ow_decide.specs.Named.{action_bound, action_in}
 use Rattle.ow_decide.specs.Reading.{action_behind, action_read, target_of}
 use Rattle.ow_decide.specs.Shown.{with_member}
-use Rattle.ow_decide.proofs.SeenLaws.{kind_is, or_right, place_of, same_bytes}
+use Rattle.ow_decide.proofs.SeenLaws.{kind_is, place_of, same_bytes}
 
 -- ---- a row that is found as an action is one
 

@@ -6,16 +6,17 @@ use Rattle.ow_records.specs.declared.ids.Id.{Id}
 use Rattle.ow_records.specs.declared.activations.Activation.{Activation}
 use Rattle.ow_records.specs.Unrecorded.{unrecorded_of}
 use Rattle.ow_floor.specs.View.{is_in, put_id}
-use Rattle.ow_floor.specs.Trace.{Accepted, Item, Trace, accepted, accepted_after, records, shown}
+use Rattle.ow_floor.specs.Trace.{Trace, records, shown}
 use Rattle.ow_floor.specs.Growth.{AreRight}
 use Rattle.ow_floor.specs.Laws.{IsSound}
 use Rattle.ow_floor.specs.Calls.{accept_items, activation_of}
 use Rattle.ow_floor.specs.declared.activations.Plan.{Plan}
 use Rattle.ow_kept.specs.Commits.{accept_changes, commits_of, end_changes, row_changes}
-use Rattle.ow_kept.specs.Keeping.{AreIds, AreLater, IsDrawn, IsLater}
+use Rattle.ow_kept.specs.Keeping.{AreIds, AreLater, IsDrawn}
 use Rattle.ow_kept.specs.Kept.{kept}
 use Rattle.ow_kept.proofs.Accepting.{acceptances_kept}
 use Rattle.ow_kept.proofs.Endings.{ends_kept}
+use Rattle.ow_kept.proofs.Quiet.{later_accepted}
 use Rattle.ow_kept.proofs.RowLaws.{rows_kept}
 use Rattle.ow_tables.specs.Contents.{Change}
 use Rattle.ow_traits.specs.Changes.{changed}
@@ -28,14 +29,6 @@ use Rattle.ow_decide.proofs.AcceptLaws.{IsAdmitted, by_form}
 use Rattle.ow_decide.proofs.SoundLaws.{decided_right}
 
 -- ---- what is accepted
-
-plain_accepted : (item : Item) → IsLater item → (xs : List Activation) → accepted_after item xs ≡ xs
-plain_accepted (Accepted a) later xs = absurd later
-plain_accepted item later xs = refl
-
-none_accepted : (items : Trace) → AreLater items → accepted items ≡ []
-none_accepted [] later = refl
-none_accepted (item ∷ items) later = plain_accepted item later.0 (accepted items) ∙ none_accepted items later.1
 
 put_drawn : (id : Id) (ids : List Id) → AllByRecursion IsDrawn (put_id id ids) → IsDrawn id
 unfolding put_id
@@ -55,7 +48,7 @@ KeepsAll S items cs = AreRight items (shown S.trace) → AreIds (items ++ S.trac
 
 later_kept : (S : Sight) (items : Trace) → IsSound S.trace → AreIds S.trace → AreLater items → KeepsAll S items []
 later_kept S items sound ids later right after =
-    ap (λ (xs : List Activation). changed (flat_map accept_changes (map unrecorded_of xs) ++ flat_map end_changes (records items)) (kept S.rows S.trace)) (none_accepted items later)
+    ap (λ (xs : List Activation). changed (flat_map accept_changes (map unrecorded_of xs) ++ flat_map end_changes (records items)) (kept S.rows S.trace)) (later_accepted items later)
     ∙ ends_kept S.rows S.trace items sound ids right later
 
 accepted_kept : (S : Sight) (plan : Plan) → IsSound S.trace → AreIds S.trace → IsAdmitted S plan → KeepsAll S (accept_items S.moment plan) []

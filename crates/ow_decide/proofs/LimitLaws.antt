@@ -1,5 +1,5 @@
 -- No acceptance that is decided passes the limits of its namespace.
-use Rattle.std.proofs.Common.{◌≡◌, ◌++◌, ℕ, false, List, [], ◌∷◌}
+use Rattle.std.proofs.Common.{◌++◌, ℕ, List, [], ◌∷◌}
 use Rattle.ow_floor.specs.Trace.{Accepted, Item, Trace}
 use Rattle.ow_floor.specs.Calls.{activation_of}
 use Rattle.ow_tenant.specs.Tenants.{limits_of}

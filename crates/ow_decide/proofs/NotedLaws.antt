@@ -2,9 +2,7 @@
 use Rattle.std.proofs.Common.{◌≡◌, ◌+◌, ◌≤◌, ◌<◌, ◌++◌, ℕ, Bool, true, false, cond, List, [], ◌∷◌, Option, Some, None, append_assoc, refl, sym, ap, ◌∙◌, arith, subst}
 use Rattle.std.specs.Prelude.{count_by, is_none}
 use Rattle.std.specs.List.{AllByRecursion}
-use Rattle.std.specs.Str.{bytes_eq}
 use Rattle.std.proofs.lemmas.List.{append-nil}
-use Rattle.std.proofs.lemmas.Slice.Eq.{bytes_eq-Decides}
 use Rattle.ow_records.specs.declared.activations.Activation.{Activation}
 use Rattle.ow_records.specs.declared.record.Record.{Record}
 use Rattle.ow_floor.specs.Trace.{Accepted, Begun, Ended, Gone, Item, Lost, Trace, accepted, accepted_after, record_of, records, records_after}
@@ -22,6 +20,7 @@ use Rattle.ow_decide.specs.Noted.{MayAllEnd, invoked_by, invoked_in, noted_end, 
 use Rattle.ow_decide.specs.Decisions.{decide, wants_memory}
 use Rattle.ow_kept.specs.Keeping.{AreLater, IsLater}
 use Rattle.ow_decide.proofs.AcceptLaws.{by_decision}
+use Rattle.ow_decide.proofs.SeenLaws.{same_bytes}
 use Rattle.ow_decide.proofs.SoundLaws.{decided_sound}
 
 -- ---- records
@@ -132,9 +131,6 @@ fewer_before q p r rs ns here is none most =
     let more = ends_grow q rs (noted_end r ns) in
     let same = ends_leave p (r ∷ rs) ns none in
     omega (arith, one, more, same, most)
-
-same_bytes : (xs : List ℕ) → bytes_eq xs xs ≡ true
-same_bytes xs = (bytes_eq-Decides xs xs).1 refl
 
 may_all_end : (rs : List Record) (ns : Notes) → AreEndsOf (noted_ends rs ns) → MayAllEnd rs ns
 may_all_end [] ns ends = tt

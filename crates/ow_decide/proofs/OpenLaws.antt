@@ -1,7 +1,7 @@
 -- What is taken over at an opening may be taken over by a floor, and what kept rows hold is taken over.
-use Rattle.std.proofs.Common.{◌≡◌, ◌≤◌, ◌∙◌, ◌&&◌, ℕ, Bool, true, false, not, List, [], ◌∷◌, Result, Ok, Err, refl, ap}
+use Rattle.std.proofs.Common.{◌≡◌, ◌≤◌, ◌&&◌, ℕ, Bool, true, false, not, List, [], ◌∷◌, Result, Ok, Err, refl, ap}
 use Rattle.std.specs.List.{AllByRecursion, IsDistinct}
-use Rattle.std.proofs.lemmas.Bool.{le-leb, leb-true}
+use Rattle.std.proofs.lemmas.Bool.{and_from, and_parts, le-leb, leb-true, not-true}
 use Rattle.ow_floor.specs.Growth.{AreResumable, AreRight, IsFresh}
 use Rattle.ow_floor.specs.Trace.{Item as Happened, Opened, Trace, shown}
 use Rattle.ow_floor.specs.View.{last_of, same_namespace, same_record}
@@ -14,56 +14,43 @@ use Rattle.ow_decide.specs.Opening.{all_pass, are_distinct, are_resumable, is_fi
 
 -- ---- tests
 
-left : (a b : Bool) → (a && b) ≡ true → a ≡ true
-left true b both = refl
-left false b both = cc
-
-right : (a b : Bool) → (a && b) ≡ true → b ≡ true
-right true b both = both
-right false b both = cc
-
-both : (a b : Bool) → a ≡ true → b ≡ true → (a && b) ≡ true
-both a b e f = rw (e, f) refl
-
-not_so : (b : Bool) → not b ≡ true → b ≡ false
-not_so true h = cc
-not_so false h = refl
-
 all_by : {X : Type 0} (p : X → Bool) (P : X → Type 0) (xs : List X) → ((x : X) → p x ≡ true → P x) → all_pass p xs ≡ true → AllByRecursion P xs
 all_by p P [] each h = tt
-all_by p P (x ∷ xs) each h = (each x (left (p x) (all_pass p xs) h), all_by p P xs each (right (p x) (all_pass p xs) h))
+all_by p P (x ∷ xs) each h = let both = and_parts (p x) (all_pass p xs) h in (each x both.0, all_by p P xs each both.1)
 
 pass_by : {X : Type 0} (p : X → Bool) (P : X → Type 0) (xs : List X) → ((x : X) → P x → p x ≡ true) → AllByRecursion P xs → all_pass p xs ≡ true
 pass_by p P [] each h = refl
-pass_by p P (x ∷ xs) each h = both (p x) (all_pass p xs) (each x h.0) (pass_by p P xs each h.1)
+pass_by p P (x ∷ xs) each h = and_from (p x) (all_pass p xs) (each x h.0) (pass_by p P xs each h.1)
 
 distinct_by : {X : Type 0} (same : X → X → Bool) (xs : List X) → are_distinct same xs ≡ true → IsDistinct same xs
 unfolding IsDistinct
 distinct_by same [] h = tt
 distinct_by same (x ∷ xs) h =
-    (all_by (λ y. not (same x y)) (λ y. same x y ≡ false) xs (λ y. not_so (same x y)) (left _ (are_distinct same xs) h), distinct_by same xs (right (all_pass (λ y. not (same x y)) xs) _ h))
+    let both = and_parts (all_pass (λ y. not (same x y)) xs) (are_distinct same xs) h in
+    (all_by (λ y. not (same x y)) (λ y. same x y ≡ false) xs (λ y. not-true (same x y)) both.0, distinct_by same xs both.1)
 
 by_distinct : {X : Type 0} (same : X → X → Bool) (xs : List X) → IsDistinct same xs → are_distinct same xs ≡ true
 unfolding IsDistinct
 by_distinct same [] h = refl
 by_distinct same (x ∷ xs) h =
-    both (all_pass (λ y. not (same x y)) xs) (are_distinct same xs) (pass_by (λ y. not (same x y)) (λ y. same x y ≡ false) xs (λ y e. ap not e) h.0) (by_distinct same xs h.1)
+    and_from (all_pass (λ y. not (same x y)) xs) (are_distinct same xs) (pass_by (λ y. not (same x y)) (λ y. same x y ≡ false) xs (λ y e. ap not e) h.0) (by_distinct same xs h.1)
 
 -- what passes the test may be taken over by a floor
 pub resumable : (counts : List Id) (rs : List Record) → are_resumable counts rs ≡ true → AreResumable counts rs
 resumable counts rs h =
-    let rest = right (are_distinct same_namespace counts) _ h in
+    let both = and_parts (are_distinct same_namespace counts) _ h in
+    let rest = and_parts (are_distinct same_record rs) _ both.1 in
     record {
-      namespaces = distinct_by same_namespace counts (left (are_distinct same_namespace counts) _ h);
-      apart = distinct_by same_record rs (left (are_distinct same_record rs) _ rest);
-      drawn = all_by _ (λ r. r.id.count ≤ last_of counts r.id.namespace) rs (λ r. leb-true _ _) (right (are_distinct same_record rs) _ rest);
+      namespaces = distinct_by same_namespace counts both.0;
+      apart = distinct_by same_record rs rest.0;
+      drawn = all_by _ (λ r. r.id.count ≤ last_of counts r.id.namespace) rs (λ r. leb-true _ _) rest.1;
     }
 
 -- and what may passes it
 pub by_resumable : (counts : List Id) (rs : List Record) → AreResumable counts rs → are_resumable counts rs ≡ true
 by_resumable counts rs h =
-    both (are_distinct same_namespace counts) _ (by_distinct same_namespace counts h.namespaces)
-    (both (are_distinct same_record rs) _ (by_distinct same_record rs h.apart) (pass_by _ (λ r. r.id.count ≤ last_of counts r.id.namespace) rs (λ r. le-leb _ _) h.drawn))
+    and_from (are_distinct same_namespace counts) _ (by_distinct same_namespace counts h.namespaces)
+    (and_from (are_distinct same_record rs) _ (by_distinct same_record rs h.apart) (pass_by _ (λ r. r.id.count ≤ last_of counts r.id.namespace) rs (λ r. le-leb _ _) h.drawn))
 
 -- ---- openings
 
@@ -77,7 +64,7 @@ fresh_so [] h = cc
 fresh_so (item ∷ T) h = fresh_at item T h
 
 right_if : (at : ℕ) (T : Trace) (p : Parts) (b : Bool) → (is_fresh T && are_resumable p.counts (resumed_records at p.unrecorded p.records)) ≡ b → AreRight (opened_decision at (taken_if b p)).items (shown T)
-right_if at T p true e = (((fresh_so T (left (is_fresh T) _ e), resumable p.counts (resumed_records at p.unrecorded p.records) (right (is_fresh T) _ e)), tt), tt)
+right_if at T p true e = let both = and_parts (is_fresh T) _ e in (((fresh_so T both.0, resumable p.counts (resumed_records at p.unrecorded p.records) both.1), tt), tt)
 right_if at T p false e = tt
 
 -- what is taken over may be
@@ -89,4 +76,4 @@ right_opened at T (Err key) = tt
 pub held_taken : (at : ℕ) (T : Trace) (items : List Item) → is_fresh T ≡ true → AreResumable (split items).counts (resumed_records at (split items).unrecorded (split items).records)
     → opened_decision at (parts_taken at T (Ok items)) ≡ taken_over at (split items)
 held_taken at T items fresh may =
-    ap (λ (b : Bool). opened_decision at (taken_if b (split items))) (both (is_fresh T) _ fresh (by_resumable (split items).counts (resumed_records at (split items).unrecorded (split items).records) may))
+    ap (λ (b : Bool). opened_decision at (taken_if b (split items))) (and_from (is_fresh T) _ fresh (by_resumable (split items).counts (resumed_records at (split items).unrecorded (split items).records) may))

@@ -1,7 +1,8 @@
 -- What is seen by whoever asks, where what is asked is granted.
-use Rattle.std.proofs.Common.{◌≡◌, ◌∙◌, ◌&&◌, ◌||◌, ◌==◌, ◌⊎◌, ℕ, Bool, true, false, not, List, Option, Some, None, Result, Ok, Err, map, take, drop, refl, sym, ap, subst, inl, inr}
+use Rattle.std.proofs.Common.{◌≡◌, ◌∙◌, ◌||◌, ◌==◌, ◌⊎◌, ℕ, Bool, true, false, not, List, Option, Some, None, Result, Ok, Err, map, take, drop, refl, sym, ap, subst, inl, inr}
 use Rattle.std.specs.Result.{result_ok}
 use Rattle.std.specs.Str.{bytes_eq}
+use Rattle.std.proofs.lemmas.Bool.{and_parts}
 use Rattle.std.proofs.lemmas.Slice.Eq.{bytes_eq-Decides}
 use Rattle.ow_names.specs.Path.{home, named, named_in, or_fault}
 use Rattle.ow_names.specs.Name.{first_fault}
@@ -198,16 +199,12 @@ granted_open h rs kind p c n is name_is =
 
 -- ---- rows
 
-pub second : (a b : Bool) → (a && b) ≡ true → b ≡ true
-second true b both = both
-second false b both = cc
-
 pub turned : (xs ys : List ℕ) → bytes_eq xs ys ≡ true → bytes_eq ys xs ≡ true
 turned xs ys same = (bytes_eq-Decides ys xs).1 (sym ((bytes_eq-Decides xs ys).0 same))
 
 stands_visible : (rights : ByText Rights) (here : List ℕ) (rs : List Row) (kind : EntityKind) (r : Row) → may_read rights here ≡ true → stands_in kind here r ≡ true → is_visible rights rs r ≡ true
 stands_visible rights here rs kind r reads stands =
-    let there : here ≡ (name_of r).namespace = (bytes_eq-Decides here (name_of r).namespace).0 (turned (name_of r).namespace here (turned here (name_of r).namespace (second (kind_place kind == kind_place (row_kind r)) _ stands))) in
+    let there : here ≡ (name_of r).namespace = (bytes_eq-Decides here (name_of r).namespace).0 (turned (name_of r).namespace here (turned here (name_of r).namespace (and_parts (kind_place kind == kind_place (row_kind r)) _ stands).1)) in
     visible_own rights rs r (ap (may_read rights) (sym there) ∙ reads)
 
 -- the list of the rows of a namespace that may be read is a list of all rows

@@ -1,5 +1,5 @@
 -- What is seen of the records by whoever asks.
-use Rattle.std.proofs.Common.{◌≡◌, ◌∙◌, ◌&&◌, ◌++◌, ◌+◌, ◌≤◌, ℕ, Bool, true, false, if◌then◌else◌, List, [], ◌∷◌, Option, Some, None, Ok, map, take, drop, reverse, refl, sym, ap, subst, arith}
+use Rattle.std.proofs.Common.{◌≡◌, ◌∙◌, ◌++◌, ◌+◌, ◌≤◌, ℕ, Bool, true, false, if◌then◌else◌, List, [], ◌∷◌, Option, Some, None, Ok, map, take, drop, reverse, refl, sym, ap, subst, arith}
 use Rattle.std.specs.List.{filter, find}
 use Rattle.ow_value.specs.Value.{V, list, items_of}
 use Rattle.ow_records.specs.Id.{same_id}
@@ -10,9 +10,8 @@ use Rattle.ow_records.specs.declared.record.Record.{Record}
 use Rattle.ow_floor.specs.Laws.{IsSound, Stands, times}
 use Rattle.ow_floor.specs.View.{Shown as FloorShown}
 use Rattle.ow_floor.specs.Trace.{Trace, all_records}
-use Rattle.ow_floor.proofs.Alters.{same_id_refl}
 use Rattle.ow_floor.proofs.Firsts.{find_passes}
-use Rattle.ow_floor.proofs.Tallies.{eq_of}
+use Rattle.ow_kept.proofs.Ending.{alike}
 use Rattle.ow_http.specs.Parts.{Parts}
 use Rattle.ow_http.specs.Steps.{◌>>=◌}
 use Rattle.ow_http.specs.declared.route.Part.{Part}
@@ -23,6 +22,7 @@ use Rattle.ow_decide.specs.Asking.{granted_call, shown_done}
 use Rattle.ow_decide.specs.Reading.{id_of, is_recorded, namespace_of, part_value, read_value, recorded, recorded_under}
 use Rattle.ow_decide.specs.Reasons.{not_found}
 use Rattle.ow_names.specs.Path.{home}
+use Rattle.std.proofs.lemmas.Bool.{and_parts}
 use Rattle.std.proofs.lemmas.Slice.Eq.{bytes_eq-Decides}
 use Rattle.ow_tenant.specs.ByText.{ByText}
 use Rattle.ow_tenant.specs.declared.entries.Holder.{Holder}
@@ -32,7 +32,7 @@ use Rattle.ow_decide.specs.Steps.{or_else}
 use Rattle.ow_decide.specs.View.{is_visible_record, may_read, view_of}
 use Rattle.ow_decide.proofs.Filters.{filter_filter, find_filter, find_only_none, find_only_some, not_wider}
 use Rattle.ow_decide.proofs.OnceLaws.{recorded_once}
-use Rattle.ow_decide.proofs.ReadLaws.{granted_right, second, shows}
+use Rattle.ow_decide.proofs.ReadLaws.{granted_right, shows}
 
 -- ---- lists
 
@@ -51,15 +51,12 @@ records_shown S h p c vs granted is = ap (λ (xs : List V). shows (list (items_o
 
 -- ---- one record
 
-same_turned : (a b : Id) → same_id a b ≡ true → same_id b a ≡ true
-same_turned a b same = subst (λ (x : Id). same_id x a ≡ true) (eq_of a b same) (same_id_refl a)
-
 untimed_at : (id : Id) (r : Record) (b : Bool) → is_of_id id r ≡ b → same_id id r.id ≡ b
-untimed_at id r true e = same_turned r.id id e
+untimed_at id r true e = alike r.id id e
 untimed_at id r false e = by_other (same_id id r.id) refl
   where
     by_other : (c : Bool) → same_id id r.id ≡ c → same_id id r.id ≡ false
-    by_other true f = let h = same_turned id r.id f in cc
+    by_other true f = let h = alike id r.id f in cc
     by_other false f = f
 
 -- an id that doesn't stand among the records isn't found
@@ -92,19 +89,15 @@ once_only id q r (x ∷ rs) few found other narrow = by_test (is_of_id id x) ref
         let few' : 0 + times id (map (λ y. y.id) rs) ≤ 1 = rw (untimed_at id x false e) at few in
         rw (not_wider q (is_of_id id) x narrow e) (rest (omega (arith, few')) (rw e at found))
 
-first : (a b : Bool) → (a && b) ≡ true → a ≡ true
-first true b both = refl
-first false b both = cc
-
 abbrev pub in_own : List ℕ → Option Record → Option Record
 in_own here None = None
 in_own here (Some r) = if is_in here r then Some r else None
 
 narrow : (here : List ℕ) (id : Id) (r : Record) → is_recorded here id r ≡ true → is_of_id id r ≡ true
-narrow here id r h = second (is_in here r) (same_id r.id id) h
+narrow here id r h = (and_parts (is_in here r) (same_id r.id id) h).1
 
 placed : (rights : ByText Rights) (here : List ℕ) (id : Id) (r : Record) → may_read rights here ≡ true → is_recorded here id r ≡ true → is_visible_record rights r ≡ true
-placed rights here id r reads h = is_in_visible rights here r reads (first (is_in here r) (same_id r.id id) h)
+placed rights here id r reads h = is_in_visible rights here r reads (and_parts (is_in here r) (same_id r.id id) h).0
 
 by_place : (here : List ℕ) (id : Id) (T : Trace) (r : Record) (b : Bool) → IsSound T → is_in here r ≡ b → find (is_of_id id) (all_records T) ≡ Some r
     → find (is_recorded here id) (all_records T) ≡ in_own here (Some r)

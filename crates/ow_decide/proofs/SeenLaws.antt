@@ -1,10 +1,10 @@
 -- What whoever asks may see of the rows is what stands there, of what is granted.
-use Rattle.std.proofs.Common.{◌≡◌, ◌∙◌, ◌&&◌, ◌||◌, ◌==◌, ◌⊎◌, ℕ, Bool, true, false, if◌then◌else◌, List, [], ◌∷◌, Option, Some, None, IfSome, is_some, option_map, option_and_then, map, Ordering, Less, Equal, Greater, is_eq, refl, sym, ap, subst, inl, inr}
+use Rattle.std.proofs.Common.{◌≡◌, ◌∙◌, ◌||◌, ◌==◌, ◌⊎◌, ℕ, Bool, true, false, if◌then◌else◌, List, [], ◌∷◌, Option, Some, None, IfSome, is_some, option_map, option_and_then, map, Less, refl, sym, ap, subst, inl, inr}
 use Rattle.std.specs.List.{filter, find, list_any, AllByRecursion}
 use Rattle.std.specs.List.Sorted.{IsStrictlySortedBy}
 use Rattle.std.specs.Str.{bytes_eq}
+use Rattle.std.proofs.lemmas.Bool.{and_from, or_left, or_right}
 use Rattle.std.proofs.lemmas.Slice.Eq.{bytes_eq-Decides}
-use Rattle.std.proofs.lemmas.Map.Text.{is_eq-slice_cmp}
 use Rattle.ow_value.specs.Value.{V, text_cmp}
 use Rattle.ow_names.specs.declared.full.FullName.{FullName}
 use Rattle.ow_entity.specs.declared.actions.Action.{Action}
@@ -21,6 +21,7 @@ use Rattle.ow_packages.specs.declared.effective_action.Effective.{Effective}
 use Rattle.ow_tables.specs.Inside.{actions_behind, actions_if, actions_in, is_called, lies_in, lies_under, shown_actions}
 use Rattle.ow_tables.specs.Rows.{AreRows, found, is_row, key, key_of, kind_place, standing, stands_in}
 use Rattle.ow_floor.proofs.Firsts.{find_passes}
+use Rattle.ow_items.proofs.Extent.{same as same_text}
 use Rattle.ow_decide.specs.Named.{AreNamed, IsNamed, IsPackageNamed, bound_name}
 use Rattle.ow_decide.specs.Reading.{action_behind, is_shared_at, row_read, target_of}
 use Rattle.ow_decide.specs.Shown.{shown_row, shown_with}
@@ -33,24 +34,6 @@ use Rattle.ow_decide.proofs.Filters.{filter_filter, find_filter_none}
 
 pub same_bytes : (xs : List ℕ) → bytes_eq xs xs ≡ true
 same_bytes xs = (bytes_eq-Decides xs xs).1 refl
-
-or_left : (a b : Bool) → a ≡ true → (a || b) ≡ true
-or_left a b e = rw e refl
-
-pub or_right : (a b : Bool) → b ≡ true → (a || b) ≡ true
-or_right true b e = refl
-or_right false b e = e
-
-and_both : (a b : Bool) → a ≡ true → b ≡ true → (a && b) ≡ true
-and_both a b e f = rw (e, f) refl
-
-pub cmp_is : (o : Ordering) → is_eq o ≡ true → o ≡ Equal
-cmp_is Less e = cc
-cmp_is Equal e = refl
-cmp_is Greater e = cc
-
-pub cmp_self : (xs : List ℕ) → text_cmp xs xs ≡ Equal
-cmp_self xs = cmp_is _ (is_eq-slice_cmp xs xs ∙ same_bytes xs)
 
 -- ---- what is found among the rows that pass a test
 
@@ -66,7 +49,7 @@ not_less k l less = by_test (bytes_eq k l) refl
     by_test true e =
         let same : k ≡ l = (bytes_eq-Decides k l).0 e in
         let h : text_cmp k k ≡ Less = subst (λ (x : List ℕ). text_cmp k x ≡ Less) (sym same) less in
-        let g = cmp_self k in cc
+        let g = same_text k in cc
     by_test false e = e
 
 absent_behind : (k : List ℕ) (xs : List Row) → AllByRecursion (λ y. text_cmp k y ≡ Less) (map key_of xs) → find (λ r. bytes_eq k (key_of r)) xs ≡ None
@@ -111,7 +94,7 @@ visible_by : (rights : ByText Rights) (rs : List Row) (n : FullName) (p : Packag
     → (belongs_to p.name r || is_bound rs p.name.namespace p.binding r) ≡ true → is_visible rights rs r ≡ true
 unfolding is_visible
 visible_by rights rs n p r is opened shows =
-    or_right (may_read rights (name_of r).namespace) _ (any_of (is_row kinds.Package n) (λ b. is_shown_by rights rs b r) (rows.Package p) rs is (and_both _ _ opened shows))
+    or_right (may_read rights (name_of r).namespace) _ (any_of (is_row kinds.Package n) (λ b. is_shown_by rights rs b r) (rows.Package p) rs is (and_from _ _ opened shows))
 
 visible_inside : (rights : ByText Rights) (rs : List Row) (n : FullName) (p : Package) (r : Row) → found kinds.Package n rs ≡ Some (rows.Package p) → is_open rights p ≡ true
     → belongs_to p.name r ≡ true → is_visible rights rs r ≡ true
@@ -120,7 +103,7 @@ visible_inside rights rs n p r is opened inside = visible_by rights rs n p r is 
 visible_bound : (rights : ByText Rights) (rs : List Row) (n t : FullName) (p : Package) (r : Row) → found kinds.Package n rs ≡ Some (rows.Package p) → is_open rights p ≡ true → p.binding ≡ Some t
     → is_some (reached_package (standing rs) t p.name.namespace) ≡ true → belongs_to t r ≡ true → is_visible rights rs r ≡ true
 visible_bound rights rs n t p r is opened binds reached inside =
-    visible_by rights rs n p r is opened (or_right (belongs_to p.name r) _ (subst (λ (o : Option FullName). is_bound rs p.name.namespace o r ≡ true) (sym binds) (and_both _ _ reached inside)))
+    visible_by rights rs n p r is opened (or_right (belongs_to p.name r) _ (subst (λ (o : Option FullName). is_bound rs p.name.namespace o r ≡ true) (sym binds) (and_from _ _ reached inside)))
 
 -- ---- packages
 
@@ -257,8 +240,8 @@ kind_is kind n r is = let h = (bytes_eq-Decides (key kind n) (key_of r)).0 is in
 -- an action that is called so lies in the package
 lies_so : (m n : FullName) (r : Row) → is_row kinds.Action n r ≡ true → name_of r ≡ n → m.namespace ≡ n.namespace → n.package ≡ Some m.name → lies_in m r ≡ true
 lies_so m n r is named there inside =
-    and_both (stands_in kinds.Action m.namespace r) (lies_under m.name r)
-    (and_both (kind_place kinds.Action == kind_place (kind_of r)) (bytes_eq m.namespace (name_of r).namespace)
+    and_from (stands_in kinds.Action m.namespace r) (lies_under m.name r)
+    (and_from (kind_place kinds.Action == kind_place (kind_of r)) (bytes_eq m.namespace (name_of r).namespace)
     (subst (λ (k : ℕ). (0 == k) ≡ true) (kind_is kinds.Action n r is) refl)
     ((bytes_eq-Decides m.namespace (name_of r).namespace).1 (there ∙ sym (ap (λ (x : FullName). x.namespace) named))))
     (subst (λ (o : Option (List ℕ)). is_called m.name o ≡ true) (sym (ap (λ (x : FullName). x.package) named ∙ inside)) (same_bytes m.name))

@@ -3,7 +3,6 @@ pub mod Shown
 pub mod Sight
 pub mod Steps
 pub mod Reasons
-pub mod Ids
 pub mod View
 pub mod Reading
 pub mod Named

@@ -33,7 +33,7 @@ use Rattle.ow_http.specs.declared.route.Route.{Route}
 use Rattle.ow_http.specs.declared.route.Route.TheVariants as route
 use Rattle.ow_decide.specs.declared.acts.Reading.{Reading}
 use Rattle.ow_decide.specs.declared.acts.Reading.TheVariants.{Namespaces, Rows, Row, Activations, Activation}
-use Rattle.ow_decide.specs.Ids.{id_in}
+use Rattle.ow_records.specs.LowerId.{id_of_lower}
 use Rattle.ow_decide.specs.Reasons.{no_route, not_found, not_granted}
 use Rattle.ow_decide.specs.Shown.{shown_row}
 use Rattle.ow_tenant.specs.Tenants.{name_value}
@@ -138,7 +138,7 @@ recorded_under namespace (Some id) rs = find (is_recorded namespace id) rs
 
 -- the record of the namespace whose id the text is
 abbrev pub recorded : List ℕ → List ℕ → List Record → Option Record
-recorded namespace text rs = recorded_under namespace (id_in text) rs
+recorded namespace text rs = recorded_under namespace (id_of_lower text) rs
 
 abbrev pub part_value : Part → Record → V
 part_value Whole r = record_value r

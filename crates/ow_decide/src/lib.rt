@@ -11,7 +11,6 @@ mod done;
 mod events;
 mod floor_steps;
 mod grants;
-mod ids;
 mod laws;
 mod reads;
 mod reasons;

@@ -24,7 +24,6 @@ use crate::acts::{Act, Reading};
 use crate::askers::home_of;
 use crate::done::Done;
 use crate::grants::{granted_call, namespace_of};
-use crate::ids::id_in;
 use crate::shown::shown_row;
 use ow_entity::{EntityKind, Lookup, Package, Row};
 use ow_floor::Floor;
@@ -297,7 +296,7 @@ fn visible_record<'a>(
     ensures { (T : Trace) → Stands floor.now.now T
         → option_copied result ≡ recorded namespace.now text.now (filter (is_visible_record holder.now.rights) (all_records T)) }
 {
-    match id_in(text) {
+    match Id::of_lower(text) {
         Some(id) => record_of(holder, floor, namespace, id),
         None => None,
     }

@@ -1,17 +1,19 @@
 -- What a call of the hall leaves in the receipts.
-use Rattle.std.proofs.Common.{◌≡◌, ◌∙◌, ℕ, Bool, true, false, [], Err, refl, subst, sym, ap}
+use Rattle.std.proofs.Common.{◌≡◌, ◌∙◌, ℕ, Bool, true, false, [], Result, Err, refl, subst, sym, ap}
 use Rattle.ow_traits.specs.declared.replies.RunReply.{RunReply}
+use Rattle.ow_value.specs.declared.memory.NoMemory.{NoMemory as Want}
 use Rattle.ow_floor.specs.declared.answers.AnswerRefusal.{AnswerRefusal}
 use Rattle.ow_decide.specs.Decision.{commits}
 use Rattle.ow_decide.specs.declared.events.Event.{Event}
 use Rattle.ow_decide.specs.declared.events.Told.{Told}
-use Rattle.ow_hall.specs.Comes.{Answers, Comes, Fails, HallView, KeptRows, Outcome, Wants, at_hall, decided, reply_outcome}
+use Rattle.ow_decide.specs.declared.replies.Reply.{Reply}
+use Rattle.ow_hall.specs.Comes.{Answers, Comes, Fails, HallView, KeptRows, Outcome, Replies, Wants, at_hall, decided, reply_outcome}
 use Rattle.ow_hall.specs.History.{History}
 use Rattle.ow_hall.specs.Performing.{unanswered, undone}
 use Rattle.ow_hall.proofs.KeepLaws.{stays_same}
 use Rattle.ow_desk.specs.declared.standing.Standing.{Standing}
 use Rattle.ow_desk.specs.Desks.{DeskView, IsReceived}
-use Rattle.ow_desk.specs.Notes.{HasNoted, IsStanding, Notes, noted}
+use Rattle.ow_desk.specs.Notes.{IsStanding, Notes, WasCalled, noted}
 
 -- ---- one call
 
@@ -50,25 +52,41 @@ module _ {P : Type 0} (rows : P → KeptRows) (faults : P → ℕ) where
   only_wanted d e at event false n m none is = is
 
   -- one who knows nothing of the hall knows this
-  pub has_noted : (d e : DeskView P) (at : ℕ) (event : Event) (o : Outcome) (n m : Notes) → IsReceived rows faults d e at event o n m → HasNoted event o n m
-  has_noted d e at event o n m is = (d.hall.ledger.entries, at_hall d.hall at, is.notes)
+  pub was_called : (d e : DeskView P) (at : ℕ) (event : Event) (o : Outcome) (n m : Notes) → IsReceived rows faults d e at event o n m → WasCalled at event o n m
+  was_called d e at event (Answers t) n m is = record { table = d.hall.tenants; before = d.hall.ledger.entries; answer_is = is.comes.0; notes = is.notes }
+  was_called d e at event Wants n m is = record { table = d.hall.tenants; before = d.hall.ledger.entries; answer_is = tt; notes = is.notes }
+  was_called d e at event Fails n m is = record { table = d.hall.tenants; before = d.hall.ledger.entries; answer_is = tt; notes = is.notes }
 
-  pub only_noted : (d e : DeskView P) (at : ℕ) (event : Event) (failed : Bool) (n m : Notes) → commits (decided d.hall at event) ≡ []
-      → IsReceived rows faults d e at event (undone failed) n m → HasNoted event Wants n m
-  only_noted d e at event failed n m none is = has_noted d e at event Wants n m (only_wanted d e at event failed n m none is)
+  -- so of a beginning, a loss or a going, which are taken without memory
+  pub taken_called : (h k : HallView P) (at : ℕ) (event : Event) (t told : Told) (n m : Notes) (before : Standing) → Comes rows faults h k at event (Answers t)
+      → IsStanding h.ledger.entries at before → told ≡ t → m ≡ noted h.ledger.entries before.at event (Answers told) n → WasCalled at event (Answers t) n m
+  taken_called h k at event t told n m before comes standing same is = record {
+    table = h.tenants;
+    before = h.ledger.entries;
+    answer_is = comes.0;
+    notes = noted_same h.ledger.entries before.at (at_hall h at) event event told t n n m standing.moment_is refl same refl is;
+  }
 
-  pub fault_noted : (d e : DeskView P) (at : ℕ) (event : Event) (failed : Bool) (n m : Notes) → failed ≡ true
-      → IsReceived rows faults d e at event (undone failed) n m → HasNoted event Fails n m
-  fault_noted d e at event true n m failed is = has_noted d e at event Fails n m is
-  fault_noted d e at event false n m failed is = cc failed
+  pub reply_was_called : (d e : DeskView P) (at : ℕ) (event : Event) (result : Result Reply Want) (n m : Notes) → (o : Outcome) × Replies result o × IsReceived rows faults d e at event o n m
+      → (o : Outcome) × Replies result o × WasCalled at event o n m
+  reply_was_called d e at event result n m x = (x.0, x.1, was_called d e at event x.0 n m x.2)
+
+  pub wanted_called : (d e : DeskView P) (at : ℕ) (event : Event) (failed : Bool) (n m : Notes) → commits (decided d.hall at event) ≡ []
+      → IsReceived rows faults d e at event (undone failed) n m → WasCalled at event Wants n m
+  wanted_called d e at event failed n m none is = was_called d e at event Wants n m (only_wanted d e at event failed n m none is)
+
+  pub fault_called : (d e : DeskView P) (at : ℕ) (event : Event) (failed : Bool) (n m : Notes) → failed ≡ true
+      → IsReceived rows faults d e at event (undone failed) n m → WasCalled at event Fails n m
+  fault_called d e at event true n m failed is = was_called d e at event Fails n m is
+  fault_called d e at event false n m failed is = cc failed
 
 -- a reply that isn't taken hands back what is undone
 same_outcome : (reply : RunReply) (failed : Bool) → reply_outcome (Err (unanswered reply failed)) ≡ undone failed
 same_outcome reply true = refl
 same_outcome reply false = refl
 
-pub reply_noted : {P : Type 0} (rows : P → KeptRows) (faults : P → ℕ) (d e : DeskView P) (at : ℕ) (event : Event) (reply : RunReply) (failed : Bool) (refusal : AnswerRefusal) (n m : Notes)
-    → refusal ≡ unanswered reply failed → IsReceived rows faults d e at event (undone failed) n m → HasNoted event (reply_outcome (Err refusal)) n m
-reply_noted rows faults d e at event reply failed refusal n m same is =
-    subst (λ (o : Outcome). HasNoted event o n m) (sym (ap (λ (r : AnswerRefusal). reply_outcome (Err r)) same ∙ same_outcome reply failed))
-    (has_noted rows faults d e at event (undone failed) n m is)
+pub reply_called : {P : Type 0} (rows : P → KeptRows) (faults : P → ℕ) (d e : DeskView P) (at : ℕ) (event : Event) (reply : RunReply) (failed : Bool) (refusal : AnswerRefusal) (n m : Notes)
+    → refusal ≡ unanswered reply failed → IsReceived rows faults d e at event (undone failed) n m → WasCalled at event (reply_outcome (Err refusal)) n m
+reply_called rows faults d e at event reply failed refusal n m same is =
+    subst (λ (o : Outcome). WasCalled at event o n m) (sym (ap (λ (r : AnswerRefusal). reply_outcome (Err r)) same ∙ same_outcome reply failed))
+    (was_called rows faults d e at event (undone failed) n m is)

@@ -1,5 +1,6 @@
 -- What receipts hold of the calls that were made through them.
-use Rattle.std.specs.Prelude.{◌≡◌, ◌++◌, ℕ, List, [], ◌∷◌, Option, Some, None, length}
+use Rattle.std.specs.Prelude.{◌≡◌, ◌++◌, ℕ, List, [], ◌∷◌, Option, Some, None, IfSome, length}
+use Rattle.ow_tenant.specs.Table.{Table}
 use Rattle.ow_decide.specs.declared.events.Event.{Event}
 use Rattle.ow_decide.specs.declared.events.Event.TheVariants as events
 use Rattle.ow_decide.specs.declared.events.Told.{Told}
@@ -8,7 +9,7 @@ use Rattle.ow_hall.specs.declared.entry.Entry.{Entry}
 use Rattle.ow_hall.specs.declared.posting.Posting.{Posting}
 use Rattle.ow_hall.specs.declared.posting.Posting.TheVariants.{Booked, Quiet, Denied, Unbooked}
 use Rattle.ow_hall.specs.Comes.{Answers, Fails, Outcome, Wants}
-use Rattle.ow_hall.specs.History.{History, counted, is_idle, moment, posting}
+use Rattle.ow_hall.specs.History.{History, answer, counted, is_idle, moment, posting}
 use Rattle.ow_hall.specs.Ledger.{one_more}
 use Rattle.ow_desk.specs.declared.marks.Denial.{Denial}
 use Rattle.ow_desk.specs.declared.marks.Denial.TheVariants as denials
@@ -71,9 +72,23 @@ noted B at event (Answers t) n = noted_as (posting B t) B (record { at = at; eve
 noted B at event Wants n = n
 noted B at event Fails n = record n { marks = n.marks ++ marks.Stored ∷ [] }
 
--- behind some entries, at some moment: all that is known of a call to one who locks the hall for that call alone
-abbrev pub HasNoted : Event → Outcome → Notes → Notes → Type 0
-HasNoted event o n m = (B : History) × (at : ℕ) × (m ≡ noted B at event o n)
+-- what is told is the one answer behind these entries
+abbrev pub IsAnswer : Table → History → ℕ → Event → Outcome → Type 0
+IsAnswer t B at event (Answers told) = told ≡ answer t B at event
+IsAnswer t B at event Wants = Unit {0}
+IsAnswer t B at event Fails = Unit {0}
+
+-- a call of a hall at a moment, behind whatever entries it has, and its receipt: all that is known to one who locks it for that call
+-- alone
+pub record WasCalled (at : ℕ) (event : Event) (o : Outcome) (n m : Notes) : Type 0 where
+  pub table : Table
+  pub before : History
+  pub answer_is : IsAnswer table before (moment before at) event o
+  pub notes : m ≡ noted before (moment before at) event o n
+
+-- a call at the moment of a clock, where the clock tells one
+abbrev pub CalledBy : Option ℕ → Event → Outcome → Notes → Notes → Type 0
+CalledBy tells event o n m = (at : ℕ) × IfSome tells (λ t. at ≡ t) × WasCalled at event o n m
 
 -- ---- where a book stands
 

@@ -4,7 +4,7 @@ ghost use Rattle.ow_decide.specs.declared.events.Event.TheVariants as events;
 ghost use Rattle.ow_hall.specs.Comes.{HandsBack, Outcome, Replies, collect_outcome, done_outcome, drain_outcome, next_outcome, reply_outcome, swept_outcome};
 ghost use Rattle.ow_desk.specs.Desks.{IsReceived};
 ghost use Rattle.ow_desk.specs.Fitting.{Fits};
-ghost use Rattle.ow_desk.specs.Notes.{HasNoted};
+ghost use Rattle.ow_desk.specs.Notes.{WasCalled};
 
 use crate::desk::Desk;
 use crate::receipts::Receipts;
@@ -30,7 +30,8 @@ impl<P: Keeper + Drop> Receipts<P> {
         at: u64,
         request: &Request,
     ) -> Result<Reply, NoMemory>
-        ensures { (o : Outcome) × Replies result o × IsReceived P.rows P.faults desk.old desk.new at (events.Asked request.now) o self.old.notes self.new.notes }
+        ensures received { (o : Outcome) × Replies result o × IsReceived P.rows P.faults desk.old desk.new at (events.Asked request.now) o self.old.notes self.new.notes }
+        ensures called { (o : Outcome) × Replies result o × WasCalled at (events.Asked request.now) o self.old.notes self.new.notes }
     {
         let failed = desk.hall.store_reply(alloc)?;
         let request = Shared::new(alloc, request.copy(alloc)?)?;
@@ -57,7 +58,8 @@ impl<P: Keeper + Drop> Receipts<P> {
         at: u64,
         id: &Id,
     ) -> Result<HallCollected, NoMemory>
-        ensures { IsReceived P.rows P.faults desk.old desk.new at (events.Collected id.now) (collect_outcome result) self.old.notes self.new.notes }
+        ensures received { IsReceived P.rows P.faults desk.old desk.new at (events.Collected id.now) (collect_outcome result) self.old.notes self.new.notes }
+        ensures called { WasCalled at (events.Collected id.now) (collect_outcome result) self.old.notes self.new.notes }
     {
         match self.perform(alloc, desk, at, Event::Collected(*id)) {
             Ok(told) => Ok(collected_in(told)),
@@ -71,7 +73,7 @@ impl<P: Keeper + Drop> Receipts<P> {
     /// What is to be done next, as `Hall::next` answers it. Slots and generations are those that a board of 512 slots takes.
     pub fn next(&mut self, alloc: Global, desk: &mut Desk<P>, at: u64) -> Result<Order, NoMemory>
         ensures received { IsReceived P.rows P.faults desk.old desk.new at events.Next (next_outcome result) self.old.notes self.new.notes }
-        ensures noted { HasNoted events.Next (next_outcome result) self.old.notes self.new.notes }
+        ensures called { WasCalled at events.Next (next_outcome result) self.old.notes self.new.notes }
         ensures fits { IfOk result Fits }
         ensures room { self.old.room ≤ self.new.room + 1 }
     {
@@ -88,7 +90,7 @@ impl<P: Keeper + Drop> Receipts<P> {
     pub fn begun(&mut self, desk: &mut Desk<P>, at: u64, run: u64) -> Result<(), FloorRefusal>
         requires { 1 ≤ self.old.room }
         ensures received { IsReceived P.rows P.faults desk.old desk.new at (events.Begun run) (done_outcome result) self.old.notes self.new.notes }
-        ensures noted { HasNoted (events.Begun run) (done_outcome result) self.old.notes self.new.notes }
+        ensures called { WasCalled at (events.Begun run) (done_outcome result) self.old.notes self.new.notes }
         ensures room { self.old.room ≤ self.new.room + 1 }
     {
         let before = Standing::of(desk.hall.book(), at);
@@ -101,7 +103,7 @@ impl<P: Keeper + Drop> Receipts<P> {
     pub fn lost(&mut self, desk: &mut Desk<P>, at: u64, run: u64) -> Result<(), FloorRefusal>
         requires { 1 ≤ self.old.room }
         ensures received { IsReceived P.rows P.faults desk.old desk.new at (events.Lost run) (done_outcome result) self.old.notes self.new.notes }
-        ensures noted { HasNoted (events.Lost run) (done_outcome result) self.old.notes self.new.notes }
+        ensures called { WasCalled at (events.Lost run) (done_outcome result) self.old.notes self.new.notes }
         ensures room { self.old.room ≤ self.new.room + 1 }
     {
         let before = Standing::of(desk.hall.book(), at);
@@ -120,7 +122,7 @@ impl<P: Keeper + Drop> Receipts<P> {
     ) -> Result<(), FloorRefusal>
         requires { 1 ≤ self.old.room }
         ensures received { IsReceived P.rows P.faults desk.old desk.new at (events.Gone slot generation) (done_outcome result) self.old.notes self.new.notes }
-        ensures noted { HasNoted (events.Gone slot generation) (done_outcome result) self.old.notes self.new.notes }
+        ensures called { WasCalled at (events.Gone slot generation) (done_outcome result) self.old.notes self.new.notes }
         ensures room { self.old.room ≤ self.new.room + 1 }
     {
         let before = Standing::of(desk.hall.book(), at);
@@ -139,7 +141,7 @@ impl<P: Keeper + Drop> Receipts<P> {
         reply: RunReply,
     ) -> Result<Answered, AnswerRefusal>
         ensures received { IsReceived P.rows P.faults desk.old desk.new at (events.Answered run reply) (reply_outcome result) self.old.notes self.new.notes }
-        ensures noted { HasNoted (events.Answered run reply) (reply_outcome result) self.old.notes self.new.notes }
+        ensures called { WasCalled at (events.Answered run reply) (reply_outcome result) self.old.notes self.new.notes }
         ensures back { HandsBack run reply result }
         ensures room { self.old.room ≤ self.new.room + 1 }
     {
@@ -157,7 +159,7 @@ impl<P: Keeper + Drop> Receipts<P> {
         at: u64,
     ) -> Result<Swept, SweepRefusal>
         ensures received { IsReceived P.rows P.faults desk.old desk.new at events.Sweep (swept_outcome result) self.old.notes self.new.notes }
-        ensures noted { HasNoted events.Sweep (swept_outcome result) self.old.notes self.new.notes }
+        ensures called { WasCalled at events.Sweep (swept_outcome result) self.old.notes self.new.notes }
     {
         match self.perform(alloc, desk, at, Event::Sweep) {
             Ok(told) => Ok(swept_in(told)),
@@ -176,7 +178,7 @@ impl<P: Keeper + Drop> Receipts<P> {
     /// Takes no more invocations from now on, as `Hall::drain` does.
     pub fn drain(&mut self, alloc: Global, desk: &mut Desk<P>, at: u64) -> Result<Drain, NoMemory>
         ensures received { IsReceived P.rows P.faults desk.old desk.new at events.Drain (drain_outcome result) self.old.notes self.new.notes }
-        ensures noted { HasNoted events.Drain (drain_outcome result) self.old.notes self.new.notes }
+        ensures called { WasCalled at events.Drain (drain_outcome result) self.old.notes self.new.notes }
     {
         match self.perform(alloc, desk, at, Event::Drain) {
             Ok(told) => Ok(drain_in(told)),

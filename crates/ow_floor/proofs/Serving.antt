@@ -2,7 +2,7 @@
 use Rattle.std.proofs.Common.{◌≡◌, ◌==◌, ◌+◌, ◌≤◌, ◌&&◌, ℕ, zero, suc, Bool, true, false, cond, List, [], ◌∷◌, Option, Some, None, refl, ap, ◌∙◌, arith}
 use Rattle.std.specs.List.{find, slice_get, AllByRecursion}
 use Rattle.std.specs.Prelude.{is_none}
-use Rattle.std.proofs.lemmas.Bool.Decides.{nat_tests}
+use Rattle.std.proofs.lemmas.Bool.{eqb-true}
 use Rattle.std.proofs.lemmas.List.Sums.{sum_by-cons}
 use Rattle.ow_traits.specs.declared.replies.Kind.{Kind}
 use Rattle.ow_slots.specs.declared.keys.Key.{Key}
@@ -186,25 +186,14 @@ answered_apart run alive moment (Busy w) = at w.gone (alive && is_none w.recorde
 answered_apart run alive moment (Idle key last) = refl
 answered_apart run alive moment (Closing m) = refl
 
-eq_of : (a b : ℕ) → (a == b) ≡ true → a ≡ b
-eq_of a b h = grind (arith, nat_tests)
-
 -- a state that is busy with one run is busy with another where that is the same
 busy_one : (run m : ℕ) (s : State) → runs run s ≡ true → runs m s ≡ (run == m)
 busy_one run m Vacant e = cc
 busy_one run m (Opening r k memory) e = cc
 busy_one run m (Prewarmed k memory) e = cc
-busy_one run m (Busy w) e = ap (λ n. n == m) (eq_of w.run run e)
+busy_one run m (Busy w) e = ap (λ n. n == m) (eqb-true w.run run e)
 busy_one run m (Idle key last) e = cc
 busy_one run m (Closing memory) e = cc
-
-pub busy_holds : (run : ℕ) (s : State) → runs run s ≡ true → holds run s ≡ true
-busy_holds run Vacant e = cc
-busy_holds run (Opening r k memory) e = cc
-busy_holds run (Prewarmed k memory) e = cc
-busy_holds run (Busy w) e = e
-busy_holds run (Idle key last) e = cc
-busy_holds run (Closing memory) e = cc
 
 -- ---- how many slots are busy with a run, behind each event
 

@@ -14,6 +14,7 @@ use Rattle.ow_lifecycle.specs.Life as lives
 use Rattle.ow_lifecycle.specs.Life.{Event, Life, slots_of}
 use Rattle.ow_lifecycle.specs.Fitting.{AreFit, IsAny, IsFit, changed}
 use Rattle.ow_lifecycle.proofs.Changing.{begin, changes}
+use Rattle.ow_lifecycle.proofs.Runs.{runs_holds}
 use Rattle.ow_lifecycle.proofs.Standing.{runs_stand}
 use Rattle.ow_floor.specs.declared.answers.Container.{Container}
 use Rattle.ow_floor.specs.declared.runs.Run.{Run}
@@ -24,7 +25,7 @@ use Rattle.ow_floor.specs.Laws.{AreSlotsSound, StandInSlots, bearers, tally}
 use Rattle.ow_floor.proofs.Firsts.{find_passes, remove_none, tally_none, tally_push, tally_removed, tally_some, tally_updated}
 use Rattle.ow_floor.proofs.Numbers.{number_is}
 use Rattle.ow_floor.proofs.Tallies.{one_if}
-use Rattle.ow_floor.proofs.Serving.{busies, busies_answered, busies_begun, busies_emptied, busies_gone, busies_lost, busies_overran, busies_prewarming, busies_ran, busies_removed, busy_found, busy_holds, opening_apart, tally_less, tally_sub}
+use Rattle.ow_floor.proofs.Serving.{busies, busies_answered, busies_begun, busies_emptied, busies_gone, busies_lost, busies_overran, busies_prewarming, busies_ran, busies_removed, busy_found, opening_apart, tally_less, tally_sub}
 
 -- ---- what happened to slots
 
@@ -142,7 +143,7 @@ busy_lost run m T s (Some r) true e found t sound =
     let same = sound.busy m in
     omega (arith, one, sum, left, number, same)
 busy_lost run m T s (Some r) false e found t sound =
-    let less = tally_less (has (holds run)) (has (runs run)) (slots T) s (λ x h. busy_holds run x.state h) e t in
+    let less = tally_less (has (holds run)) (has (runs run)) (slots T) s (λ x h. runs_holds run x.state h) e t in
     let most = held_once T sound run in
     let some = tally_some (is_number run) r (live T) found in
     let same = sound.busy run in
@@ -240,7 +241,7 @@ pub runs_in_slots : (T : Trace) → AreSlotsSound T → StandInSlots T
 runs_in_slots T sound run = (both (live_run T run) (first_with (runs run) (slots T)) refl refl, once)
   where
     once : tally (has (runs run)) (slots T) ≤ 1
-    once = let le = tally_sub (has (holds run)) (has (runs run)) (slots T) (λ x h. busy_holds run x.state h) in let most = held_once T sound run in omega (arith, le, most)
+    once = let le = tally_sub (has (holds run)) (has (runs run)) (slots T) (λ x h. runs_holds run x.state h) in let most = held_once T sound run in omega (arith, le, most)
 
     both : (o : Option Run) (s : Option Slot) → live_run T run ≡ o → first_with (runs run) (slots T) ≡ s → is_some o ≡ is_some s
     both None None e f = refl

@@ -15,6 +15,7 @@ use Rattle.ow_records.specs.declared.ids.Id.{Id}
 use Rattle.ow_records.specs.Id.{same_id}
 use Rattle.ow_records.specs.Records.{id_numbers}
 use Rattle.ow_records.specs.declared.activations.Activation.{Activation}
+use Rattle.ow_records.proofs.Sorting.{is_less}
 use Rattle.ow_floor.specs.declared.activations.Open.{Open}
 use Rattle.ow_floor.specs.declared.by_id.OpenPlace.{OpenPlace}
 use Rattle.ow_floor.specs.View.{same_open}
@@ -135,11 +136,6 @@ covers_sorted (p ∷ ps) P all = all_put P p (sorted_places ps) all.0 (covers_so
 sorted_covers : (ps : List OpenPlace) → Covers (sorted_places ps) ps
 sorted_covers [] P all = tt
 sorted_covers (p ∷ ps) P all = let both = put_all P p (sorted_places ps) all in (both.0, sorted_covers ps P both.1)
-
-is_less : (o : Ordering) → is_lt o ≡ true → o ≡ Less
-is_less Less e = refl
-is_less Equal e = cc
-is_less Greater e = cc
 
 rises_at : (p q : OpenPlace) (qs : List OpenPlace) (b : Bool) → is_lt (place_cmp p q) ≡ b → place_cmp p q ≢ Equal → IsStrictlySortedBy place_cmp (q ∷ qs) → IsStrictlySortedBy place_cmp (put_place p qs)
     → IsStrictlySortedBy place_cmp (cond b (p ∷ q ∷ qs) (q ∷ put_place p qs))

@@ -18,6 +18,7 @@ use Rattle.ow_floor.specs.Laws.{AreSlotsSound, times, IsAmong, loads, bearers, t
 use Rattle.ow_floor.specs.Calls.{drain_answer, AllRecorded}
 use Rattle.ow_floor.proofs.Among.{all_among, known_push, known_more, found_among}
 use Rattle.ow_floor.proofs.Alters.{opens_new, same_id_refl}
+use Rattle.ow_floor.proofs.Apart.{turned}
 use Rattle.ow_floor.proofs.Drawn.{drawn_last, once_put}
 use Rattle.ow_floor.proofs.Firsts.{all_more, all_push, all_removed, all_updated, find_none, tally_fewer, tally_none, tally_push, tally_updated, update_none}
 use Rattle.ow_floor.proofs.Tallies.{one_if, eq_of, times-push, ids_of-started, times-removed, times-split, times_once}
@@ -37,9 +38,6 @@ apart_at x y true n e new old =
     let last : n x.namespace ≡ n y.namespace = ap n same in
     grind (arith, nat_tests)
 apart_at x y false n e new old = rw e refl
-
-turned : (x y : Id) → same_id x y ≡ false → same_id y x ≡ false
-turned x y h = grind (arith, nat_tests)
 
 new_other : (x y : Id) (n : ℕ → ℕ) → x.count ≡ n x.namespace + 1 → y.count ≤ n y.namespace → same_id y x ≡ false
 new_other x y n new old = turned x y (apart_at x y (x.namespace == y.namespace) n refl new old)

@@ -1,7 +1,6 @@
 -- How activations stand behind each item.
-use Rattle.std.proofs.Common.{◌≡◌, ◌≤◌, ℕ, Bool, true, false, cond, List, [], ◌∷◌, Option, Some, None, refl, sym, ap, ◌∙◌, arith, subst}
+use Rattle.std.proofs.Common.{◌≡◌, ◌≤◌, ℕ, Bool, true, false, cond, List, [], ◌∷◌, Option, Some, None, refl, sym, ap, ◌∙◌, subst}
 use Rattle.std.specs.List.{find, AllByRecursion}
-use Rattle.std.proofs.lemmas.Bool.Decides.{nat_tests}
 use Rattle.ow_records.specs.declared.ids.Id.{Id}
 use Rattle.ow_records.specs.Id.{same_id}
 use Rattle.ow_records.specs.declared.activations.Activation.{Activation}
@@ -15,6 +14,7 @@ use Rattle.ow_floor.specs.View.{waits, is_waiting, is_of, is_number, is_end_of, 
 use Rattle.ow_floor.specs.Trace.{Trace, End, Ordered, Begun, Lost, Ended, Reopened, accepted, records, record_of, live, open_items, end_of, carrier, live_run, standing, standing_by, state_by, head}
 use Rattle.ow_floor.specs.Laws.{loads, IsSound}
 use Rattle.ow_floor.proofs.Alters.{opens, but_at, agree, alter, alter_update, alter_remove, opens_same}
+use Rattle.ow_floor.proofs.Apart.{turned}
 use Rattle.ow_floor.proofs.Tallies.{eq_of}
 use Rattle.ow_floor.proofs.Firsts.{none_tail, or_new, find_push, find_other, none_left, remove_none}
 
@@ -41,9 +41,6 @@ is_found p f [] o found = cc
 is_found p f (a ∷ xs) o found = found_here p f a xs o (f a.id) refl (is_found p f xs o) found
 
 -- ---- where nothing is found of an id, what changes that id alone changes nothing
-
-turned : (x y : Id) → same_id x y ≡ false → same_id y x ≡ false
-turned x y h = grind (arith, nat_tests)
 
 same_at : (f g : Id → Option State) (id : Id) (a : Activation) (xs : List Activation) (s : Option State) → f a.id ≡ s
     → ((y : Id) → same_id id y ≡ false → g y ≡ f y) → ((y : Id) → f y ≡ None → g y ≡ f y)

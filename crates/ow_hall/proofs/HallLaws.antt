@@ -49,7 +49,8 @@ use Rattle.ow_traits.specs.Changes.{changed}
 use Rattle.ow_decide.specs.Decision.{commits}
 use Rattle.ow_decide.proofs.KeptLaws.{decided_kept}
 use Rattle.ow_hall.specs.Comes.{HoldsBook, HoldsRows, KeptRows, kept_after, kept_of}
-use Rattle.ow_hall.proofs.KeepLaws.{leaves_commits, quiet_whole, stands_same}
+use Rattle.ow_kept.proofs.Quiet.{stands_same}
+use Rattle.ow_hall.proofs.KeepLaws.{leaves_commits, quiet_whole}
 use Rattle.ow_hall.proofs.NoteLaws.{counted_at, noted_at, quiet_at, seen_up_to}
 
 -- ---- what isn't booked changes nothing
@@ -175,6 +176,20 @@ later_free (events.Collected id) free = refl
 later_free events.Drain free = refl
 later_free events.Reopened free = refl
 
+legal_by : (p : Posting) (t : Table) (L : Ledger) (at : ℕ) (event : Event) (told_is : Told) → posting L.entries told_is ≡ p → IsLegal t L.entries
+    → last_moment L.entries ≤ at → at ≤ greatest_moment → is_opening event ≡ false → told_is ≡ answer t L.entries at event
+    → IsLegal t (posted_as p (record { at = at; event = event; answer = told_is }) L).entries
+legal_by Booked t L at event told_is booked legal late most later same =
+    record { answered = (same, booked, late, most, least_later event at later, legal.answered); opened = opens_so event L.entries _ later ∙ legal.opened }
+legal_by Quiet t L at event told_is booked legal late most later same = legal
+legal_by Denied t L at event told_is booked legal late most later same = legal
+legal_by Unbooked t L at event told_is booked legal late most later same = legal
+
+-- a legal book stays legal where the answer to an event is posted
+pub posted_legal : (t : Table) (L : Ledger) (at : ℕ) (event : Event) (told_is : Told) → IsLegal t L.entries → last_moment L.entries ≤ at → at ≤ greatest_moment → is_opening event ≡ false
+    → told_is ≡ answer t L.entries at event → IsLegal t (posted L at event told_is).entries
+posted_legal t L at event told_is legal late most later same = legal_by (posting L.entries told_is) t L at event told_is refl legal late most later same
+
 left : (t : Table) (L : Ledger) (new : StateView) (at : ℕ) (event : Event) → IsAt new (after (decision t L.entries at event) (seen t L.entries))
     → Leaves (decision t L.entries at event) → IsAt new (seen t L.entries)
 left t L new at event stands leaves =
@@ -188,18 +203,13 @@ left t L new at event stands leaves =
       waits = subst (λ (w : Waits). new.waits ≡ waits_after w s.waits) leaves.2 stands.waits;
     }
 
-post_by : (p : Posting) (t : Table) (L : Ledger) (new : StateView) (at : ℕ) (event : Event) (told_is : Told) → posting L.entries told_is ≡ p → IsLegal t L.entries
-    → last_moment L.entries ≤ at → at ≤ greatest_moment → is_opening event ≡ false → told_is ≡ answer t L.entries at event → new.floor.before ≡ None
-    → IsAt new (after (decision t L.entries at event) (seen t L.entries)) → Unless p (Leaves (decision t L.entries at event))
-    → Keeps new t (posted_as p (record { at = at; event = event; answer = told_is }) L)
-post_by Booked t L new at event told_is booked legal late most later same free stands leaves = record {
-  stands = stands;
-  legal = record { answered = (same, booked, late, most, least_later event at later, legal.answered); opened = opens_so event L.entries _ later ∙ legal.opened };
-  free = free;
-}
-post_by Quiet t L new at event told_is booked legal late most later same free stands leaves = record { stands = left t L new at event stands leaves; legal = legal; free = free }
-post_by Denied t L new at event told_is booked legal late most later same free stands leaves = record { stands = left t L new at event stands leaves; legal = legal; free = free }
-post_by Unbooked t L new at event told_is booked legal late most later same free stands leaves = record { stands = left t L new at event stands leaves; legal = legal; free = free }
+stands_by : (p : Posting) (t : Table) (L : Ledger) (new : StateView) (at : ℕ) (event : Event) (told_is : Told) → IsAt new (after (decision t L.entries at event) (seen t L.entries))
+    → Unless p (Leaves (decision t L.entries at event))
+    → IsAt new (seen t (posted_as p (record { at = at; event = event; answer = told_is }) L).entries)
+stands_by Booked t L new at event told_is stands leaves = stands
+stands_by Quiet t L new at event told_is stands leaves = left t L new at event stands leaves
+stands_by Denied t L new at event told_is stands leaves = left t L new at event stands leaves
+stands_by Unbooked t L new at event told_is stands leaves = left t L new at event stands leaves
 
 -- what a step has that was done, what is committed of it, and what the floor has then
 abbrev pub HasDone : Table → History → ℕ → Event → StateView → Shown → Step → Type 0
@@ -252,8 +262,14 @@ pub answers : (t : Table) (L : Ledger) (old new : StateView) (mid : Shown) (at :
 answers t L old new mid at event step keeps late most later free done floor rows waits counts kept =
     let stands = at_after t L.entries old new mid at event step keeps.stands done floor rows waits counts kept in
     let un = unbooked (is_idle L.entries) (sight t (seen t L.entries) (counted L.entries) at) event in
-    let un' = subst (λ (x : Told). Unless (posting_by (is_idle L.entries) x) (Leaves (decision t L.entries at event))) (sym done.0.told) un in
-    (done.0.told, post_by (posting L.entries step.told) t L new at event step.told refl keeps.legal late most later done.0.told free stands un')
+    let un' = subst (λ (x : Told). Unless (posting_by (is_idle L.entries) x) (Leaves (decision t L.entries at event))) (sym done.0.told) un in (
+      done.0.told,
+      record {
+        stands = stands_by (posting L.entries step.told) t L new at event step.told stands un';
+        legal = posted_legal t L at event step.told keeps.legal late most later done.0.told;
+        free = free;
+      },
+    )
 
 -- a step that was done, settled and made, and is noted then: `mid` is the state behind the step, `put` behind the changes
 pub noted : (t : Table) (L : Ledger) (old mid put new : StateView) (now : Now) (event : Event) (step : Step) (before : ℕ) → Keeps old t L

@@ -18,7 +18,7 @@ use Rattle.ow_floor.specs.declared.activations.Plan.{Plan}
 use Rattle.ow_tables.specs.Contents.{Change}
 use Rattle.ow_kept.specs.Commits.{accept_changes, commits_of, end_changes, row_changes}
 use Rattle.ow_kept.specs.Keeping.{AreLater, CommitView, IsLater, KeepingView, StandsAfter, StandsForKept, keeping_after, with_opened, without_ended}
-use Rattle.ow_kept.proofs.Quiet.{quiet_stands}
+use Rattle.ow_kept.proofs.Quiet.{later_accepted, quiet_stands, stands_same}
 use Rattle.ow_decide.specs.declared.events.Event.{Event}
 use Rattle.ow_decide.specs.declared.events.Event.TheVariants as events
 use Rattle.ow_decide.specs.Decision.{Decision, all_changed, commits}
@@ -26,7 +26,6 @@ use Rattle.ow_decide.specs.Decisions.{decide, is_opening, wants_memory}
 use Rattle.ow_decide.specs.Making.{IsCommit}
 use Rattle.ow_decide.specs.Sight.{Sight}
 use Rattle.ow_decide.proofs.KeptLaws.{IsForm, decided_form}
-use Rattle.ow_decide.proofs.NotedLaws.{later_accepted}
 use Rattle.ow_decide.proofs.SoundLaws.{decided_right}
 use Rattle.ow_tenant.specs.Table.{Table}
 use Rattle.ow_hall.specs.Comes.{Holds, KeptRows, Stays, kept_after}
@@ -62,9 +61,6 @@ stay_resumed S event later =
 
 -- ---- a step commits all that changes
 
-none_accepted : (items : Trace) → AreLater items → accepted items ≡ []
-none_accepted items later = subst (λ (xs : Trace). accepted xs ≡ []) (append-nil items) (later_accepted items [] later)
-
 no_ends : (items : Trace) (changes : List Change) → records items ≡ []
     → commits_of items changes ≡ flat_map accept_changes (map unrecorded_of (accepted items)) ++ flat_map row_changes changes
 no_ends items changes none =
@@ -74,7 +70,7 @@ no_ends items changes none =
 only_ends : (items : Trace) (changes : List Change) → AreLater items → changes ≡ [] → commits_of items changes ≡ flat_map end_changes (records items)
 only_ends items changes later none =
     ap (λ (cs : List Change). flat_map accept_changes (map unrecorded_of (accepted items)) ++ (flat_map row_changes cs ++ flat_map end_changes (records items))) none
-    ∙ ap (λ bs. flat_map accept_changes (map unrecorded_of bs) ++ flat_map end_changes (records items)) (none_accepted items later)
+    ∙ ap (λ bs. flat_map accept_changes (map unrecorded_of bs) ++ flat_map end_changes (records items)) (later_accepted items later)
 
 -- where nothing ends, it is what was committed before
 whole_quiet : (d : Decision) (b : KeepingView) (S : Sight) (commit : Option CommitView) → IsSound S.trace → StandsForKept b S.rows S.trace → AreRight d.items (shown S.trace)
@@ -144,20 +140,6 @@ free_ends S events.Sweep free = cc
 free_ends S (events.Collected id) free = cc
 free_ends S events.Drain free = cc
 free_ends S events.Reopened free = cc
-
-free_later : (event : Event) → wants_memory event ≡ false → is_opening event ≡ false
-free_later (events.Opened rows) free = cc
-free_later (events.Asked r) free = refl
-free_later (events.Called name params) free = refl
-free_later events.Next free = refl
-free_later (events.Begun run) free = refl
-free_later (events.Answered run reply) free = refl
-free_later (events.Lost run) free = refl
-free_later (events.Gone slot generation) free = refl
-free_later events.Sweep free = refl
-free_later (events.Collected id) free = refl
-free_later events.Drain free = refl
-free_later events.Reopened free = refl
 
 -- it commits nothing
 pub quiet_whole : (S : Sight) (event : Event) (b : KeepingView) (commit : Option CommitView) → wants_memory event ≡ false → commit ≡ None → IsSound S.trace
@@ -241,9 +223,6 @@ pub committed : {P : Type 0} (rows : P → KeptRows) (faults : P → ℕ) (commi
 committed rows faults commit changes old new same holds = subst (λ (cs : List StoreChange). Holds rows faults cs old new) same holds
 
 -- more room is no matter
-pub stands_same : (v w : KeepingView) (rs : List Row) (T : Trace) → w.bytes ≡ v.bytes → w.opens ≡ v.opens → StandsForKept v rs T → StandsForKept w rs T
-stands_same v w rs T bytes opens stands = record { bytes = bytes ∙ stands.bytes; opens = opens ∙ stands.opens; ids = stands.ids }
-
 after_same : (c : CommitView) (v w : KeepingView) (rs : List Row) (T : Trace) → w.opens ≡ v.opens → StandsAfter c v rs T → StandsAfter c w rs T
 after_same c v w rs T opens stands = stands_same (keeping_after c v) (keeping_after c w) rs T refl (ap (λ os. without_ended c.ended (with_opened c.opened os)) opens) stands
 

@@ -1,7 +1,7 @@
 pub mod Beginnings
 pub mod KeepLaws
 pub mod OpenLaws
-mod HallLaws
+pub mod HallLaws
 mod Joined
 mod NoteLaws
 mod RoomLaws

@@ -308,12 +308,10 @@ impl<P: Keeper + Drop> Hall<P> {
             counted: self.book.counted(),
             at: self.book.moment(at),
         };
+        let failed = false;
         let before = self.state.ended();
         let Ok(step) = self.state.attempt(alloc, &self.tenants, now, &event) else {
-            return Err(Undone {
-                event,
-                failed: false,
-            });
+            return Err(Undone { event, failed });
         };
         let Ok((copied, kept, bytes)) = prepare(
             alloc,
@@ -324,10 +322,7 @@ impl<P: Keeper + Drop> Hall<P> {
         ) else {
             drop(step);
             self.state.settle(false);
-            return Err(Undone {
-                event,
-                failed: false,
-            });
+            return Err(Undone { event, failed });
         };
         match commit(alloc, &mut self.store, &step.commit) {
             Ok(()) => {}

@@ -9,21 +9,22 @@ use Rattle.ow_floor.specs.declared.answers.RunOrder.{RunOrder}
 use Rattle.ow_decide.specs.declared.events.Event.TheVariants as events
 use Rattle.ow_decide.specs.declared.events.Told.{Told}
 use Rattle.ow_hall.specs.Comes.{Answers, Comes, HallView, KeptRows}
-use Rattle.ow_invoker.specs.Parts.{Books, Carries, EndsBy, Initialised, OpensBy, Performs, Settles, Tells, TellsAll, TwoSteps, UpStarts, both, in_order, listed, reply_of}
+use Rattle.ow_invoker.specs.Parts.{Books, Carries, EndsBy, OpensBy, Performs, Settles, Tells, TellsAll, TwoSteps, both, in_order, listed, reply_of}
+use Rattle.ow_invoker.specs.Readiness.{Initialised, UpStarts}
 use Rattle.ow_invoker.specs.Shelf.{IsLaid, without}
 use Rattle.ow_invoker.specs.Turns.{AreBoth, Chain, Exchange, IsAlone, IsCarriedOut, IsGivenUp, IsOffered, IsStarted, IsUnlaid, LiesBy, Opens, Rests, RunFollows, RunOffers, RunStops, exchange, gone, is_late, is_missing, lost, shelf_at, steps_in, steps_of}
 use Rattle.ow_invoker.specs.declared.readying.Readiness.{Readiness}
-use Rattle.ow_invoker.specs.declared.readying.Readiness.TheVariants.{Early, Missing, NoMemory, Up}
+use Rattle.ow_invoker.specs.declared.readying.Readiness.TheVariants.{Early, NoMemory, NotHad, Up}
 use Rattle.ow_invoker.specs.declared.shelf.Laid.{Laid}
 use Rattle.ow_invoker.specs.declared.turn.TurnStep.{TurnStep}
 use Rattle.ow_invoker.proofs.Running.{refused_from, replied_from, started_from}
 use Rattle.ow_invoker.proofs.Turning.{alone_told, chain_more, opens_so, told_behind}
 
--- of a kind whose containers come up, whatever came of the initialisation
-pub up_started : {B : Type 0} (gives : Giving) (order : RunOrder) (ready : Readiness B) → gives.starts order.kind → UpStarts gives order ready
+-- of a kind that the runner starts, whatever came of the initialisation
+pub up_started : {B S : Type 0} (gives : Giving) (order : RunOrder) (ready : Readiness B S) → gives.starts order.kind → UpStarts gives order ready
 up_started gives order (Up living) k = k
 up_started gives order (Early held reply) k = tt
-up_started gives order Missing k = tt
+up_started gives order (NotHad seen) k = tt
 up_started gives order NoMemory k = tt
 
 opens_from : (f g h : Giving) (a b c : ℕ) (order : RunOrder) (reply : RunReply) (xs : List Exchange) → Steady f g a b → Steady g h b c
@@ -278,8 +279,8 @@ module _ {P B : Type 0} (rows : P → KeptRows) (faults : P → ℕ) where
   performs_from f g h a b c old new at order shelf left (Err e) s t (inr k) = inr (k.0, (k.1.0, (offered_from f g h a b c order k.1.0 shelf k.0 left s t k.1.1.0, k.1.1.1)))
 
 -- a container that was started, and initialised by the next call
-pub initialised_from : {B : Type 0} (f g h : Giving) (a b c : ℕ) (order : RunOrder) (ready : Readiness B) → Steady f g a b → Steady g h b c → Initialised g b c order ready → Initialised f a c order ready
+pub initialised_from : {B S : Type 0} (f g h : Giving) (a b c : ℕ) (order : RunOrder) (ready : Readiness B S) → Steady f g a b → Steady g h b c → Initialised g b c order ready → Initialised f a c order ready
 initialised_from f g h a b c order (Up living) s t k = tt
 initialised_from f g h a b c order (Early held reply) s t k = refused_from order.kind order.code reply s t k
-initialised_from f g h a b c order Missing s t k = k
+initialised_from f g h a b c order (NotHad seen) s t k = k
 initialised_from f g h a b c order NoMemory s t k = tt

@@ -1,3 +1,4 @@
 pub mod Parts
+pub mod Readiness
 pub mod Shelf
 pub mod Turns

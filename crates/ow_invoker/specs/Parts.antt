@@ -13,7 +13,7 @@ use Rattle.ow_hall.specs.Comes.{Answers, Comes, Fails, HallView, KeptRows, Outco
 use Rattle.ow_invoker.specs.Shelf.{IsLaid, without}
 use Rattle.ow_invoker.specs.Turns.{Chain, ChainTo, ChainUndone, Exchange, Follows, IsAlone, IsCarriedOut, IsGivenUp, IsOffered, IsSettled, IsStarted, IsUnlaid, LiesBy, Offers, Stops, exchange, gone, is_late, is_missing, shelf_at, steps_in, steps_of}
 use Rattle.ow_invoker.specs.declared.readying.Readiness.{Readiness}
-use Rattle.ow_invoker.specs.declared.readying.Readiness.TheVariants.{Early, Missing, NoMemory, Up}
+use Rattle.ow_invoker.specs.declared.readying.Readiness.TheVariants.{Early, NoMemory, NotHad, Up}
 use Rattle.ow_invoker.specs.declared.shelf.Laid.{Laid}
 use Rattle.ow_invoker.specs.declared.warming.Warming.{Warming}
 use Rattle.ow_invoker.specs.declared.warming.Warming.TheVariants.{Down, Unheld, Warmed}
@@ -117,25 +117,12 @@ Performs rows faults gives before now old new at order shelf left (Err e) =
 
 -- ---- getting a container up and initialised
 
--- a started container, or one in hand
-abbrev pub Initialised : {B : Type 0} → Giving → ℕ → ℕ → RunOrder → Readiness B → Type 0
-Initialised gives before now order (Up living) = Unit {0}
-Initialised gives before now order (Early held reply) = RefusesCode gives before now order.kind order.code reply
-Initialised gives before now order Missing = ⊥
-Initialised gives before now order NoMemory = Unit {0}
-
--- one that is up is of a kind whose containers come up
-abbrev pub UpStarts : {B : Type 0} → Giving → RunOrder → Readiness B → Type 0
-UpStarts gives order (Up living) = gives.starts order.kind
-UpStarts gives order (Early held reply) = Unit {0}
-UpStarts gives order Missing = Unit {0}
-UpStarts gives order NoMemory = Unit {0}
-
-abbrev pub Readied : {B : Type 0} → Giving → ℕ → ℕ → RunOrder → List (Laid B) → List (Laid B) → Readiness B → Type 0
+-- it is had, and is up, or its code is refused, or memory was wanted behind that; or it doesn't lie there
+abbrev pub Readied : {B : Type 0} → Giving → ℕ → ℕ → RunOrder → List (Laid B) → List (Laid B) → Readiness B (Unit {0}) → Type 0
 Readied gives before now order shelf left (Up living) = (is_missing order shelf ≡ false) × (left ≡ shelf_at order shelf) × IsStarted gives order
 Readied gives before now order shelf left (Early held reply) =
-    (is_missing order shelf ≡ false) × (left ≡ shelf_at order shelf) × Initialised gives before now order (Early held reply)
-Readied gives before now order shelf left Missing = (is_missing order shelf ≡ true) × (left ≡ shelf)
+    (is_missing order shelf ≡ false) × (left ≡ shelf_at order shelf) × RefusesCode gives before now order.kind order.code reply
+Readied gives before now order shelf left (NotHad seen) = (is_missing order shelf ≡ true) × (left ≡ shelf)
 Readied gives before now order shelf left NoMemory = (is_missing order shelf ≡ false) × (left ≡ shelf_at order shelf)
 
 -- ---- orders

@@ -7,21 +7,22 @@ use ow_traits::{RunReply, Runner};
 use ow_value::NoMemory;
 use std::alloc::Global;
 
-/// A container that can't be let go: it is laid down or stopped.
-pub(crate) struct Living<B: Drop> {
-    pub(crate) container: B,
+/// A container that can't be let go: it is laid down, on a shelf or a board, or stopped.
+pub struct Living<B: Drop> {
+    /// What the runner started.
+    pub container: B,
 }
 
 /// Ends the container.
-pub(crate) fn stop<R: Runner>(runner: &mut R, living: Living<R::Container>)
+pub fn stop<R: Runner>(runner: &mut R, living: Living<R::Container>)
     ensures { Steady (R.gives runner.old) (R.gives runner.new) (R.faults runner.old) (R.faults runner.new) }
 {
     let Living { container } = living;
     runner.stop(container);
 }
 
-/// Makes the container ready for the order's code.
-pub(crate) fn init<R: Runner>(
+/// Makes the container ready for the order's code. A reply in place of that is told. After want of memory it is still in hand.
+pub fn init<R: Runner>(
     alloc: Global,
     runner: &mut R,
     living: &mut Living<R::Container>,
@@ -33,8 +34,8 @@ pub(crate) fn init<R: Runner>(
     runner.init(alloc, &mut living.container, order.kind, &order.code)
 }
 
-/// Runs the order in the container.
-pub(crate) fn run<R: Runner>(
+/// Runs the order in the container. After want of memory it is still in hand.
+pub fn run<R: Runner>(
     alloc: Global,
     runner: &mut R,
     living: &mut Living<R::Container>,

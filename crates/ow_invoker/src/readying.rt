@@ -1,6 +1,7 @@
 // How the container of a run comes up.
 ghost use Rattle.ow_traits.specs.Runner.{Steady};
-ghost use Rattle.ow_invoker.specs.Parts.{Initialised, Readied, UpStarts};
+ghost use Rattle.ow_invoker.specs.Readiness.{Initialised, UpStarts};
+ghost use Rattle.ow_invoker.specs.Parts.{Readied};
 
 use crate::living::{Living, init, stop};
 use crate::shelf::Shelf;
@@ -9,15 +10,15 @@ use ow_slots::Start;
 use ow_traits::{RunReply, Runner, Started};
 use std::alloc::Global;
 
-/// How a run came to its container.
-pub(crate) enum Readiness<B: Drop> {
-    // It is up and initialised.
+/// How a run came to its container. What is seen where it should lie is an `S`.
+pub enum Readiness<B: Drop, S> {
+    /// It is up and initialised.
     Up(Living<B>),
-    // It replied before any parameters, and may live.
+    /// It replied before any parameters, and may live.
     Early(Option<Living<B>>, RunReply),
-    // It doesn't lie there.
-    Missing,
-    // Memory was wanted, and the container in hand is stopped.
+    /// It isn't had. This was seen in its place.
+    NotHad(S),
+    /// Memory was wanted, and the container in hand is stopped.
     NoMemory,
 }
 
@@ -27,7 +28,7 @@ pub(crate) fn make_ready<R: Runner>(
     shelf: &mut Shelf<R::Container>,
     runner: &mut R,
     order: &RunOrder,
-) -> Readiness<R::Container>
+) -> Readiness<R::Container, ()>
     ensures runner { Steady (R.gives runner.old) (R.gives runner.new) (R.faults runner.old) (R.faults runner.new) }
     ensures ready { Readied (R.gives runner.old) (R.faults runner.old) (R.faults runner.new) order.now shelf.old shelf.new result }
 {
@@ -35,16 +36,21 @@ pub(crate) fn make_ready<R: Runner>(
         Start::Cold => open(alloc, runner, order),
         Start::Prewarmed => match shelf.take(order.slot, order.generation) {
             Some(living) => initialise(alloc, runner, living, order),
-            None => Readiness::Missing,
+            None => Readiness::NotHad(()),
         },
         Start::Warm => match shelf.take(order.slot, order.generation) {
             Some(living) => Readiness::Up(living),
-            None => Readiness::Missing,
+            None => Readiness::NotHad(()),
         },
     }
 }
 
-fn open<R: Runner>(alloc: Global, runner: &mut R, order: &RunOrder) -> Readiness<R::Container>
+/// Starts the container of a run, and initialises it. For want of memory none is left.
+pub fn open<R: Runner, S>(
+    alloc: Global,
+    runner: &mut R,
+    order: &RunOrder,
+) -> Readiness<R::Container, S>
     ensures runner { Steady (R.gives runner.old) (R.gives runner.new) (R.faults runner.old) (R.faults runner.new) }
     ensures ready { Initialised (R.gives runner.old) (R.faults runner.old) (R.faults runner.new) order.now result }
     ensures started { UpStarts (R.gives runner.old) order.now result }
@@ -56,12 +62,13 @@ fn open<R: Runner>(alloc: Global, runner: &mut R, order: &RunOrder) -> Readiness
     }
 }
 
-fn initialise<R: Runner>(
+/// Initialises a container in hand. For want of memory it is stopped.
+pub fn initialise<R: Runner, S>(
     alloc: Global,
     runner: &mut R,
     mut living: Living<R::Container>,
     order: &RunOrder,
-) -> Readiness<R::Container>
+) -> Readiness<R::Container, S>
     ensures runner { Steady (R.gives runner.old) (R.gives runner.new) (R.faults runner.old) (R.faults runner.new) }
     ensures ready { Initialised (R.gives runner.old) (R.faults runner.old) (R.faults runner.new) order.now result }
 {

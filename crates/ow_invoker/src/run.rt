@@ -31,7 +31,7 @@ pub(crate) fn run<P: Keeper + Drop, R: Runner>(
     match make_ready(alloc, shelf, runner, order) {
         Readiness::Up(living) => perform(alloc, hall, shelf, runner, at, order, living),
         Readiness::Early(held, reply) => settle(alloc, hall, shelf, runner, at, order, reply, held),
-        Readiness::Missing => Ok((lose(hall, at, order.run), None)),
+        Readiness::NotHad(()) => Ok((lose(hall, at, order.run), None)),
         Readiness::NoMemory => {
             drop(give_up(hall, at, order.run, order.slot, order.generation));
             Err(NoMemory)

@@ -6,10 +6,10 @@ ghost use Rattle.ow_items.specs.declared.item.Item.TheVariants as items;
 use crate::done_text::done_text;
 use crate::item::Item;
 use crate::open_text::open_text;
-use crate::writing::{compacted, count_key, entity_key, joined};
+use crate::writing::{count_key, entity_key, joined};
 use ow_entity::{Row, write_entity};
 use ow_records::{Record, Unrecorded};
-use ow_value::{NoMemory, Str};
+use ow_value::{NoMemory, Str, val_text};
 use std::alloc::Global;
 
 /// The key and the text of the item's row.
@@ -53,7 +53,7 @@ pub fn entity_row(alloc: Global, row: &Row) -> Result<(Str, Str), NoMemory>
 {
     let key = entity_key(alloc, row)?;
     let value = write_entity(alloc, row)?;
-    let text = compacted(alloc, &value)?;
+    let text = val_text(alloc, &value)?;
     Ok((key, text))
 }
 

@@ -1,14 +1,12 @@
-// The keys of rows, and the texts of values.
+// The keys of rows.
 ghost use Rattle.std.specs.Prelude.{◌≡◌, ◌++◌, string_bytes, IfOk};
-ghost use Rattle.ow_value.specs.Text.{compact};
-ghost use Rattle.ow_value.specs.View.{view};
 ghost use Rattle.ow_records.specs.Id.{id_text};
 ghost use Rattle.ow_items.specs.Item.{count_key, entity_key, open_key, done_key, row_kind};
 
 use ow_entity::Row;
 use ow_names::full_text;
 use ow_records::Id;
-use ow_value::{NoMemory, Str, Val, write_val};
+use ow_value::{NoMemory, Str};
 use std::alloc::Global;
 
 /// The key of the last count of a namespace.
@@ -63,15 +61,4 @@ pub(crate) fn joined(alloc: Global, a: &str, b: &str) -> Result<Str, NoMemory>
     text.push_str(a)?;
     text.push_str(b)?;
     Str::from_string(text)
-}
-
-/// The text of a value, with no space between its tokens.
-pub(crate) fn compacted(alloc: Global, value: &Val) -> Result<Str, NoMemory>
-    ensures { IfOk result (λ s. s ≡ compact (view value.now)) }
-{
-    let bytes = write_val(alloc, value)?;
-    match String::from_utf8(bytes) {
-        Ok(text) => Str::from_string(text),
-        Err(_) => Err(NoMemory),
-    }
 }

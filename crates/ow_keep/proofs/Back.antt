@@ -1,5 +1,6 @@
 -- What is written of an item reads as the item.
 use Rattle.std.proofs.Common.{◌≡◌, ◌&&◌, ℕ, ◌≤◌, true, nat_le, not, IfSome, Option, Some, None, option_map, option_and_then, refl, ap, ◌∙◌, arith}
+use Rattle.std.proofs.lemmas.Bool.{and_parts, leb-true}
 use Rattle.ow_value.specs.Value.{V, depth}
 use Rattle.ow_value.specs.Json.{IsValue}
 use Rattle.ow_value.specs.Read.{reading}
@@ -33,7 +34,7 @@ use Rattle.ow_keep.specs.Kept.{MayStand}
 use Rattle.ow_keep.specs.Known.{IsItem, IsKnownAction, IsKnownPackage}
 use Rattle.ow_keep.specs.OpenIn.{full_name_of, open_from, open_with}
 use Rattle.ow_items.specs.Sorted.{Entries}
-use Rattle.ow_keep.proofs.Packages.{ands, package_back}
+use Rattle.ow_keep.proofs.Packages.{package_back}
 use Rattle.ow_keep.proofs.Values.{action_is, open_is, package_is, record_is}
 
 -- ---- an activation that has not ended
@@ -63,16 +64,13 @@ action_back a h = λ i. entity_made (version_back a.version h.version i) (reads_
 
 entity_back : (p : Package) → IsKnownPackage p → is_entity (rows.Package p) ≡ true → entity_from kinds.Package p.name (package_value p) ≡ Some (rows.Package p)
 entity_back p h e =
-    let bound = (ands (stands_alone p.name) (is_binding p.name.namespace p.binding) (ands (is_version p.version) (stands_alone p.name && is_binding p.name.namespace p.binding) e).1).1 in
+    let bound = (and_parts (stands_alone p.name) (is_binding p.name.namespace p.binding) (and_parts (is_version p.version) (stands_alone p.name && is_binding p.name.namespace p.binding) e).1).1 in
     λ i. entity_made (version_back p.version h.version i) (package_back p h.notes.rises h.params.rises h.fit_notes h.fit_params h.binding bound i)
 
 -- ---- an item
 
-shallow_at : (d limit : ℕ) → nat_le d limit ≡ true → d ≤ limit
-shallow_at d limit h = grind arith
-
 value_back : (v : V) (limit : ℕ) → IsValue v → nat_le (depth v) limit ≡ true → limit ≤ 127 → value_read (reading limit (compact v)) ≡ Some v
-value_back v limit h d m = ap value_read (reading-compact v limit h (shallow_at (depth v) limit d) m)
+value_back v limit h d m = ap value_read (reading-compact v limit h (leb-true (depth v) limit d) m)
 
 pub item_back : (all : Entries) (i : Item) → IsItem i → MayStand all i → item_from (item_key i) (item_text i) ≡ Some i
 unfolding item_text row_value
@@ -83,7 +81,7 @@ item_back all (Row (rows.Action a)) h s =
     ∙ ap (option_map Row) (action_back a h)
 item_back all (Row (rows.Package p)) h s =
     (λ i. entity_with kinds.Package (full_name_back p.name h.name i) (value_back (package_value p) 100 (package_is p h) s.shallow (omega arith) i))
-    ∙ ap (option_map Row) (entity_back p h (ands (is_entity (rows.Package p)) (not (is_builtin (rows.Package p))) s.allowed).0)
+    ∙ ap (option_map Row) (entity_back p h (and_parts (is_entity (rows.Package p)) (not (is_builtin (rows.Package p))) s.allowed).0)
 item_back all (Open u) h s =
     ap (λ o. option_map Open (option_and_then open_from o)) (value_back (open_value u) 100 (open_is u h) s.shallow (omega arith))
     ∙ ap (option_map Open) (open_back u h)

@@ -1,6 +1,7 @@
 -- No row of an entity that rows hold is there from the start.
-use Rattle.std.proofs.Common.{◌≡◌, List, [], ◌∷◌, Bool, true, false, not, refl, sym, subst}
+use Rattle.std.proofs.Common.{◌≡◌, List, [], ◌∷◌, false, not, sym, subst}
 use Rattle.std.specs.List.{AllByRecursion}
+use Rattle.std.proofs.lemmas.Bool.{and_parts, not-true}
 use Rattle.ow_entity.specs.declared.rows.Row.{Row as EntityRow}
 use Rattle.ow_tables.specs.Builtin.{is_builtin}
 use Rattle.ow_items.specs.Sorted.{Entries}
@@ -9,17 +10,12 @@ use Rattle.ow_items.specs.declared.item.Item.TheVariants.{Version, Count, Row, O
 use Rattle.ow_keep.specs.Allowed.{is_entity}
 use Rattle.ow_keep.specs.Kept.{MayStand}
 use Rattle.ow_keep.specs.Split.{HoldsItems, Parts, split}
-use Rattle.ow_keep.proofs.Packages.{ands}
-
-not_true : (b : Bool) → not b ≡ true → b ≡ false
-not_true true e = cc
-not_true false e = refl
 
 split_free : (all : Entries) (is : List Item) → AllByRecursion (MayStand all) is → AllByRecursion (λ r. is_builtin r ≡ false) (split is).entities
 split_free all [] h = tt
 split_free all (Version ∷ is) h = split_free all is h.1
 split_free all (Count namespace count ∷ is) h = split_free all is h.1
-split_free all (Row r ∷ is) h = (not_true (is_builtin r) (ands (is_entity r) (not (is_builtin r)) h.0.allowed).1, split_free all is h.1)
+split_free all (Row r ∷ is) h = (not-true (is_builtin r) (and_parts (is_entity r) (not (is_builtin r)) h.0.allowed).1, split_free all is h.1)
 split_free all (Open u ∷ is) h = split_free all is h.1
 split_free all (Done r ∷ is) h = split_free all is h.1
 

@@ -2,6 +2,7 @@
 use Rattle.std.proofs.Common.{◌≡◌, ◌≤◌, ◌==◌, ◌&&◌, ℕ, List, [], ◌∷◌, Bool, true, false, cond, nat_le, not, drop, codes, is_some, IfSome, IfOk, Option, Some, None, option_and_then, option_map, Result, Ok, Err, refl, subst, arith}
 use Rattle.std.specs.List.{AllByRecursion}
 use Rattle.std.proofs.Math.Nat.{max-le}
+use Rattle.std.proofs.lemmas.Bool.{and_parts}
 use Rattle.std.proofs.lemmas.Bool.Decides.{nat_tests}
 use Rattle.ow_value.specs.Value.{V}
 use Rattle.ow_value.specs.Decimal.{digits_of}
@@ -32,7 +33,6 @@ use Rattle.ow_keep.specs.Known.{IsItem}
 use Rattle.ow_keep.specs.Moments.{greatest_kept_moment, item_moment}
 use Rattle.ow_keep.specs.OpenIn.{full_name_of, open_from}
 use Rattle.ow_keep.specs.declared.allowed.TheConstants.{GREATEST_MOMENT}
-use Rattle.ow_keep.proofs.Packages.{ands}
 use Rattle.ow_keep.proofs.Whole.{judged-sound}
 
 -- a record ends no earlier than it starts
@@ -51,9 +51,9 @@ item_small all Version may order = omega arith
 item_small all (Count namespace count) may order = omega arith
 item_small all (Row r) may order = omega arith
 item_small all (Open u) may order =
-    small_at u.at (ands (is_moment u.at) (is_called u.cause u.version u.binding) (ands (is_drawn all u.id && not (has_record all u.id)) (is_moment u.at && is_called u.cause u.version u.binding) may.allowed).1).0
+    small_at u.at (and_parts (is_moment u.at) (is_called u.cause u.version u.binding) (and_parts (is_drawn all u.id && not (has_record all u.id)) (is_moment u.at && is_called u.cause u.version u.binding) may.allowed).1).0
 item_small all (Done r) may order =
-    let end = small_at r.span.end (ands (is_moment r.span.end) (is_called r.cause r.version r.notes.binding && are_durations r.notes) (ands (is_drawn all r.id) (is_moment r.span.end && (is_called r.cause r.version r.notes.binding && are_durations r.notes)) may.allowed).1).0 in
+    let end = small_at r.span.end (and_parts (is_moment r.span.end) (is_called r.cause r.version r.notes.binding && are_durations r.notes) (and_parts (is_drawn all r.id) (is_moment r.span.end && (is_called r.cause r.version r.notes.binding && are_durations r.notes)) may.allowed).1).0 in
     max-le (omega (arith, order, end)) end
 
 items_small : (all : Entries) (is : List Item) → AllByRecursion (MayStand all) is → AllByRecursion IsInOrder is → greatest_kept_moment is ≤ GREATEST_MOMENT

@@ -1,7 +1,8 @@
 -- What is written of a package, read again as a body and finished over no row.
-use Rattle.std.proofs.Common.{◌≡◌, ℕ, ◌&&◌, List, [], ◌∷◌, Bool, true, false, not, is_some, IfSome, Option, Some, None, Result, Ok, refl, ap, ◌∙◌}
+use Rattle.std.proofs.Common.{◌≡◌, ℕ, List, [], ◌∷◌, Bool, true, not, is_some, IfSome, Option, Some, None, Result, Ok, refl, ap, ◌∙◌}
 use Rattle.std.specs.Result.{result_err, result_unwrap_or}
 use Rattle.std.specs.Str.{bytes_eq}
+use Rattle.std.proofs.lemmas.Bool.{and_parts}
 use Rattle.std.proofs.lemmas.Slice.Eq.{bytes_eq-Decides}
 use Rattle.ow_value.specs.Value.{Pairs, AreParams}
 use Rattle.ow_names.specs.FullName.{IsFullName}
@@ -38,10 +39,6 @@ named_back here namespace name hs hn e =
     ∙ no_fault name _ hn
     ∙ ap (λ (s : List ℕ). Ok (record { namespace = s; «package» = None; name = name })) e
 
-pub ands : (a b : Bool) → a && b ≡ true → (a ≡ true) × (b ≡ true)
-ands true b e = (refl, e)
-ands false b e = let f : ⊥ = cc in absurd f
-
 in_none : (p : Option (List ℕ)) → not (is_some p) ≡ true → None ≡ p
 in_none None e = refl
 in_none (Some p) e = let f : ⊥ = cc in absurd f
@@ -49,7 +46,7 @@ in_none (Some p) e = let f : ⊥ = cc in absurd f
 binding_back : (here : List ℕ) (o : Option FullName) → IfSome o IsFullName → is_binding here o ≡ true → binding_given here (Some (binding_value o)) ≡ Ok (Some o)
 binding_back here None h e = refl
 binding_back here (Some b) h e =
-    let a = ands (not (is_some b.package)) (bytes_eq (home here b.namespace) b.namespace) e in
+    let a = and_parts (not (is_some b.package)) (bytes_eq (home here b.namespace) b.namespace) e in
     let same : home here b.namespace ≡ b.namespace = (bytes_eq-Decides (home here b.namespace) b.namespace).0 a.1 in
     ap (λ r. result_map Some (result_map Some (or_bad_name r))) (named_back here b.namespace b.name h.namespace h.name same)
     ∙ ap (λ (p : Option (List ℕ)). Ok (Some (Some (record b { «package» = p })))) (in_none b.package a.0)

@@ -1,9 +1,10 @@
 -- What is written of known items has a text.
-use Rattle.std.proofs.Common.{◌≡◌, ℕ, zero, suc, pos, ◌-◌, ◌==◌, nat_lt, ltb-true, ◌<◌, ◌≤◌, ◌^◌, ◌&&◌, List, [], ◌∷◌, ◌++◌, Bool, true, false, map, codes, decimal, IfSome, Option, Some, None, Ordering, Less, Equal, Greater, IsUtf8, refl, sym, subst, arith}
+use Rattle.std.proofs.Common.{◌≡◌, ℕ, zero, suc, pos, ◌-◌, ◌==◌, nat_lt, ltb-true, ◌<◌, ◌≤◌, ◌^◌, ◌&&◌, List, [], ◌∷◌, ◌++◌, Bool, true, false, map, codes, decimal, IfSome, Option, Some, None, Less, IsUtf8, refl, sym, subst, arith}
 use Rattle.std.specs.List.{AllByRecursion}
 use Rattle.std.specs.List.Sorted.{IsStrictlySortedBy}
 use Rattle.std.specs.Map.{keys_of}
 use Rattle.std.specs.Ordering.{is_lt}
+use Rattle.std.proofs.lemmas.Bool.{and_parts}
 use Rattle.std.proofs.lemmas.Fmt.{IsAscii-decimal}
 use Rattle.std.proofs.lemmas.Str.{IsUtf8-append, IsUtf8-from_ascii}
 use Rattle.std.specs.Int.{to_be_bytes, w64}
@@ -14,6 +15,7 @@ use Rattle.hex.proofs.HexLemmas.{IsAscii-encode_with}
 use Rattle.ow_value.specs.Value.{V, Pairs, boolean, whole, text, list, object, items_of, members_of, text_cmp, AreParams}
 use Rattle.ow_value.specs.Field.{pairs_in-members_of}
 use Rattle.ow_value.specs.Json.{IsValue, AreValues, AreMembers, IsObject}
+use Rattle.ow_value.proofs.Objects.{IsValue-object}
 use Rattle.ow_names.specs.FullName.{IsFullName, full_text, local_text}
 use Rattle.ow_names.specs.Name.{IsName}
 use Rattle.ow_names.specs.declared.full.FullName.{FullName}
@@ -39,12 +41,9 @@ use Rattle.ow_records.specs.declared.notes.ExecKind.TheVariants as exec_kinds
 use Rattle.ow_records.specs.declared.notes.Notes.{Notes}
 use Rattle.ow_records.specs.declared.record.Record.{Record}
 use Rattle.ow_records.specs.declared.unrecorded.Unrecorded.{Unrecorded}
+use Rattle.ow_records.proofs.Sorting.{is_less}
 use Rattle.ow_items.specs.Item.{open_members, open_value}
 use Rattle.ow_keep.specs.Known.{IsKnownAction, IsKnownPackage}
-
-ands : (a b : Bool) → a && b ≡ true → (a ≡ true) × (b ≡ true)
-ands true b e = (refl, e)
-ands false b e = let f : ⊥ = cc in absurd f
 
 -- ---- texts that are written out
 
@@ -54,7 +53,7 @@ are_ascii (x ∷ xs) = nat_lt x 128 && are_ascii xs
 
 ascii_by : (s : List ℕ) → are_ascii s ≡ true → IsAscii s
 ascii_by [] e = IsAscii-nil
-ascii_by (x ∷ xs) e = let a = ands (nat_lt x 128) (are_ascii xs) e in IsAscii-cons x xs (ltb-true x 128 a.0) (ascii_by xs a.1)
+ascii_by (x ∷ xs) e = let a = and_parts (nat_lt x 128) (are_ascii xs) e in IsAscii-cons x xs (ltb-true x 128 a.0) (ascii_by xs a.1)
 
 ascii : (s : List ℕ) → are_ascii s ≡ true → IsUtf8 s
 ascii s e = IsUtf8-from_ascii s (ascii_by s e)
@@ -70,28 +69,23 @@ abbrev are_names : List (List ℕ) → Bool
 are_names [] = true
 are_names (k ∷ ks) = (are_ascii k && is_above k ks) && are_names ks
 
-is_Less : (o : Ordering) → is_lt o ≡ true → o ≡ Less
-is_Less Less e = refl
-is_Less Equal e = cc
-is_Less Greater e = cc
-
 above : (k : List ℕ) (ls : List (List ℕ)) → is_above k ls ≡ true → AllByRecursion (λ l. text_cmp k l ≡ Less) ls
 above k [] e = tt
-above k (l ∷ ls) e = let a = ands (is_lt (text_cmp k l)) (is_above k ls) e in (is_Less (text_cmp k l) a.0, above k ls a.1)
+above k (l ∷ ls) e = let a = and_parts (is_lt (text_cmp k l)) (is_above k ls) e in (is_less (text_cmp k l) a.0, above k ls a.1)
 
 rise : (ks : List (List ℕ)) → are_names ks ≡ true → IsStrictlySortedBy text_cmp ks
 unfolding IsStrictlySortedBy
 rise [] e = tt
 rise (k ∷ ks) e =
-    let a = ands (are_ascii k && is_above k ks) (are_names ks) e in
-    let b = ands (are_ascii k) (is_above k ks) a.0 in
+    let a = and_parts (are_ascii k && is_above k ks) (are_names ks) e in
+    let b = and_parts (are_ascii k) (is_above k ks) a.0 in
     (above k ks b.1, rise ks a.1)
 
 members : (ps : Pairs) → are_names (keys_of ps) ≡ true → AllByRecursion (λ p. IsValue p.1) ps → AreMembers (members_of ps)
 members [] e h = tt
 members (p ∷ ps) e h =
-    let a = ands (are_ascii p.0 && is_above p.0 (keys_of ps)) (are_names (keys_of ps)) e in
-    let b = ands (are_ascii p.0) (is_above p.0 (keys_of ps)) a.0 in
+    let a = and_parts (are_ascii p.0 && is_above p.0 (keys_of ps)) (are_names (keys_of ps)) e in
+    let b = and_parts (are_ascii p.0) (is_above p.0 (keys_of ps)) a.0 in
     (ascii p.0 b.0, h.0, members ps a.1 h.1)
 
 is_object : (ps : Pairs) → AreParams ps → AreMembers (members_of ps) → IsValue (object (members_of ps))
@@ -243,16 +237,13 @@ notes_are n h = list_is _
     (mark_notes (codes "topmost") n.topmost (ascii (codes "topmost") refl)))
     (moment_notes (codes "waitTime") n.wait_time (ascii (codes "waitTime") refl) h.wait_time))
 
-result_is : (ps : Pairs) → IsObject ps → IsValue (object (members_of ps))
-result_is ps h = is_object ps h.rises h.values
-
 response_is : (r : ResponseView) → IsResponse r → IsValue (response_value r)
 response_is r h = named (
     (codes "result", object (members_of r.result))
     ∷ (codes "status", text (status_text r.code))
     ∷ (codes "statusCode", whole (pos r.code))
     ∷ (codes "success", boolean (r.code == 0))
-    ∷ []) refl (result_is r.result h.result, (status_utf8 r.code, (small r.code 3 h.code (omega arith), (tt, tt))))
+    ∷ []) refl (IsValue-object r.result h.result, (status_utf8 r.code, (small r.code 3 h.code (omega arith), (tt, tt))))
 
 -- ---- records, and activations that have not ended
 

@@ -2,6 +2,7 @@
 use Rattle.std.proofs.Common.{◌≡◌, ◌≢◌, ℕ, ◌&&◌, List, [], ◌∷◌, Bool, true, false, cond, map, codes, is_some, Option, Some, None, option_and_then, Result, Ok, Err, refl, sym, ap, ◌∙◌, subst, inl, inr}
 use Rattle.std.specs.List.{AllByRecursion}
 use Rattle.std.specs.Str.{bytes_eq}
+use Rattle.std.proofs.lemmas.Bool.{and_parts}
 use Rattle.std.proofs.lemmas.Slice.Eq.{bytes_eq-Decides}
 use Rattle.ow_traits.specs.Rows.{text_of}
 use Rattle.ow_items.specs.Item.{item_key, item_text, item_row}
@@ -15,7 +16,6 @@ use Rattle.ow_items.specs.declared.item.Item.{Item}
 use Rattle.ow_keep.specs.declared.refusal.KeepRefusal.{KeepRefusal}
 use Rattle.ow_keep.specs.declared.refusal.KeepRefusal.TheVariants.{BadKept, NoMemory}
 use Rattle.ow_keep.proofs.Back.{item_back}
-use Rattle.ow_keep.proofs.Packages.{ands}
 
 -- ---- one row
 
@@ -26,9 +26,9 @@ taken false j i e = let f : ⊥ = cc in absurd f
 confirmed_sound : (all : Entries) (r : List ℕ × List ℕ) (j i : Item) → confirmed all r j ≡ Some i → (item_row i ≡ r) × MayStand all i
 confirmed_sound all r j i e =
     let t = taken (is_row_of j r && is_allowed all j) j i e in
-    let a = ands (is_row_of j r) (is_allowed all j) t.0 in
-    let b = ands (bytes_eq (item_key j) r.0) (bytes_eq (item_text j) r.1 && is_shallow j) a.0 in
-    let c = ands (bytes_eq (item_text j) r.1) (is_shallow j) b.1 in
+    let a = and_parts (is_row_of j r) (is_allowed all j) t.0 in
+    let b = and_parts (bytes_eq (item_key j) r.0) (bytes_eq (item_text j) r.1 && is_shallow j) a.0 in
+    let c = and_parts (bytes_eq (item_text j) r.1) (is_shallow j) b.1 in
     let k : item_key j ≡ r.0 = (bytes_eq-Decides (item_key j) r.0).0 b.0 in
     let s : item_text j ≡ r.1 = (bytes_eq-Decides (item_text j) r.1).0 c.0 in
     subst (λ x. (item_row x ≡ r) × MayStand all x) t.1 (λ n. (k n, s n), record { shallow = c.1; allowed = a.1 })

@@ -22,19 +22,13 @@ pub(crate) fn open_from(alloc: Global, value: &Val) -> Result<Option<Unrecorded>
     let Val::Object(fields) = value else {
         return Ok(None);
     };
-    let Some(id) = id_in(fields, "activationId") else {
-        return Ok(None);
-    };
-    let Some(at) = number_in(fields, "at") else {
+    let (Some(id), Some(at)) = (id_in(fields, "activationId"), number_in(fields, "at")) else {
         return Ok(None);
     };
     let Some(binding) = binding_in(alloc, fields)? else {
         return Ok(None);
     };
-    let Some(cause) = cause_in(fields) else {
-        return Ok(None);
-    };
-    let Some(kind) = kind_in(fields, "kind") else {
+    let (Some(cause), Some(kind)) = (cause_in(fields), kind_in(fields, "kind")) else {
         return Ok(None);
     };
     let Some(limits) = limits_in(fields, "limits") else {

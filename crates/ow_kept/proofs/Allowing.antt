@@ -2,7 +2,7 @@
 use Rattle.std.proofs.Common.{◌≡◌, ◌≤◌, ◌&&◌, ℕ, Bool, true, false, cond, List, [], ◌∷◌, ◌++◌, codes, filter, find, map, nat_le, not, is_some, option_and_then, option_map, Option, Some, None, Ordering, Less, Equal, Greater, refl, sym, ap, ◌∙◌, inr, arith}
 use Rattle.std.specs.List.{AllByRecursion, cons_option, filter_map}
 use Rattle.std.specs.Ordering.{match_ordering}
-use Rattle.std.proofs.lemmas.Bool.Decides.{nat_tests}
+use Rattle.std.proofs.lemmas.Bool.{and_from, and_parts, le-leb, leb-true}
 use Rattle.ow_value.specs.Decimal.{digits_of}
 use Rattle.ow_value.specs.Value.{text_cmp}
 use Rattle.ow_value.proofs.KeySearch.{equal_texts}
@@ -14,7 +14,9 @@ use Rattle.ow_floor.specs.Laws.{IsSound, times}
 use Rattle.ow_floor.specs.Trace.{Trace, accepted, accepted_ids, all_records, drawn, last, open_items, open_of as opened, recorded, records, resumed, standing}
 use Rattle.ow_floor.specs.View.{count_or_zero, ids_of, is_in}
 use Rattle.ow_floor.proofs.Alters.{same_id_refl}
+use Rattle.ow_floor.proofs.Apart.{all_both as paired}
 use Rattle.ow_floor.proofs.Drawn.{drawn_last}
+use Rattle.ow_floor.proofs.Firsts.{all_more}
 use Rattle.ow_floor.proofs.Tallies.{times_once}
 use Rattle.ow_items.specs.declared.item.Item.{Item}
 use Rattle.ow_items.specs.declared.item.Item.TheVariants as items
@@ -79,14 +81,6 @@ by_key_all P (i ∷ is) all = put_all P i (by_key is) all.0 (by_key_all P is all
 
 -- ---- for each element
 
-weaken : {X : Type 0} (P Q : X → Type 0) → ((x : X) → P x → Q x) → (xs : List X) → AllByRecursion P xs → AllByRecursion Q xs
-weaken P Q f [] all = tt
-weaken P Q f (x ∷ xs) all = (f x all.0, weaken P Q f xs all.1)
-
-paired : {X : Type 0} (P Q : X → Type 0) (xs : List X) → AllByRecursion P xs → AllByRecursion Q xs → AllByRecursion (λ x. P x × Q x) xs
-paired P Q [] h k = tt
-paired P Q (x ∷ xs) h k = ((h.0, k.0), paired P Q xs h.1 k.1)
-
 first_of : {X : Type 0} (P : X → Type 0) (xs ys : List X) → AllByRecursion P (xs ++ ys) → AllByRecursion P xs
 first_of P [] ys all = tt
 first_of P (x ∷ xs) ys all = (all.0, first_of P xs ys all.1)
@@ -113,22 +107,9 @@ passing p (x ∷ xs) = passing_by p x xs (p x) refl (passing p xs)
 
 -- ---- tests
 
-le_true : (m n : ℕ) → m ≤ n → nat_le m n ≡ true
-le_true m n h = grind (arith, nat_tests)
-
-le_of : (m n : ℕ) → nat_le m n ≡ true → m ≤ n
-le_of m n h = grind (arith, nat_tests)
-
-both_true : (a b : Bool) → a ≡ true → b ≡ true → a && b ≡ true
-both_true a b h k = rw (h, k) refl
-
-behind_true : (a b : Bool) → a && b ≡ true → b ≡ true
-behind_true true b h = h
-behind_true false b h = cc
-
 counted_in : (id : Id) (o : Option Id) → 1 ≤ id.count → id.count ≤ count_or_zero o → is_counted id (option_map (λ (i : Id). i.count) o) ≡ true
 counted_in id None some le = absurd (omega (arith, some, le))
-counted_in id (Some last) some le = both_true (nat_le 1 id.count) (nat_le id.count last.count) (le_true 1 id.count some) (le_true id.count last.count le)
+counted_in id (Some last) some le = and_from (nat_le 1 id.count) (nat_le id.count last.count) (le-leb 1 id.count some) (le-leb id.count last.count le)
 
 -- ---- activations that have not ended
 
@@ -153,7 +134,7 @@ open_all P T (a ∷ xs) all = open_one P a (standing T a.id) (filter_map (λ x. 
 -- ---- what is kept of a sound trace
 
 drawn_of : (id : Id) → IsFit (count_item id) → IsDrawn id
-drawn_of id f = record { is = record { namespace = f.known.0; count = f.known.1 }; drawn = le_of 1 id.count f.fit }
+drawn_of id f = record { is = record { namespace = f.known.0; count = f.known.1 }; drawn = leb-true 1 id.count f.fit }
 
 module _ (rs : List Row) (T : Trace) (sound : IsSound T) (small : AreCountsSmall T) (fit : AreFit rs T) where
   abbrev F : List Row
@@ -181,10 +162,10 @@ module _ (rs : List Row) (T : Trace) (sound : IsSound T) (small : AreCountsSmall
   dones_fit = from_mapped IsFit items.Done (all_records T) (rest_of IsFit (map items.Open (unrecorded T)) (map items.Done (all_records T)) ended_fit)
 
   drawn_ids : AllByRecursion IsDrawn (drawn T)
-  drawn_ids = weaken (λ id. IsFit (count_item id)) IsDrawn drawn_of (drawn T) counts_fit
+  drawn_ids = all_more (λ id. IsFit (count_item id)) IsDrawn (drawn T) drawn_of counts_fit
 
   done_ids : AllByRecursion (λ (r : Record). IsId r.id) (all_records T)
-  done_ids = weaken (λ r. IsFit (items.Done r)) (λ r. IsId r.id) (λ r f. f.known.id) (all_records T) dones_fit
+  done_ids = all_more (λ r. IsFit (items.Done r)) (λ r. IsId r.id) (all_records T) (λ r f. f.known.id) dones_fit
 
   text_there : (q : List ℕ) → text_of q (kept rs T) ≡ text_of q (sections (drawn T) F (unrecorded T) (all_records T))
   unfolding kept
@@ -211,10 +192,10 @@ module _ (rs : List Row) (T : Trace) (sound : IsSound T) (small : AreCountsSmall
   -- ---- each item may stand
 
   count_stands : (id : Id) → IsFit (count_item id) × (id.count ≤ GREATEST_COUNT) → MayStand (kept rs T) (count_item id)
-  count_stands id h = record { shallow = refl; allowed = both_true (nat_le 1 id.count) (nat_le id.count GREATEST_COUNT) h.0.fit (le_true id.count GREATEST_COUNT h.1) }
+  count_stands id h = record { shallow = refl; allowed = and_from (nat_le 1 id.count) (nat_le id.count GREATEST_COUNT) h.0.fit (le-leb id.count GREATEST_COUNT h.1) }
 
   row_stands : (r : Row) → IsFit (items.Row r) × (is_kept r ≡ true) → MayStand (kept rs T) (items.Row r)
-  row_stands r h = record { shallow = h.0.shallow; allowed = both_true (is_entity r) (not (is_builtin r)) h.0.fit h.1 }
+  row_stands r h = record { shallow = h.0.shallow; allowed = and_from (is_entity r) (not (is_builtin r)) h.0.fit h.1 }
 
   open_stands : (u : Unrecorded) → IsFit (items.Open u) × ((1 ≤ times u.id (ids_of (open_items T))) × (u.id.count ≤ last T u.id.namespace)) → MayStand (kept rs T) (items.Open u)
   open_stands u h =
@@ -222,16 +203,16 @@ module _ (rs : List Row) (T : Trace) (sound : IsSound T) (small : AreCountsSmall
       let none = ap not (no_record_there u.id h.0.known.id h.1.0) in
       record {
         shallow = h.0.shallow;
-        allowed = both_true (is_drawn (kept rs T) u.id && not (has_record (kept rs T) u.id)) (is_moment u.at && is_called u.cause u.version u.binding)
-            (both_true (is_drawn (kept rs T) u.id) (not (has_record (kept rs T) u.id)) was_drawn none)
-            (behind_true (nat_le 1 u.id.count) (is_moment u.at && is_called u.cause u.version u.binding) h.0.fit);
+        allowed = and_from (is_drawn (kept rs T) u.id && not (has_record (kept rs T) u.id)) (is_moment u.at && is_called u.cause u.version u.binding)
+            (and_from (is_drawn (kept rs T) u.id) (not (has_record (kept rs T) u.id)) was_drawn none)
+            (and_parts (nat_le 1 u.id.count) (is_moment u.at && is_called u.cause u.version u.binding) h.0.fit).1;
       }
 
   done_stands : (r : Record) → IsFit (items.Done r) × (r.id.count ≤ last T r.id.namespace) → MayStand (kept rs T) (items.Done r)
   done_stands r h = record {
     shallow = h.0.shallow;
-    allowed = both_true (is_drawn (kept rs T) r.id) (is_moment r.span.end && (is_called r.cause r.version r.notes.binding && are_durations r.notes)) (is_drawn_there r.id h.0.known.id (at_least r.id.count _ h.0.fit) h.1)
-        (behind_true (nat_le 1 r.id.count) (is_moment r.span.end && (is_called r.cause r.version r.notes.binding && are_durations r.notes)) h.0.fit);
+    allowed = and_from (is_drawn (kept rs T) r.id) (is_moment r.span.end && (is_called r.cause r.version r.notes.binding && are_durations r.notes)) (is_drawn_there r.id h.0.known.id (at_least r.id.count _ h.0.fit) h.1)
+        (and_parts (nat_le 1 r.id.count) (is_moment r.span.end && (is_called r.cause r.version r.notes.binding && are_durations r.notes)) h.0.fit).1;
   }
 
   -- ---- all may
@@ -246,16 +227,16 @@ module _ (rs : List Row) (T : Trace) (sound : IsSound T) (small : AreCountsSmall
   dones_within = all_both _ (resumed T) (records T) sound.resumed.drawn sound.ended_drawn
 
   opens_stand : AllByRecursion (λ u. MayStand (kept rs T) (items.Open u)) (unrecorded T)
-  opens_stand = weaken _ (λ u. MayStand (kept rs T) (items.Open u)) open_stands (unrecorded T) (paired _ _ (unrecorded T) opens_fit (paired _ _ (unrecorded T) opens_there opens_within))
+  opens_stand = all_more _ (λ u. MayStand (kept rs T) (items.Open u)) (unrecorded T) open_stands (paired _ _ (unrecorded T) opens_fit (paired _ _ (unrecorded T) opens_there opens_within))
 
   dones_stand : AllByRecursion (λ r. MayStand (kept rs T) (items.Done r)) (all_records T)
-  dones_stand = weaken _ (λ r. MayStand (kept rs T) (items.Done r)) done_stands (all_records T) (paired _ _ (all_records T) dones_fit dones_within)
+  dones_stand = all_more _ (λ r. MayStand (kept rs T) (items.Done r)) (all_records T) done_stands (paired _ _ (all_records T) dones_fit dones_within)
 
   all_stand : AllByRecursion (MayStand (kept rs T)) (kept_items rs T)
   all_stand = (
     record { shallow = refl; allowed = refl },
-    all_both _ (map count_item (drawn T)) Behind (to_mapped _ count_item (drawn T) (weaken _ (λ id. MayStand (kept rs T) (count_item id)) count_stands (drawn T) (paired _ _ (drawn T) counts_fit small)))
-        (all_both _ (map items.Row F) (map items.Open (unrecorded T) ++ map items.Done (all_records T)) (to_mapped _ items.Row F (weaken _ (λ r. MayStand (kept rs T) (items.Row r)) row_stands F (paired _ _ F rows_fit (passing is_kept rs))))
+    all_both _ (map count_item (drawn T)) Behind (to_mapped _ count_item (drawn T) (all_more _ (λ id. MayStand (kept rs T) (count_item id)) (drawn T) count_stands (paired _ _ (drawn T) counts_fit small)))
+        (all_both _ (map items.Row F) (map items.Open (unrecorded T) ++ map items.Done (all_records T)) (to_mapped _ items.Row F (all_more _ (λ r. MayStand (kept rs T) (items.Row r)) F row_stands (paired _ _ F rows_fit (passing is_kept rs))))
         (all_both _ (map items.Open (unrecorded T)) (map items.Done (all_records T)) (to_mapped _ items.Open (unrecorded T) opens_stand) (to_mapped _ items.Done (all_records T) dones_stand))),
   )
 
@@ -269,4 +250,4 @@ module _ (rs : List Row) (T : Trace) (sound : IsSound T) (small : AreCountsSmall
 pub kept_allowed : KeptIsAllowed
 kept_allowed rs T sound small fit =
     judged-kept (kept rs T) (by_key (kept_items rs T)) (are_kept rs T sound small fit)
-    (by_key_all IsItem (kept_items rs T) (weaken IsFit IsItem (λ i f. f.known) (kept_items rs T) fit))
+    (by_key_all IsItem (kept_items rs T) (all_more IsFit IsItem (kept_items rs T) (λ i f. f.known) fit))

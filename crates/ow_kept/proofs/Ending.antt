@@ -9,6 +9,7 @@ use Rattle.ow_floor.specs.Laws.{IsApart, IsSound, times}
 use Rattle.ow_floor.specs.Trace.{End, Trace, Ended, accepted, accepted_ids, all_records, drawn, open_items, record_of, recorded, records, resumed}
 use Rattle.ow_floor.specs.View.{ids_of, is_of, remove_first}
 use Rattle.ow_floor.proofs.Alters.{same_id_refl}
+use Rattle.ow_floor.proofs.Apart.{turned}
 use Rattle.ow_floor.proofs.Tallies.{eq_of, times-removed, times_once}
 use Rattle.ow_floor.proofs.Firsts.{find_passes}
 use Rattle.ow_items.specs.declared.item.Item.TheVariants as items
@@ -19,7 +20,7 @@ use Rattle.ow_items.proofs.Lists.{absent, makes_then, put_end}
 use Rattle.ow_kept.specs.Commits.{end_changes, put_of}
 use Rattle.ow_kept.specs.Keeping.{AreIds, bytes_at, open_bytes, row_bytes}
 use Rattle.ow_kept.specs.Kept.{entries, is_kept, kept, unrecorded}
-use Rattle.ow_kept.proofs.Ids.{all_both, kept_ids, lacks_done, lacks_open, nowhere, turned}
+use Rattle.ow_kept.proofs.Ids.{all_both, kept_ids, lacks_done, lacks_open, nowhere}
 use Rattle.ow_kept.proofs.Keys.{open_other}
 use Rattle.ow_kept.proofs.Places.{drop_behind, drop_nothing, dropped}
 use Rattle.ow_kept.proofs.RowLaws.{made_so}

@@ -11,6 +11,7 @@ use Rattle.ow_floor.specs.Growth.{AreRight, IsRight, freed, grown, open_after}
 use Rattle.ow_floor.specs.Laws.{IsSound, times}
 use Rattle.ow_floor.specs.Trace.{End, Item, Trace, Opened, Resumed, Accepted, Ordered, Prewarming, Removed, Begun, Answered, Lost, Gone, Ended, Swept, Drained, Reopened, all_records, drawn, live, open_items, record_of, records, shown}
 use Rattle.ow_floor.specs.View.{Shown, ids_of, is_number, is_of, remove_first, update_first, waits, with_state}
+use Rattle.ow_floor.proofs.Apart.{turned}
 use Rattle.ow_floor.proofs.Soundness.{sound_items}
 use Rattle.ow_floor.proofs.Tallies.{eq_of, times-removed}
 use Rattle.ow_floor.proofs.Firsts.{find_passes}
@@ -24,7 +25,7 @@ use Rattle.ow_kept.specs.Keeping.{AreIds, AreLater, IsDrawn, IsLater, bytes_at, 
 use Rattle.ow_kept.specs.Kept.{entries, is_kept, kept, unrecorded}
 use Rattle.ow_kept.specs.Laws.{EndsAreKept}
 use Rattle.ow_kept.proofs.Ending.{Goes, alike, end_goes, last_one, of_open, stood}
-use Rattle.ow_kept.proofs.Ids.{kept_ids, turned}
+use Rattle.ow_kept.proofs.Ids.{kept_ids}
 use Rattle.ow_kept.proofs.Sections.{entries_are, sections}
 use Rattle.ow_records.specs.declared.ids.Id.{Id}
 use Rattle.ow_records.specs.declared.record.Record.{Record}

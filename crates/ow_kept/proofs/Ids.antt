@@ -17,9 +17,6 @@ use Rattle.ow_records.specs.Id.{same_id}
 use Rattle.ow_records.specs.Known.{IsId}
 use Rattle.ow_records.specs.Unrecorded.{unrecorded_of}
 
-pub turned : (x y : Id) → same_id x y ≡ false → same_id y x ≡ false
-turned x y h = grind (arith, nat_tests)
-
 apart_by : (x y : Id) (b : Bool) (n : ℕ → ℕ) → (x.namespace == y.namespace) ≡ b → x.count ≡ n x.namespace + 1 → y.count ≤ n y.namespace → same_id x y ≡ false
 apart_by x y true n e new old =
     let same : x.namespace ≡ y.namespace = grind (arith, nat_tests) in

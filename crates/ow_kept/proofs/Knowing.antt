@@ -1,20 +1,15 @@
 -- What is kept is known by its parts.
-use Rattle.std.proofs.Common.{◌++◌, Bool, true, false, cond, List, [], ◌∷◌, filter, map}
+use Rattle.std.proofs.Common.{Bool, true, false, cond, List, [], ◌∷◌, filter, map}
 use Rattle.std.specs.List.{AllByRecursion}
 use Rattle.ow_entity.specs.declared.rows.Row.{Row}
 use Rattle.ow_floor.specs.Trace.{Trace, all_records, drawn, open_items}
 use Rattle.ow_floor.specs.declared.activations.Open.{Open}
-use Rattle.ow_items.specs.declared.item.Item.{Item}
 use Rattle.ow_items.specs.declared.item.Item.TheVariants as items
 use Rattle.ow_keep.specs.Known.{IsItem, IsKnownEntity}
 use Rattle.ow_records.specs.Known.{IsId, IsKnown, IsKnownUnrecorded}
 use Rattle.ow_records.specs.Unrecorded.{unrecorded_of}
-use Rattle.ow_records.specs.declared.ids.Id.{Id}
 use Rattle.ow_kept.specs.Kept.{count_item, is_kept, kept_items, unrecorded}
-
-joined : {X : Type 0} (P : X → Type 0) (xs ys : List X) → AllByRecursion P xs → AllByRecursion P ys → AllByRecursion P (xs ++ ys)
-joined P [] ys h k = k
-joined P (x ∷ xs) ys h k = (h.0, joined P xs ys h.1 k)
+use Rattle.ow_kept.proofs.Ids.{all_both}
 
 mapped : {X Y : Type 0} (P : X → Type 0) (Q : Y → Type 0) (f : X → Y) → ((x : X) → P x → Q (f x)) → (xs : List X) → AllByRecursion P xs → AllByRecursion Q (map f xs)
 mapped P Q f one [] h = tt
@@ -34,9 +29,9 @@ pub kept_known : (rs : List Row) (T : Trace) → AllByRecursion IsKnownEntity rs
     → AllByRecursion IsItem (kept_items rs T)
 kept_known rs T rows ids unended records = (
   tt,
-  joined IsItem (map count_item (drawn T)) _ (mapped IsId IsItem count_item (λ id h. (h.namespace, h.count)) (drawn T) ids)
-      (joined IsItem (map items.Row (filter is_kept rs)) _ (mapped IsKnownEntity IsItem items.Row (λ r h. h) (filter is_kept rs) (picked IsKnownEntity is_kept rs rows))
-      (joined IsItem (map items.Open (unrecorded T)) (map items.Done (all_records T))
+  all_both IsItem (map count_item (drawn T)) _ (mapped IsId IsItem count_item (λ id h. (h.namespace, h.count)) (drawn T) ids)
+      (all_both IsItem (map items.Row (filter is_kept rs)) _ (mapped IsKnownEntity IsItem items.Row (λ r h. h) (filter is_kept rs) (picked IsKnownEntity is_kept rs rows))
+      (all_both IsItem (map items.Open (unrecorded T)) (map items.Done (all_records T))
       (mapped IsKnownUnrecorded IsItem items.Open (λ u h. h) (unrecorded T)
       (mapped (λ (o : Open). IsKnownUnrecorded (unrecorded_of o.task)) IsKnownUnrecorded (λ o. unrecorded_of o.task) (λ o h. h) (open_items T) unended))
       (mapped IsKnown IsItem items.Done (λ r h. h) (all_records T) records))),

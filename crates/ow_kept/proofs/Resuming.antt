@@ -1,12 +1,14 @@
 -- A floor may take over what rows hold.
-use Rattle.std.proofs.Common.{◌≡◌, ◌==◌, ◌≤◌, ◌<◌, ◌^◌, ◌&&◌, ℕ, List, [], ◌∷◌, ◌++◌, Bool, true, false, cond, find, map, decimal, is_eq, nat_le, option_and_then, option_map, Option, Some, None, refl, sym, ap, ◌∙◌, subst, arith}
+use Rattle.std.proofs.Common.{◌≡◌, ◌==◌, ◌≤◌, ◌<◌, ◌^◌, ◌&&◌, ℕ, List, [], ◌∷◌, ◌++◌, Bool, true, false, cond, find, map, decimal, is_eq, nat_le, not, option_and_then, option_map, Option, Some, None, refl, sym, ap, ◌∙◌, subst, arith}
 use Rattle.std.specs.List.{AllByRecursion, IsDistinct}
+use Rattle.std.proofs.lemmas.Bool.{and_parts, leb-true}
 use Rattle.std.proofs.lemmas.Bool.Decides.{nat_tests}
 use Rattle.ow_value.specs.Value.{text_cmp}
 use Rattle.ow_value.specs.Decimal.{digits_of}
 use Rattle.ow_traits.specs.Rows.{AreRows, text_of}
 use Rattle.ow_floor.specs.Growth.{AreResumable}
 use Rattle.ow_floor.specs.View.{count_or_zero, is_in, last_of, same_namespace, same_record}
+use Rattle.ow_floor.proofs.Apart.{all_both as paired}
 use Rattle.ow_floor.proofs.Tallies.{eq_of}
 use Rattle.ow_items.specs.Item.{count_key, done_key, item_row, item_text, open_key}
 use Rattle.ow_items.specs.Lists.{Lacks}
@@ -16,7 +18,7 @@ use Rattle.ow_items.specs.declared.item.Item.TheVariants.{Version, Count, Row, O
 use Rattle.ow_items.proofs.Extent.{text_of-rows_of}
 use Rattle.ow_items.proofs.Lists.{absent_kind}
 use Rattle.ow_items.proofs.Parts.{or_text, text_of-append}
-use Rattle.ow_keep.specs.Allowed.{is_counted, is_drawn}
+use Rattle.ow_keep.specs.Allowed.{has_record, is_counted, is_drawn}
 use Rattle.ow_keep.specs.Kept.{AreKept, MayStand}
 use Rattle.ow_keep.specs.Known.{IsItem}
 use Rattle.ow_keep.specs.Split.{HoldsItems, Parts, entries as entries_of, split, version_entries}
@@ -30,7 +32,7 @@ use Rattle.ow_kept.proofs.Opening.{none_recorded, open_apart}
 use Rattle.ow_kept.proofs.Picking.{AreApartBy, apart_picked, counts_picked, dones_picked, each_picked, is_count, is_done, opens_picked, pick_count, pick_done, pick_open}
 use Rattle.ow_kept.proofs.Sections.{both, count_of, done_of, open_of, row_of}
 use Rattle.ow_kept.proofs.Taking.{HaveNoRecord, turn}
-use Rattle.ow_kept.proofs.Weights.{here_by, same_key}
+use Rattle.ow_kept.proofs.Weights.{here_by, or_none, same_key}
 use Rattle.ow_records.specs.declared.ids.Id.{Id}
 use Rattle.ow_records.specs.declared.record.Record.{Record}
 use Rattle.ow_records.specs.declared.unrecorded.Unrecorded.{Unrecorded}
@@ -92,16 +94,8 @@ records_apart at (d ∷ ds) us dones opens new =
 
 -- ---- what was drawn
 
-paired : {X : Type 0} (P Q : X → Type 0) (xs : List X) → AllByRecursion P xs → AllByRecursion Q xs → AllByRecursion (λ x. P x × Q x) xs
-paired P Q [] h k = tt
-paired P Q (x ∷ xs) h k = ((h.0, k.0), paired P Q xs h.1 k.1)
-
-first_true : (a b : Bool) → a && b ≡ true → a ≡ true
-first_true true b e = refl
-first_true false b e = cc
-
 pub at_least : (n : ℕ) (b : Bool) → nat_le 1 n && b ≡ true → 1 ≤ n
-at_least n b e = let h : nat_le 1 n ≡ true = first_true (nat_le 1 n) b e in grind (arith, nat_tests)
+at_least n b e = leb-true 1 n (and_parts (nat_le 1 n) b e).0
 
 drawn_of : (all : Entries) (i : Item) (id : Id) → pick_count i ≡ Some id → MayStand all i × IsItem i → IsDrawn id
 drawn_of all (Count n k) id e h =
@@ -136,10 +130,6 @@ read_by n x xs false e small h rest =
 pub last_read : (n : ℕ) (ids : List Id) → n < 2 ^ 64 → AllByRecursion IsDrawn ids → option_and_then digits_of (text_of (count_key n) (map count_of ids)) ≡ option_map (λ (i : Id). i.count) (find (is_in n) ids)
 last_read n [] small all = refl
 last_read n (x ∷ ids) small all = read_by n x ids (x.namespace == n) refl small all.0 (last_read n ids small all.1)
-
-or_none : (o p : Option (List ℕ)) → p ≡ None → or_text o p ≡ o
-or_none None p e = e
-or_none (Some t) p e = refl
 
 no_version : (n : ℕ) (b : Bool) → text_of (count_key n) (version_entries b) ≡ None
 no_version n true = refl
@@ -180,7 +170,7 @@ module _ (is : List Item) (sorted : AreRows (map item_row is)) (drawn : AllByRec
   open_within : (i : Item) (u : Unrecorded) → pick_open i ≡ Some u → MayStand (map item_row is) i × IsItem i → Within u.id
   open_within (Open v) u e h =
       let same : v ≡ u = cc in
-      subst (λ (x : Unrecorded). Within x.id) same (id_within is v.id sorted drawn h.1.id (first_true (is_drawn (map item_row is) v.id) _ (first_true _ _ h.0.allowed)))
+      subst (λ (x : Unrecorded). Within x.id) same (id_within is v.id sorted drawn h.1.id (and_parts (is_drawn (map item_row is) v.id) _ (and_parts (is_drawn (map item_row is) v.id && not (has_record (map item_row is) v.id)) _ h.0.allowed).0).0)
   open_within Version u e h = cc
   open_within (Count n c) u e h = cc
   open_within (Row r) u e h = cc
@@ -189,7 +179,7 @@ module _ (is : List Item) (sorted : AreRows (map item_row is)) (drawn : AllByRec
   done_within : (i : Item) (r : Record) → pick_done i ≡ Some r → MayStand (map item_row is) i × IsItem i → Within r.id
   done_within (Done d) r e h =
       let same : d ≡ r = cc in
-      subst (λ (x : Record). Within x.id) same (id_within is d.id sorted drawn h.1.id (first_true (is_drawn (map item_row is) d.id) _ h.0.allowed))
+      subst (λ (x : Record). Within x.id) same (id_within is d.id sorted drawn h.1.id (and_parts (is_drawn (map item_row is) d.id) _ h.0.allowed).0)
   done_within Version r e h = cc
   done_within (Count n c) r e h = cc
   done_within (Row x) r e h = cc

@@ -29,12 +29,6 @@ use Rattle.ow_records.specs.declared.unrecorded.Unrecorded.{Unrecorded}
 use Rattle.ow_floor.specs.Trace.{End, record_of}
 use Rattle.ow_items.specs.declared.item.Item.TheVariants as items
 use Rattle.ow_keep.specs.Allowed.{is_shallow}
-use Rattle.ow_keep.proofs.Opens.{opens_shallow as shallow_open}
-
--- ---- of activations that have not ended
-
-pub opens_shallow : (u : Unrecorded) → is_shallow (items.Open u) ≡ true
-opens_shallow u = shallow_open u
 
 -- ---- of notes and lines
 

@@ -8,6 +8,7 @@ use Rattle.ow_entity.specs.Row.{kind_of, name_of}
 use Rattle.ow_traits.specs.Rows.{text_of, with_row, without}
 use Rattle.ow_traits.specs.declared.change_list.Change.TheVariants.{Put, Drop as Dropped}
 use Rattle.ow_floor.specs.View.{count_or_zero, is_in, last_of}
+use Rattle.ow_floor.proofs.Apart.{turned}
 use Rattle.ow_floor.proofs.Tallies.{eq_of}
 use Rattle.ow_items.specs.declared.item.Item.TheVariants as items
 use Rattle.ow_items.specs.Bytes.{bytes_of, weight, weight_at}
@@ -20,7 +21,6 @@ use Rattle.ow_items.proofs.Parts.{or_text, text_of-append}
 use Rattle.ow_kept.specs.Keeping.{IsDrawn, bytes_at, last_bytes, old_bytes, open_bytes, row_bytes}
 use Rattle.ow_kept.specs.Kept.{is_kept}
 use Rattle.ow_kept.proofs.Keys.{count_other, open_other, turned_eq}
-use Rattle.ow_kept.proofs.Ids.{turned}
 use Rattle.ow_kept.proofs.Sections.{both, count_of, done_no_count, done_no_open, done_no_row, done_of, id_no_count, id_no_done, id_no_row, open_of, row_no_count, row_no_done, row_no_open, row_of, sections, version}
 use Rattle.ow_kept.proofs.TableRows.{equal_by, is_place, kept_alike, other_by, places_are}
 use Rattle.ow_records.specs.declared.ids.Id.{Id}
@@ -44,7 +44,7 @@ drop_bytes key old new h =
 
 -- ---- what stands at a key
 
-or_none : (o p : Option (List ℕ)) → p ≡ None → or_text o p ≡ o
+pub or_none : (o p : Option (List ℕ)) → p ≡ None → or_text o p ≡ o
 or_none None p e = e
 or_none (Some t) p e = refl
 

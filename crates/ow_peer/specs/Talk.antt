@@ -23,10 +23,6 @@ use Rattle.ow_peer.specs.Answered.{AnsweredBy, Unanswered}
 abbrev pub refused : HttpRefusal → Answer
 refused e = refusal_of (reasons.Http e)
 
--- the request at the front of the bytes is answered
-abbrev pub AnswersFront : List ℕ → Notes → Notes → Bool → Answer → Type 0
-AnswersFront bytes n m close answer = (request : Request) × IsRead bytes (Ok request) × (request.close ≡ close) × AnsweredBy request answer n m
-
 -- what came is no request, and the hall isn't asked
 abbrev pub RefusesFront : List ℕ → Notes → Notes → Answer → Type 0
 RefusesFront bytes n m answer = (e : HttpRefusal) × IsRead bytes (Err e) × (e ≢ https.CutShort) × (m ≡ n) × (answer ≡ refused e)
@@ -35,76 +31,83 @@ RefusesFront bytes n m answer = (e : HttpRefusal) × IsRead bytes (Err e) × (e 
 abbrev pub TellsCut : List ℕ → Option (List ℕ) → Notes → Notes → Answer → Type 0
 TellsCut bytes left n m answer = IsRead bytes (Err https.CutShort) × (bytes ≢ []) × IsAtEnd left × (m ≡ n) × (answer ≡ refused https.CutShort)
 
--- memory was wanted for a request, before its answer or for its reply
-abbrev pub IsWanting : Request → Notes → Notes → Type 0
-IsWanting request n m = Unanswered request n m ⊎ ((answer : Answer) × AnsweredBy request answer n m)
-
--- or for something else
-abbrev pub IsWant : List ℕ → Notes → Notes → Type 0
-IsWant bytes n m = (m ≡ n) ⊎ ((request : Request) × IsRead bytes (Ok request) × IsWanting request n m)
-
--- ---- the ending
-
--- behind all exchanges, by the bytes that no request was made of, and what the link took since
-abbrev pub EndsBy : List ℕ → Option (List ℕ) → Option (List ℕ) → Option (List ℕ) → Notes → Notes → Ending → Type 0
-EndsBy bytes left old new n m endings.Ended = (bytes ≡ []) × IsAtEnd left × (m ≡ n) × (new ≡ old)
-EndsBy bytes left old new n m endings.CutShort = (answer : Answer) × TellsCut bytes left n m answer × Takes old new (reply_bytes answer)
-EndsBy bytes left old new n m endings.Closed =
-    (answer : Answer) × (AnswersFront bytes n m true answer ⊎ RefusesFront bytes n m answer) × Takes old new (reply_bytes answer)
-EndsBy bytes left old new n m endings.ReadFault = IsRead bytes (Err https.CutShort) × (m ≡ n) × (new ≡ old)
-EndsBy bytes left old new n m endings.WriteFault =
-    (answer : Answer) × (((close : Bool) × AnswersFront bytes n m close answer) ⊎ (RefusesFront bytes n m answer ⊎ (TellsCut bytes left n m answer ⊎ (IsWant bytes n m × (answer ≡ refused https.NoMemory)))))
-    × TakesFront old new (reply_bytes answer)
-EndsBy bytes left old new n m endings.NoMemory = IsWant bytes n m × ((new ≡ old) ⊎ Takes old new (reply_bytes (refused https.NoMemory)))
-
--- ---- the whole
-
+-- a request, and the answer to it
 pub record Exchange : Type 0 where
   pub request : Request
   pub answer : Answer
 
--- requests that the bytes begin with, each answered behind the one before, with what was written
-abbrev pub Chats : List Exchange → List ℕ → List ℕ → Notes → Notes → List ℕ → Type 0
-Chats [] bytes rest n m written = (rest ≡ bytes) × (m ≡ n) × (written ≡ [])
-Chats (x ∷ xs) bytes rest n m written = IsRead bytes (Ok x.request) × (x.request.close ≡ false)
-    × ((middle : Notes) × (more : List ℕ) × AnsweredBy x.request x.answer n middle × (written ≡ reply_bytes x.answer ++ more)
-    × Chats xs (drop x.request.size bytes) rest middle m more)
+-- all calls of the hall are at the clock's moment, where it tells one
+module _ (tells : Option ℕ) where
+  -- the request at the front of the bytes is answered
+  abbrev pub AnswersFront : List ℕ → Notes → Notes → Bool → Answer → Type 0
+  AnswersFront bytes n m close answer = (request : Request) × IsRead bytes (Ok request) × (request.close ≡ close) × AnsweredBy tells request answer n m
 
--- the bytes that came of the peer, the exchanges, and the ending
-pub record Talks (left_old left_new taken_old taken_new : Option (List ℕ)) (n m : Notes) (ending : Ending) : Type 0 where
-  pub heard : List ℕ
-  pub gives : Gives left_old left_new heard
-  pub exchanges : List Exchange
-  pub rest : List ℕ
-  pub middle : Notes
-  pub written : List ℕ
-  pub chats : Chats exchanges heard rest n middle written
-  pub before : Option (List ℕ)
-  pub takes : Takes taken_old before written
-  pub ends : EndsBy rest left_new before taken_new middle m ending
+  -- memory was wanted for a request, before its answer or for its reply
+  abbrev pub IsWanting : Request → Notes → Notes → Type 0
+  IsWanting request n m = Unanswered tells request n m ⊎ ((answer : Answer) × AnsweredBy tells request answer n m)
 
--- ---- for private clauses: one exchange
+  -- or for something else
+  abbrev pub IsWant : List ℕ → Notes → Notes → Type 0
+  IsWant bytes n m = (m ≡ n) ⊎ ((request : Request) × IsRead bytes (Ok request) × IsWanting request n m)
 
--- some bytes come behind those that are held, the request at their front is answered, and the link takes the reply
-pub record GoesOn (left_old left_new taken_old taken_new : Option (List ℕ)) (held now : List ℕ) (n m : Notes) : Type 0 where
-  pub came : List ℕ
-  pub gives : Gives left_old left_new came
-  pub request : Request
-  pub reads : IsRead (held ++ came) (Ok request)
-  pub rest : now ≡ drop request.size (held ++ came)
-  pub stays : request.close ≡ false
-  pub answer : Answer
-  pub answered : AnsweredBy request answer n m
-  pub takes : Takes taken_old taken_new (reply_bytes answer)
+  -- ---- the ending
 
-pub record Stops (left_old left_new taken_old taken_new : Option (List ℕ)) (held : List ℕ) (n m : Notes) (ending : Ending) : Type 0 where
-  pub came : List ℕ
-  pub gives : Gives left_old left_new came
-  pub ends : EndsBy (held ++ came) left_new taken_old taken_new n m ending
+  -- behind all exchanges, by the bytes that no request was made of, and what the link took since
+  abbrev pub EndsBy : List ℕ → Option (List ℕ) → Option (List ℕ) → Option (List ℕ) → Notes → Notes → Ending → Type 0
+  EndsBy bytes left old new n m endings.Ended = (bytes ≡ []) × IsAtEnd left × (m ≡ n) × (new ≡ old)
+  EndsBy bytes left old new n m endings.CutShort = (answer : Answer) × TellsCut bytes left n m answer × Takes old new (reply_bytes answer)
+  EndsBy bytes left old new n m endings.Closed =
+      (answer : Answer) × (AnswersFront bytes n m true answer ⊎ RefusesFront bytes n m answer) × Takes old new (reply_bytes answer)
+  EndsBy bytes left old new n m endings.ReadFault = IsRead bytes (Err https.CutShort) × (m ≡ n) × (new ≡ old)
+  EndsBy bytes left old new n m endings.WriteFault =
+      (answer : Answer) × (((close : Bool) × AnswersFront bytes n m close answer) ⊎ (RefusesFront bytes n m answer ⊎ (TellsCut bytes left n m answer ⊎ (IsWant bytes n m × (answer ≡ refused https.NoMemory)))))
+      × TakesFront old new (reply_bytes answer)
+  EndsBy bytes left old new n m endings.NoMemory = IsWant bytes n m × ((new ≡ old) ⊎ Takes old new (reply_bytes (refused https.NoMemory)))
 
-abbrev pub Exchanges : Option (List ℕ) → Option (List ℕ) → Option (List ℕ) → Option (List ℕ) → List ℕ → List ℕ → Notes → Notes → Option Ending → Type 0
-Exchanges left_old left_new taken_old taken_new held now n m None = GoesOn left_old left_new taken_old taken_new held now n m
-Exchanges left_old left_new taken_old taken_new held now n m (Some ending) = Stops left_old left_new taken_old taken_new held n m ending
+  -- ---- the whole
+
+  -- requests that the bytes begin with, each answered behind the one before, with what was written
+  abbrev pub Chats : List Exchange → List ℕ → List ℕ → Notes → Notes → List ℕ → Type 0
+  Chats [] bytes rest n m written = (rest ≡ bytes) × (m ≡ n) × (written ≡ [])
+  Chats (x ∷ xs) bytes rest n m written = IsRead bytes (Ok x.request) × (x.request.close ≡ false)
+      × ((middle : Notes) × (more : List ℕ) × AnsweredBy tells x.request x.answer n middle × (written ≡ reply_bytes x.answer ++ more)
+      × Chats xs (drop x.request.size bytes) rest middle m more)
+
+  -- the bytes that came of the peer, the exchanges, and the ending
+  pub record Talks (left_old left_new taken_old taken_new : Option (List ℕ)) (n m : Notes) (ending : Ending) : Type 0 where
+    pub heard : List ℕ
+    pub gives : Gives left_old left_new heard
+    pub exchanges : List Exchange
+    pub rest : List ℕ
+    pub middle : Notes
+    pub written : List ℕ
+    pub chats : Chats exchanges heard rest n middle written
+    pub before : Option (List ℕ)
+    pub takes : Takes taken_old before written
+    pub ends : EndsBy rest left_new before taken_new middle m ending
+
+  -- ---- for private clauses: one exchange
+
+  -- some bytes come behind those that are held, the request at their front is answered, and the link takes the reply
+  pub record GoesOn (left_old left_new taken_old taken_new : Option (List ℕ)) (held now : List ℕ) (n m : Notes) : Type 0 where
+    pub came : List ℕ
+    pub gives : Gives left_old left_new came
+    pub request : Request
+    pub reads : IsRead (held ++ came) (Ok request)
+    pub rest : now ≡ drop request.size (held ++ came)
+    pub stays : request.close ≡ false
+    pub answer : Answer
+    pub answered : AnsweredBy tells request answer n m
+    pub takes : Takes taken_old taken_new (reply_bytes answer)
+
+  pub record Stops (left_old left_new taken_old taken_new : Option (List ℕ)) (held : List ℕ) (n m : Notes) (ending : Ending) : Type 0 where
+    pub came : List ℕ
+    pub gives : Gives left_old left_new came
+    pub ends : EndsBy (held ++ came) left_new taken_old taken_new n m ending
+
+  abbrev pub Exchanges : Option (List ℕ) → Option (List ℕ) → Option (List ℕ) → Option (List ℕ) → List ℕ → List ℕ → Notes → Notes → Option Ending → Type 0
+  Exchanges left_old left_new taken_old taken_new held now n m None = GoesOn left_old left_new taken_old taken_new held now n m
+  Exchanges left_old left_new taken_old taken_new held now n m (Some ending) = Stops left_old left_new taken_old taken_new held n m ending
 
 -- ---- for private clauses: parts of an exchange
 
@@ -129,11 +132,12 @@ RepliesWith old new answer close (Some endings.WriteFault) =
 RepliesWith old new answer close (Some endings.NoMemory) = (new ≡ old) ⊎ Takes old new (reply_bytes (refused https.NoMemory))
 RepliesWith old new answer close (Some ending) = ⊥
 
--- a request is answered and replied to
-abbrev pub Serves : Option (List ℕ) → Option (List ℕ) → Request → Notes → Notes → Option Ending → Type 0
-Serves old new request n m None = (request.close ≡ false) × ((answer : Answer) × AnsweredBy request answer n m × Takes old new (reply_bytes answer))
-Serves old new request n m (Some endings.Closed) = (request.close ≡ true) × ((answer : Answer) × AnsweredBy request answer n m × Takes old new (reply_bytes answer))
-Serves old new request n m (Some endings.WriteFault) = (answer : Answer)
-    × (AnsweredBy request answer n m ⊎ (IsWanting request n m × (answer ≡ refused https.NoMemory))) × TakesFront old new (reply_bytes answer)
-Serves old new request n m (Some endings.NoMemory) = IsWanting request n m × ((new ≡ old) ⊎ Takes old new (reply_bytes (refused https.NoMemory)))
-Serves old new request n m (Some ending) = ⊥
+module _ (tells : Option ℕ) where
+  -- a request is answered and replied to
+  abbrev pub Serves : Option (List ℕ) → Option (List ℕ) → Request → Notes → Notes → Option Ending → Type 0
+  Serves old new request n m None = (request.close ≡ false) × ((answer : Answer) × AnsweredBy tells request answer n m × Takes old new (reply_bytes answer))
+  Serves old new request n m (Some endings.Closed) = (request.close ≡ true) × ((answer : Answer) × AnsweredBy tells request answer n m × Takes old new (reply_bytes answer))
+  Serves old new request n m (Some endings.WriteFault) = (answer : Answer)
+      × (AnsweredBy tells request answer n m ⊎ (IsWanting tells request n m × (answer ≡ refused https.NoMemory))) × TakesFront old new (reply_bytes answer)
+  Serves old new request n m (Some endings.NoMemory) = IsWanting tells request n m × ((new ≡ old) ⊎ Takes old new (reply_bytes (refused https.NoMemory)))
+  Serves old new request n m (Some ending) = ⊥

@@ -2,7 +2,8 @@
 ghost use Rattle.std.specs.Prelude.{◌≡◌};
 ghost use Rattle.ow_decide.specs.declared.events.Event.TheVariants as events;
 ghost use Rattle.ow_hall.specs.Comes.{collect_outcome};
-ghost use Rattle.ow_peer.specs.Answered.{AnswersTo, AsksFor, Collects, WasCalled};
+ghost use Rattle.ow_desk.specs.Notes.{CalledBy};
+ghost use Rattle.ow_peer.specs.Answered.{AnswersTo, AsksFor, Collects};
 
 use ow_decide::{HallCollected, Reply};
 use ow_desk::{Desk, Receipts};
@@ -29,7 +30,7 @@ pub(crate) fn answer_of<H: Wait, P: Keeper + Drop, C: Clock>(
     notes: &mut Receipts<P>,
     request: &Request,
 ) -> Result<Answer, NoMemory>
-    ensures { AnswersTo request.now notes.old.notes notes.new.notes result }
+    ensures { AnswersTo (C.tells clock.now) request.now notes.old.notes notes.new.notes result }
 {
     match ask(rt, alloc, desk, clock, notes, request) {
         Ok(Reply::Now(answer)) => {
@@ -55,7 +56,7 @@ fn ask<H: Wait, P: Keeper + Drop, C: Clock>(
     notes: &mut Receipts<P>,
     request: &Request,
 ) -> Result<Reply, NoMemory>
-    ensures { AsksFor request.now result notes.old.notes notes.new.notes }
+    ensures { AsksFor (C.tells clock.now) request.now result notes.old.notes notes.new.notes }
 {
     notes.ask(alloc, &mut *hold(rt, desk), clock.now(), request)
 }
@@ -69,7 +70,7 @@ fn collect<H: Wait, P: Keeper + Drop, C: Clock>(
     notes: &mut Receipts<P>,
     id: &Id,
 ) -> Result<HallCollected, NoMemory>
-    ensures { WasCalled (events.Collected id.now) (collect_outcome result) notes.old.notes notes.new.notes }
+    ensures { CalledBy (C.tells clock.now) (events.Collected id.now) (collect_outcome result) notes.old.notes notes.new.notes }
 {
     notes.collect(alloc, &mut *hold(rt, desk), clock.now(), id)
 }
@@ -83,7 +84,7 @@ fn collect_on<H: Wait, P: Keeper + Drop, C: Clock>(
     notes: &mut Receipts<P>,
     id: &Id,
 ) -> Result<Answer, NoMemory>
-    ensures { Collects id.now notes.old.notes notes.new.notes result }
+    ensures { Collects (C.tells clock.now) id.now notes.old.notes notes.new.notes result }
 {
     for _ in rt.forever() {
         clock.pause(Bell::End(id.count), PAUSE);

@@ -33,7 +33,7 @@ pub fn connection<H: Wait, K: Link, P: Keeper + Drop, C: Clock>(
     clock: &C,
     notes: &mut Receipts<P>,
 ) -> Ending
-    ensures talks { Talks (K.left link.old) (K.left link.new) (K.taken link.old) (K.taken link.new) notes.old.notes notes.new.notes result }
+    ensures talks { Talks (C.tells clock.now) (K.left link.old) (K.left link.new) (K.taken link.old) (K.taken link.new) notes.old.notes notes.new.notes result }
     ensures later { K.faults link.old ≤ K.faults link.new }
     ensures unread { result ≡ Ending.ReadFault → Rose (K.faults link.old) (K.faults link.new) }
     ensures unwritten { result ≡ Ending.WriteFault → Rose (K.faults link.old) (K.faults link.new) }
@@ -68,7 +68,7 @@ fn exchange<H: Wait, K: Link, P: Keeper + Drop, C: Clock>(
     clock: &C,
     notes: &mut Receipts<P>,
 ) -> Option<Ending>
-    ensures exchanged { Exchanges (K.left link.old) (K.left link.new) (K.taken link.old) (K.taken link.new) reader.old.inbox reader.new.inbox notes.old.notes notes.new.notes result }
+    ensures exchanged { Exchanges (C.tells clock.now) (K.left link.old) (K.left link.new) (K.taken link.old) (K.taken link.new) reader.old.inbox reader.new.inbox notes.old.notes notes.new.notes result }
     ensures later { K.faults link.old ≤ K.faults link.new }
     ensures unread { result ≡ Some Ending.ReadFault → Rose (K.faults link.old) (K.faults link.new) }
     ensures unwritten { result ≡ Some Ending.WriteFault → Rose (K.faults link.old) (K.faults link.new) }
@@ -96,7 +96,7 @@ fn serve<H: Wait, K: Link, P: Keeper + Drop, C: Clock>(
     notes: &mut Receipts<P>,
     request: &Request,
 ) -> Option<Ending>
-    ensures serves { Serves (K.taken link.old) (K.taken link.new) request.now notes.old.notes notes.new.notes result }
+    ensures serves { Serves (C.tells clock.now) (K.taken link.old) (K.taken link.new) request.now notes.old.notes notes.new.notes result }
     ensures left { K.left link.new ≡ K.left link.old }
     ensures later { K.faults link.old ≤ K.faults link.new }
     ensures unwritten { result ≡ Some Ending.WriteFault → Rose (K.faults link.old) (K.faults link.new) }

@@ -1,6 +1,7 @@
 pub mod Alike
 pub mod Confirmed
 pub mod IdLaws
+pub mod LowerIds
 pub mod PathBack
 pub mod ReadBack
 pub mod Regions

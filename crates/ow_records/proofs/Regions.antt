@@ -1,18 +1,17 @@
 -- The records of one namespace: where the records are sorted by their namespaces and ids, they stand together, by their ids.
-use Rattle.std.proofs.Common.{◌≡◌, ◌≢◌, ℕ, zero, suc, ◌-◌, ◌<◌, ◌≤◌, Bool, true, false, cond, min, List, [], ◌∷◌, ◌++◌, length, fold, filter, get_or, take, drop, Ordering, Less, Equal, Greater, is_eq, is_lt, refl, sym, ap, ◌∙◌, subst, append_assoc, arith}
+use Rattle.std.proofs.Common.{◌≡◌, ◌≢◌, ℕ, zero, suc, ◌-◌, ◌<◌, ◌≤◌, Bool, true, false, cond, min, List, [], ◌∷◌, ◌++◌, length, fold, filter, get_or, take, drop, Ordering, Less, Equal, Greater, is_lt, refl, sym, ap, ◌∙◌, subst, append_assoc, arith}
 use Rattle.std.specs.Prelude.{reverse}
 use Rattle.std.specs.List.{AllByRecursion}
-use Rattle.std.specs.List.Sorted.{IsPartitionPoint}
-use Rattle.std.specs.Ordering.{nat_cmp, ordering_reverse, ordering_then, is_le, MatchOrdering}
+use Rattle.std.specs.Ordering.{nat_cmp, ordering_reverse, ordering_then, MatchOrdering}
 use Rattle.std.specs.Str.{bytes_eq}
 use Rattle.std.proofs.lemmas.Cmp.{ranked, nat_list_cmp_total}
 use Rattle.std.proofs.lemmas.List.{length-drop, length-reverse, map-append, reverse-append, take-append-drop}
 use Rattle.std.proofs.lemmas.Slice.Eq.{bytes_eq-Decides}
-use Rattle.std.proofs.Math.Seq.{take-nil, drop-nil, take-append_seam, drop-append_seam}
+use Rattle.std.proofs.Math.Seq.{take-append_seam, drop-append_seam}
 use Rattle.ow_value.specs.Value.{V, text_cmp}
 use Rattle.ow_value.specs.View.{view, views}
 use Rattle.ow_value.specs.declared.val.Val.{Val}
-use Rattle.ow_value.proofs.KeySearch.{test_of, turned}
+use Rattle.ow_value.proofs.Between.{both, drop_upto, take_upto}
 use Rattle.ow_names.proofs.OrderLaws.{then_then}
 use Rattle.ow_records.specs.declared.record.Record.{Record}
 use Rattle.ow_records.specs.Records.{id_key, is_in, put_by, sorted_by}
@@ -126,16 +125,6 @@ module _ (namespace : List ℕ) where
 
   -- ---- what stands together
 
-  turned_eq : (o : Ordering) → is_eq (ordering_reverse o) ≡ is_eq o
-  turned_eq Less = refl
-  turned_eq Equal = refl
-  turned_eq Greater = refl
-
-  both : (p q : Bool) → (p ≡ true → q ≡ true) → (q ≡ true → p ≡ true) → p ≡ q
-  both true q f g = sym (f refl)
-  both false true f g = g refl
-  both false false f g = refl
-
   same_region : (a b : List ℕ) → bytes_eq (region a) (region b) ≡ bytes_eq a b
   same_region a b = both _ _
       (λ e. (bytes_eq-Decides a b).1 (inside ((bytes_eq-Decides (region a) (region b)).0 e)))
@@ -144,54 +133,8 @@ module _ (namespace : List ℕ) where
       inside : length a ∷ a ≡ length b ∷ b → a ≡ b
       inside e = cc
 
-  stands_by : (r : Record) (o : Ordering) → text_cmp (region_of r) (region namespace) ≡ o → is_in namespace r ≡ is_eq o
-  stands_by r o e =
-      sym (same_region namespace r.namespace)
-      ∙ test_of (region namespace) (region_of r) _ (turned (region_of r) (region namespace) o e)
-      ∙ turned_eq o
-
-  before : (o : Ordering) → is_lt o ≡ true → is_eq o ≡ false
-  before Less e = refl
-  before Equal e = cc
-  before Greater e = refl
-
-  behind : (o : Ordering) → is_le o ≡ false → is_eq o ≡ false
-  behind Less e = refl
-  behind Equal e = cc
-  behind Greater e = refl
-
-  between : (o : Ordering) → is_lt o ≡ false → is_le o ≡ true → is_eq o ≡ true
-  between Less e f = cc
-  between Equal e f = refl
-  between Greater e f = cc
-
-  abbrev pub PartsBefore : List Record → ℕ → Type 0
-  PartsBefore xs i = IsPartitionPoint (λ b. is_lt (text_cmp (region_of b) (region namespace)) ≡ true) (λ b. is_lt (text_cmp (region_of b) (region namespace)) ≡ false) xs i
-
-  abbrev pub PartsThrough : List Record → ℕ → Type 0
-  PartsThrough xs i = IsPartitionPoint (λ b. is_le (text_cmp (region_of b) (region namespace)) ≡ true) (λ b. is_le (text_cmp (region_of b) (region namespace)) ≡ false) xs i
-
-  -- of records that all come from the region on, those in it stand first
-  stands_first : (bs : List Record) (j : ℕ) → ((k : ℕ) (d : Record) → k < length bs → is_lt (text_cmp (region_of (get_or bs k d)) (region namespace)) ≡ false)
-      → PartsThrough bs j → filter (is_in namespace) bs ≡ take j bs
-  stands_first [] j f g = sym (take-nil j)
-  stands_first (b ∷ bs) zero f g =
-      let out = stands_by b _ refl ∙ behind _ (g.1 0 b (omega arith) (omega arith)) in
-      let rest = stands_first bs zero (λ k d x. f (suc k) d (omega arith)) (λ k d x y. absurd (omega arith), λ k d x y. g.1 (suc k) d (omega arith) (omega arith)) in
-      ap (λ t. cond t (b ∷ filter (is_in namespace) bs) (filter (is_in namespace) bs)) out ∙ rest
-  stands_first (b ∷ bs) (suc j) f g =
-      let here = stands_by b _ refl ∙ between _ (f 0 b (omega arith)) (g.0 0 b (omega arith) (omega arith)) in
-      let rest = stands_first bs j (λ k d x. f (suc k) d (omega arith)) (λ k d x y. g.0 (suc k) d (omega arith) (omega arith), λ k d x y. g.1 (suc k) d (omega arith) (omega arith)) in
-      ap (λ t. cond t (b ∷ filter (is_in namespace) bs) (filter (is_in namespace) bs)) here ∙ ap (λ xs. b ∷ xs) rest
-
-  pub stands_together : (bs rest : List Record) (i j : ℕ) → rest ≡ drop i bs → PartsBefore bs i → PartsThrough rest j → filter (is_in namespace) bs ≡ take j rest
-  stands_together bs rest zero j e f g =
-      stands_first bs j (λ k d x. f.1 k d (omega arith) x) (subst (λ zs. PartsThrough zs j) e g) ∙ ap (take j) (sym e)
-  stands_together [] rest (suc i) j e f g = sym (ap (take j) e ∙ take-nil j)
-  stands_together (b ∷ bs) rest (suc i) j e f g =
-      let out = stands_by b _ refl ∙ before _ (f.0 0 b (omega arith) (omega arith)) in
-      let more = stands_together bs rest i j e (λ k d x y. f.0 (suc k) d (omega arith) (omega arith), λ k d x y. f.1 (suc k) d (omega arith) (omega arith)) g in
-      ap (λ t. cond t (b ∷ filter (is_in namespace) bs) (filter (is_in namespace) bs)) out ∙ more
+  pub in_region : (r : Record) → bytes_eq (region namespace) (region_of r) ≡ is_in namespace r
+  in_region r = same_region namespace r.namespace
 
 pub rises_drop : (key : Record → List ℕ) (xs : List Record) (n : ℕ) → Rises key xs → Rises key (drop n xs)
 unfolding Rises
@@ -200,20 +143,6 @@ rises_drop key [] (suc n) h = h
 rises_drop key (x ∷ xs) (suc n) h = rises_drop key xs n h.1
 
 -- ---- what of it is shown
-
-drop_upto : {A : Type 0} (xs : List A) (n s : ℕ) → n ≡ min s (length xs) → drop n xs ≡ drop s xs
-drop_upto [] n s e = drop-nil n ∙ sym (drop-nil s)
-drop_upto (x ∷ xs) zero zero e = refl
-drop_upto (x ∷ xs) zero (suc s) e = absurd (omega arith)
-drop_upto (x ∷ xs) (suc n) zero e = absurd (omega arith)
-drop_upto (x ∷ xs) (suc n) (suc s) e = drop_upto xs n s (omega arith)
-
-take_upto : {A : Type 0} (xs : List A) (n s : ℕ) → n ≡ min s (length xs) → take n xs ≡ take s xs
-take_upto [] n s e = take-nil n ∙ sym (take-nil s)
-take_upto (x ∷ xs) zero zero e = refl
-take_upto (x ∷ xs) zero (suc s) e = absurd (omega arith)
-take_upto (x ∷ xs) (suc n) zero e = absurd (omega arith)
-take_upto (x ∷ xs) (suc n) (suc s) e = ap (λ ys. x ∷ ys) (take_upto xs n s (omega arith))
 
 turned_at : {A : Type 0} (k : ℕ) (xs : List A) → reverse xs ≡ reverse (drop k xs) ++ reverse (take k xs)
 turned_at k xs = ap reverse (sym (take-append-drop k xs)) ∙ reverse-append (take k xs) (drop k xs)

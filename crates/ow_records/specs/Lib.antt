@@ -3,6 +3,7 @@ pub mod Id
 pub mod Known
 pub mod Laws
 pub mod Logs
+pub mod LowerId
 pub mod Notes
 pub mod NotesIn
 pub mod Order

@@ -1,10 +1,21 @@
 // What is true of what is written and read. The functions do nothing: their contracts are the laws.
-ghost use Rattle.ow_records.specs.Laws.{AbandonedIsRecorded, FieldsReadBack, IdTextsDiffer, IdsReadBack, ReadIsWritten, WrittenIsRead};
+ghost use Rattle.ow_records.specs.Laws.{AbandonedIsRecorded, FieldsReadBack, IdTextsDiffer, IdsReadBack, LowerIdsReadBack, LowerIsRead, ReadIsWritten, WrittenIsRead};
 
 /// The text of an id reads as that id.
 #[tactic(auto, using(crate::proofs::IdLaws::id_back))]
 pub fn ids_read_back()
     ensures { IdsReadBack }
+{}
+
+/// So it does as lower-case digits.
+#[tactic(auto, using(crate::proofs::LowerIds::lower_ids_back))]
+pub fn lower_ids_read_back()
+    ensures { LowerIdsReadBack }
+{}
+
+/// A text that is an id's in lower case is the text of that id, and reads as it in either case.
+pub fn lower_is_read()
+    ensures { LowerIsRead }
 {}
 
 /// No two ids have one text.

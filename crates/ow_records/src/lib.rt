@@ -10,6 +10,7 @@ mod known;
 mod laws;
 mod listing;
 mod logs;
+mod lower_ids;
 mod notes;
 mod notes_in;
 mod order;
@@ -33,8 +34,8 @@ pub use known::{
     known_activation, known_id, known_ids, known_record, known_records, known_unrecorded,
 };
 pub use laws::{
-    abandoned_is_recorded, fields_read_back, id_texts_differ, ids_read_back, read_is_written,
-    written_is_read,
+    abandoned_is_recorded, fields_read_back, id_texts_differ, ids_read_back, lower_ids_read_back,
+    lower_is_read, read_is_written, written_is_read,
 };
 pub use notes::{ExecKind, Notes};
 pub use notes_in::{kind_in, limits_in};

@@ -1,5 +1,5 @@
 -- What is kept of a legal book lasts, and is allowed at the next opening.
-use Rattle.std.proofs.Common.{◌≡◌, ◌≤◌, List, [], ◌∷◌}
+use Rattle.std.proofs.Common.{List, [], ◌∷◌}
 use Rattle.std.specs.List.{AllByRecursion}
 use Rattle.ow_hall.specs.History.{AreAnswered, History, counted, seen, sight}
 use Rattle.ow_hall.proofs.Beginnings.{seen_sound}

@@ -1,27 +1,25 @@
 -- What a name calls among rows that last: its version counts from 1, and it is reached through no binding that stands in a package.
-use Rattle.std.proofs.Common.{◌≡◌, ◌&&◌, ℕ, Bool, true, false, cond, List, [], ◌∷◌, find, IfSome, Option, Some, None, option_map, option_and_then, refl, subst}
-use Rattle.std.specs.List.{AllByRecursion}
+use Rattle.std.proofs.Common.{◌≡◌, ◌&&◌, ℕ, Bool, true, List, find, IfSome, Option, Some, None, option_map, refl, subst}
 use Rattle.std.specs.Str.{bytes_eq}
+use Rattle.std.proofs.lemmas.Bool.{and_from, and_parts}
+use Rattle.std.proofs.lemmas.Option.{IfSome_then}
 use Rattle.ow_names.specs.declared.full.FullName.{FullName}
 use Rattle.ow_entity.specs.declared.actions.Action.{Action}
-use Rattle.ow_entity.specs.declared.kinds.EntityKind.{EntityKind}
 use Rattle.ow_entity.specs.declared.kinds.EntityKind.TheVariants as kinds
 use Rattle.ow_entity.specs.declared.packages.Package.{Package}
 use Rattle.ow_entity.specs.declared.rows.Row.{Row}
 use Rattle.ow_entity.specs.declared.rows.Row.TheVariants as rows
-use Rattle.ow_keep.specs.Allowed.{is_binding, is_called, is_reached, is_version, stands_alone}
-use Rattle.ow_keep.proofs.Packages.{ands}
-use Rattle.ow_packages.specs.Access.{Standing, action_at, as_action, as_package, if_reached, is_reached as is_open_to, lying_in, package_at, package_of, reached_package}
+use Rattle.ow_keep.specs.Allowed.{is_binding, is_called, is_version, stands_alone}
+use Rattle.ow_packages.specs.Access.{action_at, as_action, as_package, if_reached, is_reached as is_open_to, lying_in, package_at, package_of, reached_package}
 use Rattle.ow_packages.specs.Effective.{Behind, behind, behind_bare, behind_in, behind_name, behind_package, effective, effective_of}
 use Rattle.ow_packages.specs.declared.effective_action.Effective.{Effective}
 use Rattle.ow_tables.specs.Rows.{is_row, standing}
 use Rattle.ow_reopen.specs.Lasting.{AreWritable, IsLastingRow}
-use Rattle.ow_reopen.proofs.Each.{all_found, some_weaken}
+use Rattle.ow_reopen.proofs.Each.{all_found}
 use Rattle.ow_reopen.proofs.Names.{some_if, some_mapped, some_then}
-use Rattle.ow_reopen.proofs.Tests.{both_true}
 
 found_lasts : (p : Row → Bool) (rs : List Row) → AreWritable rs → IfSome (find p rs) IsLastingRow
-found_lasts p rs all = some_weaken (λ (r : Row). IsLastingRow r × (p r ≡ true)) IsLastingRow (find p rs) (λ r h. h.0) (all_found IsLastingRow p rs all)
+found_lasts p rs all = IfSome_then (find p rs) (all_found IsLastingRow p rs all) (λ r h. h.0)
 
 abbrev IsGoodAction : Action → Type 0
 IsGoodAction a = is_version a.version ≡ true
@@ -38,7 +36,7 @@ as_package_good : (o : Option Row) → IfSome o IsLastingRow → IfSome (as_pack
 as_package_good None h = tt
 as_package_good (Some (rows.Action a)) h = tt
 as_package_good (Some (rows.Package p)) h =
-    (ands (stands_alone p.name) (is_binding p.name.namespace p.binding) (ands (is_version p.version) (stands_alone p.name && is_binding p.name.namespace p.binding) h.lasts.fit).1).0
+    (and_parts (stands_alone p.name) (is_binding p.name.namespace p.binding) (and_parts (is_version p.version) (stands_alone p.name && is_binding p.name.namespace p.binding) h.lasts.fit).1).0
 
 reached_good : (namespace from : List ℕ) (o : Option Package) → IfSome o IsGoodPackage → IfSome (if_reached namespace from o) IsGoodPackage
 reached_good namespace from None h = tt
@@ -49,8 +47,8 @@ abbrev IsGoodBehind : Behind → Type 0
 IsGoodBehind b = (is_version b.action.version ≡ true) × IfSome b.binding IsGoodPackage
 
 called_good : (a : Action) (o : Option Package) → is_version a.version ≡ true → IfSome o IsGoodPackage → is_called None a.version (option_map (λ p. p.name) o) ≡ true
-called_good a None h k = both_true (is_version a.version) true h refl
-called_good a (Some p) h k = both_true (is_version a.version) (stands_alone p.name) h k
+called_good a None h k = and_from (is_version a.version) true h refl
+called_good a (Some p) h k = and_from (is_version a.version) (stands_alone p.name) h k
 
 module _ (rs : List Row) (all : AreWritable rs) where
   action_good : (name : FullName) → IfSome (action_at (standing rs) name) IsGoodAction

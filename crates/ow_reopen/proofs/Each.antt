@@ -1,5 +1,5 @@
 -- What holds of each element of a list holds of those that are kept of it, and of one that is found.
-use Rattle.std.proofs.Common.{◌≡◌, Bool, true, false, cond, List, [], ◌∷◌, filter, find, IfSome, Option, Some, None, refl}
+use Rattle.std.proofs.Common.{◌≡◌, Bool, true, false, cond, List, [], ◌∷◌, filter, find, IfSome, Some, refl}
 use Rattle.std.specs.List.{AllByRecursion}
 
 kept_by : {X : Type 0} (P : X → Type 0) (p : X → Bool) (x : X) (xs : List X) (b : Bool) → P x → AllByRecursion P (filter p xs) → AllByRecursion P (cond b (x ∷ filter p xs) (filter p xs))
@@ -18,7 +18,3 @@ found_by P p x xs false e h rest = rest
 pub all_found : {X : Type 0} (P : X → Type 0) (p : X → Bool) (xs : List X) → AllByRecursion P xs → IfSome (find p xs) (λ x. P x × (p x ≡ true))
 all_found P p [] all = tt
 all_found P p (x ∷ xs) all = found_by P p x xs (p x) refl all.0 (all_found P p xs all.1)
-
-pub some_weaken : {X : Type 0} (P Q : X → Type 0) (o : Option X) → ((x : X) → P x → Q x) → IfSome o P → IfSome o Q
-some_weaken P Q None f h = tt
-some_weaken P Q (Some x) f h = f x h

@@ -1,19 +1,23 @@
 -- What is kept of rows and a trace that last, lasts.
-use Rattle.std.proofs.Common.{◌≡◌, ◌≤◌, ◌-◌, ◌&&◌, ℕ, Bool, true, false, cond, List, [], ◌∷◌, ◌++◌, filter, map, max, nat_le, Option, Some, None, IfSome, refl, sym, ap, ◌∙◌, subst, arith, inl, inr}
+use Rattle.std.proofs.Common.{◌≡◌, ◌≤◌, ◌-◌, ◌&&◌, ℕ, true, List, [], ◌∷◌, ◌++◌, filter, map, max, nat_le, Option, Some, None, IfSome, refl, arith}
 use Rattle.std.specs.List.{AllByRecursion, cons_option, filter_map}
+use Rattle.std.proofs.lemmas.Bool.{and_from, le-leb}
 use Rattle.ow_entity.specs.declared.rows.Row.{Row}
 use Rattle.ow_floor.specs.declared.activations.Open.{Open}
 use Rattle.ow_floor.specs.declared.activations.State.{State}
 use Rattle.ow_floor.specs.declared.runs.Run.{Run}
 use Rattle.ow_floor.specs.Laws.{IsAmong, IsSound}
 use Rattle.ow_floor.specs.Trace.{End, Item, Trace, Resumed, Accepted, Ended, accepted, accepted_after, all_records, began, drawn, drawn_after, ends, ends_after, open_of as opened, record_of, records, records_after, resumed, resumed_after, standing, started}
-use Rattle.ow_items.specs.declared.item.Item.{Item as KeptItem}
+use Rattle.ow_floor.proofs.Among.{all_among}
+use Rattle.ow_floor.proofs.Apart.{all_both as paired}
+use Rattle.ow_floor.proofs.Firsts.{all_more}
 use Rattle.ow_items.specs.declared.item.Item.TheVariants as items
 use Rattle.ow_keep.specs.Allowed.{are_durations, is_called, is_duration, is_moment}
 use Rattle.ow_keep.specs.declared.allowed.TheConstants.{GREATEST_MOMENT}
-use Rattle.ow_kept.specs.Kept.{count_item, is_kept, kept_items, unrecorded}
+use Rattle.ow_keep.proofs.Opens.{opens_shallow}
+use Rattle.ow_kept.specs.Kept.{count_item, is_kept, unrecorded}
 use Rattle.ow_kept.proofs.Ids.{all_both, all_put}
-use Rattle.ow_kept.proofs.Shallow.{ends_shallow, opens_shallow}
+use Rattle.ow_kept.proofs.Shallow.{ends_shallow}
 use Rattle.ow_records.specs.declared.activations.Activation.{Activation}
 use Rattle.ow_records.specs.declared.ids.Id.{Id}
 use Rattle.ow_records.specs.declared.outcomes.Ending.{Ending}
@@ -22,20 +26,11 @@ use Rattle.ow_records.specs.declared.record.Record.{Record}
 use Rattle.ow_records.specs.declared.unrecorded.Unrecorded.{Unrecorded}
 use Rattle.ow_records.specs.Record.{init_of, start_of, wait_of}
 use Rattle.ow_records.specs.Unrecorded.{unrecorded_of}
-use Rattle.ow_reopen.specs.Lasting.{AreEarly, AreWritable, IsDue, IsEarly, IsLasting, IsLastingRow, IsTimely}
+use Rattle.ow_reopen.specs.Lasting.{AreEarly, IsDue, IsEarly, IsLasting, IsLastingRow, IsTimely}
 use Rattle.ow_reopen.specs.Laws.{KeptLasts}
 use Rattle.ow_reopen.proofs.Each.{all_kept}
-use Rattle.ow_reopen.proofs.Tests.{both_true, le_true}
 
 -- ---- for each element
-
-weaken : {X : Type 0} (P Q : X → Type 0) → ((x : X) → P x → Q x) → (xs : List X) → AllByRecursion P xs → AllByRecursion Q xs
-weaken P Q f [] all = tt
-weaken P Q f (x ∷ xs) all = (f x all.0, weaken P Q f xs all.1)
-
-paired : {X : Type 0} (P Q : X → Type 0) (xs : List X) → AllByRecursion P xs → AllByRecursion Q xs → AllByRecursion (λ x. P x × Q x) xs
-paired P Q [] h k = tt
-paired P Q (x ∷ xs) h k = ((h.0, k.0), paired P Q xs h.1 k.1)
 
 first_of : {X : Type 0} (P : X → Type 0) (xs ys : List X) → AllByRecursion P (xs ++ ys) → AllByRecursion P xs
 first_of P [] ys all = tt
@@ -64,7 +59,7 @@ all_counted [] early = tt
 all_counted (item ∷ T) early = counted item (drawn T) early.0 (all_counted T early.1)
 
 count_lasts : (id : Id) → 1 ≤ id.count → IsLasting (count_item id)
-count_lasts id h = record { shallow = refl; fit = le_true 1 id.count h }
+count_lasts id h = record { shallow = refl; fit = le-leb 1 id.count h }
 
 -- ---- what was accepted
 
@@ -79,8 +74,8 @@ all_timely (item ∷ T) early = timely item (accepted T) early.0 (all_timely T e
 open_lasts : (a : Activation) → IsTimely a → IsLasting (items.Open (unrecorded_of a))
 open_lasts a h = record {
   shallow = opens_shallow (unrecorded_of a);
-  fit = both_true (nat_le 1 a.id.count) (is_moment a.at && is_called a.cause a.action.version a.binding) (le_true 1 a.id.count h.counted)
-      (both_true (is_moment a.at) (is_called a.cause a.action.version a.binding) (le_true a.at GREATEST_MOMENT h.early) h.called);
+  fit = and_from (nat_le 1 a.id.count) (is_moment a.at && is_called a.cause a.action.version a.binding) (le-leb 1 a.id.count h.counted)
+      (and_from (is_moment a.at) (is_called a.cause a.action.version a.binding) (le-leb a.at GREATEST_MOMENT h.early) h.called);
 }
 
 open_one : (P : Unrecorded → Type 0) (a : Activation) (s : Option State) (rest : List Open) → P (unrecorded_of a) → AllByRecursion P (map (λ (o : Open). unrecorded_of o.task) rest)
@@ -95,7 +90,7 @@ open_all P T [] all = tt
 open_all P T (a ∷ xs) all = open_one P a (standing T a.id) (filter_map (λ x. opened x (standing T x.id)) xs) all.0 (open_all P T xs all.1)
 
 opens_last : (T : Trace) → AreEarly T → AllByRecursion (λ u. IsLasting (items.Open u)) (unrecorded T)
-opens_last T early = open_all (λ u. IsLasting (items.Open u)) T (accepted T) (weaken IsTimely (λ a. IsLasting (items.Open (unrecorded_of a))) open_lasts (accepted T) (all_timely T early))
+opens_last T early = open_all (λ u. IsLasting (items.Open u)) T (accepted T) (all_more IsTimely (λ a. IsLasting (items.Open (unrecorded_of a))) (accepted T) open_lasts (all_timely T early))
 
 -- ---- what was taken over
 
@@ -137,11 +132,6 @@ module _ (P : Record → Type 0) where
   all_recorded [] all = tt
   all_recorded (item ∷ T) all = recorded item (ends T) (records T) all (λ h. all_recorded T h)
 
-among : (P : Activation → Type 0) (a : Activation) (xs : List Activation) → IsAmong a xs → AllByRecursion P xs → P a
-among P a [] h all = absurd h
-among P a (x ∷ xs) (inl e) all = subst P (sym e) all.0
-among P a (x ∷ xs) (inr h) all = among P a xs h all.1
-
 start_early : (accepted : ℕ) (ending : Ending) (run : Option Run) → accepted ≤ GREATEST_MOMENT → IfSome run IsDue → start_of accepted ending (started run) ≤ GREATEST_MOMENT
 start_early accepted (Replied reply) None h k = h
 start_early accepted (Replied reply) (Some r) h k = k.ordered
@@ -150,7 +140,7 @@ start_early accepted Overran (Some r) h k = k.ordered
 start_early accepted Abandoned run h k = h
 
 less : (m n most : ℕ) → m ≤ most → nat_le (m - n) most ≡ true
-less m n most h = le_true (m - n) most (omega (arith, h))
+less m n most h = le-leb (m - n) most (omega (arith, h))
 
 wait_short : (accepted : ℕ) (ending : Ending) (start : ℕ) → start ≤ GREATEST_MOMENT → is_duration (wait_of accepted ending start) ≡ true
 wait_short accepted (Replied reply) start h = less start accepted GREATEST_MOMENT h
@@ -175,10 +165,10 @@ end_lasts e h early =
     let last : last_moment ≤ GREATEST_MOMENT = omega (arith, start, early.0) in
     record {
       shallow = ends_shallow e;
-      fit = both_true (nat_le 1 e.task.id.count) (is_moment last_moment && (is_called e.task.cause e.task.action.version e.task.binding && are_durations (record_of e).notes)) (le_true 1 e.task.id.count h.counted)
-          (both_true (is_moment last_moment) (is_called e.task.cause e.task.action.version e.task.binding && are_durations (record_of e).notes) (le_true last_moment GREATEST_MOMENT last)
-          (both_true (is_called e.task.cause e.task.action.version e.task.binding) (are_durations (record_of e).notes) h.called
-          (both_true (is_duration (record_of e).notes.init_time) (is_duration (record_of e).notes.wait_time)
+      fit = and_from (nat_le 1 e.task.id.count) (is_moment last_moment && (is_called e.task.cause e.task.action.version e.task.binding && are_durations (record_of e).notes)) (le-leb 1 e.task.id.count h.counted)
+          (and_from (is_moment last_moment) (is_called e.task.cause e.task.action.version e.task.binding && are_durations (record_of e).notes) (le-leb last_moment GREATEST_MOMENT last)
+          (and_from (is_called e.task.cause e.task.action.version e.task.binding) (are_durations (record_of e).notes) h.called
+          (and_from (is_duration (record_of e).notes.init_time) (is_duration (record_of e).notes.wait_time)
           (init_by e.ending (start_of e.task.at e.ending (started e.run)) (began e.run) (began_early e.run early.1))
           (wait_short e.task.at e.ending (start_of e.task.at e.ending (started e.run)) start))));
     }
@@ -186,17 +176,17 @@ end_lasts e h early =
 records_last : (T : Trace) → IsSound T → AreEarly T → AreLasting (records T)
 records_last T sound early =
     all_recorded (λ r. IsLasting (items.Done r)) T
-    (weaken (λ e. IsAmong e.task (accepted T) × IsEarlyEnd e) (λ e. IsLasting (items.Done (record_of e)))
-    (λ e h. end_lasts e (among IsTimely e.task (accepted T) h.0 (all_timely T early)) h.1)
-    (ends T) (paired (λ e. IsAmong e.task (accepted T)) IsEarlyEnd (ends T) sound.known (all_ended T early)))
+    (all_more (λ e. IsAmong e.task (accepted T) × IsEarlyEnd e) (λ e. IsLasting (items.Done (record_of e))) (ends T)
+    (λ e h. end_lasts e (all_among IsTimely e.task (accepted T) h.0 (all_timely T early)) h.1)
+    (paired (λ e. IsAmong e.task (accepted T)) IsEarlyEnd (ends T) sound.known (all_ended T early)))
 
 -- ---- all of it
 
 pub kept_lasts : KeptLasts
 kept_lasts rs T sound writable early = (
   record { shallow = refl; fit = refl },
-  all_both IsLasting (map count_item (drawn T)) _ (to_mapped IsLasting count_item (drawn T) (weaken (λ (id : Id). 1 ≤ id.count) (λ id. IsLasting (count_item id)) count_lasts (drawn T) (all_counted T early)))
-      (all_both IsLasting (map items.Row (filter is_kept rs)) _ (to_mapped IsLasting items.Row (filter is_kept rs) (all_kept (λ r. IsLasting (items.Row r)) is_kept rs (weaken IsLastingRow (λ r. IsLasting (items.Row r)) (λ r h. h.lasts) rs writable)))
+  all_both IsLasting (map count_item (drawn T)) _ (to_mapped IsLasting count_item (drawn T) (all_more (λ (id : Id). 1 ≤ id.count) (λ id. IsLasting (count_item id)) (drawn T) count_lasts (all_counted T early)))
+      (all_both IsLasting (map items.Row (filter is_kept rs)) _ (to_mapped IsLasting items.Row (filter is_kept rs) (all_kept (λ r. IsLasting (items.Row r)) is_kept rs (all_more IsLastingRow (λ r. IsLasting (items.Row r)) rs (λ r h. h.lasts) writable)))
       (all_both IsLasting (map items.Open (unrecorded T)) (map items.Done (all_records T)) (to_mapped IsLasting items.Open (unrecorded T) (opens_last T early))
       (to_mapped IsLasting items.Done (all_records T) (all_both (λ r. IsLasting (items.Done r)) (resumed T) (records T) (all_taken T early) (records_last T sound early))))),
 )

@@ -1,7 +1,9 @@
 -- The rows that last still do behind what is decided.
-use Rattle.std.proofs.Common.{◌≡◌, ◌≤◌, ◌&&◌, ℕ, List, [], ◌∷◌, Bool, true, false, cond, codes, filter, find, map, nat_le, not, IfSome, IfOk, Option, Some, None, Result, Ok, Err, Ordering, Less, Equal, Greater, refl, sym, ◌∙◌, subst, arith}
+use Rattle.std.proofs.Common.{◌≡◌, ◌≤◌, ◌&&◌, ℕ, List, [], ◌∷◌, Bool, true, false, cond, codes, map, nat_le, not, IfSome, IfOk, Option, Some, None, Result, Ok, Err, Ordering, Less, Equal, Greater, refl, sym, ◌∙◌, subst, arith}
 use Rattle.std.specs.List.{AllByRecursion}
 use Rattle.std.specs.Ordering.{match_ordering}
+use Rattle.std.proofs.lemmas.Bool.{and_parts, leb-true}
+use Rattle.std.proofs.lemmas.Option.{IfSome_then}
 use Rattle.std.proofs.lemmas.Slice.Eq.{bytes_eq-Decides}
 use Rattle.ow_value.specs.Nesting.{most_nested}
 use Rattle.ow_value.specs.Read.{json_of, reading, whole_of}
@@ -47,7 +49,6 @@ use Rattle.ow_keep.specs.Allowed.{is_entity, stands_alone}
 use Rattle.ow_keep.specs.Judged.{judged}
 use Rattle.ow_keep.specs.Kept.{MayStand}
 use Rattle.ow_keep.specs.Split.{Parts as KeptParts, split}
-use Rattle.ow_keep.proofs.Packages.{ands}
 use Rattle.ow_keep.proofs.Whole.{judged-sound}
 use Rattle.ow_kept.specs.Opening.{resumed_records}
 use Rattle.ow_tables.specs.Builtin.{builtin, echo, is_builtin, utils}
@@ -72,20 +73,16 @@ use Rattle.ow_reopen.specs.Bodies.{RowsOfBodies}
 use Rattle.ow_reopen.specs.RowsKept.{IsPlaced}
 use Rattle.ow_reopen.specs.Lasting.{AreHomes, AreWritable, IsLasting, IsLastingRow}
 use Rattle.ow_reopen.specs.Laws.{RowsLast}
-use Rattle.ow_reopen.proofs.Each.{all_found, all_kept, some_weaken}
+use Rattle.ow_reopen.proofs.Each.{all_found, all_kept}
 use Rattle.ow_reopen.proofs.Names.{IsNamedItem, after, after_any, entity_named, finished_named, from_ok, judged_items, named_in_full, same_name, some_if}
-use Rattle.ow_reopen.proofs.Tests.{le_of}
 
 -- ---- the rows from the start
 
-builtin_name : (s : List ℕ) → first_fault s ≡ None → IsName s
-builtin_name s e = name_if_no_fault s e
-
 echo_full : IsFullName echo.name
-echo_full = record { namespace = builtin_name (codes "whisk.system") refl; inside = builtin_name (codes "utils") refl; name = builtin_name (codes "echo") refl }
+echo_full = record { namespace = name_if_no_fault (codes "whisk.system") refl; inside = name_if_no_fault (codes "utils") refl; name = name_if_no_fault (codes "echo") refl }
 
 utils_full : IsFullName utils.name
-utils_full = record { namespace = builtin_name (codes "whisk.system") refl; inside = tt; name = builtin_name (codes "utils") refl }
+utils_full = record { namespace = name_if_no_fault (codes "whisk.system") refl; inside = tt; name = name_if_no_fault (codes "utils") refl }
 
 pub builtin_writable : AreWritable builtin
 unfolding row_value
@@ -114,7 +111,7 @@ all_put (e ∷ es) rs h all = all_put es (with_row e rs) h.1 (all_with IsLasting
 -- ---- an opening
 
 stands_so : (all : Entries) (r : Row) → MayStand all (items.Row r) → IsFullName (name_of r) → IsLastingRow r
-stands_so all r h n = record { lasts = record { shallow = h.shallow; fit = (ands (is_entity r) (not (is_builtin r)) h.allowed).0 }; named = n }
+stands_so all r h n = record { lasts = record { shallow = h.shallow; fit = (and_parts (is_entity r) (not (is_builtin r)) h.allowed).0 }; named = n }
 
 entities_so : (all : Entries) (is : List Item) → AllByRecursion (MayStand all) is → AllByRecursion IsNamedItem is → AreWritable (split is).entities
 entities_so all [] h n = tt
@@ -148,7 +145,7 @@ abbrev IsWithin : ℕ → Result V ValueRefusal → Type 0
 IsWithin limit r = IfOk r (λ (v : V). depth v ≤ limit)
 
 within_by : (limit : ℕ) (v : V) (b : Bool) → nat_le (depth v) limit ≡ b → IsWithin limit (cond b (Ok v) (Err TooDeep))
-within_by limit v true e = le_of (depth v) limit e
+within_by limit v true e = leb-true (depth v) limit e
 within_by limit v false e = tt
 
 abbrev whole_within : ℕ → Option V → Result V ValueRefusal
@@ -292,9 +289,8 @@ found_named kind name r full named e =
 
 old_lasts : (d : Draft) (name : FullName) (rs : List Row) → IsFullName name → draft_name d ≡ name → AreWritable rs → IfSome (old_row d rs) (λ (o : Row). IsLasting (items.Row o) × (name_of o ≡ name))
 old_lasts d name rs full e all =
-    some_weaken (λ (r : Row). IsLastingRow r × (is_row (draft_kind d) (draft_name d) r ≡ true)) (λ (o : Row). IsLasting (items.Row o) × (name_of o ≡ name)) (old_row d rs)
+    IfSome_then (old_row d rs) (all_found IsLastingRow (is_row (draft_kind d) (draft_name d)) rs all)
     (λ r h. (h.0.lasts, found_named (draft_kind d) (draft_name d) r (subst IsFullName (sym e) full) h.0.named h.1 ∙ e))
-    (all_found IsLastingRow (is_row (draft_kind d) (draft_name d)) rs all)
 
 -- ---- the lookup of who asks
 

@@ -3,6 +3,7 @@ use Rattle.std.proofs.Common.{◌≡◌, ◌≤◌, ◌+◌, ◌&&◌, ℕ, Bool
 use Rattle.std.specs.Prelude.{is_none}
 use Rattle.std.specs.List.{find, AllByRecursion}
 use Rattle.std.proofs.Math.Nat.{max-le}
+use Rattle.std.proofs.lemmas.Bool.{and_from, and_parts, le-leb, leb-true}
 use Rattle.ow_value.specs.Decimal.{digits_of}
 use Rattle.ow_records.specs.declared.ids.Id.{Id}
 use Rattle.ow_records.specs.declared.outcomes.Ending.{Ending}
@@ -34,7 +35,6 @@ use Rattle.ow_keep.specs.Judged.{judged}
 use Rattle.ow_keep.specs.Kept.{MayStand}
 use Rattle.ow_keep.specs.Split.{Parts as KeptParts, split}
 use Rattle.ow_keep.specs.declared.allowed.TheConstants.{GREATEST_COUNT, GREATEST_MOMENT}
-use Rattle.ow_keep.proofs.Packages.{ands}
 use Rattle.ow_keep.proofs.Whole.{judged-sound}
 use Rattle.ow_kept.proofs.Shallow.{abandoned_shallow}
 use Rattle.ow_kept.specs.Opening.{abandoned, resumed_records}
@@ -54,20 +54,19 @@ use Rattle.ow_decide.proofs.AcceptLaws.{IsAdmitted, IsAdmittedDone, asked_admitt
 use Rattle.ow_reopen.specs.Lasting.{AreEarly, AreWritable, IsDue, IsEarly, IsLasting}
 use Rattle.ow_reopen.specs.Laws.{TracesLast}
 use Rattle.ow_reopen.proofs.Callees.{callee_good}
-use Rattle.ow_reopen.proofs.Tests.{both_true, le_of, le_true}
 
 -- ---- ids that were drawn
 
 -- an id that was drawn counts from 1
 count_some : (id : Id) (o : Option ℕ) → is_counted id o ≡ true → nat_le 1 id.count ≡ true
 count_some id None e = cc
-count_some id (Some n) e = (ands (nat_le 1 id.count) (nat_le id.count n) e).0
+count_some id (Some n) e = (and_parts (nat_le 1 id.count) (nat_le id.count n) e).0
 
 drawn_counted : (all : Entries) (id : Id) → is_drawn all id ≡ true → nat_le 1 id.count ≡ true
 drawn_counted all id e = count_some id (option_and_then digits_of (text_of (count_key id.namespace) all)) e
 
 within_both : (m n most : ℕ) → nat_le m most ≡ true → n ≤ most → nat_le (max m n) most ≡ true
-within_both m n most h k = le_true (max m n) most (max-le (le_of m most h) k)
+within_both m n most h k = le-leb (max m n) most (max-le (leb-true m most h) k)
 
 above : (n last : ℕ) → n ≡ last + 1 → 1 ≤ n
 above n last e = omega (arith, e)
@@ -191,8 +190,8 @@ early_called S (Err reason) small all ok = tt
 count_told : (all : Entries) (i : KeptItem) (id : Id) → pick_count i ≡ Some id → MayStand all i → 1 ≤ id.count
 count_told all (items.Count n k) id e may =
     let is : ◌≡◌ {A = Id} (record { namespace = n; count = k }) id = cc in
-    let some = ands (nat_le 1 k) (nat_le k GREATEST_COUNT) may.allowed in
-    subst (λ (x : Id). 1 ≤ x.count) is (le_of 1 k some.0)
+    let some = and_parts (nat_le 1 k) (nat_le k GREATEST_COUNT) may.allowed in
+    subst (λ (x : Id). 1 ≤ x.count) is (leb-true 1 k some.0)
 count_told all items.Version id e may = cc
 count_told all (items.Row r) id e may = cc
 count_told all (items.Open u) id e may = cc
@@ -201,8 +200,8 @@ count_told all (items.Done r) id e may = cc
 done_lasts : (all : Entries) (r : Record) → MayStand all (items.Done r) → IsLasting (items.Done r)
 done_lasts all r may =
     let within = is_moment r.span.end && (is_called r.cause r.version r.notes.binding && are_durations r.notes) in
-    let parts = ands (is_drawn all r.id) within may.allowed in
-    record { shallow = may.shallow; fit = both_true (nat_le 1 r.id.count) within (drawn_counted all r.id parts.0) parts.1 }
+    let parts = and_parts (is_drawn all r.id) within may.allowed in
+    record { shallow = may.shallow; fit = and_from (nat_le 1 r.id.count) within (drawn_counted all r.id parts.0) parts.1 }
 
 done_told : (all : Entries) (i : KeptItem) (r : Record) → pick_done i ≡ Some r → MayStand all i → IsLasting (items.Done r)
 done_told all (items.Done d) r e may = let same : d ≡ r = cc in subst (λ (x : Record). IsLasting (items.Done x)) same (done_lasts all d may)
@@ -221,14 +220,14 @@ module _ (shallow : AbandonedAreShallow) (at : ℕ) (small : at ≤ GREATEST_MOM
 
   open_lasts : (all : Entries) (u : Unrecorded) → MayStand all (items.Open u) → LastsAbandoned u
   open_lasts all u may =
-      let parts = ands (is_drawn all u.id && not (has_record all u.id)) (is_moment u.at && is_called u.cause u.version u.binding) may.allowed in
-      let drawn = ands (is_drawn all u.id) (not (has_record all u.id)) parts.0 in
-      let times = ands (is_moment u.at) (is_called u.cause u.version u.binding) parts.1 in
+      let parts = and_parts (is_drawn all u.id && not (has_record all u.id)) (is_moment u.at && is_called u.cause u.version u.binding) may.allowed in
+      let drawn = and_parts (is_drawn all u.id) (not (has_record all u.id)) parts.0 in
+      let times = and_parts (is_moment u.at) (is_called u.cause u.version u.binding) parts.1 in
       record {
         shallow = shallow u at;
-        fit = both_true (nat_le 1 u.id.count) (is_moment (max u.at at) && (is_called u.cause u.version u.binding && true)) (drawn_counted all u.id drawn.0)
-            (both_true (is_moment (max u.at at)) (is_called u.cause u.version u.binding && true) (within_both u.at at GREATEST_MOMENT times.0 small)
-            (both_true (is_called u.cause u.version u.binding) true times.1 refl));
+        fit = and_from (nat_le 1 u.id.count) (is_moment (max u.at at) && (is_called u.cause u.version u.binding && true)) (drawn_counted all u.id drawn.0)
+            (and_from (is_moment (max u.at at)) (is_called u.cause u.version u.binding && true) (within_both u.at at GREATEST_MOMENT times.0 small)
+            (and_from (is_called u.cause u.version u.binding) true times.1 refl));
       }
 
   open_told : (all : Entries) (i : KeptItem) (u : Unrecorded) → pick_open i ≡ Some u → MayStand all i → LastsAbandoned u

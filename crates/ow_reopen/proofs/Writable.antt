@@ -1,10 +1,11 @@
 -- The row that a body makes nests no deeper than is read, and its binding names a package.
-use Rattle.std.proofs.Common.{◌≡◌, ◌≤◌, ◌==◌, ◌+◌, ◌&&◌, ℕ, suc, max, List, [], ◌∷◌, map, codes, Bool, true, false, cond, nat_le, nat_lt, IfSome, IfOk, unwrap_or, Option, Some, None, option_map, option_and_then, Result, Ok, Err, Ordering, Less, Equal, Greater, refl, sym, ap, subst, arith}
+use Rattle.std.proofs.Common.{◌≡◌, ◌≤◌, ◌==◌, ◌+◌, ◌&&◌, ℕ, suc, max, List, [], ◌∷◌, map, codes, Bool, true, false, cond, nat_lt, IfSome, IfOk, unwrap_or, Option, Some, None, option_map, option_and_then, Result, Ok, Err, Ordering, Less, Equal, Greater, refl, sym, ap, subst, arith}
 use Rattle.std.specs.BTreeMap.{is_at}
 use Rattle.std.specs.List.{AllByRecursion}
 use Rattle.std.specs.Ordering.{match_ordering}
 use Rattle.std.specs.Result.{result_unwrap_or}
 use Rattle.std.specs.Str.{bytes_eq}
+use Rattle.std.proofs.lemmas.Bool.{and_from, and_parts, le-leb, leb-true}
 use Rattle.std.proofs.lemmas.Bool.Decides.{nat_tests}
 use Rattle.std.proofs.lemmas.Slice.Eq.{bytes_eq-Decides}
 use Rattle.ow_value.specs.Field.{field, pairs_in}
@@ -41,9 +42,7 @@ use Rattle.ow_entity.specs.declared.rows.Draft.TheVariants as drafts
 use Rattle.ow_entity.specs.declared.rows.Row.{Row}
 use Rattle.ow_entity.specs.declared.rows.Row.TheVariants as rows
 use Rattle.ow_keep.specs.Allowed.{is_binding, is_version, stands_alone}
-use Rattle.ow_keep.proofs.Packages.{ands}
 use Rattle.ow_reopen.specs.RowsKept.{IsPlaced, IsWritable}
-use Rattle.ow_reopen.proofs.Tests.{both_true, le_true}
 
 -- ---- what holds of what is made, if anything is made
 
@@ -373,9 +372,6 @@ binding_depth (Some bound) = refl
 abbrev most_within : ℕ
 most_within = 97
 
-le_from : (d limit : ℕ) → nat_le d limit ≡ true → d ≤ limit
-le_from d limit h = grind arith
-
 action_written : (a : Action) → IsGoodAction most_within a → depth (action_value a) ≤ most_nested
 action_written a h = action_within most_within (nested a.notes) (nested a.params) (nested_within most_within a.notes h.notes) (nested_within most_within a.params h.params)
 
@@ -397,11 +393,11 @@ package_read p h =
 
 good_from : (name : FullName) (r : Row) → IsWritable r → name_of r ≡ name → IsGoodRow most_within name r
 unfolding row_value
-good_from name (rows.Action a) h e = action_read a h.entity (le_from (depth (action_value a)) most_nested h.shallow)
+good_from name (rows.Action a) h e = action_read a h.entity (leb-true (depth (action_value a)) most_nested h.shallow)
 good_from name (rows.Package p) h e =
-    let parts = package_read p (le_from (depth (package_value p)) most_nested h.shallow) in
-    let counted = ands (is_version p.version) (stands_alone p.name && is_binding p.name.namespace p.binding) h.entity in
-    let named = ands (stands_alone p.name) (is_binding p.name.namespace p.binding) counted.1 in
+    let parts = package_read p (leb-true (depth (package_value p)) most_nested h.shallow) in
+    let counted = and_parts (is_version p.version) (stands_alone p.name && is_binding p.name.namespace p.binding) h.entity in
+    let named = and_parts (stands_alone p.name) (is_binding p.name.namespace p.binding) counted.1 in
     record {
       name_is = e;
       alone = subst (λ (m : FullName). stands_alone m ≡ true) e named.0;
@@ -413,11 +409,11 @@ good_from name (rows.Package p) h e =
 
 writable_from : (name : FullName) (r : Row) → IsGoodRow most_within name r → IsWritable r
 unfolding row_value
-writable_from name (rows.Action a) h = record { shallow = le_true (depth (action_value a)) most_nested (action_written a h); entity = h.version }
+writable_from name (rows.Action a) h = record { shallow = le-leb (depth (action_value a)) most_nested (action_written a h); entity = h.version }
 writable_from name (rows.Package p) h = record {
-  shallow = le_true (depth (package_value p)) most_nested (package_written p h.params h.notes);
-  entity = both_true (is_version p.version) (stands_alone p.name && is_binding p.name.namespace p.binding) h.version
-      (both_true (stands_alone p.name) (is_binding p.name.namespace p.binding) (subst (λ (m : FullName). stands_alone m ≡ true) (sym h.name_is) h.alone)
+  shallow = le-leb (depth (package_value p)) most_nested (package_written p h.params h.notes);
+  entity = and_from (is_version p.version) (stands_alone p.name && is_binding p.name.namespace p.binding) h.version
+      (and_from (stands_alone p.name) (is_binding p.name.namespace p.binding) (subst (λ (m : FullName). stands_alone m ≡ true) (sym h.name_is) h.alone)
       (subst (λ (m : FullName). is_binding m.namespace p.binding ≡ true) (sym h.name_is) h.binding));
 }
 

@@ -3,4 +3,3 @@ pub mod Equal
 pub mod Filling
 pub mod Lines
 pub mod Reading
-pub mod Utf8

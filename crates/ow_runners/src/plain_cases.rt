@@ -1,7 +1,6 @@
 // The cases of plain code.
 ghost use Rattle.std.specs.Prelude.{◌≡◌, ◌↔◌, IfOk, IsTrue, option_map};
 ghost use Rattle.ow_value.specs.Find.{find};
-ghost use Rattle.ow_value.specs.Text.{compact};
 ghost use Rattle.ow_value.specs.Value.{items_of, members_of, object};
 ghost use Rattle.ow_value.specs.View.{view};
 ghost use Rattle.ow_entity.specs.PlainCode.{case_of, cases_in, cases_of};
@@ -11,8 +10,8 @@ ghost use Rattle.ow_runners.specs.PlainReply.{code_cases, fits, given, no_case, 
 
 use crate::fill::fill;
 use ow_value::{
-    Fields, NoMemory, Pair, Params, PlainData, Str, Val, Vals, ValueRefusal, copy, known, read_val,
-    same, write_val,
+    Fields, NoMemory, Pair, Params, PlainData, Str, Val, Vals, ValueRefusal, copy, read_val, same,
+    val_text,
 };
 use std::alloc::Global;
 use std::marker::Model;
@@ -68,7 +67,7 @@ impl PlainCases {
         ensures { IfOk result (λ s. s ≡ plain_reply self.now params.now) }
     {
         let value = given(alloc, &self.cases, params)?;
-        compact_text(alloc, &value)
+        val_text(alloc, &value)
     }
 }
 
@@ -186,14 +185,4 @@ fn no_case(alloc: Global) -> Result<Val, NoMemory>
     let text = Str::of(alloc, "No case fits.")?;
     fields.set(Str::of(alloc, "error")?, Val::Text(text))?;
     Ok(Val::Object(fields.into_params()?))
-}
-
-fn compact_text(alloc: Global, value: &Val) -> Result<Str, NoMemory>
-    ensures { IfOk result (λ s. s ≡ compact (view value.now)) }
-{
-    known(value);
-    match String::from_utf8(write_val(alloc, value)?) {
-        Ok(text) => Str::from_string(text),
-        Err(_) => unreachable!(),
-    }
 }

@@ -8,7 +8,7 @@ use Rattle.ow_peer.specs.declared.ending.Ending.{Ending}
 use Rattle.ow_serve.specs.declared.duty.Work.{Work}
 use Rattle.ow_serve.specs.declared.duty.Work.TheVariants.{Turns, Sweeps, Reaps}
 use Rattle.ow_serve.specs.Duties.{AllFor, AllStarted, BeginsAll, Ends}
-use Rattle.ow_serve.specs.Working.{AllWork}
+use Rattle.ow_serve.specs.Working.{AllWork, Outset}
 use Rattle.ow_serve.proofs.Seating.{pending_behind}
 
 -- ---- tasks that are started
@@ -37,6 +37,22 @@ module _ {T W : Type 0} (IsFor : T → W → Type 0) where
         ∙ ap (λ z. old ++ z) (sym (map-append (λ t. (t, false)) a.started b.started));
     all_for = all_for_both a.started b.started vs ws a.all_for b.all_for;
   }
+
+-- tasks for the same, by what else they are
+all_for_as : {T W : Type 0} (IsFor Mine : T → W → Type 0) → ((t : T) (w : W) → IsFor t w → Mine t w) → (ts : List T) (ws : List W) → AllFor IsFor ts ws → AllFor Mine ts ws
+all_for_as IsFor Mine so [] [] a = a
+all_for_as IsFor Mine so [] (w ∷ ws) a = absurd a
+all_for_as IsFor Mine so (t ∷ ts) [] a = absurd a
+all_for_as IsFor Mine so (t ∷ ts) (w ∷ ws) a = (so t w a.0, all_for_as IsFor Mine so ts ws a.1)
+
+pub started_as : {T W : Type 0} (IsFor Mine : T → W → Type 0) → ((t : T) (w : W) → IsFor t w → Mine t w) → (ws : List W) (old new : List (T × Bool)) → AllStarted IsFor ws old new → AllStarted Mine ws old new
+started_as IsFor Mine so ws old new s = record { started = s.started; tasks = s.tasks; all_for = all_for_as IsFor Mine so s.started ws s.all_for }
+
+-- where they were started
+pub started_as_if : {T W A E : Type 0} (IsFor Mine : T → W → Type 0) → ((t : T) (w : W) → IsFor t w → Mine t w) → (r : Result A E) (ws : List W) (old new : List (T × Bool))
+    → OnOk r (AllStarted IsFor ws old new) → OnOk r (AllStarted Mine ws old new)
+started_as_if IsFor Mine so (Ok x) ws old new s = started_as IsFor Mine so ws old new s
+started_as_if IsFor Mine so (Err e) ws old new s = tt
 
 -- ---- workers, sweeper and reaper
 
@@ -89,11 +105,11 @@ all_end_by IsFor ends goes so (t ∷ ts) [] ds f e = absurd f
 all_end_by IsFor ends goes so (t ∷ ts) (w ∷ ws) [] f e = absurd e
 all_end_by IsFor ends goes so (t ∷ ts) (w ∷ ws) (d ∷ ds) f e = (so t w d f.0 e.0, all_end_by IsFor ends goes so ts ws ds f.1 e.1)
 
-module _ {K R D : Type 0} (left taken : K → Option (List ℕ)) (gives : R → Giving) (faults : R → ℕ) (notes : D → Notes) (ending : D → Option Ending) where
+module _ {K R D : Type 0} (left taken : K → Option (List ℕ)) (gives : R → Giving) (faults : R → ℕ) (notes : D → Notes) (ending : D → Option Ending) (o : Outset) where
   abbrev Goes : Work K R → D → Type 0
-  Goes w d = Ends left taken gives faults w no_notes (notes d) (ending d)
+  Goes w d = Ends left taken gives faults o w no_notes (notes d) (ending d)
 
-  work_so : (workers : List R) (last : R) (ds : List D) → AllEnd Goes (map (λ r. Turns r) workers ++ Sweeps ∷ Reaps last ∷ []) ds → AllWork gives faults (workers ++ last ∷ []) (map notes ds)
+  work_so : (workers : List R) (last : R) (ds : List D) → AllEnd Goes (map (λ r. Turns r) workers ++ Sweeps ∷ Reaps last ∷ []) ds → AllWork gives faults o (workers ++ last ∷ []) (map notes ds)
   work_so [] last [] e = absurd e
   work_so [] last (s ∷ []) e = absurd e.1
   work_so [] last (s ∷ p ∷ []) e = record {
@@ -125,16 +141,17 @@ module _ {K R D : Type 0} (left taken : K → Option (List ℕ)) (gives : R → 
         reaped = rest.reaped;
       }
 
-  pub all_work : {T : Type 0} (work : T → Work K R) (start : T → Notes) (runners : List R) (old before : List (T × Bool)) (ds : List D)
-      → BeginsAll (λ t w. (work t ≡ w) × (start t ≡ no_notes)) runners old before → old ≡ []
-      → AllEnd (λ t d. Ends left taken gives faults (work t) (start t) (notes d) (ending d)) (pending zero before) ds → AllWork gives faults runners (map notes ds)
-  all_work work start runners old before ds b none all =
+  pub all_work : {T : Type 0} (work : T → Work K R) (start : T → Notes) (begins : T → Outset) (runners : List R) (old before : List (T × Bool)) (ds : List D)
+      → BeginsAll (λ t w. (work t ≡ w) × (start t ≡ no_notes) × (begins t ≡ o)) runners old before → old ≡ []
+      → AllEnd (λ t d. Ends left taken gives faults (begins t) (work t) (start t) (notes d) (ending d)) (pending zero before) ds → AllWork gives faults o runners (map notes ds)
+  all_work work start begins runners old before ds b none all =
       let fresh : before ≡ [] ++ map (λ t. (t, false)) b.begun.started = b.begun.tasks ∙ ap (λ z. z ++ map (λ t. (t, false)) b.begun.started) none in
       let started : pending zero before ≡ b.begun.started = ap (λ z. pending zero z) fresh ∙ pending_behind [] b.begun.started in
-      let mine : AllEnd (λ t d. Ends left taken gives faults (work t) (start t) (notes d) (ending d)) b.begun.started ds =
-      subst (λ ts. AllEnd (λ t d. Ends left taken gives faults (work t) (start t) (notes d) (ending d)) ts ds) started all in
+      let mine : AllEnd (λ t d. Ends left taken gives faults (begins t) (work t) (start t) (notes d) (ending d)) b.begun.started ds =
+      subst (λ ts. AllEnd (λ t d. Ends left taken gives faults (begins t) (work t) (start t) (notes d) (ending d)) ts ds) started all in
       let went : AllEnd Goes (map (λ r. Turns r) b.workers ++ Sweeps ∷ Reaps b.last ∷ []) ds =
-      all_end_by (λ t w. (work t ≡ w) × (start t ≡ no_notes)) (λ t d. Ends left taken gives faults (work t) (start t) (notes d) (ending d)) Goes
-      (λ t w d f e. subst (λ n. Ends left taken gives faults w n (notes d) (ending d)) f.1 (subst (λ v. Ends left taken gives faults v (start t) (notes d) (ending d)) f.0 e))
+      all_end_by (λ t w. (work t ≡ w) × (start t ≡ no_notes) × (begins t ≡ o)) (λ t d. Ends left taken gives faults (begins t) (work t) (start t) (notes d) (ending d)) Goes
+      (λ t w d f e. subst (λ x. Ends left taken gives faults x w no_notes (notes d) (ending d)) f.2
+      (subst (λ n. Ends left taken gives faults (begins t) w n (notes d) (ending d)) f.1 (subst (λ v. Ends left taken gives faults (begins t) v (start t) (notes d) (ending d)) f.0 e)))
       b.begun.started (map (λ r. Turns r) b.workers ++ Sweeps ∷ Reaps b.last ∷ []) ds b.begun.all_for mine in
-      subst (λ rs. AllWork gives faults rs (map notes ds)) (sym b.runners_are) (work_so b.workers b.last ds went)
+      subst (λ rs. AllWork gives faults o rs (map notes ds)) (sym b.runners_are) (work_so b.workers b.last ds went)

@@ -14,6 +14,7 @@ use Rattle.ow_serve.specs.declared.duty.Work.{Work}
 use Rattle.ow_serve.specs.declared.duty.Work.TheVariants as works
 use Rattle.ow_serve.specs.Duties.{Ends, IsServed, TalksAlone, TalksFrom}
 use Rattle.ow_serve.specs.Ended.{earlier}
+use Rattle.ow_serve.specs.Working.{Outset, fresh_outset}
 use Rattle.ow_serve.specs.Peers.{AcceptsAll, AllServed, AllTalk, HasNoPeer, Seated, Seats, endings_in, filled, seat_of}
 
 -- ---- listeners
@@ -173,23 +174,23 @@ earlier_behind ((b, false) ∷ before) ts = ap (λ us. b ∷ us) (earlier_behind
 
 -- ---- who serves a peer
 
-pub served_by : {K R : Type 0} (left taken : K → Option (List ℕ)) (gives : R → Giving) (faults : R → ℕ) (work : Work K R) (k : K) (n m : Notes) (told : Option Ending)
-    → work ≡ works.Serves k → n ≡ no_notes → Ends left taken gives faults work n m told → IsServed left taken k m told
-served_by left taken gives faults work k n m (Some ending) is none e =
-    let mine = subst (λ w. Ends left taken gives faults w n m (Some ending)) is e in
-    (ending, refl, subst (λ o. TalksFrom left taken k o m ending) none mine)
-served_by left taken gives faults work k n m None is none e = absurd (subst (λ w. Ends left taken gives faults w n m None) is e)
+pub served_by : {K R : Type 0} (left taken : K → Option (List ℕ)) (gives : R → Giving) (faults : R → ℕ) (o : Outset) (tells : Option ℕ) (opened : ℕ) (work : Work K R) (k : K) (n m : Notes) (told : Option Ending)
+    → work ≡ works.Serves k → n ≡ no_notes → o ≡ fresh_outset tells opened → Ends left taken gives faults o work n m told → IsServed left taken tells k m told
+served_by left taken gives faults o tells opened work k n m (Some ending) is none begun e =
+    let mine = subst (λ w. Ends left taken gives faults o w n m (Some ending)) is e in
+    (ending, refl, subst (λ x. TalksFrom left taken x k no_notes m ending) (ap (λ (x : Outset). x.tells) begun) (subst (λ x. TalksFrom left taken o.tells k x m ending) none mine))
+served_by left taken gives faults o tells opened work k n m None is none begun e = absurd (subst (λ w. Ends left taken gives faults o w n m None) is e)
 
-module _ {K D : Type 0} (left taken : K → Option (List ℕ)) (notes : D → Notes) (ending : D → Option Ending) where
-  told_first : (k : K) (ks : List K) (d : D) (ds : List D) (told : Option Ending) → ending d ≡ told → IsServed left taken k (notes d) (ending d)
-      → AllTalk (TalksAlone left taken) ks (map notes ds) (endings_in (map ending ds)) → AllTalk (TalksAlone left taken) (k ∷ ks) (notes d ∷ map notes ds) (endings_in (told ∷ map ending ds))
+module _ {K D : Type 0} (left taken : K → Option (List ℕ)) (tells : Option ℕ) (notes : D → Notes) (ending : D → Option Ending) where
+  told_first : (k : K) (ks : List K) (d : D) (ds : List D) (told : Option Ending) → ending d ≡ told → IsServed left taken tells k (notes d) (ending d)
+      → AllTalk (TalksAlone left taken tells) ks (map notes ds) (endings_in (map ending ds)) → AllTalk (TalksAlone left taken tells) (k ∷ ks) (notes d ∷ map notes ds) (endings_in (told ∷ map ending ds))
   told_first k ks d ds (Some e) is s rest =
       let same : s.0 ≡ e = cc in
-      (subst (λ x. TalksAlone left taken k (notes d) x) same s.2, rest)
+      (subst (λ x. TalksAlone left taken tells k (notes d) x) same s.2, rest)
   told_first k ks d ds None is s rest = absurd (let other = s.1 in cc)
 
-  pub all_talk : (ks : List K) (ds : List D) → AllServed (λ k d. IsServed left taken k (notes d) (ending d)) ks ds
-      → AllTalk (TalksAlone left taken) ks (map notes ds) (endings_in (map ending ds))
+  pub all_talk : (ks : List K) (ds : List D) → AllServed (λ k d. IsServed left taken tells k (notes d) (ending d)) ks ds
+      → AllTalk (TalksAlone left taken tells) ks (map notes ds) (endings_in (map ending ds))
   all_talk [] [] s = tt
   all_talk [] (d ∷ ds) s = absurd s
   all_talk (k ∷ ks) [] s = absurd s

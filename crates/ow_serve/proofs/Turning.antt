@@ -21,7 +21,7 @@ use Rattle.ow_serve.specs.Working.{BooksOnce, Leads, ReapsOnce, Stand, WorksOnce
 
 -- ---- what a turn is with what its runner gives now it is with what that gave at first
 
-module _ (f g : Giving) (a b before now : ℕ) (s : Steady f g a b) (le : before ≤ now) where
+module _ (f g : Giving) (a b before now : ℕ) (s : Steady f g a b) (le : before ≤ now) (tells : Option ℕ) where
   at_first : Steady f g before before
   at_first = record { back = s.back; on = s.on; starts_back = s.starts_back; starts_on = s.starts_on; later = omega arith }
 
@@ -34,7 +34,7 @@ module _ (f g : Giving) (a b before now : ℕ) (s : Steady f g a b) (le : before
   refused_by kind (Answer text logs) x = x
   refused_by kind (Exit status logs) x = x
 
-  warm_by : (order : PrewarmOrder) (n m : Notes) (v w : View) (turn : Turn) → WarmTurn g before now order n m v w turn → WarmTurn f before now order n m v w turn
+  warm_by : (order : PrewarmOrder) (n m : Notes) (v w : View) (turn : Turn) → WarmTurn g before now tells order n m v w turn → WarmTurn f before now tells order n m v w turn
   warm_by order n m v w turns.Warmed x =
       ⊎_elim (λ y. inl (y.0, s.starts_back order.kind y.1, y.2)) (λ y. inr (y.0, ⊎_elim (λ d. inl ((d.0.0, refused_by order.kind d.0.0 d.0.1), d.1)) (λ d. inr d) y.1)) x
   warm_by order n m v w (turns.NoMemory None) x = x
@@ -45,32 +45,32 @@ module _ (f g : Giving) (a b before now : ℕ) (s : Steady f g a b) (le : before
   warm_by order n m v w turns.Idle x = x
   warm_by order n m v w (turns.StoreFault job) x = x
 
-  module _ (is_second : ℕ → Type 0) where
-    run_by : (order : RunOrder) (n m : Notes) (v w : View) (turn : Turn) → RunTurn g before now is_second order n m v w turn → RunTurn f before now is_second order n m v w turn
+  module _ (opening : ℕ) where
+    run_by : (order : RunOrder) (n m : Notes) (v w : View) (turn : Turn) → RunTurn g before now tells opening order n m v w turn → RunTurn f before now tells opening order n m v w turn
     run_by order n m v w (turns.Lost seen) x = x
     run_by order n m v w (turns.NoMemory None) x = x
-    run_by order n m v w turns.Ran x = (x.0, x.1, performs_within is_second order n m x.0 w turns.Ran at_first at_last x.2)
-    run_by order n m v w turns.Removed x = (x.0, x.1, performs_within is_second order n m x.0 w turns.Removed at_first at_last x.2)
-    run_by order n m v w turns.Warmed x = (x.0, x.1, performs_within is_second order n m x.0 w turns.Warmed at_first at_last x.2)
-    run_by order n m v w turns.Idle x = (x.0, x.1, performs_within is_second order n m x.0 w turns.Idle at_first at_last x.2)
-    run_by order n m v w (turns.StoreFault job) x = (x.0, x.1, performs_within is_second order n m x.0 w (turns.StoreFault job) at_first at_last x.2)
-    run_by order n m v w (turns.NoMemory (Some job)) x = (x.0, x.1, performs_within is_second order n m x.0 w (turns.NoMemory (Some job)) at_first at_last x.2)
+    run_by order n m v w turns.Ran x = (x.0, x.1, performs_within tells opening order n m x.0 w turns.Ran at_first at_last x.2)
+    run_by order n m v w turns.Removed x = (x.0, x.1, performs_within tells opening order n m x.0 w turns.Removed at_first at_last x.2)
+    run_by order n m v w turns.Warmed x = (x.0, x.1, performs_within tells opening order n m x.0 w turns.Warmed at_first at_last x.2)
+    run_by order n m v w turns.Idle x = (x.0, x.1, performs_within tells opening order n m x.0 w turns.Idle at_first at_last x.2)
+    run_by order n m v w (turns.StoreFault job) x = (x.0, x.1, performs_within tells opening order n m x.0 w (turns.StoreFault job) at_first at_last x.2)
+    run_by order n m v w (turns.NoMemory (Some job)) x = (x.0, x.1, performs_within tells opening order n m x.0 w (turns.NoMemory (Some job)) at_first at_last x.2)
 
-    follows_by : (order : Order) (n m : Notes) (v w : View) (turn : Turn) → Follows g before now is_second order n m v w turn → Follows f before now is_second order n m v w turn
+    follows_by : (order : Order) (n m : Notes) (v w : View) (turn : Turn) → Follows g before now tells opening order n m v w turn → Follows f before now tells opening order n m v w turn
     follows_by (orders.Run order) n m v w turn x = (run_by order n m v w turn x.0, x.1)
     follows_by (orders.Prewarm order) n m v w turn x = (warm_by order n m v w turn x.0, x.1)
     follows_by (orders.Remove containers) n m v w turn x = x
     follows_by (orders.Nothing why) n m v w turn x = x
 
-    turned_by : (n m : Notes) (v w : View) (turn : Turn) → Turned g before now is_second n m v w turn → Turned f before now is_second n m v w turn
+    turned_by : (n m : Notes) (v w : View) (turn : Turn) → Turned g before now tells opening n m v w turn → Turned f before now tells opening n m v w turn
     turned_by n m v w turn x =
         ⊎_elim (λ y. inl y) (λ y. inr (record { order = y.order; taken = y.taken; next = y.next; follows = follows_by y.order y.taken m v w turn y.follows })) x
 
-pub works_by : {f g : Giving} {a b : ℕ} {is_second : ℕ → Type 0} {old new : Stand} → Steady f g a b → WorksOnce g is_second old new → WorksOnce f is_second old new
-works_by {f = f} {g = g} {a = a} {b = b} {is_second = is_second} {old = old} {new = new} s x = record {
+pub works_by : {f g : Giving} {a b : ℕ} {tells : Option ℕ} {opening : ℕ} {old new : Stand} → Steady f g a b → WorksOnce g tells opening old new → WorksOnce f tells opening old new
+works_by {f = f} {g = g} {a = a} {b = b} {tells = tells} {opening = opening} {old = old} {new = new} s x = record {
   turn = x.turn;
   behind = x.behind;
-  turned = turned_by f g a b old.faults x.behind.faults s x.later is_second old.notes x.behind.notes old.view x.behind.view x.turn x.turned;
+  turned = turned_by f g a b old.faults x.behind.faults s x.later tells opening old.notes x.behind.notes old.view x.behind.view x.turn x.turned;
   later = x.later;
   books = x.books;
 }
@@ -78,15 +78,15 @@ works_by {f = f} {g = g} {a = a} {b = b} {is_second = is_second} {old = old} {ne
 -- ---- one turn
 
 -- a turn, and behind it what books the reply that it left
-pub works_so : {gives : Giving} {is_second : ℕ → Type 0} {old new : Stand} (turn : Turn) (behind : Stand) (left : Option Job) → left ≡ to_book turn
-    → Turned gives old.faults behind.faults is_second old.notes behind.notes old.view behind.view turn → old.faults ≤ behind.faults → Leads BooksOnce (left, behind) (None, new)
-    → WorksOnce gives is_second old new
-works_so {new = new} turn behind left is turned later books = record {
+pub works_so : {gives : Giving} {tells : Option ℕ} {opening : ℕ} {old new : Stand} (turn : Turn) (behind : Stand) (left : Option Job) → left ≡ to_book turn
+    → Turned gives old.faults behind.faults tells opening old.notes behind.notes old.view behind.view turn → old.faults ≤ behind.faults → Leads (BooksOnce tells) (left, behind) (None, new)
+    → WorksOnce gives tells opening old new
+works_so {tells = tells} {new = new} turn behind left is turned later books = record {
   turn = turn;
   behind = behind;
   turned = turned;
   later = later;
-  books = subst (λ o. Leads BooksOnce (o, behind) (None, new)) is books;
+  books = subst (λ o. Leads (BooksOnce tells) (o, behind) (None, new)) is books;
 }
 
 -- ---- one reaping

@@ -3,6 +3,7 @@ use Rattle.std.proofs.Common.{◌≡◌, ◌++◌, ◌⊎◌, ℕ, zero, Bool, L
 use Rattle.std.specs.Prelude.{IsOkAnd}
 use Rattle.std.specs.Option.{option_to_list}
 use Rattle.std.proofs.lemmas.List.{reverse-append, reverse-reverse}
+use Rattle.ow_traits.specs.Runner.{Giving}
 use Rattle.ow_threads.specs.Tasks.{AllEnd, Joined, pending}
 use Rattle.ow_audit.specs.Differs.{Matches}
 use Rattle.ow_audit.specs.Places.{placed, standing_at}
@@ -13,42 +14,41 @@ use Rattle.ow_keep.specs.Split.{Parts}
 use Rattle.ow_decide.specs.Opening.{opened_decision, parts_taken}
 use Rattle.ow_decide.specs.declared.events.Event.{Event}
 use Rattle.ow_decide.specs.declared.events.Event.TheVariants as events
-use Rattle.ow_decide.specs.declared.events.Told.TheVariants as told
 use Rattle.ow_hall.specs.Comes.{Answers, Fails, KeptRows, Outcome, Wants, drain_outcome}
 use Rattle.ow_value.specs.declared.memory.NoMemory.{NoMemory as Want}
-use Rattle.ow_hall.specs.History.{IsLegal, answer, posting, seen}
+use Rattle.ow_hall.specs.History.{IsLegal, answer, moment, posting, seen}
 use Rattle.ow_hall.specs.declared.posting.Posting.{Posting}
 use Rattle.ow_hall.specs.declared.posting.Posting.TheVariants.{Booked, Denied, Quiet, Unbooked}
 use Rattle.ow_hall.specs.Ledger.{BookView, Ledger, no_entries, opened, opening_moment, posted_as}
 use Rattle.ow_hall.specs.declared.refusals.StartFault.{StartFault}
 use Rattle.ow_hall.specs.declared.refusals.StartFault.TheVariants as starts
-use Rattle.ow_desk.specs.Notes.{HasNoted, Notes, ReceiptsView, no_notes, noted, noted_as}
+use Rattle.ow_desk.specs.Notes.{CalledBy, Notes, ReceiptsView, noted, noted_as}
 use Rattle.ow_desk.specs.declared.placed.Placed.{Placed}
 use Rattle.ow_floor.specs.declared.answers.Drain.{Drain}
-use Rattle.ow_floor.specs.declared.answers.Drain.TheVariants as drains
 use Rattle.ow_peer.specs.declared.ending.Ending.{Ending}
 use Rattle.ow_serve.specs.declared.accepting.Stopped.{Stopped}
 use Rattle.ow_serve.specs.declared.accepting.Stopped.TheVariants as stops
 use Rattle.ow_serve.specs.declared.served.ServedEnd.{ServedEnd}
 use Rattle.ow_serve.specs.declared.served.ServedEnd.TheVariants as ends
 use Rattle.ow_serve.specs.Duties.{IsServed, TalksAlone}
-use Rattle.ow_serve.specs.Ended.{BeginsWith, BookBegins, BookOpens, Closes, DrainedBy, IsEnd, IsFirst, IsOpenedEnd, IsOpenedOver, IsWhole, KeepsBook, KeepsFirst, Leaves, LeavesStore, Left, OpensOver, Serves, earlier, unopened}
+use Rattle.ow_serve.specs.Ended.{BeginsWith, BookBegins, BookOpens, Closes, Drains, IsEnd, IsFirst, IsOpenedEnd, IsOpenedOver, IsWhole, KeepsBook, KeepsFirst, Leaves, LeavesStore, Left, OpensAndDrains, OpensOver, Serves, earlier, opening_notes, unopened}
+use Rattle.ow_serve.specs.Working.{AllWork, AllWorkBy, Outset, fresh_outset}
 use Rattle.ow_serve.specs.Peers.{AcceptsPeers, AllTalk, Seated, endings_in, filled}
 use Rattle.ow_serve.proofs.Seating.{all_served, all_talk, as_many, earlier_behind, pending_behind, talk_count}
 
-module _ {T K D : Type 0} (left taken : K → Option (List ℕ)) (notes : D → Notes) (ending : D → Option Ending) (IsFor : T → K → Type 0) (task_ends : T → D → Type 0)
-    (serves : (t : T) (k : K) (d : D) → IsFor t k → task_ends t d → IsServed left taken k (notes d) (ending d)) (Work : List Notes → Type 0) where
+module _ {T K D : Type 0} (Own : Notes → Type 0) (left taken : K → Option (List ℕ)) (tells : Option ℕ) (notes : D → Notes) (ending : D → Option Ending) (IsFor : T → K → Type 0) (task_ends : T → D → Type 0)
+    (serves : (t : T) (k : K) (d : D) → IsFor t k → task_ends t d → IsServed left taken tells k (notes d) (ending d)) (Work : List Notes → Type 0) where
   abbrev Mine : K → D → Type 0
-  Mine k d = IsServed left taken k (notes d) (ending d)
+  Mine k d = IsServed left taken tells k (notes d) (ending d)
 
   -- what the peers came to
   talk_by : (old new : Option (List K)) (before now : List (T × Bool)) (seats : List (Option D)) (joined : List D) (s : Seated IsFor Mine old new before now seats)
       → AllEnd task_ends (pending (length before) now) joined
-      → AllTalk (TalksAlone left taken) s.peers (map notes (filled seats joined)) (endings_in (map ending (filled seats joined)))
+      → AllTalk (TalksAlone left taken tells) s.peers (map notes (filled seats joined)) (endings_in (map ending (filled seats joined)))
   talk_by old new before now seats joined s all =
       let started : pending (length before) now ≡ s.started = ap (λ z. pending (length before) z) s.tasks ∙ pending_behind before s.started in
       let mine : AllEnd task_ends s.started joined = subst (λ ts. AllEnd task_ends ts joined) started all in
-      all_talk left taken notes ending s.peers (filled seats joined) (all_served IsFor Mine task_ends serves s.started s.peers seats joined s.seated mine)
+      all_talk left taken tells notes ending s.peers (filled seats joined) (all_served IsFor Mine task_ends serves s.started s.peers seats joined s.seated mine)
 
   -- what the tasks came to that were started before
   work_by : (old new : Option (List K)) (before now : List (T × Bool)) (seats : List (Option D)) (others : List D) (s : Seated IsFor Mine old new before now seats)
@@ -60,10 +60,10 @@ module _ {T K D : Type 0} (left taken : K → Option (List ℕ)) (notes : D → 
       (all : AllEnd task_ends (pending (length before) now) joined) (earlier_all : AllEnd task_ends (earlier (length before) now) others)
       (works : (os : List D) → AllEnd task_ends (pending zero before) os → Work (map notes os)) where
     abbrev Out : Stopped → ServedEnd → Ledger → Type 0
-    Out stopped end book = Leaves (map notes (filled seats joined)) (map ending (filled seats joined)) (map notes others) stopped end book receipts endings
+    Out stopped end book = Leaves Own (map notes (filled seats joined)) (map ending (filled seats joined)) (map notes others) stopped end book receipts endings
 
     whole_by : (stopped : Stopped) (end : ServedEnd) (book : Ledger) → Seated IsFor Mine old new before now seats → Out stopped end book → Matches receipts book
-        → IsWhole (TalksAlone left taken) Work old new book receipts endings
+        → IsWhole Own (TalksAlone left taken tells) Work old new book receipts endings
     whole_by stopped end book s l matches = record {
       matches = matches;
       table = l.table;
@@ -74,26 +74,26 @@ module _ {T K D : Type 0} (left taken : K → Option (List ℕ)) (notes : D → 
       served = map notes (filled seats joined);
       others = map notes others;
       receipts_are = l.receipts_are;
-      drained = l.drained;
-      talk = subst (λ es. AllTalk (TalksAlone left taken) s.peers (map notes (filled seats joined)) es) (sym l.endings_are) (talk_by old new before now seats joined s all);
+      owns = l.owns;
+      talk = subst (λ es. AllTalk (TalksAlone left taken tells) s.peers (map notes (filled seats joined)) es) (sym l.endings_are) (talk_by old new before now seats joined s all);
       work = work_by old new before now seats others s works earlier_all;
     }
 
     -- as many endings as seats
     count_by : (stopped : Stopped) (end : ServedEnd) (book : Ledger) → Seated IsFor Mine old new before now seats → Out stopped end book → length endings ≡ length seats
     count_by stopped end book s l =
-        ap length l.endings_are ∙ talk_count (TalksAlone left taken) s.peers (map notes (filled seats joined)) (endings_in (map ending (filled seats joined))) (talk_by old new before now seats joined s all)
+        ap length l.endings_are ∙ talk_count (TalksAlone left taken tells) s.peers (map notes (filled seats joined)) (endings_in (map ending (filled seats joined))) (talk_by old new before now seats joined s all)
         ∙ as_many IsFor Mine s.started s.peers seats s.seated
 
     closed_by : (book : BookView) → AcceptsPeers IsFor Mine old new before now most seats stops.Closed → Out stops.Closed ends.Closed book.ledger → Matches receipts book.ledger
-        → Serves (TalksAlone left taken) Work old new most ends.Closed (Some book) receipts endings
+        → Serves Own (TalksAlone left taken tells) Work old new most ends.Closed (Some book) receipts endings
     closed_by book a l matches = (
       whole_by stops.Closed ends.Closed book.ledger a.0 l matches,
       ⊎_elim (λ none. inl none) (λ many. inr (count_by stops.Closed ends.Closed book.ledger a.0 l ∙ many)) a.1,
     )
 
     left_by : (book : BookView) (stopped : Stopped) (end : ServedEnd) → AcceptsPeers IsFor Mine old new before now most seats stopped → Out stopped end book.ledger
-        → Serves (TalksAlone left taken) Work old new most end (Some book) receipts endings
+        → Serves Own (TalksAlone left taken tells) Work old new most end (Some book) receipts endings
     left_by book stopped ends.Closed a l =
         let same = l.is_end.0 in
         closed_by book (subst (λ s. AcceptsPeers IsFor Mine old new before now most seats s) same a) (subst (λ s. Out s ends.Closed book.ledger) same l) l.is_end.1
@@ -103,52 +103,67 @@ module _ {T K D : Type 0} (left taken : K → Option (List ℕ)) (notes : D → 
     left_by book stopped ends.StoreFault a l = absurd l.is_end
     left_by book stopped (ends.BadKept key) a l = absurd l.is_end
     left_by book stopped ends.NoMemory a l = tt
-    left_by book stopped (ends.Unmatched difference) a l = (l.is_end, (l.own, map notes (filled seats joined) ++ map notes others, l.receipts_are, l.drained))
+    left_by book stopped (ends.Unmatched difference) a l = (l.is_end, (l.own, map notes (filled seats joined) ++ map notes others, l.receipts_are, l.owns))
 
-    wanting : (end : ServedEnd) (book : Option BookView) → end ≡ ends.NoMemory → Serves (TalksAlone left taken) Work old new most end book receipts endings
-    wanting end book is = subst (λ e. Serves (TalksAlone left taken) Work old new most e book receipts endings) (sym is) tt
+    wanting : (end : ServedEnd) (book : Option BookView) → end ≡ ends.NoMemory → Serves Own (TalksAlone left taken tells) Work old new most end book receipts endings
+    wanting end book is = subst (λ e. Serves Own (TalksAlone left taken tells) Work old new most e book receipts endings) (sym is) tt
 
     left_so : (stopped : Stopped) (end : ServedEnd) (book : Option BookView) → AcceptsPeers IsFor Mine old new before now most seats stopped
-        → Left (map notes (filled seats joined)) (map ending (filled seats joined)) (map notes others) stopped end book receipts endings
-        → Serves (TalksAlone left taken) Work old new most end book receipts endings
+        → Left Own (map notes (filled seats joined)) (map ending (filled seats joined)) (map notes others) stopped end book receipts endings
+        → Serves Own (TalksAlone left taken tells) Work old new most end book receipts endings
     left_so stopped end None a l = wanting end None l
     left_so stopped end (Some book) a l = left_by book stopped end a l
 
   pub serves_by : (old new : Option (List K)) (before now : List (T × Bool)) (most first : ℕ) (seats : List (Option D)) (stopped : Stopped) (end : ServedEnd) (book : Option BookView)
       (receipts : List Notes) (endings : List Ending) → ((os : List D) → AllEnd task_ends (pending zero before) os → Work (map notes os)) → first ≡ length before
-      → AcceptsPeers IsFor Mine old new before now most seats stopped → Closes task_ends notes ending first now seats stopped end book receipts endings
-      → Serves (TalksAlone left taken) Work old new most end book receipts endings
+      → AcceptsPeers IsFor Mine old new before now most seats stopped → Closes Own task_ends notes ending first now seats stopped end book receipts endings
+      → Serves Own (TalksAlone left taken tells) Work old new most end book receipts endings
   serves_by old new before now most first seats stopped end book receipts endings works is a (inl none) =
-      subst (λ e. Serves (TalksAlone left taken) Work old new most e book receipts endings) (sym none) tt
+      subst (λ e. Serves Own (TalksAlone left taken tells) Work old new most e book receipts endings) (sym none) tt
   serves_by old new before now most first seats stopped end book receipts endings works is a (inr x) =
       left_so old new before now most seats x.0 x.1 receipts endings (subst (λ n. AllEnd task_ends (pending n now) x.0) is x.2) (subst (λ n. AllEnd task_ends (earlier n now) x.1) is x.3) works stopped end book a x.4
 
 -- what is left fills the seats with what the tasks came to that were joined first, and has behind it what the others came to
-pub closes_by : {T D V E F G : Type 0} (task_ends : T → D → Type 0) (items : V → List D) (notes : D → Notes) (ending : D → Option Ending) (old middle now : List (T × Bool))
+pub closes_by : {T D V E F G : Type 0} (Own : Notes → Type 0) (task_ends : T → D → Type 0) (items : V → List D) (notes : D → Notes) (ending : D → Option Ending) (old middle now : List (T × Bool))
     (seats : List (Option D)) (stopped : Stopped) (end : ServedEnd) (book : Option BookView) (receipts : List Notes) (endings : List Ending) (first : ℕ)
     (peers : Result V E) (others : Result V F) (all : Result (V × V) G)
     → Joined task_ends items old middle first peers → Joined task_ends items middle now 0 others → IfOk all (λ a. IsOkAnd peers (λ ps. items a.0 ≡ filled seats (items ps))) → IfOk all (λ a. IsOkAnd others (λ os. items a.1 ≡ items os))
-    → IfOk all (λ a. Left (map notes (items a.0)) (map ending (items a.0)) (map notes (items a.1)) stopped end book receipts endings) → OnErr all (end ≡ ends.NoMemory)
-    → Closes task_ends notes ending first old seats stopped end book receipts endings
-closes_by task_ends items notes ending old middle now seats stopped end book receipts endings first (Ok ps) (Ok os) (Ok a) p o same kept left none =
+    → IfOk all (λ a. Left Own (map notes (items a.0)) (map ending (items a.0)) (map notes (items a.1)) stopped end book receipts endings) → OnErr all (end ≡ ends.NoMemory)
+    → Closes Own task_ends notes ending first old seats stopped end book receipts endings
+closes_by Own task_ends items notes ending old middle now seats stopped end book receipts endings first (Ok ps) (Ok os) (Ok a) p o same kept left none =
     inr (
       items ps,
       items os,
       p.0,
       subst (λ ts. AllEnd task_ends (pending 0 ts) (items os)) p.1 o.0,
-      subst (λ ds. Left (map notes (filled seats (items ps))) (map ending (filled seats (items ps))) (map notes ds) stopped end book receipts endings) kept
-          (subst (λ ds. Left (map notes ds) (map ending ds) (map notes (items a.1)) stopped end book receipts endings) same left),
+      subst (λ ds. Left Own (map notes (filled seats (items ps))) (map ending (filled seats (items ps))) (map notes ds) stopped end book receipts endings) kept
+          (subst (λ ds. Left Own (map notes ds) (map ending ds) (map notes (items a.1)) stopped end book receipts endings) same left),
     )
-closes_by task_ends items notes ending old middle now seats stopped end book receipts endings first (Err e) others (Ok a) p o same kept left none = absurd same
-closes_by task_ends items notes ending old middle now seats stopped end book receipts endings first (Ok ps) (Err e) (Ok a) p o same kept left none = absurd kept
-closes_by task_ends items notes ending old middle now seats stopped end book receipts endings first peers others (Err e) p o same kept left none = inl none
+closes_by Own task_ends items notes ending old middle now seats stopped end book receipts endings first (Err e) others (Ok a) p o same kept left none = absurd same
+closes_by Own task_ends items notes ending old middle now seats stopped end book receipts endings first (Ok ps) (Err e) (Ok a) p o same kept left none = absurd kept
+closes_by Own task_ends items notes ending old middle now seats stopped end book receipts endings first peers others (Err e) p o same kept left none = inl none
+
+-- by another outset, which is the same
+pub accepts_as : {T K D : Type 0} (IsFor : Outset → T → K → Type 0) (left taken : K → Option (List ℕ)) (notes : D → Notes) (ending : D → Option Ending) (a b : Outset)
+    (old new : Option (List K)) (before now : List (T × Bool)) (most : ℕ) (seats : List (Option D)) (stopped : Stopped) → a ≡ b
+    → AcceptsPeers (IsFor a) (λ k d. IsServed left taken a.tells k (notes d) (ending d)) old new before now most seats stopped
+    → AcceptsPeers (IsFor b) (λ k d. IsServed left taken b.tells k (notes d) (ending d)) old new before now most seats stopped
+accepts_as IsFor left taken notes ending a b old new before now most seats stopped same =
+    subst (λ (o : Outset). AcceptsPeers (IsFor o) (λ k d. IsServed left taken o.tells k (notes d) (ending d)) old new before now most seats stopped) same
+
+pub closes_as : {T D : Type 0} (a b : Option ℕ) (n m : Notes) (task_ends : T → D → Type 0) (notes : D → Notes) (ending : D → Option Ending) (first : ℕ) (tasks : List (T × Bool))
+    (seats : List (Option D)) (stopped : Stopped) (end : ServedEnd) (book : Option BookView) (receipts : List Notes) (endings : List Ending) → a ≡ b → n ≡ m
+    → Closes (Drains a n) task_ends notes ending first tasks seats stopped end book receipts endings → Closes (Drains b m) task_ends notes ending first tasks seats stopped end book receipts endings
+closes_as a b n m task_ends notes ending first tasks seats stopped end book receipts endings same is c =
+    subst (λ (x : Notes). Closes (Drains b x) task_ends notes ending first tasks seats stopped end book receipts endings) is
+    (subst (λ (x : Option ℕ). Closes (Drains x n) task_ends notes ending first tasks seats stopped end book receipts endings) same c)
 
 -- a service that wasn't opened has served nobody
-pub unserved_by : {K : Type 0} (Talks : K → Notes → Ending → Type 0) (Work : List Notes → Type 0) (old : Option (List K)) (most : ℕ) (why : StartFault) (end : ServedEnd) (book : Option BookView)
-    (receipts : List Notes) (endings : List Ending) → end ≡ unopened why → endings ≡ [] → Serves Talks Work old old most end book receipts endings
-unserved_by Talks Work old most (starts.BadKept key) end book receipts endings is none = subst (λ e. Serves Talks Work old old most e book receipts endings) (sym is) (refl, none)
-unserved_by Talks Work old most starts.StoreFault end book receipts endings is none = subst (λ e. Serves Talks Work old old most e book receipts endings) (sym is) (refl, none)
-unserved_by Talks Work old most starts.NoMemory end book receipts endings is none = subst (λ e. Serves Talks Work old old most e book receipts endings) (sym is) tt
+pub unserved_by : {K : Type 0} (Own : Notes → Type 0) (Talks : K → Notes → Ending → Type 0) (Work : List Notes → Type 0) (old : Option (List K)) (most : ℕ) (why : StartFault) (end : ServedEnd) (book : Option BookView)
+    (receipts : List Notes) (endings : List Ending) → end ≡ unopened why → endings ≡ [] → Serves Own Talks Work old old most end book receipts endings
+unserved_by Own Talks Work old most (starts.BadKept key) end book receipts endings is none = subst (λ e. Serves Own Talks Work old old most e book receipts endings) (sym is) (refl, none)
+unserved_by Own Talks Work old most starts.StoreFault end book receipts endings is none = subst (λ e. Serves Own Talks Work old old most e book receipts endings) (sym is) (refl, none)
+unserved_by Own Talks Work old most starts.NoMemory end book receipts endings is none = subst (λ e. Serves Own Talks Work old old most e book receipts endings) (sym is) tt
 
 -- ---- the book
 
@@ -208,14 +223,6 @@ over_none told why end is = subst (λ e. IsOpenedOver told e) (sym is) (by_why w
 
 -- ---- the last drain
 
-pub drained_so : (d : Drain) (n m : Notes) → HasNoted events.Drain (Answers (told.Drain d)) n m → DrainedBy d m
-drained_so (drains.Drained k) n m noted = (n.entries, record { place = length noted.0; entry = record { at = noted.1; event = events.Drain; answer = told.Drain (drains.Drained k) } }, ap (λ (x : Notes). x.entries) noted.2, refl)
-drained_so (drains.StillOpen k) n m noted = tt
-
-pub drained_if : (r : Result Drain Want) (n m : Notes) → HasNoted events.Drain (drain_outcome r) n m → IfOk r (λ d. DrainedBy d m)
-drained_if (Ok d) n m noted = drained_so d n m noted
-drained_if (Err e) n m noted = tt
-
 -- entries come behind those that are there
 appended : (first : Entry) (n m : Notes) (more : List Placed) → m.entries ≡ n.entries ++ more → BeginsWith first n → BeginsWith first m
 appended first n m more is begins = (begins.0 ++ more, is ∙ ap (λ ps. ps ++ more) begins.1)
@@ -232,8 +239,10 @@ keeps_noted B at event Wants n = λ first begins. begins
 keeps_noted B at event Fails n = λ first begins. begins
 
 -- a drain is noted behind what is there
-pub keeps_first : (r : Result Drain Want) (n m : Notes) → HasNoted events.Drain (drain_outcome r) n m → KeepsFirst n m
-keeps_first r n m has = subst (λ x. KeepsFirst n x) (sym has.2) (keeps_noted has.0 has.1 events.Drain (drain_outcome r) n)
+pub keeps_first : (tells : Option ℕ) (r : Result Drain Want) (n m : Notes) → CalledBy tells events.Drain (drain_outcome r) n m → KeepsFirst n m
+keeps_first tells r n m has =
+    let call = has.2 in
+    subst (λ x. KeepsFirst n x) (sym call.notes) (keeps_noted call.before (moment call.before has.0) events.Drain (drain_outcome r) n)
 
 -- where all is there, the drain has ended
 pub has_drained : {A B E F : Type 0} (all : Result A E) (drained : Result B F) (X : Type 0) → (IsOk all → IsOk drained) → OnOk drained X → IsOk all → X
@@ -248,14 +257,18 @@ ok_of P r x is h = subst (λ q. IfOk q P) is h
 
 -- what is all that a hall holds at its opening
 abbrev IsOpening : List Entry → ReceiptsView → Type 0
-IsOpening entries v = (e : Entry) × (entries ≡ e ∷ []) × (v.notes ≡ record no_notes { entries = record { place = 0; entry = e } ∷ [] })
+IsOpening entries v = (e : Entry) × (entries ≡ e ∷ []) × (v.notes ≡ opening_notes e)
 
--- receipts of it begin with it
-pub begins_laid : {F : Type 0} (r : Result ReceiptsView F) (x : ReceiptsView) (hall desk : List Entry) → IfOk r (IsOpening desk) → r ≡ Ok x → desk ≡ hall
-    → (e : Entry) × (hall ≡ e ∷ []) × BeginsWith e x.notes
-begins_laid r x hall desk opens is same =
+-- receipts of it
+pub opens_laid : {F : Type 0} (r : Result ReceiptsView F) (x : ReceiptsView) (hall desk : List Entry) → IfOk r (IsOpening desk) → r ≡ Ok x → desk ≡ hall
+    → (e : Entry) × (hall ≡ e ∷ []) × (x.notes ≡ opening_notes e)
+opens_laid r x hall desk opens is same =
     let o : IsOpening desk x = ok_of (IsOpening desk) r x is opens in
-    (o.0, sym same ∙ o.1, ([], ap (λ (n : Notes). n.entries) o.2))
+    (o.0, sym same ∙ o.1, o.2)
+
+-- they begin with it
+begins_opening : (e : Entry) (n : Notes) → n ≡ opening_notes e → BeginsWith e n
+begins_opening e n is = ([], ap (λ (x : Notes). x.entries) is)
 
 -- what stands at the first place of receipts that begin so
 first_standing : (first : Entry) (own : Notes) (rest : List Notes) → BeginsWith first own → (more : List Entry) × (standing_at 0 (placed (own ∷ rest)) ≡ first ∷ more)
@@ -330,13 +343,13 @@ one_entry t loaded at entries is = let one = opening_entry t loaded at entries i
 
 -- over the table, at the moment, and with the rows that the store told
 pub opens_so : (tells : Option ℕ) (told : KeptRows) (t : Table) (loaded : List (List ℕ × List ℕ)) (at : ℕ) (entries : List Entry) (n : Notes) (end : ServedEnd) (book : Option BookView)
-    → IfSome tells (λ m. at ≡ m) → entries ≡ (opened t loaded at).entries → IfSome told (λ kept. loaded ≡ kept) → (e : Entry) × (entries ≡ e ∷ []) × BeginsWith e n → BookBegins n end book
+    → IfSome tells (λ m. at ≡ m) → entries ≡ (opened t loaded at).entries → IfSome told (λ kept. loaded ≡ kept) → (e : Entry) × (entries ≡ e ∷ []) × (n ≡ opening_notes e) → BookBegins n end book
     → BookOpens tells told t end book
 opens_so tells told t loaded at entries n end book clock is same begun begins = by_end end book begins
   where
     over : (L : Ledger) → ((first : Entry) → BeginsWith first n → IsFirst first L) → OpensOver tells told t L
     over L h =
-        let first = h begun.0 begun.2 in
+        let first = h begun.0 (begins_opening begun.0 n begun.2) in
         record {
           rows = loaded;
           told_are = same;
@@ -365,3 +378,53 @@ opens_none tells told t why end book is = subst (λ e. BookOpens tells told t e 
     by_why (starts.BadKept key) = tt
     by_why starts.StoreFault = tt
     by_why starts.NoMemory = tt
+
+-- ---- what is known of a service at its opening
+
+-- its own receipts and the work of its threads, by what else they are
+pub serves_as : {K : Type 0} (Own Mine : Notes → Type 0) (Talks : K → Notes → Ending → Type 0) (Work Done : List Notes → Type 0) (old new : Option (List K)) (most : ℕ) (end : ServedEnd) (book : Option BookView)
+    (receipts : List Notes) (endings : List Ending) → ((n : Notes) → Own n → Mine n) → ((ns : List Notes) → Work ns → Done ns)
+    → Serves Own Talks Work old new most end book receipts endings → Serves Mine Talks Done old new most end book receipts endings
+serves_as Own Mine Talks Work Done old new most end book receipts endings own work = by_end end book
+  where
+    whole : (L : Ledger) → IsWhole Own Talks Work old new L receipts endings → IsWhole Mine Talks Done old new L receipts endings
+    whole L w = record {
+      matches = w.matches;
+      table = w.table;
+      legal = w.legal;
+      peers = w.peers;
+      accepts = w.accepts;
+      own = w.own;
+      served = w.served;
+      others = w.others;
+      receipts_are = w.receipts_are;
+      owns = own w.own w.owns;
+      talk = w.talk;
+      work = work w.others w.work;
+    }
+
+    by_end : (e : ServedEnd) (b : Option BookView) → Serves Own Talks Work old new most e b receipts endings → Serves Mine Talks Done old new most e b receipts endings
+    by_end ends.Closed (Some b) s = (whole b.ledger s.0, s.1)
+    by_end ends.Closed None s = s
+    by_end ends.ListenFault (Some b) s = whole b.ledger s
+    by_end ends.ListenFault None s = s
+    by_end (ends.Unmatched difference) (Some b) s = (s.0, (s.1.0, s.1.1, s.1.2, own s.1.0 s.1.3))
+    by_end (ends.Unmatched difference) None s = s
+    by_end ends.NoWorker b s = s
+    by_end ends.StoreFault b s = s
+    by_end (ends.BadKept key) b s = s
+    by_end ends.NoMemory b s = s
+
+-- by the clock, the moment and the receipts with which it was opened
+pub opened_serves : {K R : Type 0} (left taken : K → Option (List ℕ)) (gives : R → Giving) (faults : R → ℕ) (runners : List R) (tells clock : Option ℕ) (opened now : ℕ) (n : Notes) (first : Entry)
+    (old new : Option (List K)) (most : ℕ) (end : ServedEnd) (book : Option BookView) (receipts : List Notes) (endings : List Ending)
+    → tells ≡ clock → opened ≡ now → n ≡ opening_notes first → IfSome clock (λ m. now ≡ m)
+    → Serves (Drains tells n) (TalksAlone left taken tells) (AllWork gives faults (fresh_outset tells opened) runners) old new most end book receipts endings
+    → Serves (OpensAndDrains clock) (TalksAlone left taken clock) (AllWorkBy gives faults clock runners) old new most end book receipts endings
+opened_serves left taken gives faults runners tells clock opened now n first old new most end book receipts endings same at noted moment s =
+    let by_clock = subst (λ (x : Option ℕ). Serves (Drains x n) (TalksAlone left taken x) (AllWork gives faults (fresh_outset x opened) runners) old new most end book receipts endings) same s in
+    let by_moment = subst (λ (x : ℕ). Serves (Drains clock n) (TalksAlone left taken clock) (AllWork gives faults (fresh_outset clock x) runners) old new most end book receipts endings) at by_clock in
+    let by_notes =
+    subst (λ (x : Notes). Serves (Drains clock x) (TalksAlone left taken clock) (AllWork gives faults (fresh_outset clock now) runners) old new most end book receipts endings) noted by_moment in
+    serves_as (Drains clock (opening_notes first)) (OpensAndDrains clock) (TalksAlone left taken clock) (AllWork gives faults (fresh_outset clock now) runners) (AllWorkBy gives faults clock runners)
+    old new most end book receipts endings (λ m drains. (first, drains)) (λ ns work. (now, moment, work)) by_notes

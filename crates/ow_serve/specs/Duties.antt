@@ -4,30 +4,31 @@ use Rattle.ow_traits.specs.Runner.{Giving}
 use Rattle.ow_desk.specs.Notes.{Notes, no_notes}
 use Rattle.ow_peer.specs.Talk.{Talks}
 use Rattle.ow_peer.specs.declared.ending.Ending.{Ending}
-use Rattle.ow_serve.specs.Working.{MakesReapings, MakesSweeps, MakesTurns}
+use Rattle.ow_serve.specs.Working.{MakesReapings, MakesSweeps, MakesTurns, Outset}
 use Rattle.ow_serve.specs.declared.duty.Work.{Work}
 use Rattle.ow_serve.specs.declared.duty.Work.TheVariants.{Turns, Sweeps, Reaps, Serves}
 
 -- ---- what a thread may come to
 
 -- a connection over the link that leaves these receipts, where it began with others, and this ending
-abbrev pub TalksFrom : {K : Type 0} → (K → Option (List ℕ)) → (K → Option (List ℕ)) → K → Notes → Notes → Ending → Type 0
-TalksFrom left taken link n m ending = (unread : Option (List ℕ)) × (written : Option (List ℕ)) × Talks (left link) unread (taken link) written n m ending
+abbrev pub TalksFrom : {K : Type 0} → (K → Option (List ℕ)) → (K → Option (List ℕ)) → Option ℕ → K → Notes → Notes → Ending → Type 0
+TalksFrom left taken tells link n m ending =
+    (unread : Option (List ℕ)) × (written : Option (List ℕ)) × Talks tells (left link) unread (taken link) written n m ending
 
 -- who serves a peer leaves its receipts and its ending; the others have no ending, and leave the receipts of their calls
-abbrev pub Ends : {K R : Type 0} → (K → Option (List ℕ)) → (K → Option (List ℕ)) → (R → Giving) → (R → ℕ) → Work K R → Notes → Notes → Option Ending → Type 0
-Ends left taken gives faults (Serves link) n m (Some ending) = TalksFrom left taken link n m ending
-Ends left taken gives faults (Serves link) n m None = ⊥
-Ends left taken gives faults (Turns runner) n m ending = (ending ≡ None) × MakesTurns (gives runner) (faults runner) n m
-Ends left taken gives faults Sweeps n m ending = (ending ≡ None) × MakesSweeps n m
-Ends left taken gives faults (Reaps runner) n m ending = (ending ≡ None) × MakesReapings n m
+abbrev pub Ends : {K R : Type 0} → (K → Option (List ℕ)) → (K → Option (List ℕ)) → (R → Giving) → (R → ℕ) → Outset → Work K R → Notes → Notes → Option Ending → Type 0
+Ends left taken gives faults o (Serves link) n m (Some ending) = TalksFrom left taken o.tells link n m ending
+Ends left taken gives faults o (Serves link) n m None = ⊥
+Ends left taken gives faults o (Turns runner) n m ending = (ending ≡ None) × MakesTurns (gives runner) (faults runner) o n m
+Ends left taken gives faults o Sweeps n m ending = (ending ≡ None) × MakesSweeps o.tells n m
+Ends left taken gives faults o (Reaps runner) n m ending = (ending ≡ None) × MakesReapings o n m
 
 -- a peer was served, from receipts of nothing on
-abbrev pub TalksAlone : {K : Type 0} → (K → Option (List ℕ)) → (K → Option (List ℕ)) → K → Notes → Ending → Type 0
-TalksAlone left taken link m ending = TalksFrom left taken link no_notes m ending
+abbrev pub TalksAlone : {K : Type 0} → (K → Option (List ℕ)) → (K → Option (List ℕ)) → Option ℕ → K → Notes → Ending → Type 0
+TalksAlone left taken tells link m ending = TalksFrom left taken tells link no_notes m ending
 
-abbrev pub IsServed : {K : Type 0} → (K → Option (List ℕ)) → (K → Option (List ℕ)) → K → Notes → Option Ending → Type 0
-IsServed left taken link m told = (ending : Ending) × (told ≡ Some ending) × TalksAlone left taken link m ending
+abbrev pub IsServed : {K : Type 0} → (K → Option (List ℕ)) → (K → Option (List ℕ)) → Option ℕ → K → Notes → Option Ending → Type 0
+IsServed left taken tells link m told = (ending : Ending) × (told ≡ Some ending) × TalksAlone left taken tells link m ending
 
 -- ---- which threads are begun
 

@@ -1,10 +1,12 @@
 -- How a service ends, and what it leaves.
-use Rattle.std.specs.Prelude.{◌≡◌, ◌⊎◌, ◌++◌, ℕ, Bool, List, [], ◌∷◌, true, Option, Some, None, IfSome, IsOk, length, map}
+use Rattle.std.specs.Prelude.{◌≡◌, ◌⊎◌, ◌++◌, ℕ, Bool, List, [], ◌∷◌, Option, Some, None, IfSome, IsOk, length, map}
 use Rattle.ow_tenant.specs.Table.{Table}
 use Rattle.ow_threads.specs.Tasks.{AllEnd, joined, pending}
 use Rattle.ow_floor.specs.declared.answers.Drain.{Drain}
 use Rattle.ow_floor.specs.declared.answers.Drain.TheVariants as drains
-use Rattle.ow_hall.specs.Comes.{HoldsBook, KeptRows}
+use Rattle.ow_decide.specs.declared.events.Event.TheVariants as events
+use Rattle.ow_decide.specs.declared.events.Told.TheVariants as told
+use Rattle.ow_hall.specs.Comes.{Answers, HoldsBook, KeptRows}
 use Rattle.ow_hall.specs.Openings.{HasStartCause}
 use Rattle.ow_hall.specs.declared.entry.Entry.{Entry}
 use Rattle.ow_hall.specs.declared.refusals.StartFault.{StartFault}
@@ -12,31 +14,45 @@ use Rattle.ow_hall.specs.declared.refusals.StartFault.TheVariants as starts
 use Rattle.ow_hall.specs.History.{IsLegal}
 use Rattle.ow_hall.specs.Ledger.{BookView, Ledger, opened}
 use Rattle.ow_keep.specs.Judged.{judged}
-use Rattle.ow_desk.specs.Notes.{Notes}
+use Rattle.ow_desk.specs.Notes.{CalledBy, Notes, no_notes}
 use Rattle.ow_desk.specs.declared.placed.Placed.{Placed}
-use Rattle.ow_audit.specs.Drains.{is_drained}
 use Rattle.ow_audit.specs.Differs.{Differs, Matches}
 use Rattle.ow_peer.specs.declared.ending.Ending.{Ending}
 use Rattle.ow_serve.specs.declared.accepting.Stopped.{Stopped}
 use Rattle.ow_serve.specs.declared.accepting.Stopped.TheVariants as stops
 use Rattle.ow_serve.specs.declared.served.ServedEnd.{ServedEnd}
 use Rattle.ow_serve.specs.declared.served.ServedEnd.TheVariants as ends
+use Rattle.ow_serve.specs.Working.{Leads}
 use Rattle.ow_serve.specs.Peers.{AcceptsAll, AllTalk, HasNoPeer, endings_in, filled}
 
 -- ---- the receipts of the service itself
 
--- they end with a drain that told that all is drained
-abbrev pub EndsDrained : Notes → Type 0
-EndsDrained n = (before : List Placed) × (last : Placed) × (n.entries ≡ before ++ last ∷ []) × (is_drained last.entry ≡ true)
+-- those of an opening, which stands at the first place of a book
+abbrev pub opening_notes : Entry → Notes
+opening_notes first = record no_notes { entries = record { place = 0; entry = first } ∷ [] }
 
--- they do, where that is what it told
-abbrev pub DrainedBy : Drain → Notes → Type 0
-DrainedBy (drains.Drained n) m = EndsDrained m
-DrainedBy (drains.StillOpen n) m = Unit {0}
+-- one drain that told this
+abbrev pub DrainsOnce : Option ℕ → Drain → Notes → Notes → Type 0
+DrainsOnce tells drain n m = CalledBy tells events.Drain (Answers (told.Drain drain)) n m
 
--- the first receipts do
-abbrev pub HasDrained : List Notes → Type 0
-HasDrained receipts = (own : Notes) × (others : List Notes) × (receipts ≡ own ∷ others) × EndsDrained own
+-- one that told that some are still open
+abbrev pub StaysOpen : Option ℕ → Notes → Notes → Type 0
+StaysOpen tells n m = (many : ℕ) × DrainsOnce tells (drains.StillOpen many) n m
+
+-- such drains, and behind them one that told that all is drained
+pub record Drains (tells : Option ℕ) (n m : Notes) : Type 0 where
+  pub before : Notes
+  pub stays : Leads (StaysOpen tells) n before
+  pub recorded : ℕ
+  pub drained : DrainsOnce tells (drains.Drained recorded) before m
+
+-- the opening, and these drains
+abbrev pub OpensAndDrains : Option ℕ → Notes → Type 0
+OpensAndDrains tells n = (first : Entry) × Drains tells (opening_notes first) n
+
+-- the first receipts are these
+abbrev pub BeginsOwn : (Notes → Type 0) → List Notes → Type 0
+BeginsOwn Own receipts = (own : Notes) × (others : List Notes) × (receipts ≡ own ∷ others) × Own own
 
 -- ---- the opening, among them
 
@@ -69,29 +85,29 @@ IsEnd stopped receipts book ends.NoMemory = Unit {0}
 IsEnd stopped receipts book end = ⊥
 
 -- the receipts of the service, of the peers, and of the others; the peers' endings; and the book, which is a legal one
-pub record Leaves (served : List Notes) (told : List (Option Ending)) (others : List Notes) (stopped : Stopped) (end : ServedEnd) (book : Ledger) (receipts : List Notes) (endings : List Ending) : Type 0 where
+pub record Leaves (Own : Notes → Type 0) (served : List Notes) (told : List (Option Ending)) (others : List Notes) (stopped : Stopped) (end : ServedEnd) (book : Ledger) (receipts : List Notes) (endings : List Ending) : Type 0 where
   pub own : Notes
   pub receipts_are : receipts ≡ own ∷ (served ++ others)
-  pub drained : EndsDrained own
+  pub owns : Own own
   pub endings_are : endings ≡ endings_in told
   pub table : Table
   pub legal : IsLegal table book.entries
   pub is_end : IsEnd stopped receipts book end
 
 -- where there is a book; there is none only where memory was wanted
-abbrev pub Left : List Notes → List (Option Ending) → List Notes → Stopped → ServedEnd → Option BookView → List Notes → List Ending → Type 0
-Left served told others stopped end (Some book) receipts endings = Leaves served told others stopped end book.ledger receipts endings
-Left served told others stopped end None receipts endings = end ≡ ends.NoMemory
+abbrev pub Left : (Notes → Type 0) → List Notes → List (Option Ending) → List Notes → Stopped → ServedEnd → Option BookView → List Notes → List Ending → Type 0
+Left Own served told others stopped end (Some book) receipts endings = Leaves Own served told others stopped end book.ledger receipts endings
+Left Own served told others stopped end None receipts endings = end ≡ ends.NoMemory
 
 -- the tasks numbered below `first` that aren't joined, once the later ones are
 abbrev pub earlier : {T : Type 0} → ℕ → List (T × Bool) → List T
 earlier first tasks = pending 0 (joined first tasks)
 
 -- what the tasks from `first` on came to fills the seats, and what the earlier ones came to stands behind it; or memory was wanted
-abbrev pub Closes : {T D : Type 0} → (T → D → Type 0) → (D → Notes) → (D → Option Ending) → ℕ → List (T × Bool) → List (Option D) → Stopped → ServedEnd → Option BookView → List Notes → List Ending → Type 0
-Closes task_ends notes ending first tasks seats stopped end book receipts endings = (end ≡ ends.NoMemory)
+abbrev pub Closes : {T D : Type 0} → (Notes → Type 0) → (T → D → Type 0) → (D → Notes) → (D → Option Ending) → ℕ → List (T × Bool) → List (Option D) → Stopped → ServedEnd → Option BookView → List Notes → List Ending → Type 0
+Closes Own task_ends notes ending first tasks seats stopped end book receipts endings = (end ≡ ends.NoMemory)
     ⊎ ((peers : List _) × (others : List _) × AllEnd task_ends (pending first tasks) peers × AllEnd task_ends (earlier first tasks) others
-    × Left (map notes (filled seats peers)) (map ending (filled seats peers)) (map notes others) stopped end book receipts endings)
+    × Left Own (map notes (filled seats peers)) (map ending (filled seats peers)) (map notes others) stopped end book receipts endings)
 
 -- ---- the opening
 
@@ -153,9 +169,9 @@ LeavesStore rows store end back book = IfSome back (λ s. KeepsBook (rows s) boo
 
 -- ---- the service
 
--- behind the last peer: the receipts are the book, which is a legal one; each peer that was accepted has its receipts and its ending; and
+-- behind the last peer: the receipts are the book, which is a legal one; the first are the service's own; each peer that was accepted has its receipts and its ending; and
 -- the others did their work
-pub record IsWhole {K : Type 0} (Talks : K → Notes → Ending → Type 0) (Work : List Notes → Type 0) (old new : Option (List K)) (book : Ledger) (receipts : List Notes) (endings : List Ending) : Type 0 where
+pub record IsWhole {K : Type 0} (Own : Notes → Type 0) (Talks : K → Notes → Ending → Type 0) (Work : List Notes → Type 0) (old new : Option (List K)) (book : Ledger) (receipts : List Notes) (endings : List Ending) : Type 0 where
   pub matches : Matches receipts book
   pub table : Table
   pub legal : IsLegal table book.entries
@@ -165,20 +181,20 @@ pub record IsWhole {K : Type 0} (Talks : K → Notes → Ending → Type 0) (Wor
   pub served : List Notes
   pub others : List Notes
   pub receipts_are : receipts ≡ own ∷ (served ++ others)
-  pub drained : EndsDrained own
+  pub owns : Own own
   pub talk : AllTalk Talks peers served endings
   pub work : Work others
 
 -- by the end
-abbrev pub Serves : {K : Type 0} → (K → Notes → Ending → Type 0) → (List Notes → Type 0) → Option (List K) → Option (List K) → ℕ → ServedEnd → Option BookView → List Notes → List Ending → Type 0
-Serves Talks Work old new most ends.Closed (Some book) receipts endings =
-    IsWhole Talks Work old new book.ledger receipts endings × (HasNoPeer new ⊎ (length endings ≡ most))
-Serves Talks Work old new most ends.Closed None receipts endings = ⊥
-Serves Talks Work old new most ends.ListenFault (Some book) receipts endings = IsWhole Talks Work old new book.ledger receipts endings
-Serves Talks Work old new most ends.ListenFault None receipts endings = ⊥
-Serves Talks Work old new most (ends.Unmatched difference) (Some book) receipts endings = Differs receipts book.ledger difference × HasDrained receipts
-Serves Talks Work old new most (ends.Unmatched difference) None receipts endings = ⊥
-Serves Talks Work old new most ends.NoWorker book receipts endings = (new ≡ old) × (endings ≡ [])
-Serves Talks Work old new most ends.StoreFault book receipts endings = (new ≡ old) × (endings ≡ [])
-Serves Talks Work old new most (ends.BadKept key) book receipts endings = (new ≡ old) × (endings ≡ [])
-Serves Talks Work old new most ends.NoMemory book receipts endings = Unit {0}
+abbrev pub Serves : {K : Type 0} → (Notes → Type 0) → (K → Notes → Ending → Type 0) → (List Notes → Type 0) → Option (List K) → Option (List K) → ℕ → ServedEnd → Option BookView → List Notes → List Ending → Type 0
+Serves Own Talks Work old new most ends.Closed (Some book) receipts endings =
+    IsWhole Own Talks Work old new book.ledger receipts endings × (HasNoPeer new ⊎ (length endings ≡ most))
+Serves Own Talks Work old new most ends.Closed None receipts endings = ⊥
+Serves Own Talks Work old new most ends.ListenFault (Some book) receipts endings = IsWhole Own Talks Work old new book.ledger receipts endings
+Serves Own Talks Work old new most ends.ListenFault None receipts endings = ⊥
+Serves Own Talks Work old new most (ends.Unmatched difference) (Some book) receipts endings = Differs receipts book.ledger difference × BeginsOwn Own receipts
+Serves Own Talks Work old new most (ends.Unmatched difference) None receipts endings = ⊥
+Serves Own Talks Work old new most ends.NoWorker book receipts endings = (new ≡ old) × (endings ≡ [])
+Serves Own Talks Work old new most ends.StoreFault book receipts endings = (new ≡ old) × (endings ≡ [])
+Serves Own Talks Work old new most (ends.BadKept key) book receipts endings = (new ≡ old) × (endings ≡ [])
+Serves Own Talks Work old new most ends.NoMemory book receipts endings = Unit {0}

@@ -1,13 +1,12 @@
 -- What workers, the sweeper and the reaper do until they are to end, call by call.
-use Rattle.std.specs.Prelude.{◌≡◌, ◌≤◌, ◌++◌, ℕ, List, [], ◌∷◌, Option, Some, None}
+use Rattle.std.specs.Prelude.{◌≡◌, ◌≤◌, ◌++◌, ℕ, List, [], ◌∷◌, Option, Some, None, IfSome}
 use Rattle.ow_traits.specs.Runner.{Giving}
-use Rattle.ow_board.specs.View.{KeepsOthers}
+use Rattle.ow_board.specs.View.{KeepsOthers, fresh_view}
 use Rattle.ow_board.specs.declared.view.View.{View}
 use Rattle.ow_desk.specs.Notes.{Notes, no_notes}
 use Rattle.ow_worker.specs.Noted.{Watched}
 use Rattle.ow_worker.specs.Parts.{Booked}
 use Rattle.ow_worker.specs.Reaped.{HasReaped}
-use Rattle.ow_worker.specs.Shown.{IsSecond}
 use Rattle.ow_worker.specs.Turned.{Turned}
 use Rattle.ow_worker.specs.declared.outcome.Job.{Job}
 use Rattle.ow_worker.specs.declared.outcome.Turn.{Turn}
@@ -20,6 +19,21 @@ use Rattle.ow_serve.specs.declared.working.Next.TheVariants as nexts
 pub data Leads {S : Type 0} (Step : S → S → Type 0) : S → S → Type 0 where
   stays : {s : S} → Leads Step s s
   goes_on : {s t u : S} → Leads Step s t → Step t u → Leads Step s u
+
+-- ---- how a thread begins
+
+-- what its clock tells, the moment of the opening, and what its pass shows of the board
+pub record Outset : Type 0 where
+  pub tells : Option ℕ
+  pub opened : ℕ
+  pub view : View
+
+abbrev pub outset : Option ℕ → ℕ → View → Outset
+outset tells opened view = record { tells = tells; opened = opened; view = view }
+
+-- a pass that shows nothing
+abbrev pub fresh_outset : Option ℕ → ℕ → Outset
+fresh_outset tells opened = outset tells opened fresh_view
 
 -- ---- workers
 
@@ -45,65 +59,58 @@ next_job (nexts.Book job) = Some job
 next_job next = None
 
 -- one call that books the reply which is left: before it and behind it, which reply is left, and where the worker stands
-pub record BooksOnce (old new : Option Job × Stand) : Type 0 where
+pub record BooksOnce (tells : Option ℕ) (old new : Option Job × Stand) : Type 0 where
   pub job : Job
   pub turn : Turn
   pub is_left : old.0 ≡ Some job
-  pub booked : Booked job.order job.reply job.laid old.1.notes new.1.notes old.1.view.steps old.1.view new.1.view turn
+  pub booked : Booked tells job.order job.reply job.laid old.1.notes new.1.notes old.1.view.steps old.1.view new.1.view turn
   pub others : KeepsOthers job.order.slot old.1.view new.1.view
   pub leaves : new.0 ≡ to_book turn
   pub later : old.1.faults ≤ new.1.faults
 
 -- one turn, and behind it the calls that book its reply, until none is left
-pub record WorksOnce (gives : Giving) (is_second : ℕ → Type 0) (old new : Stand) : Type 0 where
+pub record WorksOnce (gives : Giving) (tells : Option ℕ) (opening : ℕ) (old new : Stand) : Type 0 where
   pub turn : Turn
   pub behind : Stand
-  pub turned : Turned gives old.faults behind.faults is_second old.notes behind.notes old.view behind.view turn
+  pub turned : Turned gives old.faults behind.faults tells opening old.notes behind.notes old.view behind.view turn
   pub later : old.faults ≤ behind.faults
-  pub books : Leads BooksOnce (to_book turn, behind) (None, new)
+  pub books : Leads (BooksOnce tells) (to_book turn, behind) (None, new)
 
--- a worker's turns, one after the other, with a runner that gave this at first, at this count of faults; whatever the clock tells, and
--- whatever the pass showed at first
-pub record MakesTurns (gives : Giving) (faults : ℕ) (n m : Notes) : Type 0 where
-  pub tells : Option ℕ
-  pub opened : ℕ
-  pub view : View
+-- a worker's turns, one after the other, with a runner that gave this at first, at this count of faults
+pub record MakesTurns (gives : Giving) (faults : ℕ) (o : Outset) (n m : Notes) : Type 0 where
   pub last : Stand
-  pub works : Leads (WorksOnce gives (IsSecond tells opened)) (stand n view faults) last
+  pub works : Leads (WorksOnce gives o.tells o.opened) (stand n o.view faults) last
   pub notes : m ≡ last.notes
 
 -- ---- the sweeper and the reaper
 
 -- one sweep
-abbrev pub SweepsOnce : Notes → Notes → Type 0
-SweepsOnce n m = (watch : Watch) × Watched n m watch
+abbrev pub SweepsOnce : Option ℕ → Notes → Notes → Type 0
+SweepsOnce tells n m = (watch : Watch) × Watched tells n m watch
 
 -- the sweeper's sweeps, one after the other
-abbrev pub MakesSweeps : Notes → Notes → Type 0
-MakesSweeps n m = Leads SweepsOnce n m
+abbrev pub MakesSweeps : Option ℕ → Notes → Notes → Type 0
+MakesSweeps tells n m = Leads (SweepsOnce tells) n m
 
 -- one reaping of the first slots, so many, of which so many were taken
 abbrev pub ReapsOnce : Option ℕ → ℕ → Notes × View → Notes × View → Type 0
 ReapsOnce tells opened old new = (slots : ℕ) × (count : ℕ) × HasReaped tells opened old.0 new.0 old.1 new.1 slots count
 
--- the reaper's reapings, one after the other; whatever the clock tells, and whatever the pass showed at first
-pub record MakesReapings (n m : Notes) : Type 0 where
-  pub tells : Option ℕ
-  pub opened : ℕ
-  pub old : View
-  pub new : View
-  pub reaps : Leads (ReapsOnce tells opened) (n, old) (m, new)
+-- the reaper's reapings, one after the other
+pub record MakesReapings (o : Outset) (n m : Notes) : Type 0 where
+  pub view : View
+  pub reaps : Leads (ReapsOnce o.tells o.opened) (n, o.view) (m, view)
 
 -- ---- all of them
 
 -- each of these runners has a worker, which made turns from receipts of nothing on
-abbrev pub AllWorked : {R : Type 0} → (R → Giving) → (R → ℕ) → List R → List Notes → Type 0
-AllWorked gives faults [] [] = Unit {0}
-AllWorked gives faults (r ∷ rs) (n ∷ ns) = MakesTurns (gives r) (faults r) no_notes n × AllWorked gives faults rs ns
-AllWorked gives faults rs ns = ⊥
+abbrev pub AllWorked : {R : Type 0} → (R → Giving) → (R → ℕ) → Outset → List R → List Notes → Type 0
+AllWorked gives faults o [] [] = Unit {0}
+AllWorked gives faults o (r ∷ rs) (n ∷ ns) = MakesTurns (gives r) (faults r) o no_notes n × AllWorked gives faults o rs ns
+AllWorked gives faults o rs ns = ⊥
 
 -- each runner but the last has a worker; behind these stand the sweeper, and the reaper, who has the last runner
-pub record AllWork {R : Type 0} (gives : R → Giving) (faults : R → ℕ) (runners : List R) (others : List Notes) : Type 0 where
+pub record AllWork {R : Type 0} (gives : R → Giving) (faults : R → ℕ) (o : Outset) (runners : List R) (others : List Notes) : Type 0 where
   pub workers : List R
   pub last : R
   pub runners_are : runners ≡ workers ++ last ∷ []
@@ -111,6 +118,10 @@ pub record AllWork {R : Type 0} (gives : R → Giving) (faults : R → ℕ) (run
   pub by_sweeper : Notes
   pub by_reaper : Notes
   pub others_are : others ≡ by_workers ++ by_sweeper ∷ by_reaper ∷ []
-  pub worked : AllWorked gives faults workers by_workers
-  pub swept : MakesSweeps no_notes by_sweeper
-  pub reaped : MakesReapings no_notes by_reaper
+  pub worked : AllWorked gives faults o workers by_workers
+  pub swept : MakesSweeps o.tells no_notes by_sweeper
+  pub reaped : MakesReapings o no_notes by_reaper
+
+-- they began with a pass that shows nothing, at the moment of the opening, which is that of the clock where it tells one
+abbrev pub AllWorkBy : {R : Type 0} → (R → Giving) → (R → ℕ) → Option ℕ → List R → List Notes → Type 0
+AllWorkBy gives faults tells runners others = (opened : ℕ) × IfSome tells (λ m. opened ≡ m) × AllWork gives faults (fresh_outset tells opened) runners others

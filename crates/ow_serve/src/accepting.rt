@@ -1,9 +1,11 @@
 // Peers are accepted, and each is served in a thread of its own.
 ghost use Rattle.std.specs.Prelude.{◌≡◌, ◌≤◌};
 ghost use Rattle.ow_traits.specs.Streams.{Rose};
+ghost use Rattle.ow_board.specs.Board.{view_of};
 ghost use Rattle.ow_desk.specs.Notes.{no_notes};
 ghost use Rattle.ow_serve.specs.Duties.{IsServed};
 ghost use Rattle.ow_serve.specs.Peers.{AcceptsPeers, seat_of};
+ghost use Rattle.ow_serve.specs.Working.{fresh_outset, outset};
 ghost use Rattle.ow_serve.specs.declared.duty.Work.TheVariants.{Serves};
 
 use crate::duty::{Done, Duty, Work};
@@ -49,9 +51,11 @@ pub(crate) fn accept_all<
 ) -> (Vec<Option<Done<R, P>>>, Stopped)
 where
     R::Container: Send + 'static,
-    ensures accepted { AcceptsPeers (λ t k. (t.work ≡ Serves k) × (t.notes.notes ≡ no_notes)) (λ k d. IsServed K.left K.taken k d.notes.notes d.ending)
+    ensures accepted { AcceptsPeers (λ t k. (t.work ≡ Serves k) × (t.notes.notes ≡ no_notes) × (outset (C.tells t.clock.value) t.opened (view_of t.pass) ≡ fresh_outset (C.tells house.old.clock.value) house.old.opened))
+        (λ k d. IsServed K.left K.taken (C.tells house.old.clock.value) k d.notes.notes d.ending)
         (L.peers listener.old) (L.peers listener.new) crew.old.tasks crew.new.tasks most result.0.items result.1 }
     ensures notes { house.new.notes.notes ≡ house.old.notes.notes }
+    ensures clock { (house.new.clock ≡ house.old.clock) × (house.new.opened ≡ house.old.opened) }
     ensures later { L.faults listener.old ≤ L.faults listener.new }
     ensures fault { result.1 ≡ Stopped.Fault → Rose (L.faults listener.old) (L.faults listener.new) }
 {

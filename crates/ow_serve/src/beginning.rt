@@ -1,7 +1,9 @@
 // The threads that the service begins before it accepts anybody.
 ghost use Rattle.std.specs.Prelude.{◌≡◌, ◌⊎◌, ◌<◌, ◌≤◌, ◌∷◌, [], length, map, IfErr, OnOk};
+ghost use Rattle.ow_board.specs.Board.{view_of};
 ghost use Rattle.ow_desk.specs.Notes.{no_notes};
 ghost use Rattle.ow_serve.specs.Duties.{AllStarted, BeginsAll};
+ghost use Rattle.ow_serve.specs.Working.{fresh_outset, outset};
 ghost use Rattle.ow_serve.specs.declared.duty.Work.TheVariants.{Turns};
 
 use crate::duty::{Duty, Work};
@@ -34,9 +36,10 @@ pub(crate) fn begin_all<
 where
     R::Container: Send + 'static,
     requires runners { 2 ≤ length runners.items }
-    ensures begins { OnOk result (BeginsAll (λ t w. (t.work ≡ w) × (t.notes.notes ≡ no_notes)) runners.items crew.old.tasks crew.new.tasks) }
+    ensures begins { OnOk result (BeginsAll (λ t w. (t.work ≡ w) × (t.notes.notes ≡ no_notes) × (outset (C.tells t.clock.value) t.opened (view_of t.pass) ≡ fresh_outset (C.tells house.old.clock.value) house.old.opened)) runners.items crew.old.tasks crew.new.tasks) }
     ensures worker { IfErr result (λ e. (e ≡ ServedEnd.NoMemory) ⊎ ((e ≡ ServedEnd.NoWorker) × (0 < crew.new.faults))) }
     ensures notes { house.new.notes.notes ≡ house.old.notes.notes }
+    ensures clock { (house.new.clock ≡ house.old.clock) × (house.new.opened ≡ house.old.opened) }
 {
     let mut runners = runners;
     let last = runners.pop();
@@ -66,9 +69,10 @@ fn begin_workers<
 ) -> Result<(), ServedEnd>
 where
     R::Container: Send + 'static,
-    ensures begins { OnOk result (AllStarted (λ t w. (t.work ≡ w) × (t.notes.notes ≡ no_notes)) (map (λ r. Turns r) runners.items) crew.old.tasks crew.new.tasks) }
+    ensures begins { OnOk result (AllStarted (λ t w. (t.work ≡ w) × (t.notes.notes ≡ no_notes) × (outset (C.tells t.clock.value) t.opened (view_of t.pass) ≡ fresh_outset (C.tells house.old.clock.value) house.old.opened)) (map (λ r. Turns r) runners.items) crew.old.tasks crew.new.tasks) }
     ensures worker { IfErr result (λ e. (e ≡ ServedEnd.NoMemory) ⊎ ((e ≡ ServedEnd.NoWorker) × (0 < crew.new.faults))) }
     ensures notes { house.new.notes.notes ≡ house.old.notes.notes }
+    ensures clock { (house.new.clock ≡ house.old.clock) × (house.new.opened ≡ house.old.opened) }
 {
     for runner in runners {
         begin(rt, alloc, Work::Turns { runner }, house, crew)?;
@@ -94,9 +98,10 @@ fn begin<
 ) -> Result<(), ServedEnd>
 where
     R::Container: Send + 'static,
-    ensures begins { OnOk result (AllStarted (λ t w. (t.work ≡ w) × (t.notes.notes ≡ no_notes)) (work ∷ []) crew.old.tasks crew.new.tasks) }
+    ensures begins { OnOk result (AllStarted (λ t w. (t.work ≡ w) × (t.notes.notes ≡ no_notes) × (outset (C.tells t.clock.value) t.opened (view_of t.pass) ≡ fresh_outset (C.tells house.old.clock.value) house.old.opened)) (work ∷ []) crew.old.tasks crew.new.tasks) }
     ensures worker { IfErr result (λ e. (e ≡ ServedEnd.NoMemory) ⊎ ((e ≡ ServedEnd.NoWorker) × (0 < crew.new.faults))) }
     ensures notes { house.new.notes.notes ≡ house.old.notes.notes }
+    ensures clock { (house.new.clock ≡ house.old.clock) × (house.new.opened ≡ house.old.opened) }
 {
     let Ok(duty) = house.duty(rt, alloc, work) else {
         return Err(ServedEnd::NoMemory);

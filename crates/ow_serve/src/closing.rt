@@ -2,9 +2,11 @@
 ghost use Rattle.std.specs.Prelude.{◌≡◌, ◌<◌, ◌++◌, ◌∷◌, None, map, IfOk, IfSome, OnOk};
 ghost use Rattle.ow_tenant.specs.Table.{Table};
 ghost use Rattle.ow_board.specs.Board.{IsPassOf, size};
-ghost use Rattle.ow_hall.specs.Comes.{HoldsBook};
+ghost use Rattle.ow_hall.specs.Comes.{HoldsBook, drain_outcome};
 ghost use Rattle.ow_hall.specs.History.{IsLegal};
-ghost use Rattle.ow_serve.specs.Ended.{DrainedBy, EndsDrained, KeepsBook, KeepsFirst};
+ghost use Rattle.ow_decide.specs.declared.events.Event.TheVariants as events;
+ghost use Rattle.ow_desk.specs.Notes.{CalledBy};
+ghost use Rattle.ow_serve.specs.Ended.{Drains, KeepsBook, KeepsFirst};
 ghost use Rattle.ow_serve.specs.Peers.{endings_in, filled};
 
 use crate::duty::Done;
@@ -31,7 +33,7 @@ pub(crate) fn drain<H: Wait, P: Keeper + Drop, R: Runner + Drop, C: Clock + Drop
     alloc: Global,
     house: &mut House<P, R, C, G>,
 ) -> Result<(), NoMemory>
-    ensures drained { OnOk result (EndsDrained house.new.notes.notes) }
+    ensures drained { OnOk result (Drains (C.tells house.old.clock.value) house.old.notes.notes house.new.notes.notes) }
     ensures first { KeepsFirst house.old.notes.notes house.new.notes.notes }
 {
     for _ in rt.forever() {
@@ -50,8 +52,9 @@ fn drain_once<H: Wait, P: Keeper + Drop, R: Runner + Drop, C: Clock + Drop, G: G
     alloc: Global,
     house: &mut House<P, R, C, G>,
 ) -> Result<Drain, NoMemory>
-    ensures drained { IfOk result (λ d. DrainedBy d house.new.notes.notes) }
+    ensures called { CalledBy (C.tells house.old.clock.value) events.Drain (drain_outcome result) house.old.notes.notes house.new.notes.notes }
     ensures first { KeepsFirst house.old.notes.notes house.new.notes.notes }
+    ensures clock { house.new.clock ≡ house.old.clock }
 {
     let at = house.clock.now();
     house

@@ -1,9 +1,9 @@
 // What one thread does.
 ghost use Rattle.std.specs.Prelude.{◌≡◌, Some, None};
-ghost use Rattle.ow_board.specs.Board.{IsPassOf};
+ghost use Rattle.ow_board.specs.Board.{IsPassOf, view_of};
 ghost use Rattle.ow_peer.specs.declared.ending.Ending.{Ending};
 ghost use Rattle.ow_serve.specs.Duties.{Ends, TalksFrom};
-ghost use Rattle.ow_serve.specs.Working.{MakesReapings, MakesSweeps, MakesTurns};
+ghost use Rattle.ow_serve.specs.Working.{MakesReapings, MakesSweeps, MakesTurns, outset};
 
 use crate::place::Place;
 use crate::working::{reap_on, sweep_on, work_on};
@@ -75,7 +75,7 @@ where
 {
     type Done = Done<R, P>;
 
-    ghost ends = { λ t d. Ends K.left K.taken R.gives R.faults t.work t.notes.notes d.notes.notes d.ending };
+    ghost ends = { λ t d. Ends K.left K.taken R.gives R.faults (outset (C.tells t.clock.value) t.opened (view_of t.pass)) t.work t.notes.notes d.notes.notes d.ending };
 
     fn run(self) -> Done<R, P> {
         let Duty {
@@ -127,7 +127,7 @@ fn work_with<H: Wait + Drop, R: Runner + Drop, P: Keeper + Drop, C: Clock + Drop
     runner: R,
 ) -> Done<R, P>
     ensures ending { result.ending ≡ None }
-    ensures turns { MakesTurns (R.gives runner) (R.faults runner) hands.notes.notes result.notes.notes }
+    ensures turns { MakesTurns (R.gives runner) (R.faults runner) (outset (C.tells hands.clock.value) hands.opened (view_of hands.pass)) hands.notes.notes result.notes.notes }
 {
     let (mut hands, mut runner) = (hands, runner);
     let (alloc, opened) = (hands.alloc, hands.opened);
@@ -154,7 +154,7 @@ fn sweep_with<H: Wait + Drop, R: Runner + Drop, P: Keeper + Drop, C: Clock + Dro
     hands: Hands<H, R::Container, P, C, G>,
 ) -> Done<R, P>
     ensures ending { result.ending ≡ None }
-    ensures sweeps { MakesSweeps hands.notes.notes result.notes.notes }
+    ensures sweeps { MakesSweeps (C.tells hands.clock.value) hands.notes.notes result.notes.notes }
 {
     let mut hands = hands;
     let alloc = hands.alloc;
@@ -172,7 +172,7 @@ fn reap_with<H: Wait + Drop, R: Runner + Drop, P: Keeper + Drop, C: Clock + Drop
     runner: R,
 ) -> Done<R, P>
     ensures ending { result.ending ≡ None }
-    ensures reapings { MakesReapings hands.notes.notes result.notes.notes }
+    ensures reapings { MakesReapings (outset (C.tells hands.clock.value) hands.opened (view_of hands.pass)) hands.notes.notes result.notes.notes }
 {
     let (mut hands, mut runner) = (hands, runner);
     let (alloc, opened) = (hands.alloc, hands.opened);
@@ -203,7 +203,7 @@ fn serve_with<
     C: Clock + Drop,
     G: Gate + Drop,
 >(hands: Hands<H, R::Container, P, C, G>, link: K) -> Done<R, P>
-    ensures served { (e : Ending) × (result.ending ≡ Some e) × TalksFrom K.left K.taken link hands.notes.notes result.notes.notes e }
+    ensures served { (e : Ending) × (result.ending ≡ Some e) × TalksFrom K.left K.taken (C.tells hands.clock.value) link hands.notes.notes result.notes.notes e }
 {
     let (mut hands, mut link) = (hands, link);
     let alloc = hands.alloc;

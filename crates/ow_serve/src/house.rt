@@ -1,10 +1,11 @@
 // What the service itself holds while its threads work.
 ghost use Rattle.std.specs.Prelude.{◌≡◌, ◌≤◌, [], ◌∷◌, IfOk};
 ghost use Rattle.ow_tenant.specs.Table.{IsPoolSized};
-ghost use Rattle.ow_board.specs.Board.{IsPassOf, size};
+ghost use Rattle.ow_board.specs.Board.{IsPassOf, size, view_of};
 ghost use Rattle.ow_hall.specs.declared.entry.Entry.{Entry};
 ghost use Rattle.ow_desk.specs.Notes.{no_notes};
-ghost use Rattle.ow_serve.specs.Ended.{BeginsWith};
+ghost use Rattle.ow_serve.specs.Ended.{opening_notes};
+ghost use Rattle.ow_serve.specs.Working.{fresh_outset, outset};
 
 use crate::duty::{Duty, Work};
 use crate::place::{Place, SLOTS};
@@ -43,7 +44,8 @@ impl<P: Keeper + Drop, R: Runner + Drop, C: Clock + Drop, G: Gate + Drop> House<
     ) -> Result<Self, NoMemory>
         requires pool { IsPoolSized hall.tenants.pool }
         requires one { (e : Entry) × (hall.ledger.entries ≡ e ∷ []) }
-        ensures first { IfOk result (λ h. (e : Entry) × (hall.ledger.entries ≡ e ∷ []) × BeginsWith e h.notes.notes) }
+        ensures first { IfOk result (λ h. (e : Entry) × (hall.ledger.entries ≡ e ∷ []) × (h.notes.notes ≡ opening_notes e)) }
+        ensures clock { IfOk result (λ h. (h.clock ≡ clock) × (h.opened ≡ opened)) }
     {
         let ((clock, gate), (place, issuer, pass, notes)) = kept_beside(
             (clock, gate),
@@ -67,7 +69,9 @@ impl<P: Keeper + Drop, R: Runner + Drop, C: Clock + Drop, G: Gate + Drop> House<
         alloc: Global,
         work: Work<K, R>,
     ) -> Result<Duty<H, K, R, P, C, G>, NoMemory>
-        ensures duty { IfOk result (λ d. (d.work ≡ work) × (d.notes.notes ≡ no_notes)) }
+        ensures duty { IfOk result (λ d. (d.work ≡ work) × (d.notes.notes ≡ no_notes)
+            × (outset (C.tells d.clock.value) d.opened (view_of d.pass) ≡ fresh_outset (C.tells self.old.clock.value) self.old.opened)) }
+        ensures clock { (self.new.clock ≡ self.old.clock) × (self.new.opened ≡ self.old.opened) }
         ensures notes { self.new.notes.notes ≡ self.old.notes.notes }
     {
         let pass = self.place.board.split(&mut self.pass);
@@ -93,7 +97,7 @@ fn laid<P: Keeper + Drop, B: Drop>(
     requires pool { IsPoolSized hall.tenants.pool }
     requires one { (e : Entry) × (hall.ledger.entries ≡ e ∷ []) }
     ensures own { IfOk result (λ l. IsPassOf l.0.value.board l.2) }
-    ensures first { IfOk result (λ l. (e : Entry) × (hall.ledger.entries ≡ e ∷ []) × BeginsWith e l.3.notes) }
+    ensures first { IfOk result (λ l. (e : Entry) × (hall.ledger.entries ≡ e ∷ []) × (l.3.notes ≡ opening_notes e)) }
 {
     match board(alloc, SLOTS) {
         Ok((board, pass)) => laid_over(alloc, hall, board, pass),
@@ -115,7 +119,7 @@ fn laid_over<P: Keeper + Drop, B: Drop>(
     requires wide { 512 ≤ size board }
     requires pass { IsPassOf board pass }
     ensures own { IfOk result (λ l. IsPassOf l.0.value.board l.2) }
-    ensures first { IfOk result (λ l. (e : Entry) × (hall.ledger.entries ≡ e ∷ []) × BeginsWith e l.3.notes) }
+    ensures first { IfOk result (λ l. (e : Entry) × (hall.ledger.entries ≡ e ∷ []) × (l.3.notes ≡ opening_notes e)) }
 {
     let (desk, issuer) = Desk::of(hall);
     let noted = Receipts::opening(alloc, &issuer, &desk);

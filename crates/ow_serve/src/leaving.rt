@@ -1,11 +1,13 @@
 // The end of the service: its threads are joined, and what they leave is compared.
-ghost use Rattle.std.specs.Prelude.{◌≡◌, Some, map, IfOk, IfSome, IsOk, OnErr, IsOkAnd};
+ghost use Rattle.std.specs.Prelude.{◌≡◌, ℕ, Option, Some, map, IfOk, IfSome, IsOk, OnErr, IsOkAnd};
 ghost use Rattle.ow_threads.specs.Tasks.{Joined};
-ghost use Rattle.ow_board.specs.Board.{IsPassOf};
+ghost use Rattle.ow_board.specs.Board.{IsPassOf, view_of};
+ghost use Rattle.ow_desk.specs.Notes.{Notes};
 ghost use Rattle.ow_audit.specs.Places.{notes_of};
 ghost use Rattle.ow_serve.specs.Duties.{Ends};
-ghost use Rattle.ow_serve.specs.Ended.{BookBegins, Closes, EndsDrained, IsEnd, KeepsBook, Left};
+ghost use Rattle.ow_serve.specs.Ended.{BookBegins, Closes, Drains, IsEnd, KeepsBook, Left};
 ghost use Rattle.ow_serve.specs.Peers.{filled};
+ghost use Rattle.ow_serve.specs.Working.{outset};
 
 use crate::accepting::Stopped;
 use crate::closing::{clear, drain, gathered, in_order, left_of, store_of};
@@ -44,7 +46,7 @@ pub(crate) fn end_all<
 ) -> Result<Vec<Done<R, P>>, NoMemory>
 where
     R::Container: Send + 'static,
-    ensures joined { Joined (λ t d. Ends K.left K.taken R.gives R.faults t.work t.notes.notes d.notes.notes d.ending) (λ v. v.items) crew.old.tasks crew.new.tasks 0 result }
+    ensures joined { Joined (λ t d. Ends K.left K.taken R.gives R.faults (outset (C.tells t.clock.value) t.opened (view_of t.pass)) t.work t.notes.notes d.notes.notes d.ending) (λ v. v.items) crew.old.tasks crew.new.tasks 0 result }
     ensures faults { crew.new.faults ≡ crew.old.faults }
 {
     house.place.end();
@@ -72,7 +74,7 @@ pub(crate) fn close<
 ) -> Served<P>
 where
     R::Container: Send + 'static,
-    ensures closes { Closes (λ t d. Ends K.left K.taken R.gives R.faults t.work t.notes.notes d.notes.notes d.ending) (λ d. d.notes.notes) (λ d. d.ending) first crew.old.tasks seats.items stopped result.end result.book (map (λ r. r.notes) result.receipts.items) result.endings.items }
+    ensures closes { Closes (Drains (C.tells house.clock.value) house.notes.notes) (λ t d. Ends K.left K.taken R.gives R.faults (outset (C.tells t.clock.value) t.opened (view_of t.pass)) t.work t.notes.notes d.notes.notes d.ending) (λ d. d.notes.notes) (λ d. d.ending) first crew.old.tasks seats.items stopped result.end result.book (map (λ r. r.notes) result.receipts.items) result.endings.items }
     ensures faults { crew.new.faults ≡ crew.old.faults }
     ensures begins { BookBegins house.notes.notes result.end result.book }
     ensures store { IfSome result.store (λ s. KeepsBook (P.rows s) result.book) }
@@ -112,8 +114,7 @@ fn leave<H: Wait, R: Runner + Drop, P: Keeper + Drop, C: Clock + Drop, G: Gate +
     all: Result<(Vec<Done<R, P>>, Vec<Done<R, P>>), NoMemory>,
     stopped: Stopped,
 ) -> Served<P>
-    requires drained { IsOk all → EndsDrained house.notes.notes }
-    ensures left { IfOk all (λ a. Left (map (λ d. d.notes.notes) a.0.items) (map (λ d. d.ending) a.0.items) (map (λ d. d.notes.notes) a.1.items) stopped result.end result.book (map (λ r. r.notes) result.receipts.items) result.endings.items) }
+    ensures left { (tells : Option ℕ) (n : Notes) → (IsOk all → Drains tells n house.notes.notes) → IfOk all (λ a. Left (Drains tells n) (map (λ d. d.notes.notes) a.0.items) (map (λ d. d.ending) a.0.items) (map (λ d. d.notes.notes) a.1.items) stopped result.end result.book (map (λ r. r.notes) result.receipts.items) result.endings.items) }
     ensures none { OnErr all (result.end ≡ ServedEnd.NoMemory) }
     ensures begins { BookBegins house.notes.notes result.end result.book }
     ensures store { IfSome result.store (λ s. KeepsBook (P.rows s) result.book) }

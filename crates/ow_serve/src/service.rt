@@ -2,8 +2,8 @@
 ghost use Rattle.std.specs.Prelude.{◌≡◌, ◌≤◌, ◌<◌, ◌-◌, [], length, map, unwrap_or, IfSome};
 ghost use Rattle.ow_traits.specs.Streams.{Rose};
 ghost use Rattle.ow_serve.specs.Duties.{TalksAlone};
-ghost use Rattle.ow_serve.specs.Working.{AllWork};
-ghost use Rattle.ow_serve.specs.Ended.{BookBegins, BookOpens, IsOpenedEnd, IsOpenedOver, IsUnopened, KeepsBook, LeavesStore, Serves, unopened};
+ghost use Rattle.ow_serve.specs.Working.{AllWork, AllWorkBy, fresh_outset};
+ghost use Rattle.ow_serve.specs.Ended.{BookBegins, BookOpens, Drains, IsOpenedEnd, IsOpenedOver, IsUnopened, KeepsBook, LeavesStore, OpensAndDrains, Serves, unopened};
 ghost use Rattle.ow_tenant.specs.Table.{IsPoolSized};
 ghost use Rattle.ow_pool.specs.Rules.{AreWantsSized};
 
@@ -55,7 +55,8 @@ where
     requires wants { AreWantsSized tenants.wants }
     requires pool { IsPoolSized tenants.pool }
     requires runners { 2 ≤ length runners.items }
-    ensures serves { Serves (TalksAlone K.left K.taken) (AllWork R.gives R.faults runners.items) (L.peers listener.old) (L.peers listener.new) (unwrap_or words.connections 18446744073709551615) result.end result.book (map (λ r. r.notes) result.receipts.items) result.endings.items }
+    ensures serves { Serves (OpensAndDrains (C.tells clock.value)) (TalksAlone K.left K.taken (C.tells clock.value)) (AllWorkBy R.gives R.faults (C.tells clock.value) runners.items)
+        (L.peers listener.old) (L.peers listener.new) (unwrap_or words.connections 18446744073709551615) result.end result.book (map (λ r. r.notes) result.receipts.items) result.endings.items }
     ensures listener { result.listener_faults ≡ L.faults listener.new - L.faults listener.old }
     ensures fault { result.end ≡ ServedEnd.ListenFault → Rose (L.faults listener.old) (L.faults listener.new) }
     ensures worker { result.end ≡ ServedEnd.NoWorker → 0 < result.spawner_faults }
@@ -110,7 +111,8 @@ fn run<
 where
     R::Container: Send + 'static,
     requires runners { 2 ≤ length runners.items }
-    ensures serves { Serves (TalksAlone K.left K.taken) (AllWork R.gives R.faults runners.items) (L.peers listener.old) (L.peers listener.new) (unwrap_or words.now.connections 18446744073709551615) result.end result.book (map (λ r. r.notes) result.receipts.items) result.endings.items }
+    ensures serves { Serves (Drains (C.tells house.clock.value) house.notes.notes) (TalksAlone K.left K.taken (C.tells house.clock.value)) (AllWork R.gives R.faults (fresh_outset (C.tells house.clock.value) house.opened) runners.items)
+        (L.peers listener.old) (L.peers listener.new) (unwrap_or words.now.connections 18446744073709551615) result.end result.book (map (λ r. r.notes) result.receipts.items) result.endings.items }
     ensures listener { result.listener_faults ≡ L.faults listener.new - L.faults listener.old }
     ensures fault { result.end ≡ ServedEnd.ListenFault → Rose (L.faults listener.old) (L.faults listener.new) }
     ensures worker { result.end ≡ ServedEnd.NoWorker → 0 < result.spawner_faults }
@@ -149,7 +151,8 @@ where
     R::Container: Send + 'static,
     requires runners { 2 ≤ length runners.items }
     requires fresh { crew.old.tasks ≡ [] }
-    ensures serves { Serves (TalksAlone K.left K.taken) (AllWork R.gives R.faults runners.items) (L.peers listener.old) (L.peers listener.new) (unwrap_or words.now.connections 18446744073709551615) result.end result.book (map (λ r. r.notes) result.receipts.items) result.endings.items }
+    ensures serves { Serves (Drains (C.tells house.clock.value) house.notes.notes) (TalksAlone K.left K.taken (C.tells house.clock.value)) (AllWork R.gives R.faults (fresh_outset (C.tells house.clock.value) house.opened) runners.items)
+        (L.peers listener.old) (L.peers listener.new) (unwrap_or words.now.connections 18446744073709551615) result.end result.book (map (λ r. r.notes) result.receipts.items) result.endings.items }
     ensures later { L.faults listener.old ≤ L.faults listener.new }
     ensures fault { result.end ≡ ServedEnd.ListenFault → Rose (L.faults listener.old) (L.faults listener.new) }
     ensures worker { result.end ≡ ServedEnd.NoWorker → 0 < crew.new.faults }

@@ -2,8 +2,7 @@
 ghost use Rattle.std.specs.Prelude.{◌≡◌, ◌≤◌, Some, None};
 ghost use Rattle.ow_traits.specs.Runner.{Steady};
 ghost use Rattle.ow_board.specs.Board.{IsPassOf, size, view_of};
-ghost use Rattle.ow_worker.specs.Shown.{IsSecond};
-ghost use Rattle.ow_serve.specs.Working.{BooksOnce, Leads, MakesReapings, MakesSweeps, MakesTurns, WorksOnce, next_job, stand, to_book};
+ghost use Rattle.ow_serve.specs.Working.{BooksOnce, Leads, MakesReapings, MakesSweeps, MakesTurns, WorksOnce, next_job, outset, stand, to_book};
 
 use crate::place::Place;
 use ow_board::Pass;
@@ -44,7 +43,7 @@ pub(crate) fn work_on<H: Wait, P: Keeper + Drop, R: Runner, C: Clock, G: Gate>(
 )
     requires { IsPassOf place.now.board pass.old }
     ensures pass { IsPassOf place.now.board pass.new }
-    ensures turns { MakesTurns (R.gives runner.old) (R.faults runner.old) notes.old.notes notes.new.notes }
+    ensures turns { MakesTurns (R.gives runner.old) (R.faults runner.old) (outset (C.tells clock.now) opened (view_of pass.old)) notes.old.notes notes.new.notes }
 {
     for _ in rt.forever() {
         if place.is_over() {
@@ -69,7 +68,7 @@ fn work_once<H: Wait, P: Keeper + Drop, R: Runner, C: Clock, G: Gate>(
     requires { IsPassOf place.now.board pass.old }
     ensures pass { IsPassOf place.now.board pass.new }
     ensures runner { Steady (R.gives runner.old) (R.gives runner.new) (R.faults runner.old) (R.faults runner.new) }
-    ensures works { WorksOnce (R.gives runner.old) (IsSecond (C.tells clock.now) opened) (stand notes.old.notes (view_of pass.old) (R.faults runner.old)) (stand notes.new.notes (view_of pass.new) (R.faults runner.new)) }
+    ensures works { WorksOnce (R.gives runner.old) (C.tells clock.now) opened (stand notes.old.notes (view_of pass.old) (R.faults runner.old)) (stand notes.new.notes (view_of pass.new) (R.faults runner.new)) }
 {
     let turned = turn(
         rt,
@@ -104,7 +103,7 @@ fn book_on<H: Wait, P: Keeper + Drop, R: Runner, C: Clock>(
     requires { IsPassOf place.now.board pass.old }
     ensures pass { IsPassOf place.now.board pass.new }
     ensures runner { Steady (R.gives runner.old) (R.gives runner.new) (R.faults runner.old) (R.faults runner.new) }
-    ensures books { Leads BooksOnce (Some job, stand notes.old.notes (view_of pass.old) (R.faults runner.old)) (None, stand notes.new.notes (view_of pass.new) (R.faults runner.new)) }
+    ensures books { Leads (BooksOnce (C.tells clock.now)) (Some job, stand notes.old.notes (view_of pass.old) (R.faults runner.old)) (None, stand notes.new.notes (view_of pass.new) (R.faults runner.new)) }
 {
     let mut job = job;
     for _ in rt.forever() {
@@ -163,7 +162,7 @@ pub(crate) fn sweep_on<H: Wait, P: Keeper + Drop, B: Drop, C: Clock>(
     clock: &C,
     notes: &mut Receipts<P>,
 )
-    ensures { MakesSweeps notes.old.notes notes.new.notes }
+    ensures { MakesSweeps (C.tells clock.now) notes.old.notes notes.new.notes }
 {
     for _ in rt.forever() {
         if place.is_over() {
@@ -188,7 +187,7 @@ pub(crate) fn reap_on<H: Wait, P: Keeper + Drop, R: Runner, C: Clock, G: Gate>(
 )
     requires { IsPassOf place.now.board pass.old }
     ensures pass { IsPassOf place.now.board pass.new }
-    ensures reapings { MakesReapings notes.old.notes notes.new.notes }
+    ensures reapings { MakesReapings (outset (C.tells clock.now) opened (view_of pass.old)) notes.old.notes notes.new.notes }
 {
     for _ in rt.forever() {
         if place.is_over() {

@@ -1,15 +1,15 @@
 -- Rows of one kind in one namespace stand together, from where a search finds the first to where it finds the last.
-use Rattle.std.proofs.Common.{◌≡◌, ◌≢◌, ℕ, zero, suc, ◌<◌, ◌≤◌, ◌&&◌, ◌==◌, Bool, true, false, cond, min, List, [], ◌∷◌, ◌++◌, length, filter, get_or, take, drop, Ordering, Less, Equal, Greater, is_eq, refl, sym, ap, ◌∙◌, subst, inl, inr, arith}
-use Rattle.std.specs.List.Sorted.{IsStrictlySortedBy, IsPartitionedBy, IsPartitionPoint}
-use Rattle.std.specs.Ordering.{nat_cmp, ordering_index, ordering_then, ordering_reverse, is_lt, is_le}
+use Rattle.std.proofs.Common.{◌≡◌, ◌≢◌, ℕ, zero, suc, ◌<◌, ◌≤◌, ◌&&◌, ◌==◌, Bool, true, min, List, [], ◌∷◌, ◌++◌, length, filter, get_or, take, drop, Ordering, Less, Equal, Greater, refl, sym, ap, ◌∙◌, subst, inl, inr, arith}
+use Rattle.std.specs.List.Sorted.{IsStrictlySortedBy, IsPartitionedBy}
+use Rattle.std.specs.Ordering.{nat_cmp, ordering_index, ordering_then, is_lt, is_le}
 use Rattle.std.specs.Str.{bytes_eq}
 use Rattle.std.proofs.lemmas.Bool.{cases_lt}
 use Rattle.std.proofs.lemmas.Cmp.{nat_list_cmp_total}
 use Rattle.std.proofs.lemmas.List.{append_cancel_right}
 use Rattle.std.proofs.lemmas.Slice.Eq.{bytes_eq-Decides}
-use Rattle.std.proofs.Math.Seq.{take-nil, drop-nil}
 use Rattle.ow_value.specs.Value.{text_cmp}
-use Rattle.ow_value.proofs.KeySearch.{test_of, turned, rises_at, key_at}
+use Rattle.ow_value.proofs.Between.{both, drop_upto, take_upto}
+use Rattle.ow_value.proofs.KeySearch.{rises_at, key_at}
 use Rattle.ow_names.specs.Slash.{HasNoSlash}
 use Rattle.ow_names.specs.FullName.{local_text}
 use Rattle.ow_names.specs.declared.full.FullName.{FullName}
@@ -87,86 +87,15 @@ parts_through k bs h i j d le lt e = le_down _ _ (ranks_at k bs i j d h le lt) e
 
 -- ---- what stands between
 
-both : (p q : Bool) → (p ≡ true → q ≡ true) → (q ≡ true → p ≡ true) → p ≡ q
-both true q f g = sym (f refl)
-both false true f g = g refl
-both false false f g = refl
-
 without_slash : (a b : List ℕ) → bytes_eq (a ++ 47 ∷ []) (b ++ 47 ∷ []) ≡ bytes_eq a b
 without_slash a b = both _ _
     (λ e. (bytes_eq-Decides a b).1 (append_cancel_right a b (47 ∷ []) ((bytes_eq-Decides _ _).0 e)))
     (λ e. (bytes_eq-Decides _ _).1 (ap (λ s. s ++ 47 ∷ []) ((bytes_eq-Decides a b).0 e)))
 
-turned_eq : (o : Ordering) → is_eq (ordering_reverse o) ≡ is_eq o
-turned_eq Less = refl
-turned_eq Equal = refl
-turned_eq Greater = refl
-
-stands_by : (kind : EntityKind) (namespace : List ℕ) (r : Row) (o : Ordering) → text_cmp (region_of r) (region kind namespace) ≡ o → stands_in kind namespace r ≡ is_eq o
-stands_by kind namespace r o e =
-    sym (ap (λ t. (kind_place kind == kind_place (kind_of r)) && t) (without_slash namespace (name_of r).namespace))
-    ∙ test_of (region kind namespace) (region_of r) _ (turned (region_of r) (region kind namespace) o e)
-    ∙ turned_eq o
-
-before : (o : Ordering) → is_lt o ≡ true → is_eq o ≡ false
-before Less e = refl
-before Equal e = cc
-before Greater e = refl
-
-behind : (o : Ordering) → is_le o ≡ false → is_eq o ≡ false
-behind Less e = refl
-behind Equal e = cc
-behind Greater e = refl
-
-between : (o : Ordering) → is_lt o ≡ false → is_le o ≡ true → is_eq o ≡ true
-between Less e f = cc
-between Equal e f = refl
-between Greater e f = cc
-
--- of rows that all come from the region on, those in it stand first
-stands_first : (kind : EntityKind) (namespace : List ℕ) (bs : List Row) (j : ℕ)
-    → ((k : ℕ) (d : Row) → k < length bs → is_lt (text_cmp (region_of (get_or bs k d)) (region kind namespace)) ≡ false)
-    → IsPartitionPoint (λ b. is_le (text_cmp (region_of b) (region kind namespace)) ≡ true) (λ b. is_le (text_cmp (region_of b) (region kind namespace)) ≡ false) bs j
-    → filter (stands_in kind namespace) bs ≡ take j bs
-stands_first kind namespace [] j f g = sym (take-nil j)
-stands_first kind namespace (b ∷ bs) zero f g =
-    let out = stands_by kind namespace b _ refl ∙ behind _ (g.1 0 b (omega arith) (omega arith)) in
-    let rest = stands_first kind namespace bs zero (λ k d x. f (suc k) d (omega arith)) (λ k d x y. absurd (omega arith), λ k d x y. g.1 (suc k) d (omega arith) (omega arith)) in
-    ap (λ t. cond t (b ∷ filter (stands_in kind namespace) bs) (filter (stands_in kind namespace) bs)) out ∙ rest
-stands_first kind namespace (b ∷ bs) (suc j) f g =
-    let here = stands_by kind namespace b _ refl ∙ between _ (f 0 b (omega arith)) (g.0 0 b (omega arith) (omega arith)) in
-    let rest = stands_first kind namespace bs j (λ k d x. f (suc k) d (omega arith)) (λ k d x y. g.0 (suc k) d (omega arith) (omega arith), λ k d x y. g.1 (suc k) d (omega arith) (omega arith)) in
-    ap (λ t. cond t (b ∷ filter (stands_in kind namespace) bs) (filter (stands_in kind namespace) bs)) here ∙ ap (λ xs. b ∷ xs) rest
-
-pub stands_together : (kind : EntityKind) (namespace : List ℕ) (bs rest : List Row) (i j : ℕ) → rest ≡ drop i bs
-    → IsPartitionPoint (λ b. is_lt (text_cmp (region_of b) (region kind namespace)) ≡ true) (λ b. is_lt (text_cmp (region_of b) (region kind namespace)) ≡ false) bs i
-    → IsPartitionPoint (λ b. is_le (text_cmp (region_of b) (region kind namespace)) ≡ true) (λ b. is_le (text_cmp (region_of b) (region kind namespace)) ≡ false) rest j
-    → filter (stands_in kind namespace) bs ≡ take j rest
-stands_together kind namespace bs rest zero j e f g =
-    stands_first kind namespace bs j (λ k d x. f.1 k d (omega arith) x)
-    (subst (λ zs. IsPartitionPoint (λ b. is_le (text_cmp (region_of b) (region kind namespace)) ≡ true) (λ b. is_le (text_cmp (region_of b) (region kind namespace)) ≡ false) zs j) e g)
-    ∙ ap (take j) (sym e)
-stands_together kind namespace [] rest (suc i) j e f g = sym (ap (take j) e ∙ take-nil j)
-stands_together kind namespace (b ∷ bs) rest (suc i) j e f g =
-    let out = stands_by kind namespace b _ refl ∙ before _ (f.0 0 b (omega arith) (omega arith)) in
-    let more = stands_together kind namespace bs rest i j e (λ k d x y. f.0 (suc k) d (omega arith) (omega arith), λ k d x y. f.1 (suc k) d (omega arith) (omega arith)) g in
-    ap (λ t. cond t (b ∷ filter (stands_in kind namespace) bs) (filter (stands_in kind namespace) bs)) out ∙ more
+pub in_region : (kind : EntityKind) (namespace : List ℕ) (r : Row) → bytes_eq (region kind namespace) (region_of r) ≡ stands_in kind namespace r
+in_region kind namespace r = ap (λ t. (kind_place kind == kind_place (kind_of r)) && t) (without_slash namespace (name_of r).namespace)
 
 -- ---- what of it is shown
-
-drop_upto : {A : Type 0} (xs : List A) (n s : ℕ) → n ≡ min s (length xs) → drop n xs ≡ drop s xs
-drop_upto [] n s e = drop-nil n ∙ sym (drop-nil s)
-drop_upto (x ∷ xs) zero zero e = refl
-drop_upto (x ∷ xs) zero (suc s) e = absurd (omega arith)
-drop_upto (x ∷ xs) (suc n) zero e = absurd (omega arith)
-drop_upto (x ∷ xs) (suc n) (suc s) e = drop_upto xs n s (omega arith)
-
-take_upto : {A : Type 0} (xs : List A) (n s : ℕ) → n ≡ min s (length xs) → take n xs ≡ take s xs
-take_upto [] n s e = take-nil n ∙ sym (take-nil s)
-take_upto (x ∷ xs) zero zero e = refl
-take_upto (x ∷ xs) zero (suc s) e = absurd (omega arith)
-take_upto (x ∷ xs) (suc n) zero e = absurd (omega arith)
-take_upto (x ∷ xs) (suc n) (suc s) e = ap (λ ys. x ∷ ys) (take_upto xs n s (omega arith))
 
 pub cut : {A : Type 0} (xs rest ys : List A) (n m skip limit : ℕ) → xs ≡ ys → rest ≡ drop n xs → n ≡ min skip (length xs) → m ≡ min limit (length rest)
     → take m rest ≡ take limit (drop skip ys)

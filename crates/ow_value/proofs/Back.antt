@@ -154,7 +154,7 @@ number_utf8 (pos n) h = IsUtf8-from_ascii _ (IsAscii-decimal n h)
 number_utf8 (negsuc n) h = IsUtf8-append (45 ∷ []) (decimal (suc n)) (IsUtf8-are_ascii _ refl) (IsUtf8-from_ascii _ (IsAscii-decimal (suc n) (omega arith)))
 
 mutual
-  text_utf8 : (v : V) → IsValue v → IsUtf8 (compact_text (data_of v))
+  pub text_utf8 : (v : V) → IsValue v → IsUtf8 (compact_text (data_of v))
   text_utf8 null h = IsUtf8-are_ascii _ refl
   text_utf8 (boolean b) h = IsUtf8-boolean b
   text_utf8 (whole z) h = number_utf8 z h

@@ -3,6 +3,7 @@ pub mod Taking
 pub mod Refused
 pub mod Sizes
 pub mod KeySearch
+pub mod Between
 pub mod Entries
 pub mod Finding
 pub mod Merging

@@ -33,4 +33,4 @@ pub use text::Str;
 pub use val::{Pair, Params, Val, Vals};
 pub use walk::{copy, depth, known, same};
 pub use whole::Whole;
-pub use writer::{write_onto, write_val, written_text};
+pub use writer::{val_text, write_onto, write_val, written_text};

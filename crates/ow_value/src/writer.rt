@@ -26,14 +26,22 @@ pub fn write_val(alloc: Global, v: &Val) -> Result<Vec<u8>, NoMemory>
     Ok(out.into_inner())
 }
 
-/// What was written, as a text: that of a value, where its tokens are the value's.
-pub fn written_text(out: Writer) -> Result<Str, NoMemory>
-    ensures { (v : V) → out.before ≡ [] → out.tokens ≡ value_tokens v → IfOk result (λ s. s ≡ compact v) }
+/// The same bytes as a text: the writer's are UTF-8, so they aren't tested again.
+pub fn val_text(alloc: Global, v: &Val) -> Result<Str, NoMemory>
+    ensures { IfOk result (λ s. s ≡ compact (view v.now)) }
 {
-    match String::from_utf8(out.into_inner()) {
-        Ok(text) => Str::from_string(text),
-        Err(_) => Err(NoMemory),
-    }
+    let mut out = Writer::new(Vec::with_capacity(alloc, 128)?);
+    write_onto(v, &mut out)?;
+    written_text(out)
+}
+
+/// What was written, as a text: that of a value, where its tokens are the value's. Nothing stood before it.
+pub fn written_text(out: Writer) -> Result<Str, NoMemory>
+    requires { out.before ≡ [] }
+    ensures { (v : V) → out.tokens ≡ value_tokens v → IfOk result (λ s. s ≡ compact v) }
+{
+    let text = unsafe { String::from_utf8_unchecked(out.into_inner()) };
+    Str::from_string(text)
 }
 
 /// Writes the tokens of a value behind what was written.

@@ -1,6 +1,6 @@
 -- What a turn's parts make of it.
 use Rattle.std.proofs.Common.{◌∙◌, ℕ, inl, inr, ⊎_elim, refl, subst, sym}
-use Rattle.std.specs.Prelude.{Some, None}
+use Rattle.std.specs.Prelude.{Option, Some, None}
 use Rattle.ow_traits.specs.Runner.{Giving, Steady}
 use Rattle.ow_floor.specs.declared.answers.RunOrder.{RunOrder}
 use Rattle.ow_invoker.proofs.Running.{refused_from, replied_from, started_from}
@@ -8,16 +8,13 @@ use Rattle.ow_board.specs.declared.view.View.{View}
 use Rattle.ow_desk.specs.Notes.{Notes}
 use Rattle.ow_worker.specs.declared.outcome.Turn.{Turn}
 use Rattle.ow_worker.specs.declared.outcome.Turn.TheVariants as turns
-use Rattle.ow_worker.specs.declared.outcome.Readiness.{Readiness}
-use Rattle.ow_worker.specs.declared.outcome.Readiness.TheVariants.{Up, Early, NotHad, Unready}
-use Rattle.ow_worker.specs.Parts.{Initialised, UpStarts}
 use Rattle.ow_board.specs.View.{KeepsOthers}
 use Rattle.ow_worker.specs.Shown.{WasHad}
 use Rattle.ow_worker.specs.Turned.{Carried, Performs, RunTurn}
 
 -- a run that came to a booking is neither lost nor given up
-pub carried_turns : {gives : Giving} {before now : ℕ} {is_second : ℕ → Type 0} {order : RunOrder} {n m : Notes} {v w : View} (turn : Turn)
-    → Carried gives before now is_second order n m v w turn → Performs gives before now is_second order n m v w turn
+pub carried_turns : {gives : Giving} {before now : ℕ} {tells : Option ℕ} {opening : ℕ} {order : RunOrder} {n m : Notes} {v w : View} (turn : Turn)
+    → Carried gives before now tells opening order n m v w turn → Performs gives before now tells opening order n m v w turn
 carried_turns turns.Ran t = t
 carried_turns turns.Removed t = t
 carried_turns turns.Warmed t = t
@@ -27,8 +24,8 @@ carried_turns (turns.StoreFault job) t = t
 carried_turns (turns.NoMemory None) t = absurd t.settles.books
 carried_turns (turns.NoMemory (Some job)) t = t
 
-carried_within : {f g h : Giving} {a b c : ℕ} {is_second : ℕ → Type 0} {order : RunOrder} {n m : Notes} {v w : View} (turn : Turn) → Steady f g a b → Steady g h b c
-    → Carried g b c is_second order n m v w turn → Carried f a c is_second order n m v w turn
+carried_within : {f g h : Giving} {a b c : ℕ} {tells : Option ℕ} {opening : ℕ} {order : RunOrder} {n m : Notes} {v w : View} (turn : Turn) → Steady f g a b → Steady g h b c
+    → Carried g b c tells opening order n m v w turn → Carried f a c tells opening order n m v w turn
 carried_within {order = order} turn s t x = record {
   reply = x.reply;
   replies = replied_from order.kind order.code order.params x.reply s t x.replies;
@@ -38,28 +35,28 @@ carried_within {order = order} turn s t x = record {
 }
 
 -- a run behind its container, which it had before
-pub run_turned : (gives : Giving) (before now : ℕ) (is_second : ℕ → Type 0) (order : RunOrder) (n m : Notes) (v w ready : View) (turn : Turn) → WasHad order v ready
-    → Performs gives before now is_second order n m ready w turn → RunTurn gives before now is_second order n m v w turn
-run_turned gives before now is_second order n m v w ready turns.Ran had x = (ready, had, x)
-run_turned gives before now is_second order n m v w ready turns.Removed had x = (ready, had, x)
-run_turned gives before now is_second order n m v w ready turns.Warmed had x = (ready, had, x)
-run_turned gives before now is_second order n m v w ready (turns.Lost seen) had x = absurd x
-run_turned gives before now is_second order n m v w ready turns.Idle had x = (ready, had, x)
-run_turned gives before now is_second order n m v w ready (turns.StoreFault job) had x = (ready, had, x)
-run_turned gives before now is_second order n m v w ready (turns.NoMemory None) had x = (subst (λ (y : View). WasHad order v y) (sym x.1) had, x.0)
-run_turned gives before now is_second order n m v w ready (turns.NoMemory (Some job)) had x = (ready, had, x)
+pub run_turned : (gives : Giving) (before now : ℕ) (tells : Option ℕ) (opening : ℕ) (order : RunOrder) (n m : Notes) (v w ready : View) (turn : Turn) → WasHad order v ready
+    → Performs gives before now tells opening order n m ready w turn → RunTurn gives before now tells opening order n m v w turn
+run_turned gives before now tells opening order n m v w ready turns.Ran had x = (ready, had, x)
+run_turned gives before now tells opening order n m v w ready turns.Removed had x = (ready, had, x)
+run_turned gives before now tells opening order n m v w ready turns.Warmed had x = (ready, had, x)
+run_turned gives before now tells opening order n m v w ready (turns.Lost seen) had x = absurd x
+run_turned gives before now tells opening order n m v w ready turns.Idle had x = (ready, had, x)
+run_turned gives before now tells opening order n m v w ready (turns.StoreFault job) had x = (ready, had, x)
+run_turned gives before now tells opening order n m v w ready (turns.NoMemory None) had x = (subst (λ (y : View). WasHad order v y) (sym x.1) had, x.0)
+run_turned gives before now tells opening order n m v w ready (turns.NoMemory (Some job)) had x = (ready, had, x)
 
 -- the calls of the runner before count too
-pub performs_within : {f g h : Giving} {a b c : ℕ} (is_second : ℕ → Type 0) (order : RunOrder) (n m : Notes) (v w : View) (turn : Turn) → Steady f g a b → Steady g h b c
-    → Performs g b c is_second order n m v w turn → Performs f a c is_second order n m v w turn
-performs_within is_second order n m v w turns.Ran s t x = carried_within turns.Ran s t x
-performs_within is_second order n m v w turns.Removed s t x = carried_within turns.Removed s t x
-performs_within is_second order n m v w turns.Warmed s t x = carried_within turns.Warmed s t x
-performs_within is_second order n m v w (turns.Lost seen) s t x = x
-performs_within is_second order n m v w turns.Idle s t x = carried_within turns.Idle s t x
-performs_within is_second order n m v w (turns.StoreFault job) s t x = carried_within (turns.StoreFault job) s t x
-performs_within is_second order n m v w (turns.NoMemory None) s t x = x
-performs_within is_second order n m v w (turns.NoMemory (Some job)) s t x = carried_within (turns.NoMemory (Some job)) s t x
+pub performs_within : {f g h : Giving} {a b c : ℕ} (tells : Option ℕ) (opening : ℕ) (order : RunOrder) (n m : Notes) (v w : View) (turn : Turn) → Steady f g a b → Steady g h b c
+    → Performs g b c tells opening order n m v w turn → Performs f a c tells opening order n m v w turn
+performs_within tells opening order n m v w turns.Ran s t x = carried_within turns.Ran s t x
+performs_within tells opening order n m v w turns.Removed s t x = carried_within turns.Removed s t x
+performs_within tells opening order n m v w turns.Warmed s t x = carried_within turns.Warmed s t x
+performs_within tells opening order n m v w (turns.Lost seen) s t x = x
+performs_within tells opening order n m v w turns.Idle s t x = carried_within turns.Idle s t x
+performs_within tells opening order n m v w (turns.StoreFault job) s t x = carried_within (turns.StoreFault job) s t x
+performs_within tells opening order n m v w (turns.NoMemory None) s t x = x
+performs_within tells opening order n m v w (turns.NoMemory (Some job)) s t x = carried_within (turns.NoMemory (Some job)) s t x
 
 -- ---- other slots
 
@@ -68,18 +65,3 @@ others_same slot v = λ j other. refl
 
 pub others_both : (slot : ℕ) (u v w : View) → KeepsOthers slot u v → KeepsOthers slot v w → KeepsOthers slot u w
 others_both slot u v w h k = λ j other. k j other ∙ h j other
-
--- of a kind that the runner starts, whatever came of the initialisation
-pub up_started : {B : Type 0} (gives : Giving) (before now : ℕ) (order : RunOrder) (ready : Readiness B) → gives.starts order.kind → UpStarts gives before now order ready
-up_started gives before now order (Up living) k = k
-up_started gives before now order (Early held reply) k = tt
-up_started gives before now order (NotHad seen) k = tt
-up_started gives before now order Unready k = tt
-
--- a start, and the initialisation behind it
-pub initialised_from : {B : Type 0} (f g h : Giving) (a b c : ℕ) (order : RunOrder) (ready : Readiness B) → Steady f g a b → Steady g h b c
-    → Initialised g b c order ready → Initialised f a c order ready
-initialised_from f g h a b c order (Up living) s t x = tt
-initialised_from f g h a b c order (Early held reply) s t x = refused_from order.kind order.code reply s t x
-initialised_from f g h a b c order (NotHad seen) s t x = x
-initialised_from f g h a b c order Unready s t x = tt

@@ -48,24 +48,26 @@ pub record DealtWith (i elapsed start : ℕ) (taken : Option ℕ) (w : View) : T
   pub of_call : start < step.number
   pub shows : Shows elapsed start step taken
 
--- what was taken is reported as gone
-abbrev pub Reports : ℕ → Notes → Notes → Option ℕ → Type 0
-Reports i n m None = m ≡ n
-Reports i n m (Some generation) = GoneNoted i generation n m
-
 abbrev pub one_if_some : Option ℕ → ℕ
 one_if_some None = 0
 one_if_some (Some generation) = 1
 
--- the first slots, so many, of which so many were taken
-abbrev pub Reaped : ℕ → ℕ → Notes → ℕ → View → ℕ → Notes → Type 0
-Reaped elapsed start n zero w count m = (m ≡ n) × (count ≡ 0)
-Reaped elapsed start n (suc k) w count m = (middle : Notes) × (before : ℕ) × (taken : Option ℕ)
-    × Reaped elapsed start n k w before middle × DealtWith k elapsed start taken w × Reports k middle m taken × (count ≡ before + one_if_some taken)
+-- each call of the hall is at the clock's moment, where it tells one
+module _ (tells : Option ℕ) where
+  -- what was taken is reported as gone
+  abbrev pub Reports : ℕ → Notes → Notes → Option ℕ → Type 0
+  Reports i n m None = m ≡ n
+  Reports i n m (Some generation) = GoneNoted tells i generation n m
 
--- at the clock's moment, where the clock tells one
-abbrev pub HasReaped : Option ℕ → ℕ → Notes → Notes → View → View → ℕ → ℕ → Type 0
-HasReaped tells opened n m v w k count = (now : ℕ) × IfSome tells (λ t. now ≡ t) × Reaped ((now - opened) / 1000) v.steps n k w count m
+  -- the first slots, so many, of which so many were taken
+  abbrev pub Reaped : ℕ → ℕ → Notes → ℕ → View → ℕ → Notes → Type 0
+  Reaped elapsed start n zero w count m = (m ≡ n) × (count ≡ 0)
+  Reaped elapsed start n (suc k) w count m = (middle : Notes) × (before : ℕ) × (taken : Option ℕ)
+      × Reaped elapsed start n k w before middle × DealtWith k elapsed start taken w × Reports k middle m taken × (count ≡ before + one_if_some taken)
+
+  -- at such a moment
+  abbrev pub HasReaped : ℕ → Notes → Notes → View → View → ℕ → ℕ → Type 0
+  HasReaped opened n m v w k count = (now : ℕ) × IfSome tells (λ t. now ≡ t) × Reaped ((now - opened) / 1000) v.steps n k w count m
 
 -- of the slots behind so many is shown what was shown before
 abbrev pub KeepsBehind : ℕ → View → View → Type 0
@@ -80,10 +82,10 @@ pub record Deals (i elapsed : ℕ) (taken : Option ℕ) (v w : View) : Type 0 wh
   pub later : v.steps ≤ w.steps
 
 -- its steps, and what is reported
-pub record SlotReaped (i elapsed : ℕ) (n m : Notes) (v w : View) (count : ℕ) : Type 0 where
+pub record SlotReaped (tells : Option ℕ) (i elapsed : ℕ) (n m : Notes) (v w : View) (count : ℕ) : Type 0 where
   pub taken : Option ℕ
   pub dealt : DealtWith i elapsed v.steps taken w
-  pub reports : Reports i n m taken
+  pub reports : Reports tells i n m taken
   pub count_is : count ≡ one_if_some taken
   pub others : KeepsOthers i v w
   pub later : v.steps ≤ w.steps

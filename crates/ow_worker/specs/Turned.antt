@@ -1,5 +1,5 @@
 -- What a turn of a worker adds to its receipts, and what its pass shows of the board.
-use Rattle.std.specs.Prelude.{◌≡◌, ◌⊎◌, ℕ, true, false, List, [], ◌∷◌, None}
+use Rattle.std.specs.Prelude.{◌≡◌, ◌⊎◌, ℕ, true, false, List, [], ◌∷◌, Option, None}
 use Rattle.ow_traits.specs.Runner.{Giving, RefusesCode, RefusesStart, Replies}
 use Rattle.ow_traits.specs.declared.replies.RunReply.{RunReply}
 use Rattle.ow_slots.specs.State.{is_cold, is_warm}
@@ -22,78 +22,82 @@ use Rattle.ow_worker.specs.Parts.{Settled, TakenBack}
 
 -- ---- runs
 
--- that the run began is told where its start isn't warm
-abbrev pub ToldBegun : RunOrder → Notes → Notes → Type 0
-ToldBegun order n m = (BegunNoted order.run n m × (is_warm order.start ≡ false)) ⊎ ((m ≡ n) × (is_warm order.start ≡ true))
+-- each call of the hall is at the clock's moment, where it tells one
+module _ (tells : Option ℕ) where
+  -- that the run began is told where its start isn't warm
+  abbrev pub ToldBegun : RunOrder → Notes → Notes → Type 0
+  ToldBegun order n m = (BegunNoted tells order.run n m × (is_warm order.start ≡ false)) ⊎ ((m ≡ n) × (is_warm order.start ≡ true))
 
--- memory was wanted before there was a reply: the run is lost and its container gone; that it began may have been told
-pub record Abandoned (order : RunOrder) (n m : Notes) : Type 0 where
-  pub opened : Notes
-  pub opens : (BegunNoted order.run n opened × (is_warm order.start ≡ false)) ⊎ (opened ≡ n)
-  pub gives_up : GivenUp order.run order.slot order.generation opened m
+  -- memory was wanted before there was a reply: the run is lost and its container gone; that it began may have been told
+  pub record Abandoned (order : RunOrder) (n m : Notes) : Type 0 where
+    pub opened : Notes
+    pub opens : (BegunNoted tells order.run n opened × (is_warm order.start ≡ false)) ⊎ (opened ≡ n)
+    pub gives_up : GivenUp tells order.run order.slot order.generation opened m
 
--- the container of a warm or a prewarmed start isn't had
-pub record NotCarried (order : RunOrder) (seen : ℕ) (n m : Notes) (start : ℕ) (w : View) : Type 0 where
-  pub start_is : is_cold order.start ≡ false
-  pub shown : WasNotHad order.slot order.generation seen start w
-  pub lost : LostNoted order.run n m
+  -- the container of a warm or a prewarmed start isn't had
+  pub record NotCarried (order : RunOrder) (seen : ℕ) (n m : Notes) (start : ℕ) (w : View) : Type 0 where
+    pub start_is : is_cold order.start ≡ false
+    pub shown : WasNotHad order.slot order.generation seen start w
+    pub lost : LostNoted tells order.run n m
 
 module _ (gives : Giving) (before now : ℕ) where
+  -- a container doesn't come up only where the runner refuses its start
+  abbrev pub IsDown : PrewarmOrder → Type 0
+  IsDown order = (reply : RunReply) × RefusesStart gives before now order.kind reply
+
+module _ (gives : Giving) (before now : ℕ) (tells : Option ℕ) where
   -- that the run began is left out only where the code is refused; a new container is of a kind that the runner starts
   abbrev pub Opens : RunOrder → RunReply → Notes → Notes → Type 0
-  Opens order reply n m = (IsStarted gives order × ToldBegun order n m) ⊎ ((m ≡ n) × RefusesCode gives before now order.kind order.code reply)
+  Opens order reply n m = (IsStarted gives order × ToldBegun tells order n m) ⊎ ((m ≡ n) × RefusesCode gives before now order.kind order.code reply)
 
-  module _ (is_second : ℕ → Type 0) where
+  module _ (opening : ℕ) where
     -- behind its container a run has a reply: one that the runner gives, or a fault where its count rose
     pub record Carried (order : RunOrder) (n m : Notes) (v w : View) (turn : Turn) : Type 0 where
       pub reply : RunReply
       pub replies : Replies gives before now order.kind order.code order.params reply
       pub opened : Notes
       pub opens : Opens order reply n opened
-      pub settles : Settled is_second order reply opened m v w turn
+      pub settles : Settled tells opening order reply opened m v w turn
 
     -- its container isn't had; or it is had, and the run goes on from there, or is given up with no later step on that slot
     abbrev pub RunTurn : RunOrder → Notes → Notes → View → View → Turn → Type 0
-    RunTurn order n m v w (turns.Lost seen) = NotCarried order seen n m v.steps w
-    RunTurn order n m v w (turns.NoMemory None) = WasHad order v w × Abandoned order n m
+    RunTurn order n m v w (turns.Lost seen) = NotCarried tells order seen n m v.steps w
+    RunTurn order n m v w (turns.NoMemory None) = WasHad order v w × Abandoned tells order n m
     RunTurn order n m v w turn = (ready : View) × WasHad order v ready × Carried order n m ready w turn
 
   -- ---- containers ahead
 
-  -- a container doesn't come up only where the runner refuses its start
-  abbrev pub IsDown : PrewarmOrder → Type 0
-  IsDown order = (reply : RunReply) × RefusesStart gives before now order.kind reply
-
   -- it has begun: it was put on the board, and is of a kind that the runner starts; or it is given up: its start is refused or memory is
   -- wanted, and the pass made no step, or its slot wasn't empty
   abbrev pub WarmTurn : PrewarmOrder → Notes → Notes → View → View → Turn → Type 0
-  WarmTurn order n m v w turns.Warmed = (BegunNoted order.run n m × gives.starts order.kind × WasPut order.slot order.generation prewarmed v.steps w)
-      ⊎ (GivenUp order.run order.slot order.generation n m × ((IsDown order × (w ≡ v)) ⊎ WordTaken order.slot v.steps w))
-  WarmTurn order n m v w (turns.NoMemory None) = GivenUp order.run order.slot order.generation n m × (w ≡ v)
+  WarmTurn order n m v w turns.Warmed = (BegunNoted tells order.run n m × gives.starts order.kind × WasPut order.slot order.generation prewarmed v.steps w)
+      ⊎ (GivenUp tells order.run order.slot order.generation n m × ((IsDown gives before now order × (w ≡ v)) ⊎ WordTaken order.slot v.steps w))
+  WarmTurn order n m v w (turns.NoMemory None) = GivenUp tells order.run order.slot order.generation n m × (w ≡ v)
   WarmTurn order n m v w turn = ⊥
 
 -- ---- removals
 
--- each container is taken back, where it lies there
-abbrev pub Removes : List Container → Notes → Notes → View → View → Type 0
-Removes [] n m v w = (m ≡ n) × (w ≡ v)
-Removes (c ∷ cs) n m v w = (between : View) × (middle : Notes) × TakenBack c.slot c.generation n middle v.steps between × KeepsOthers c.slot v between
-    × Removes cs middle m between w
+module _ (tells : Option ℕ) where
+  -- each container is taken back, where it lies there
+  abbrev pub Removes : List Container → Notes → Notes → View → View → Type 0
+  Removes [] n m v w = (m ≡ n) × (w ≡ v)
+  Removes (c ∷ cs) n m v w = (between : View) × (middle : Notes) × TakenBack tells c.slot c.generation n middle v.steps between × KeepsOthers c.slot v between
+      × Removes cs middle m between w
 
 -- ---- turns
 
-module _ (gives : Giving) (before now : ℕ) (is_second : ℕ → Type 0) where
+module _ (gives : Giving) (before now : ℕ) (tells : Option ℕ) (opening : ℕ) where
   -- what follows an order; a run and a prewarming leave what was shown of other slots
   abbrev pub Follows : Order → Notes → Notes → View → View → Turn → Type 0
-  Follows (orders.Run order) n m v w turn = RunTurn gives before now is_second order n m v w turn × KeepsOthers order.slot v w
-  Follows (orders.Prewarm order) n m v w turn = WarmTurn gives before now order n m v w turn × KeepsOthers order.slot v w
-  Follows (orders.Remove containers) n m v w turn = (turn ≡ turns.Removed) × Removes containers n m v w
+  Follows (orders.Run order) n m v w turn = RunTurn gives before now tells opening order n m v w turn × KeepsOthers order.slot v w
+  Follows (orders.Prewarm order) n m v w turn = WarmTurn gives before now tells order n m v w turn × KeepsOthers order.slot v w
+  Follows (orders.Remove containers) n m v w turn = (turn ≡ turns.Removed) × Removes tells containers n m v w
   Follows (orders.Nothing why) n m v w turn = (turn ≡ turns.Idle) × (m ≡ n) × (w ≡ v)
 
   pub record CarriesOut (n m : Notes) (v w : View) (turn : Turn) : Type 0 where
     pub order : Order
     pub taken : Notes
-    pub next : NextNoted n taken order
+    pub next : NextNoted tells n taken order
     pub follows : Follows order taken m v w turn
 
   -- no order for want of memory; or an order, and what follows it
@@ -110,9 +114,9 @@ module _ (gives : Giving) (before now : ℕ) where
   Warms order v w warmings.Taken = WordTaken order.slot v.steps w
   Warms order v w warmings.Wanting = w ≡ v
 
-  module _ (is_second : ℕ → Type 0) where
+  module _ (tells : Option ℕ) (opening : ℕ) where
     -- the run is given up, and the pass made no step; or it has a reply
     abbrev pub Performs : RunOrder → Notes → Notes → View → View → Turn → Type 0
     Performs order n m v w (turns.Lost seen) = ⊥
-    Performs order n m v w (turns.NoMemory None) = Abandoned order n m × (w ≡ v)
-    Performs order n m v w turn = Carried gives before now is_second order n m v w turn
+    Performs order n m v w (turns.NoMemory None) = Abandoned tells order n m × (w ≡ v)
+    Performs order n m v w turn = Carried gives before now tells opening order n m v w turn

@@ -36,7 +36,7 @@ pub(crate) fn book<H: Wait, P: Keeper + Drop, R: Runner, C: Clock>(
     ensures on { GoesOn (view_of pass.old) (view_of pass.new) }
     ensures runner { Steady (R.gives runner.old) (R.gives runner.new) (R.faults runner.old) (R.faults runner.new) }
     ensures others { KeepsOthers job.order.slot (view_of pass.old) (view_of pass.new) }
-    ensures booked { Booked job.order job.reply job.laid notes.old.notes notes.new.notes (view_of pass.old).steps (view_of pass.old) (view_of pass.new) result }
+    ensures booked { Booked (C.tells clock.now) job.order job.reply job.laid notes.old.notes notes.new.notes (view_of pass.old).steps (view_of pass.old) (view_of pass.new) result }
 {
     let Job { order, reply, laid } = job;
     match tell_reply(rt, alloc, desk, clock, notes, order.run, reply) {
@@ -83,7 +83,7 @@ fn end<H: Wait, P: Keeper + Drop, R: Runner, C: Clock>(
     ensures on { GoesOn (view_of pass.old) (view_of pass.new) }
     ensures runner { Steady (R.gives runner.old) (R.gives runner.new) (R.faults runner.old) (R.faults runner.new) }
     ensures others { KeepsOthers order.now.slot (view_of pass.old) (view_of pass.new) }
-    ensures ended { Ended order.now notes.old.notes notes.new.notes (view_of pass.old).steps (view_of pass.old) (view_of pass.new) laid late }
+    ensures ended { Ended (C.tells clock.now) order.now notes.old.notes notes.new.notes (view_of pass.old).steps (view_of pass.old) (view_of pass.new) laid late }
 {
     match laid {
         Laid::Taken => {}

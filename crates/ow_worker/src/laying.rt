@@ -1,18 +1,18 @@
 // What becomes of a container whose run has a reply.
-ghost use Rattle.std.specs.Prelude.{◌≡◌, ◌≤◌, ◌+◌, false, None};
+ghost use Rattle.std.specs.Prelude.{◌≡◌, ◌≤◌, ◌+◌, ℕ, false, None, OnOk, OnErr};
 ghost use Rattle.ow_traits.specs.Runner.{Steady, is_answer};
-ghost use Rattle.ow_board.specs.Board.{size, view_of, IsPassOf, StaysPassOf};
+ghost use Rattle.ow_board.specs.Board.{size, view_of, IsPassOf, StaysPassOf, HasPut, FoundTaken};
 ghost use Rattle.ow_board.specs.View.{KeepsOthers};
 ghost use Rattle.ow_desk.specs.Fitting.{IsSlot};
-ghost use Rattle.ow_worker.specs.Shown.{GoesOn, IsSecond, put_second};
+ghost use Rattle.ow_worker.specs.Shown.{GoesOn, put_second};
 ghost use Rattle.ow_worker.specs.Parts.{LaidDown};
 
-use crate::living::{Living, stop};
 use crate::outcome::Laid;
 use crate::telling::tell_gone;
 use ow_board::{Board, Pass};
 use ow_desk::{Desk, Receipts};
 use ow_floor::RunOrder;
+use ow_invoker::living::{Living, stop};
 use ow_threads::Clock;
 use ow_traits::{Keeper, RunReply, Runner};
 use std::sync::{Mutex, Wait};
@@ -40,7 +40,7 @@ pub(crate) fn lay_down<H: Wait, P: Keeper + Drop, R: Runner, C: Clock>(
     ensures runner { Steady (R.gives runner.old) (R.gives runner.new) (R.faults runner.old) (R.faults runner.new) }
     ensures room { notes.old.room ≤ notes.new.room + 1 }
     ensures others { KeepsOthers order.now.slot (view_of pass.old) (view_of pass.new) }
-    ensures laid { LaidDown (IsSecond (C.tells clock.now) opened) order.now reply.now notes.old.notes notes.new.notes (view_of pass.old) (view_of pass.new) result }
+    ensures laid { LaidDown (C.tells clock.now) opened order.now reply.now notes.old.notes notes.new.notes (view_of pass.old) (view_of pass.new) result }
 {
     let Some(living) = held else {
         return Laid::Stopped;
@@ -50,13 +50,38 @@ pub(crate) fn lay_down<H: Wait, P: Keeper + Drop, R: Runner, C: Clock>(
         return Laid::Stopped;
     }
     let second = put_second(clock.now(), opened);
-    match living.put(board, pass, order.slot, order.generation, second) {
+    match put(board, pass, order.slot, order.generation, second, living) {
         Ok(()) => Laid::Put,
         Err(living) => {
             stop(runner, living);
             tell_gone(rt, desk, clock, notes, order.slot, order.generation);
             Laid::Taken
         }
+    }
+}
+
+/// Puts a container on the board, or gives it back where the slot isn't empty.
+pub(crate) fn put<B: Drop>(
+    board: &Board<B>,
+    pass: &mut Pass<B>,
+    slot: u32,
+    generation: u32,
+    second: u32,
+    living: Living<B>,
+) -> Result<(), Living<B>>
+    requires pass { IsPassOf board.now pass.old × (512 ≤ size board.now) }
+    requires slot { IsSlot slot generation }
+    ensures pass { StaysPassOf board.now pass.old pass.new }
+    ensures others { KeepsOthers slot (view_of pass.old) (view_of pass.new) }
+    ensures ok { OnOk result (HasPut slot generation second (view_of pass.old) (view_of pass.new)) }
+    ensures taken { OnErr result ((word : ℕ) × FoundTaken slot word (view_of pass.old) (view_of pass.new)) }
+{
+    let Living { container } = living;
+    match board.put(pass, slot, generation, second, container) {
+        Ok(()) => Ok(()),
+        Err(taken) => Err(Living {
+            container: taken.container,
+        }),
     }
 }
 

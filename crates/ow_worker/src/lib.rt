@@ -4,7 +4,6 @@
 mod booking;
 mod fetching;
 mod laying;
-mod living;
 mod outcome;
 mod readying;
 mod reaping;

@@ -2,7 +2,6 @@
 ghost use Rattle.std.specs.Prelude.{◌≡◌, ◌<◌, true};
 ghost use Rattle.ow_desk.specs.Fitting.{IsSlot};
 
-use crate::living::Living;
 use ow_floor::RunOrder;
 use ow_traits::RunReply;
 
@@ -75,18 +74,6 @@ pub enum Watch {
     StoreFault,
     /// No memory was left.
     NoMemory,
-}
-
-/// How a run came to its container.
-pub(crate) enum Readiness<B: Drop> {
-    // It is up and initialised.
-    Up(Living<B>),
-    // It replied before any parameters, and may live.
-    Early(Option<Living<B>>, RunReply),
-    // It isn't had. This word was seen in its place.
-    NotHad(u64),
-    // Memory was wanted, and the container in hand is stopped.
-    Unready,
 }
 
 /// What came of a prewarming.

@@ -5,19 +5,19 @@ ghost use Rattle.ow_board.specs.Board.{size, view_of, IsPassOf, StaysPassOf};
 ghost use Rattle.ow_board.specs.View.{KeepsOthers};
 ghost use Rattle.ow_desk.specs.Fitting.{IsSlot};
 ghost use Rattle.ow_worker.specs.Shown.{GoesOn};
-ghost use Rattle.ow_worker.specs.Parts.{Initialised, Readied, UpStarts};
+ghost use Rattle.ow_worker.specs.Parts.{Readied};
 
 use crate::fetching::fetch;
-use crate::living::{Living, init, stop};
-use crate::outcome::Readiness;
 use ow_board::{Board, Pass};
 use ow_floor::RunOrder;
+use ow_invoker::readying::{Readiness, initialise, open};
 use ow_slots::Start;
 use ow_threads::{Gate, Stage};
-use ow_traits::{Runner, Started};
+use ow_traits::Runner;
 use std::alloc::Global;
 
-/// Starts the container of a run, or takes it from the board, and initialises it where that is due.
+/// Starts the container of a run, or takes it from the board, and initialises it where that is due. Where it isn't had, the word is told
+/// that was seen in its place.
 pub(crate) fn make_ready<R: Runner, G: Gate>(
     alloc: Global,
     board: &Board<R::Container>,
@@ -25,7 +25,7 @@ pub(crate) fn make_ready<R: Runner, G: Gate>(
     runner: &mut R,
     gate: &G,
     order: &RunOrder,
-) -> Readiness<R::Container>
+) -> Readiness<R::Container, u64>
     requires pass { IsPassOf board.now pass.old × (512 ≤ size board.now) }
     requires slot { IsSlot order.now.slot order.now.generation }
     ensures pass { StaysPassOf board.now pass.old pass.new }
@@ -44,36 +44,5 @@ pub(crate) fn make_ready<R: Runner, G: Gate>(
             _ => initialise(alloc, runner, living, order),
         },
         Err(seen) => Readiness::NotHad(seen),
-    }
-}
-
-fn open<R: Runner>(alloc: Global, runner: &mut R, order: &RunOrder) -> Readiness<R::Container>
-    ensures runner { Steady (R.gives runner.old) (R.gives runner.new) (R.faults runner.old) (R.faults runner.new) }
-    ensures ready { Initialised (R.gives runner.old) (R.faults runner.old) (R.faults runner.new) order.now result }
-    ensures started { UpStarts (R.gives runner.old) (R.faults runner.old) (R.faults runner.new) order.now result }
-{
-    match runner.start(alloc, order.kind, order.memory) {
-        Ok(Started::Up(container)) => initialise(alloc, runner, Living::of(container), order),
-        Ok(Started::Down(reply)) => Readiness::Early(None, reply),
-        Err(_) => Readiness::Unready,
-    }
-}
-
-fn initialise<R: Runner>(
-    alloc: Global,
-    runner: &mut R,
-    mut living: Living<R::Container>,
-    order: &RunOrder,
-) -> Readiness<R::Container>
-    ensures runner { Steady (R.gives runner.old) (R.gives runner.new) (R.faults runner.old) (R.faults runner.new) }
-    ensures ready { Initialised (R.gives runner.old) (R.faults runner.old) (R.faults runner.new) order.now result }
-{
-    match init(alloc, runner, &mut living, order) {
-        Ok(None) => Readiness::Up(living),
-        Ok(Some(reply)) => Readiness::Early(Some(living), reply),
-        Err(_) => {
-            stop(runner, living);
-            Readiness::Unready
-        }
     }
 }

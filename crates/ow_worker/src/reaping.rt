@@ -4,11 +4,12 @@ ghost use Rattle.ow_traits.specs.Runner.{Steady};
 ghost use Rattle.ow_board.specs.Board.{size, view_of, IsPassOf, StaysPassOf};
 ghost use Rattle.ow_worker.specs.Reaped.{Deals, HasReaped, KeepsBehind, SlotReaped};
 
-use crate::living::{Living, stop};
+use crate::fetching::take;
 use crate::telling::tell_gone;
 use crate::warming::PREWARMED;
 use ow_board::{Board, Pass, generation_of, is_full, second_of};
 use ow_desk::{Desk, Receipts};
+use ow_invoker::living::{Living, stop};
 use ow_threads::{Clock, Gate, Stage};
 use ow_traits::{Keeper, Runner};
 use ow_value::NoMemory;
@@ -72,7 +73,7 @@ fn reap_slot<H: Wait, P: Keeper + Drop, R: Runner, C: Clock>(
     requires room { 1 ≤ notes.old.room }
     ensures pass { StaysPassOf board.now pass.old pass.new }
     ensures runner { Steady (R.gives runner.old) (R.gives runner.new) (R.faults runner.old) (R.faults runner.new) }
-    ensures reaped { SlotReaped i elapsed notes.old.notes notes.new.notes (view_of pass.old) (view_of pass.new) result }
+    ensures reaped { SlotReaped (C.tells clock.now) i elapsed notes.old.notes notes.new.notes (view_of pass.old) (view_of pass.new) result }
     ensures one { result ≤ 1 }
 {
     match deal(board, pass, i, elapsed) {
@@ -106,7 +107,7 @@ fn deal<B: Drop>(
         return None;
     }
     let generation = generation_of(seen);
-    match Living::take(board, pass, i, seen) {
+    match take(board, pass, i, seen) {
         Ok(living) => Some((generation, living)),
         Err(_) => None,
     }

@@ -5,19 +5,19 @@ ghost use Rattle.ow_board.specs.Board.{size, view_of, IsPassOf, StaysPassOf};
 ghost use Rattle.ow_board.specs.View.{KeepsOthers};
 ghost use Rattle.ow_desk.specs.Fitting.{IsSlot};
 ghost use Rattle.ow_invoker.specs.Turns.{IsStarted};
-ghost use Rattle.ow_worker.specs.Shown.{IsSecond};
 ghost use Rattle.ow_worker.specs.Parts.{Settled};
 ghost use Rattle.ow_worker.specs.Turned.{Performs, RunTurn};
 
 use crate::booking::book;
 use crate::laying::lay_down;
-use crate::living::{self, Living, stop};
-use crate::outcome::{Job, Readiness, Turn};
+use crate::outcome::{Job, Turn};
 use crate::readying::make_ready;
 use crate::telling::{give_up, tell_begun, tell_lost};
 use ow_board::{Board, Pass};
 use ow_desk::{Desk, Receipts};
 use ow_floor::RunOrder;
+use ow_invoker::living::{self, Living, stop};
+use ow_invoker::readying::Readiness;
 use ow_threads::{Clock, Gate, Stage};
 use ow_traits::{Keeper, RunReply, Runner};
 use std::alloc::Global;
@@ -43,7 +43,7 @@ pub(crate) fn carry<H: Wait, P: Keeper + Drop, R: Runner, C: Clock, G: Gate>(
     ensures pass { StaysPassOf board.now pass.old pass.new }
     ensures runner { Steady (R.gives runner.old) (R.gives runner.new) (R.faults runner.old) (R.faults runner.new) }
     ensures others { KeepsOthers order.slot (view_of pass.old) (view_of pass.new) }
-    ensures turned { RunTurn (R.gives runner.old) (R.faults runner.old) (R.faults runner.new) (IsSecond (C.tells clock.now) opened) order notes.old.notes notes.new.notes (view_of pass.old) (view_of pass.new) result }
+    ensures turned { RunTurn (R.gives runner.old) (R.faults runner.old) (R.faults runner.new) (C.tells clock.now) opened order notes.old.notes notes.new.notes (view_of pass.old) (view_of pass.new) result }
 {
     match make_ready(alloc, board, pass, runner, gate, &order) {
         Readiness::Up(living) => perform(
@@ -56,7 +56,7 @@ pub(crate) fn carry<H: Wait, P: Keeper + Drop, R: Runner, C: Clock, G: Gate>(
             tell_lost(rt, desk, clock, notes, order.run);
             Turn::Lost { seen }
         }
-        Readiness::Unready => {
+        Readiness::NoMemory => {
             give_up(
                 rt,
                 desk,
@@ -93,7 +93,7 @@ fn perform<H: Wait, P: Keeper + Drop, R: Runner, C: Clock, G: Gate>(
     ensures pass { StaysPassOf board.now pass.old pass.new }
     ensures runner { Steady (R.gives runner.old) (R.gives runner.new) (R.faults runner.old) (R.faults runner.new) }
     ensures others { KeepsOthers order.slot (view_of pass.old) (view_of pass.new) }
-    ensures performs { Performs (R.gives runner.old) (R.faults runner.old) (R.faults runner.new) (IsSecond (C.tells clock.now) opened) order notes.old.notes notes.new.notes (view_of pass.old) (view_of pass.new) result }
+    ensures performs { Performs (R.gives runner.old) (R.faults runner.old) (R.faults runner.new) (C.tells clock.now) opened order notes.old.notes notes.new.notes (view_of pass.old) (view_of pass.new) result }
 {
     tell_begun(rt, desk, clock, notes, &order);
     gate.pass(Stage::BeforeRun(order.run));
@@ -153,7 +153,7 @@ fn settle<H: Wait, P: Keeper + Drop, R: Runner, C: Clock>(
     ensures pass { StaysPassOf board.now pass.old pass.new }
     ensures runner { Steady (R.gives runner.old) (R.gives runner.new) (R.faults runner.old) (R.faults runner.new) }
     ensures others { KeepsOthers order.slot (view_of pass.old) (view_of pass.new) }
-    ensures settled { Settled (IsSecond (C.tells clock.now) opened) order reply notes.old.notes notes.new.notes (view_of pass.old) (view_of pass.new) result }
+    ensures settled { Settled (C.tells clock.now) opened order reply notes.old.notes notes.new.notes (view_of pass.old) (view_of pass.new) result }
 {
     let laid = lay_down(
         rt, desk, board, pass, runner, clock, opened, notes, &order, &reply, held,

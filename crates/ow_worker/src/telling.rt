@@ -4,7 +4,7 @@ ghost use Rattle.ow_slots.specs.State.{is_warm};
 ghost use Rattle.ow_decide.specs.declared.events.Event.TheVariants as events;
 ghost use Rattle.ow_hall.specs.Comes.{HandsBack, reply_outcome};
 ghost use Rattle.ow_desk.specs.Fitting.{Fits};
-ghost use Rattle.ow_desk.specs.Notes.{HasNoted};
+ghost use Rattle.ow_desk.specs.Notes.{CalledBy};
 ghost use Rattle.ow_worker.specs.Noted.{GivenUp, GoneNoted, LostNoted, NextNoted};
 ghost use Rattle.ow_worker.specs.Turned.{ToldBegun};
 
@@ -28,7 +28,7 @@ pub(crate) fn take_order<H: Wait, P: Keeper + Drop, C: Clock>(
     clock: &C,
     notes: &mut Receipts<P>,
 ) -> Result<Order, NoMemory>
-    ensures order { IfOk result (λ order. NextNoted notes.old.notes notes.new.notes order) }
+    ensures order { IfOk result (λ order. NextNoted (C.tells clock.now) notes.old.notes notes.new.notes order) }
     ensures fits { IfOk result Fits }
     ensures room { OnOk result (512 ≤ notes.new.room) }
     ensures wants { OnErr result (notes.new.notes ≡ notes.old.notes) }
@@ -46,7 +46,7 @@ pub(crate) fn tell_begun<H: Wait, P: Keeper + Drop, C: Clock>(
     order: &RunOrder,
 )
     requires { 1 ≤ notes.old.room }
-    ensures begun { ToldBegun order.now notes.old.notes notes.new.notes }
+    ensures begun { ToldBegun (C.tells clock.now) order.now notes.old.notes notes.new.notes }
     ensures room { notes.old.room ≤ notes.new.room + 1 }
 {
     if order.start != Start::Warm {
@@ -63,7 +63,7 @@ pub(crate) fn tell_lost<H: Wait, P: Keeper + Drop, C: Clock>(
     run: u64,
 )
     requires { 1 ≤ notes.old.room }
-    ensures lost { LostNoted run notes.old.notes notes.new.notes }
+    ensures lost { LostNoted (C.tells clock.now) run notes.old.notes notes.new.notes }
     ensures room { notes.old.room ≤ notes.new.room + 1 }
 {
     let _ = notes.lost(&mut *hold(rt, desk), clock.now(), run);
@@ -79,7 +79,7 @@ pub(crate) fn tell_gone<H: Wait, P: Keeper + Drop, C: Clock>(
     generation: u32,
 )
     requires { 1 ≤ notes.old.room }
-    ensures gone { GoneNoted slot generation notes.old.notes notes.new.notes }
+    ensures gone { GoneNoted (C.tells clock.now) slot generation notes.old.notes notes.new.notes }
     ensures room { notes.old.room ≤ notes.new.room + 1 }
 {
     let _ = notes.gone(&mut *hold(rt, desk), clock.now(), slot, generation);
@@ -96,7 +96,7 @@ pub(crate) fn tell_reply<H: Wait, P: Keeper + Drop, C: Clock>(
     run: u64,
     reply: RunReply,
 ) -> Result<Answered, AnswerRefusal>
-    ensures noted { HasNoted (events.Answered run reply) (reply_outcome result) notes.old.notes notes.new.notes }
+    ensures called { CalledBy (C.tells clock.now) (events.Answered run reply) (reply_outcome result) notes.old.notes notes.new.notes }
     ensures back { HandsBack run reply result }
     ensures room { notes.old.room ≤ notes.new.room + 1 }
 {
@@ -127,7 +127,7 @@ pub(crate) fn give_up<H: Wait, P: Keeper + Drop, C: Clock>(
     generation: u32,
 )
     requires { 2 ≤ notes.old.room }
-    ensures { GivenUp run slot generation notes.old.notes notes.new.notes }
+    ensures { GivenUp (C.tells clock.now) run slot generation notes.old.notes notes.new.notes }
 {
     tell_lost(rt, desk, clock, notes, run);
     tell_gone(rt, desk, clock, notes, slot, generation);

@@ -9,12 +9,13 @@ ghost use Rattle.ow_worker.specs.Shown.{GoesOn};
 ghost use Rattle.ow_worker.specs.Turned.{Removes, WarmTurn, Warms};
 
 use crate::fetching::take_back;
-use crate::living::{Living, stop};
+use crate::laying::put;
 use crate::outcome::{Turn, Warming};
 use crate::telling::give_up;
 use ow_board::{Board, Pass};
 use ow_desk::{Desk, Receipts};
 use ow_floor::{Container, PrewarmOrder};
+use ow_invoker::living::{Living, stop};
 use ow_threads::{Clock, hold};
 use ow_traits::{Keeper, Runner, Started};
 use std::alloc::Global;
@@ -41,7 +42,7 @@ pub(crate) fn prewarm<H: Wait, P: Keeper + Drop, R: Runner, C: Clock>(
     ensures pass { StaysPassOf board.now pass.old pass.new }
     ensures runner { Steady (R.gives runner.old) (R.gives runner.new) (R.faults runner.old) (R.faults runner.new) }
     ensures others { KeepsOthers order.slot (view_of pass.old) (view_of pass.new) }
-    ensures warms { WarmTurn (R.gives runner.old) (R.faults runner.old) (R.faults runner.new) order notes.old.notes notes.new.notes (view_of pass.old) (view_of pass.new) result }
+    ensures warms { WarmTurn (R.gives runner.old) (R.faults runner.old) (R.faults runner.new) (C.tells clock.now) order notes.old.notes notes.new.notes (view_of pass.old) (view_of pass.new) result }
 {
     match warm(alloc, board, pass, runner, &order) {
         Warming::Up => {
@@ -94,8 +95,8 @@ fn warm<R: Runner>(
         Err(_) => Warming::Wanting,
         Ok(Started::Down(_)) => Warming::Down,
         Ok(Started::Up(container)) => {
-            let living = Living::of(container);
-            match living.put(board, pass, order.slot, order.generation, PREWARMED) {
+            let living = Living { container };
+            match put(board, pass, order.slot, order.generation, PREWARMED, living) {
                 Ok(()) => Warming::Up,
                 Err(living) => {
                     stop(runner, living);
@@ -122,7 +123,7 @@ pub(crate) fn remove<H: Wait, P: Keeper + Drop, R: Runner, C: Clock>(
     requires room { length containers.now ≤ notes.old.room }
     ensures pass { StaysPassOf board.now pass.old pass.new }
     ensures runner { Steady (R.gives runner.old) (R.gives runner.new) (R.faults runner.old) (R.faults runner.new) }
-    ensures removes { Removes containers.now notes.old.notes notes.new.notes (view_of pass.old) (view_of pass.new) }
+    ensures removes { Removes (C.tells clock.now) containers.now notes.old.notes notes.new.notes (view_of pass.old) (view_of pass.new) }
 {
     if let Some((container, rest)) = containers.split_first() {
         take_back(

@@ -17,7 +17,7 @@ pub fn watch<H: Wait, P: Keeper + Drop, C: Clock>(
     clock: &C,
     notes: &mut Receipts<P>,
 ) -> Watch
-    ensures { Watched notes.old.notes notes.new.notes result }
+    ensures { Watched (C.tells clock.now) notes.old.notes notes.new.notes result }
 {
     match notes.sweep(alloc, &mut *hold(rt, desk), clock.now()) {
         Ok(_) => Watch::Swept,

@@ -1,4 +1,4 @@
-use Rattle.std.proofs.Common.{◌≡◌, [], arith, ap, inl, refl, ◌∙◌}
+use Rattle.std.proofs.Common.{◌≡◌, [], arith, ap, inl, ◌∙◌}
 use Rattle.ow_day.specs.Input.{InputView}
 use Rattle.ow_day.proofs.Opened.{begun, begun_on, day_answers, day_leaves, day_told, no_opening, over_table}
 use Rattle.ow_day.proofs.Runs.{begins_bounded, if_some}

@@ -18,10 +18,10 @@ returns-in-Early-clause-turns g c =
     (refused_on c.args.order.now.kind c.args.order.now.code c.in-Early.reply c.in-Early.ensures.runner c.settle.ensures.runner.later c.in-Early.ensures.ready.2)
     c.settle.ensures.settles
 
-pub returns-in-Missing-clause-turns : goal.returns-in-Missing-clause-turns
-returns-in-Missing-clause-turns g c =
+pub returns-in-NotHad-clause-turns : goal.returns-in-NotHad-clause-turns
+returns-in-NotHad-clause-turns g c =
     missed g.P.Keeper.rows g.P.Keeper.faults (g.R.Runner.gives c.args.runner.now) (g.R.Runner.faults c.args.runner.now) (g.R.Runner.faults c.make_ready.new.runner) c.args.hall.now c.lose.new.hall c.args.at
-    c.args.order.now c.args.shelf.now c.make_ready.new.shelf c.lose.result c.in-Missing.ensures.ready.0 c.in-Missing.ensures.ready.1 c.lose.ensures
+    c.args.order.now c.args.shelf.now c.make_ready.new.shelf c.lose.result c.in-NotHad.ensures.ready.0 c.in-NotHad.ensures.ready.1 c.lose.ensures
 
 pub returns-in-NoMemory-clause-turns : goal.returns-in-NoMemory-clause-turns
 returns-in-NoMemory-clause-turns g c =

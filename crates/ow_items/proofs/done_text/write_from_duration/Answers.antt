@@ -1,7 +1,7 @@
-use Rattle.std.proofs.Common.{◌≡◌, ◌∷◌, [], ◌++◌, List, codes, decimal, pos, ap, ◌∙◌, ◌==◌, rules}
-use Rattle.json.specs.Token.{Token, key, number}
+use Rattle.std.proofs.Common.{◌≡◌, ◌∷◌, [], ◌++◌, codes, decimal, rules}
+use Rattle.json.specs.Token.{key, number}
 use Rattle.ow_value.specs.Value.{members_of}
-use Rattle.ow_value.specs.Text.{members_tokens, value_tokens}
+use Rattle.ow_value.specs.Text.{members_tokens}
 use Rattle.std.proofs.Common.{◌-◌}
 use Rattle.ow_items.specs.Tokens.{from_logs}
 use Rattle.ow_items.proofs.Chain.{three, then_ok}

@@ -1,4 +1,4 @@
-use Rattle.std.proofs.Common.{◌≡◌, ◌∷◌, [], ◌++◌, List, codes, decimal, pos, ap, ◌∙◌, ◌==◌, rules}
+use Rattle.std.proofs.Common.{◌∷◌, [], ◌++◌, List, codes, ap, ◌∙◌}
 use Rattle.json.specs.Token.{Token, key}
 use Rattle.ow_value.specs.Value.{members_of}
 use Rattle.ow_value.specs.Text.{members_tokens, value_tokens}

@@ -1,5 +1,5 @@
-use Rattle.std.proofs.Common.{◌≡◌, ◌∷◌, [], ◌++◌, List, codes, decimal, pos, ap, ◌∙◌, ◌==◌, rules}
-use Rattle.json.specs.Token.{Token, end_object, key, number, string}
+use Rattle.std.proofs.Common.{◌≡◌, ◌∷◌, [], ◌++◌, codes, decimal, rules}
+use Rattle.json.specs.Token.{end_object, key, number, string}
 use Rattle.ow_entity.specs.Written.{shown_version}
 use Rattle.ow_items.proofs.Chain.{four}
 use Rattle.ow_items.proofs.done_text.write_from_start.Goals as goal

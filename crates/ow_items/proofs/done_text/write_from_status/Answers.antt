@@ -1,5 +1,5 @@
-use Rattle.std.proofs.Common.{◌≡◌, ◌∷◌, [], ◌++◌, List, codes, decimal, pos, ap, ◌∙◌, ◌==◌, rules}
-use Rattle.json.specs.Token.{Token, boolean, end_object, key, number, string}
+use Rattle.std.proofs.Common.{◌≡◌, ◌∷◌, [], ◌++◌, codes, decimal, ◌==◌, rules}
+use Rattle.json.specs.Token.{boolean, end_object, key, number, string}
 use Rattle.ow_records.specs.Written.{status_text}
 use Rattle.ow_items.proofs.Chain.{four, then_ok}
 use Rattle.ow_items.proofs.done_text.write_from_status.Goals as goal

@@ -1,7 +1,7 @@
-use Rattle.std.proofs.Common.{◌≡◌, ◌∷◌, [], ◌++◌, List, codes, decimal, pos, ap, ◌∙◌, ◌==◌, rules}
+use Rattle.std.proofs.Common.{◌∷◌, [], ◌++◌, List, codes, decimal, ap, ◌∙◌}
 use Rattle.json.specs.Token.{Token, key, number}
 use Rattle.ow_value.specs.Value.{members_of}
-use Rattle.ow_value.specs.Text.{members_tokens, value_tokens}
+use Rattle.ow_value.specs.Text.{members_tokens}
 use Rattle.ow_items.specs.Tokens.{binding_tokens, from_cause}
 use Rattle.ow_items.proofs.Chain.{bound, three, then_ok}
 use Rattle.ow_items.proofs.open_text.write_from_at.Goals as goal

@@ -1,7 +1,6 @@
-use Rattle.std.proofs.Common.{◌≡◌, ◌∷◌, [], ◌++◌, List, codes, decimal, pos, ap, ◌∙◌, ◌==◌, rules}
-use Rattle.json.specs.Token.{Token}
+use Rattle.std.proofs.Common.{◌++◌, ap, ◌∙◌}
 use Rattle.ow_value.specs.Value.{members_of}
-use Rattle.ow_value.specs.Text.{members_tokens, value_tokens}
+use Rattle.ow_value.specs.Text.{members_tokens}
 use Rattle.ow_items.specs.Tokens.{cause_tokens, from_form}
 use Rattle.ow_items.proofs.Chain.{caused, two, then_ok}
 use Rattle.ow_items.proofs.open_text.write_from_cause.Goals as goal

@@ -1,7 +1,7 @@
-use Rattle.std.proofs.Common.{◌≡◌, ◌∷◌, [], ◌++◌, List, codes, decimal, pos, ap, ◌∙◌, ◌==◌, rules}
-use Rattle.json.specs.Token.{Token, key, string}
+use Rattle.std.proofs.Common.{◌≡◌, ◌∷◌, [], ◌++◌, codes, rules}
+use Rattle.json.specs.Token.{key, string}
 use Rattle.ow_value.specs.Value.{members_of}
-use Rattle.ow_value.specs.Text.{members_tokens, value_tokens}
+use Rattle.ow_value.specs.Text.{members_tokens}
 use Rattle.ow_records.specs.WrittenNotes.{path_text}
 use Rattle.ow_items.specs.Tokens.{from_subject}
 use Rattle.ow_items.proofs.Chain.{two, then_ok}

@@ -1,5 +1,5 @@
-use Rattle.std.proofs.Common.{◌≡◌, ◌∷◌, [], ◌++◌, List, codes, decimal, pos, ap, ◌∙◌, ◌==◌, rules}
-use Rattle.json.specs.Token.{Token, end_object, key, string}
+use Rattle.std.proofs.Common.{◌≡◌, ◌∷◌, [], ◌++◌, codes, rules}
+use Rattle.json.specs.Token.{end_object, key, string}
 use Rattle.ow_entity.specs.Written.{shown_version}
 use Rattle.ow_items.proofs.Chain.{three}
 use Rattle.ow_items.proofs.open_text.write_from_subject.Goals as goal

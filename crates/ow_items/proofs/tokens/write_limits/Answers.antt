@@ -1,5 +1,5 @@
-use Rattle.std.proofs.Common.{◌≡◌, ◌∷◌, [], ◌++◌, List, codes, decimal, pos, ap, ◌∙◌, ◌==◌, rules}
-use Rattle.json.specs.Token.{Token, begin_object, end_object, key, number}
+use Rattle.std.proofs.Common.{◌≡◌, ◌∷◌, [], ◌++◌, codes, decimal, rules}
+use Rattle.json.specs.Token.{begin_object, end_object, key, number}
 use Rattle.ow_items.proofs.Chain.{five, then_ok}
 use Rattle.ow_items.proofs.tokens.write_limits.Goals as goal
 

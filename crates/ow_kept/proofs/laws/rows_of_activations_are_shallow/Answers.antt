@@ -1,4 +1,5 @@
-use Rattle.ow_kept.proofs.Shallow.{abandoned_shallow, ends_shallow, opens_shallow}
+use Rattle.ow_keep.proofs.Opens.{opens_shallow}
+use Rattle.ow_kept.proofs.Shallow.{abandoned_shallow, ends_shallow}
 use Rattle.ow_kept.proofs.laws.rows_of_activations_are_shallow.Goals as goal
 
 pub returns-clause-opened : goal.returns-clause-opened

@@ -1,8 +1,8 @@
-use Rattle.ow_serve.proofs.Whole.{drained_if, keeps_first}
+use Rattle.ow_serve.proofs.Whole.{keeps_first}
 use Rattle.ow_serve.proofs.closing.drain_once.Goals as goal
 
-pub returns-clause-drained : goal.returns-clause-drained
-returns-clause-drained g c = drained_if c.drain.result _ _ c.drain.ensures.noted
+pub returns-clause-called : goal.returns-clause-called
+returns-clause-called g c = (c.now-at.result, rw c.deref.ensures at c.now-at.ensures, c.drain.ensures.called)
 
 pub returns-clause-first : goal.returns-clause-first
-returns-clause-first g c = keeps_first c.drain.result _ _ c.drain.ensures.noted
+returns-clause-first g c = keeps_first (g.C.Clock.tells c.args.house.now.clock.value) c.drain.result _ _ (c.now-at.result, rw c.deref.ensures at c.now-at.ensures, c.drain.ensures.called)

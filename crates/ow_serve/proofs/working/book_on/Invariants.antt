@@ -8,5 +8,5 @@ abbrev pub invariant-loop : goal.invariant-loop
 invariant-loop g l = record {
   pass : IsPassOf l.place.board l.pass;
   runner : Steady (g.R.Runner.gives l.fn.runner) (g.R.Runner.gives l.runner) (g.R.Runner.faults l.fn.runner) (g.R.Runner.faults l.runner);
-  books : Leads BooksOnce (Some l.fn.job, stand l.fn.notes.notes (view_of l.fn.pass) (g.R.Runner.faults l.fn.runner)) (Some l.job, stand l.notes.notes (view_of l.pass) (g.R.Runner.faults l.runner));
+  books : Leads (BooksOnce (g.C.Clock.tells l.fn.clock)) (Some l.fn.job, stand l.fn.notes.notes (view_of l.fn.pass) (g.R.Runner.faults l.fn.runner)) (Some l.job, stand l.notes.notes (view_of l.pass) (g.R.Runner.faults l.runner));
 }

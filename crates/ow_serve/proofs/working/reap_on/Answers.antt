@@ -15,10 +15,4 @@ loop-preserved g c =
     }
 
 pub returns-then-is_over-clause-reapings : goal.returns-then-is_over-clause-reapings
-returns-then-is_over-clause-reapings g c = record {
-  tells = g.C.Clock.tells c.args.clock.now;
-  opened = c.args.opened;
-  old = view_of c.args.pass.now;
-  new = view_of c.loop.pass;
-  reaps = c.loop.invariant.reaps;
-}
+returns-then-is_over-clause-reapings g c = record { view = view_of c.loop.pass; reaps = c.loop.invariant.reaps }

@@ -5,5 +5,5 @@ use Rattle.ow_serve.proofs.working.reap_on.Given as goal
 abbrev pub invariant-loop : goal.invariant-loop
 invariant-loop g l = record {
   pass : IsPassOf l.place.board l.pass;
-  reaps : Leads (ReapsOnce (g.C.Clock.tells l.clock) l.opened) (l.fn.notes.notes, view_of l.fn.pass) (l.notes.notes, view_of l.pass);
+  reaps : Leads (ReapsOnce (g.C.Clock.tells l.fn.clock) l.fn.opened) (l.fn.notes.notes, view_of l.fn.pass) (l.notes.notes, view_of l.pass);
 }

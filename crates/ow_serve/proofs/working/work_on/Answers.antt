@@ -16,9 +16,6 @@ loop-preserved g c =
 
 pub returns-then-is_over-clause-turns : goal.returns-then-is_over-clause-turns
 returns-then-is_over-clause-turns g c = record {
-  tells = g.C.Clock.tells c.args.clock.now;
-  opened = c.args.opened;
-  view = view_of c.args.pass.now;
   last = stand c.loop.notes.notes (view_of c.loop.pass) (g.R.Runner.faults c.loop.runner);
   works = c.loop.invariant.works;
   notes = refl;

@@ -12,5 +12,5 @@ invariant-loop-i g l = record {
   runner : Steady (g.R.Runner.gives l.fn.runner) (g.R.Runner.gives l.runner) (g.R.Runner.faults l.fn.runner) (g.R.Runner.faults l.runner);
   few : l.taken ≤ l.i;
   behind : KeepsBehind l.i (view_of l.fn.pass) (view_of l.pass);
-  reaped : Reaped l.elapsed (view_of l.fn.pass).steps l.fn.notes.notes l.i (view_of l.pass) l.taken l.notes.notes;
+  reaped : Reaped (g.C.Clock.tells l.fn.clock) l.elapsed (view_of l.fn.pass).steps l.fn.notes.notes l.i (view_of l.pass) l.taken l.notes.notes;
 }

@@ -7,13 +7,13 @@ use Rattle.ow_worker.proofs.runs.carry.Goals as goal
 
 pub returns-in-Up-clause-turned : goal.returns-in-Up-clause-turned
 returns-in-Up-clause-turned g c =
-    run_turned (g.R.Runner.gives c.args.runner.now) (g.R.Runner.faults c.args.runner.now) (g.R.Runner.faults c.perform.new.runner) _ c.args.order c.args.notes.now.notes c.perform.new.notes.notes
-    (view_of c.args.pass.now) (view_of c.perform.new.pass) (view_of c.make_ready.new.pass) c.perform.result c.in-Up.ensures.ready.1 (performs_within _ _ _ _ _ _ _ c.in-Up.ensures.runner c.perform.ensures.runner c.perform.ensures.performs)
+    run_turned (g.R.Runner.gives c.args.runner.now) (g.R.Runner.faults c.args.runner.now) (g.R.Runner.faults c.perform.new.runner) (g.C.Clock.tells c.args.clock.now) c.args.opened c.args.order c.args.notes.now.notes c.perform.new.notes.notes
+    (view_of c.args.pass.now) (view_of c.perform.new.pass) (view_of c.make_ready.new.pass) c.perform.result c.in-Up.ensures.ready.1 (performs_within (g.C.Clock.tells c.args.clock.now) c.args.opened _ _ _ _ _ _ c.in-Up.ensures.runner c.perform.ensures.runner c.perform.ensures.performs)
 
 pub returns-in-Early-clause-turned : goal.returns-in-Early-clause-turned
 returns-in-Early-clause-turned g c =
     let refused : RefusesCode (g.R.Runner.gives c.args.runner.now) (g.R.Runner.faults c.args.runner.now) (g.R.Runner.faults c.settle.new.runner) c.args.order.kind c.args.order.code c.in-Early.reply = refused_on c.args.order.kind c.args.order.code c.in-Early.reply c.in-Early.ensures.runner c.settle.ensures.runner.later c.in-Early.ensures.ready.1 in
-    run_turned (g.R.Runner.gives c.args.runner.now) (g.R.Runner.faults c.args.runner.now) (g.R.Runner.faults c.settle.new.runner) _ c.args.order c.args.notes.now.notes c.settle.new.notes.notes
+    run_turned (g.R.Runner.gives c.args.runner.now) (g.R.Runner.faults c.args.runner.now) (g.R.Runner.faults c.settle.new.runner) (g.C.Clock.tells c.args.clock.now) c.args.opened c.args.order c.args.notes.now.notes c.settle.new.notes.notes
     (view_of c.args.pass.now) (view_of c.settle.new.pass) (view_of c.make_ready.new.pass) c.settle.result c.in-Early.ensures.ready.2 (carried_turns c.settle.result (record {
       reply = c.in-Early.reply;
       replies = refused.1 c.args.order.params;

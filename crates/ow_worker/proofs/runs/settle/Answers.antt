@@ -9,7 +9,7 @@ returns-clause-settled g c = record {
   down = c.lay_down-laid.new.notes.notes;
   middle = c.lay_down-laid.new.pass.me.0;
   lays = c.lay_down-laid.ensures.laid;
-  books = booked_earlier _ _ _ _ _ _ _ _ _ _ c.lay_down-laid.ensures.on c.book.ensures.booked;
+  books = booked_earlier (g.C.Clock.tells c.args.clock.now) _ _ _ _ _ _ _ _ _ _ c.lay_down-laid.ensures.on c.book.ensures.booked;
 }
 
 pub returns-clause-others : goal.returns-clause-others

@@ -8,7 +8,7 @@ pub returns-in-Run-clause-turned : goal.returns-in-Run-clause-turned
 returns-in-Run-clause-turned g c = inr (record {
   order = orders.Run c.in-Run.order;
   taken = c.take_order.new.notes.notes;
-  next = subst (λ (o : Order). NextNoted c.args.notes.now.notes c.take_order.new.notes.notes o) c.in-Run.is c.in-Ok.ensures.order;
+  next = subst (λ (o : Order). NextNoted (g.C.Clock.tells c.args.clock.now) c.args.notes.now.notes c.take_order.new.notes.notes o) c.in-Run.is c.in-Ok.ensures.order;
   follows = (c.carry.ensures.turned, c.carry.ensures.others);
 })
 
@@ -16,6 +16,6 @@ pub returns-in-Prewarm-clause-turned : goal.returns-in-Prewarm-clause-turned
 returns-in-Prewarm-clause-turned g c = inr (record {
   order = orders.Prewarm c.in-Prewarm.order;
   taken = c.take_order.new.notes.notes;
-  next = subst (λ (o : Order). NextNoted c.args.notes.now.notes c.take_order.new.notes.notes o) c.in-Prewarm.is c.in-Ok.ensures.order;
+  next = subst (λ (o : Order). NextNoted (g.C.Clock.tells c.args.clock.now) c.args.notes.now.notes c.take_order.new.notes.notes o) c.in-Prewarm.is c.in-Ok.ensures.order;
   follows = (c.prewarm.ensures.warms, c.prewarm.ensures.others);
 })

@@ -1,4 +1,4 @@
-use Rattle.std.proofs.Common.{◌∙◌, arith, refl}
+use Rattle.std.proofs.Common.{arith, refl}
 use Rattle.ow_day.proofs.Ended.{ends_with}
 use Rattle.ow_day.proofs.Runs.{done_turns, if_none, of_day, step_tells, unread, was_written}
 use Rattle.ow_day.proofs.Sessions.{later_same}

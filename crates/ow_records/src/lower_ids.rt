@@ -1,25 +1,29 @@
-// The ids of activations as a day writes them.
+// Ids as they are written, in lower case.
 ghost use Rattle.std.specs.Prelude.{◌≡◌, length};
 ghost use Rattle.std.specs.Int.{from_be_bytes, w64};
 ghost use Rattle.std.specs.Str.{bytes_eq};
 ghost use Rattle.hex.specs.Hex.{encode_lower};
-ghost use Rattle.ow_day.specs.Ids.{id_in, id_of};
+ghost use Rattle.ow_records.specs.LowerId.{id_of_bytes};
 
-use ow_records::Id;
+use crate::ids::Id;
 
-/// The id of thirty-two lower-case hexadecimal digits.
-#[tactic(auto, unfolding(crate::specs::Ids::id_of))]
-pub fn id_of(text: &[u8]) -> Option<Id>
-    ensures { result ≡ id_of text.now }
-{
-    let mut bytes = [0u8; 16];
-    if hex::decode_to_slice(text, &mut bytes).is_err() {
-        return None;
-    }
-    if has_digits(&bytes, text) {
-        Some(id_in(&bytes))
-    } else {
-        None
+impl Id {
+    ghost use Rattle.ow_records.specs.LowerId.{id_of_lower};
+
+    /// The id that thirty-two lower-case hexadecimal digits are.
+    #[tactic(auto, unfolding(crate::specs::LowerId::id_of_lower))]
+    pub fn of_lower(text: &[u8]) -> Option<Id>
+        ensures { result ≡ id_of_lower text.now }
+    {
+        let mut bytes = [0u8; 16];
+        if hex::decode_to_slice(text, &mut bytes).is_err() {
+            return None;
+        }
+        if has_digits(&bytes, text) {
+            Some(id_of_bytes(&bytes))
+        } else {
+            None
+        }
     }
 }
 
@@ -32,8 +36,8 @@ fn has_digits(bytes: &[u8; 16], text: &[u8]) -> bool
     digits.as_slice() == text
 }
 
-fn id_in(bytes: &[u8; 16]) -> Id
-    ensures { result ≡ id_in bytes.now }
+fn id_of_bytes(bytes: &[u8; 16]) -> Id
+    ensures { result ≡ id_of_bytes bytes.now }
 {
     Id {
         namespace: number_in(&bytes[..8]),
