@@ -11,7 +11,7 @@ use Rattle.ow_floor.specs.Trace.{End, record_of}
 use Rattle.ow_floor.specs.Laws.{AreApart, IsAmong, IsApart, times}
 use Rattle.ow_floor.proofs.Alters.{same_id_refl}
 use Rattle.ow_floor.proofs.Among.{all_among}
-use Rattle.ow_floor.proofs.Tallies.{eq_of}
+use Rattle.ow_floor.proofs.Apart.{turned}
 use Rattle.ow_tenant.specs.Queue.{with_one}
 
 -- ---- counts
@@ -57,16 +57,6 @@ pub and-false : (b : Bool) → b && false ≡ false
 and-false true = refl
 and-false false = refl
 
--- ---- ids
-
-is_no : (b : Bool) → (b ≡ true → ⊥) → b ≡ false
-is_no true h = absurd (h refl)
-is_no false h = refl
-
--- ids that differ do so the other way round
-differ : (x y : Id) → same_id x y ≡ false → same_id y x ≡ false
-differ x y apart = is_no (same_id y x) (λ same. let e : y ≡ x = eq_of y x same in let f : same_id x y ≡ true = subst (λ (z : Id). same_id x z ≡ true) (sym e) (same_id_refl x) in cc (apart, f))
-
 -- ---- which have ended
 
 abbrev ended_ids : List End → List Id
@@ -87,7 +77,7 @@ out_at : (e : End) (es : List End) (id : Id) (b : Bool) → same_id id e.task.id
 out_at e es id true same none rest = absurd (let h : 1 + times id (ended_ids es) ≡ 0 = rw same at none in omega (arith, h))
 out_at e es id false apart none rest =
     let h : 0 + times id (ended_ids es) ≡ 0 = rw apart at none in
-    out_more e es id (differ id e.task.id apart) ∙ rest (omega (arith, h))
+    out_more e es id (turned id e.task.id apart) ∙ rest (omega (arith, h))
 
 out_of : (es : List End) (id : Id) → times id (ended_ids es) ≡ 0 → is_out es id ≡ true
 out_of [] id none = refl

@@ -46,13 +46,6 @@ by_items P start accepts ends_one other (Reopened at ∷ T) = other (Reopened at
 
 -- ---- what is noted
 
--- acceptances and ends of which a note would pass
-accepts_by : (Note → Bool) → Activation → Bool
-accepts_by q a = is_none a.cause && q (invoked a.namespace a.at)
-
-ends_by : (Note → Bool) → End → Bool
-ends_by q e = is_none e.task.cause && q (ended e.task.namespace)
-
 noted-count : (q : Note → Bool) (b : Bool) (note : Note) (ns : Notes) → count_by q (noted_if b note ns) ≡ with_one (b && q note) (count_by q ns)
 noted-count q true note ns = count-cons q note ns
 noted-count q false note ns = refl

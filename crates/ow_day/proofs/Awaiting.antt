@@ -1,6 +1,6 @@
 -- What is known of lines of logs that are awaited.
 use Rattle.std.proofs.Common.{◌≡◌, ◌≤◌, ◌<◌, ◌+◌, ◌&&◌, ℕ, Bool, true, false, not, nat_lt, List, Option, Some, None, length, take, drop, position, refl, sym, ap, ◌∙◌, subst, arith}
-use Rattle.std.proofs.lemmas.Bool.{false≢true}
+use Rattle.std.proofs.lemmas.Bool.{false≢true, ltb-true}
 use Rattle.std.proofs.lemmas.List.{drop-drop}
 use Rattle.std.proofs.lemmas.List.Quantifiers.{position-Some}
 use Rattle.ow_day.specs.declared.first.First.{First as Code}
@@ -11,7 +11,6 @@ use Rattle.ow_day.specs.Day.{Found, LinesAre, lines_in, logged}
 use Rattle.ow_day.specs.First.{AwaitsBehind, AwaitsLines, AwaitsNone, IsLogs}
 use Rattle.ow_day.specs.Line.{lines_of, read_lines}
 use Rattle.ow_day.specs.Search.{Awaits}
-use Rattle.ow_day.proofs.Choices.{more_by}
 use Rattle.ow_day.proofs.Days.{too_long}
 use Rattle.ow_day.proofs.Logging.{found_last}
 use Rattle.ow_day.proofs.Searching.{awaits_behind}
@@ -28,7 +27,7 @@ no_logs : (o : Option Reading) (left : ℕ) → o ≡ None → IsLogs o left →
 no_logs o left none logs = let never : IsLogs None left = subst (λ x. IsLogs x left) none logs in never
 
 long_by : (bytes : List ℕ) (o : Option Reading) (left : ℕ) (long : Bool) → nat_lt most_line (length bytes) ≡ long → (not long && true) ≡ false → o ≡ line_of bytes → IsLogs o left → ⊥
-long_by bytes o left true is uncut same logs = no_logs o left (same ∙ too_long bytes (more_by most_line (length bytes) is)) logs
+long_by bytes o left true is uncut same logs = no_logs o left (same ∙ too_long bytes (ltb-true most_line (length bytes) is)) logs
 long_by bytes o left false is uncut same logs = false≢true (sym uncut)
 
 pub whole_awaits : (more : Bool) (bytes : List ℕ) (o : Option Reading) (behind : ℕ) (f : Code) → o ≡ line_of bytes → (not (nat_lt most_line (length bytes)) && more) ≡ false → AwaitsBehind more o behind f → AwaitsLines bytes f

@@ -1,5 +1,5 @@
 -- What a choice between two values tells of its test, and tests of numbers.
-use Rattle.std.proofs.Common.{◌≡◌, ◌<◌, ◌≤◌, ◌==◌, ℕ, Bool, true, false, nat_lt, Option, Some, None, if◌then◌else◌, refl, arith}
+use Rattle.std.proofs.Common.{◌≡◌, ◌<◌, ◌==◌, ℕ, Bool, true, false, Option, Some, None, if◌then◌else◌, refl, arith}
 use Rattle.std.proofs.lemmas.Bool.Decides.{nat_tests}
 use Rattle.std.proofs.lemmas.Option.{none-some}
 
@@ -15,23 +15,8 @@ either false x y z e first second = second refl e
 
 -- ---- tests of numbers
 
-pub is_more : (m n : ℕ) → m < n → nat_lt m n ≡ true
-is_more m n lt = grind (arith, nat_tests)
-
-pub is_short : (m n : ℕ) → n ≤ m → nat_lt m n ≡ false
-is_short m n le = grind (arith, nat_tests)
-
 pub is_apart : (m n : ℕ) → n < m → (m == n) ≡ false
 is_apart m n lt = grind (arith, nat_tests)
 
-pub fits_by : (m n : ℕ) → nat_lt m n ≡ false → n ≤ m
-fits_by m n is = grind (arith, nat_tests)
-
 pub some_by : (n : ℕ) → (n == 0) ≡ false → 0 < n
 some_by n is = grind (arith, nat_tests)
-
-pub none_by : (n : ℕ) → (n == 0) ≡ true → n ≡ 0
-none_by n is = grind (arith, nat_tests)
-
-pub more_by : (m n : ℕ) → nat_lt m n ≡ true → m < n
-more_by m n is = grind (arith, nat_tests)

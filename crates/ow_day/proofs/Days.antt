@@ -1,13 +1,14 @@
 -- How a day goes on: by its first statement, to its end.
 use Rattle.std.proofs.Common.{◌≡◌, ◌<◌, ◌+◌, ◌-◌, ◌++◌, ◌==◌, ℕ, zero, suc, Bool, true, false, nat_lt, List, [], ◌∷◌, Option, Some, None, if◌then◌else◌, length, take, drop, position, slice_index, refl, sym, ap, ◌∙◌, arith, append_assoc, append-nil, length-append, length-take}
 use Rattle.std.specs.Option.{option_map}
+use Rattle.std.proofs.lemmas.Bool.{le-ltb, lt-ltb, ltb-true}
 use Rattle.std.proofs.lemmas.Bool.Decides.{nat_tests}
 use Rattle.std.proofs.lemmas.List.{take-append-le, drop-append-le}
 use Rattle.std.proofs.lemmas.List.Quantifiers.{position-Some}
 use Rattle.ow_day.specs.Limits.{most_line}
 use Rattle.ow_day.specs.Statement.{Statement, At, Call, Ask, Next, Begun, Answer, Logged, Exit, NoStart, Fault, Lost, Gone, Sweep, Turn, Collect, Drain, Reopen, End, Reading, Whole, Asks, Logs, is_newline, line_of}
 use Rattle.ow_day.specs.Day.{Day, Finished, TooLong, ended, with_statements, First, Found, Wrong, Cut, Lines, LinesAre, NoLines, CutLines, line_at, lines_in, logged, asked, behind_line, first_in, first_statement, going_on, day_step, day_from}
-use Rattle.ow_day.proofs.Choices.{is_apart, is_more, is_short, more_by}
+use Rattle.ow_day.proofs.Choices.{is_apart}
 use Rattle.ow_day.proofs.Logging.{lines_extended, lines_last, lines_longer}
 use Rattle.ow_day.proofs.Newlines.{position-append_none, position-append_some}
 
@@ -84,7 +85,7 @@ asked_at more count bytes later false true lt eq found = absurd (found (rw (lt, 
 asked_at more count bytes later false false lt eq found =
     let within : count < length bytes = over (length bytes) count lt eq in
     let longer : count < length (bytes ++ later) = simp length-append (omega arith) in
-    let lt' : nat_lt (length (bytes ++ later)) count ≡ false = is_short (length (bytes ++ later)) count (omega arith) in
+    let lt' : nat_lt (length (bytes ++ later)) count ≡ false = le-ltb (length (bytes ++ later)) count (omega arith) in
     let eq' : (length (bytes ++ later) == count) ≡ false = is_apart (length (bytes ++ later)) count longer in
     rw (lt', eq', lt, eq, index_before bytes later count within, take-append-le count bytes later (omega arith), drop-append-le (count + 1) bytes later (omega arith))
     (picked (slice_index bytes count == 10) (Ask (take count bytes)) (drop (count + 1) bytes) later)
@@ -104,13 +105,13 @@ behind_longer more (Some (Logs run count text)) rest later found =
 -- a line that is too long is none
 pub too_long : (line : List ℕ) → most_line < length line → line_of line ≡ None
 unfolding line_of
-too_long line lt = rw (is_more most_line (length line) lt) refl
+too_long line lt = rw (lt-ltb most_line (length line) lt) refl
 
 long_at : (more : Bool) (bytes later : List ℕ) (o : Option ℕ) → most_line < length bytes
     → first_in more (line_at more (bytes ++ later) (option_map (λ k. length bytes + k) o)) ≡ Wrong
 long_at more bytes later None lt =
     let longer : most_line < length (bytes ++ later) = simp length-append (omega arith) in
-    rw (is_more most_line (length (bytes ++ later)) longer, too_long (bytes ++ later) longer) refl
+    rw (lt-ltb most_line (length (bytes ++ later)) longer, too_long (bytes ++ later) longer) refl
 long_at more bytes later (Some k) lt =
     let longer : most_line < length (take (length bytes + k) (bytes ++ later)) = omega (arith, length-take (length bytes + k) (bytes ++ later), length-append bytes later) in
     rw (too_long (take (length bytes + k) (bytes ++ later)) longer) refl
@@ -125,7 +126,7 @@ longer_at more bytes later (Some k) b is long found =
     rw (position-append_some is_newline bytes later k is, front, back) (behind_longer more (line_of (take k bytes)) (drop (k + 1) bytes) later found)
 longer_at more bytes later None false is long found = absurd (found (rw long refl))
 longer_at more bytes later None true is long found =
-    let lt : most_line < length bytes = more_by most_line (length bytes) long in
+    let lt : most_line < length bytes = ltb-true most_line (length bytes) long in
     rw (position-append_none is_newline bytes later is, long_at more bytes later (position is_newline later) lt, long, too_long bytes lt) refl
 
 -- what stands at the front stays there, whatever follows

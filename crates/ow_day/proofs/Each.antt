@@ -11,6 +11,7 @@ use Rattle.ow_decide.specs.Sight.{is_full}
 use Rattle.ow_decide.specs.declared.events.Event.{Event}
 use Rattle.ow_decide.specs.declared.events.Event.TheVariants as events
 use Rattle.ow_decide.specs.declared.events.Told.{Told}
+use Rattle.ow_runners.specs.Plain.{plain_tally}
 use Rattle.ow_invoker.specs.Turns.{Exchange}
 use Rattle.ow_invoker.specs.declared.turn.Turned.{Turned}
 use Rattle.ow_day.specs.declared.call_words.CallWords.{CallWords}
@@ -56,9 +57,9 @@ module _ (Is : Machine → Machine → Type 0) (stays : (M N : Machine) → N.te
   failed_at M N event (before, after, given, (changes, ledger, tenants, stay, count, rose)) = stays M N tenants (ap entries ledger)
 
   turns_so : (M N : Machine) (turn : Turned) (failed : ℕ) → Turns M turn failed N → Is M N
-  turns_so M N turn failed (inl (none, t)) = exchanged M N t.exchanges (turn_opens M.shelf turn.order t.exchanges N.shelf t.turn) t.met
+  turns_so M N turn failed (inl (none, t)) = exchanged M N t.exchanges (turn_opens (plain_tally t.before) (plain_tally t.now) M.shelf turn.order t.exchanges N.shelf t.turn) t.met
   turns_so M N turn failed (inr (one, t)) =
-      joins M t.middle N (exchanged M t.middle t.exchanges (offered_opens M.shelf turn.order t.exchanges t.event N.shelf t.turn) t.met) (failed_at t.middle N t.event t.fails)
+      joins M t.middle N (exchanged M t.middle t.exchanges (offered_opens (plain_tally t.before) (plain_tally t.now) M.shelf turn.order t.exchanges t.event N.shelf t.turn) t.met) (failed_at t.middle N t.event t.fails)
 
   -- ---- statements
 

@@ -2,6 +2,7 @@
 use Rattle.std.proofs.Common.{◌≡◌, ℕ, ◌==◌, ◌<◌, ◌≤◌, ◌^◌, Bool, true, false, nat_lt, List, ◌∷◌, ◌++◌, length, codes, Option, Some, None, if◌then◌else◌, refl, sym, ap, ◌∙◌, arith, subst}
 use Rattle.std.specs.Fmt.{decimal}
 use Rattle.std.specs.Str.{bytes_eq, is_utf8, IsUtf8}
+use Rattle.std.proofs.lemmas.Bool.{ltb-false}
 use Rattle.std.proofs.lemmas.List.Elements.{All-tail}
 use Rattle.std.proofs.lemmas.Option.{none-some, same_Some, some_pair_parts}
 use Rattle.std.proofs.lemmas.Slice.Eq.{bytes_eq-Decides}
@@ -13,7 +14,7 @@ use Rattle.ow_records.specs.LowerId.{id_of_lower}
 use Rattle.ow_day.specs.Limits.{most_line}
 use Rattle.ow_day.specs.Statement.{Statement, At, Call, Next, Begun, Answer, Exit, NoStart, Fault, Lost, Gone, Sweep, Turn, Collect, Drain, Reopen, End, Reading, Whole, Asks, Logs, answer_in, answer_of, answered, ask_of, asks_for, at_moment, at_of, begun, begun_of, call_in, call_of, called, collect_of, collected, container_of, exit_in, exit_of, exited, failed, fault_of, gone, gone_in, gone_of, line_of, logged, logged_in, logged_of, logs_in, lost, lost_of, no_start_in, no_start_of, numbered, numbered_in, parted, reply_of, unstarted, with_number, worded, worded_in}
 use Rattle.ow_day.specs.Printed.{HasNo, IsLineText, IsPrintable, IsWord, logs_head, printed}
-use Rattle.ow_day.proofs.Choices.{either, fits_by, if_later, some_by}
+use Rattle.ow_day.proofs.Choices.{either, if_later, some_by}
 use Rattle.ow_records.proofs.LowerIds.{lower_known}
 use Rattle.ow_day.proofs.Numbers.{decimal_read}
 use Rattle.ow_day.proofs.Parting.{none_in_back, none_in_front, parted_read}
@@ -156,7 +157,7 @@ exit_code run rest digits None r is small at e = absurd (none-some r e)
 exit_code run rest digits (Some code) r is small at e =
     let some = if_later (nat_lt 255 code) _ r e in
     let same : codes "exit " ++ rest ≡ printed (Exit run code) = ap (λ t. codes "exit " ++ t) (at ∙ ap (λ t. decimal run ++ 32 ∷ t) (sym (decimal_read digits code is).1)) in
-    subst (λ s. IsWritten (codes "exit " ++ rest) s) (same_Some (Whole (Exit run code)) r some.1) ((small, fits_by 255 code some.0), same)
+    subst (λ s. IsWritten (codes "exit " ++ rest) s) (same_Some (Whole (Exit run code)) r some.1) ((small, ltb-false 255 code some.0), same)
 
 exit_by : (rest : List ℕ) (o : Option (ℕ × List ℕ)) (r : Reading) → numbered rest ≡ o → exit_in o ≡ Some r → IsWritten (codes "exit " ++ rest) r
 exit_by rest None r is e = absurd (none-some r e)
@@ -209,8 +210,8 @@ gone_pair slot rest digits None r is at e = absurd (none-some r e)
 gone_pair slot rest digits (Some generation) r is at e =
     let small = if_later (nat_lt 4294967295 slot) _ r e in
     let few = if_later (nat_lt 4294967295 generation) _ r small.1 in
-    let slot_fits : slot ≤ 4294967295 = fits_by 4294967295 slot small.0 in
-    let fits : generation ≤ 4294967295 = fits_by 4294967295 generation few.0 in
+    let slot_fits : slot ≤ 4294967295 = ltb-false 4294967295 slot small.0 in
+    let fits : generation ≤ 4294967295 = ltb-false 4294967295 generation few.0 in
     let same : codes "gone " ++ rest ≡ printed (Gone slot generation) = ap (λ t. codes "gone " ++ t) (at ∙ ap (λ t. decimal slot ++ 32 ∷ t) (sym (decimal_read digits generation is).1)) in
     subst (λ s. IsWritten (codes "gone " ++ rest) s) (same_Some (Whole (Gone slot generation)) r few.1) ((omega arith, omega arith), same)
 
@@ -232,7 +233,7 @@ at_by rest None r is e = absurd (none-some r e)
 at_by rest (Some moment) r is e =
     let some = if_later (nat_lt greatest_moment moment) _ r e in
     subst (λ s. IsWritten (codes "at " ++ rest) s) (same_Some (Whole (At moment)) r some.1)
-    (fits_by greatest_moment moment some.0, ap (λ d. codes "at " ++ d) (sym (decimal_read rest moment is).1))
+    (ltb-false greatest_moment moment some.0, ap (λ d. codes "at " ++ d) (sym (decimal_read rest moment is).1))
 
 at_written : (rest : List ℕ) (r : Reading) → at_of rest ≡ Some r → IsWritten (codes "at " ++ rest) r
 unfolding at_of
@@ -243,7 +244,7 @@ ask_by rest None r is e = absurd (none-some r e)
 ask_by rest (Some count) r is e =
     let some = if_later (nat_lt most_line count) _ r e in
     subst (λ s. IsWritten (codes "ask " ++ rest) s) (same_Some (Asks count) r some.1)
-    (fits_by most_line count some.0, ap (λ d. codes "ask " ++ d) (sym (decimal_read rest count is).1))
+    (ltb-false most_line count some.0, ap (λ d. codes "ask " ++ d) (sym (decimal_read rest count is).1))
 
 ask_written : (rest : List ℕ) (r : Reading) → ask_of rest ≡ Some r → IsWritten (codes "ask " ++ rest) r
 unfolding ask_of
@@ -319,4 +320,4 @@ line_written line r none e =
     either (bytes_eq line (codes "drain")) _ _ _ e (λ is e. only_word line Drain r is e tt) (λ _ e.
     either (bytes_eq line (codes "reopen")) _ _ _ e (λ is e. only_word line Reopen r is e tt) (λ _ e.
     either (bytes_eq line (codes "end")) _ _ _ e (λ is e. only_word line End r is e tt) (λ _ e.
-    words_by line (parted line) r refl none (fits_by most_line (length line) short) e)))))))
+    words_by line (parted line) r refl none (ltb-false most_line (length line) short) e)))))))

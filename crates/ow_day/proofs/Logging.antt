@@ -1,13 +1,14 @@
 -- Lines of logs: where they end, and that what follows moves none of them.
 use Rattle.std.proofs.Common.{◌≡◌, ◌<◌, ◌≤◌, ◌+◌, ◌-◌, ◌++◌, ◌==◌, ℕ, zero, suc, Bool, true, false, nat_lt, List, [], ◌∷◌, Option, Some, None, length, take, drop, position, refl, sym, ap, ◌∙◌, arith, append_assoc, append-nil, length-append, length-drop, length-take}
 use Rattle.std.specs.Option.{option_map}
+use Rattle.std.proofs.lemmas.Bool.{le-ltb, lt-ltb, ltb-true}
 use Rattle.std.proofs.lemmas.List.{drop-drop, take-append-le, drop-append-le}
 use Rattle.std.proofs.lemmas.List.Quantifiers.{position-Some}
 use Rattle.ow_day.specs.Limits.{most_line}
 use Rattle.ow_day.specs.Statement.{is_newline}
 use Rattle.ow_day.specs.Day.{FirstLine, LineIs, NoLine, CutLine, Lines, LinesAre, NoLines, CutLines, first_line, line_at, line_in, line_with, lines_in, lines_step, log_text, with_line}
 use Rattle.ow_day.specs.Logs.{AreRead, with_lines}
-use Rattle.ow_day.proofs.Choices.{is_apart, is_more, is_short, more_by, some_by}
+use Rattle.ow_day.proofs.Choices.{is_apart, some_by}
 use Rattle.ow_day.proofs.Newlines.{position-append_none, position-append_some}
 
 -- ---- one line
@@ -18,7 +19,7 @@ line_extended later NoLine = NoLine
 line_extended later CutLine = CutLine
 
 too_long : (line : List ℕ) → most_line < length line → log_text line ≡ None
-too_long line lt = rw (is_more most_line (length line) lt) refl
+too_long line lt = rw (lt-ltb most_line (length line) lt) refl
 
 with_longer : (o : Option (List ℕ)) (rest later : List ℕ) → line_with o (rest ++ later) ≡ line_extended later (line_with o rest)
 with_longer None rest later = refl
@@ -27,7 +28,7 @@ with_longer (Some line) rest later = refl
 long_at : (more : Bool) (bytes later : List ℕ) (o : Option ℕ) → most_line < length bytes → line_in (line_at more (bytes ++ later) (option_map (λ k. length bytes + k) o)) ≡ NoLine
 long_at more bytes later None lt =
     let longer : most_line < length (bytes ++ later) = simp length-append (omega arith) in
-    rw (is_more most_line (length (bytes ++ later)) longer, too_long (bytes ++ later) longer) refl
+    rw (lt-ltb most_line (length (bytes ++ later)) longer, too_long (bytes ++ later) longer) refl
 long_at more bytes later (Some k) lt =
     let longer : most_line < length (take (length bytes + k) (bytes ++ later)) = omega (arith, length-take (length bytes + k) (bytes ++ later), length-append bytes later) in
     rw (too_long (take (length bytes + k) (bytes ++ later)) longer) refl
@@ -41,7 +42,7 @@ line_at_longer more bytes later (Some k) b is long found =
     rw (position-append_some is_newline bytes later k is, front, back) (with_longer (log_text (take k bytes)) (drop (k + 1) bytes) later)
 line_at_longer more bytes later None false is long found = absurd (found (rw long refl))
 line_at_longer more bytes later None true is long found =
-    let lt : most_line < length bytes = more_by most_line (length bytes) long in
+    let lt : most_line < length bytes = ltb-true most_line (length bytes) long in
     rw (position-append_none is_newline bytes later is, long_at more bytes later (position is_newline later) lt, long, too_long bytes lt) refl
 
 first_by : (more : Bool) (bytes later : List ℕ) (a : Bool) → (length bytes == 0) ≡ a → (first_line true bytes ≡ CutLine → ⊥) → first_line more (bytes ++ later) ≡ line_extended later (first_line true bytes)
@@ -73,7 +74,7 @@ first_at_last bytes false some cut = at_last bytes (position is_newline bytes) _
 cut_by : (bytes : List ℕ) (a : Bool) → (length bytes == 0) ≡ a → position is_newline bytes ≡ None → length bytes ≤ most_line → first_line true bytes ≡ CutLine
 unfolding first_line
 cut_by bytes true empty none short = rw empty refl
-cut_by bytes false some none short = rw (some, none, is_short most_line (length bytes) short) refl
+cut_by bytes false some none short = rw (some, none, le-ltb most_line (length bytes) short) refl
 
 -- a line without a newline is cut, where more comes and it may still be short enough
 pub line_cut : (bytes : List ℕ) → position is_newline bytes ≡ None → length bytes ≤ most_line → first_line true bytes ≡ CutLine

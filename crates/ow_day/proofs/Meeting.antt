@@ -21,7 +21,7 @@ use Rattle.ow_decide.specs.declared.events.Told.TheVariants as tells
 use Rattle.ow_decide.specs.declared.replies.Called.{Called}
 use Rattle.ow_decide.specs.declared.replies.Reply.{Reply}
 use Rattle.ow_hall.specs.Comes.{Answers, Comes, Fails, HallView, Holds, IsCalled, KeptRows, Outcome, Replies, Wants, decided, done_outcome, reply_outcome}
-use Rattle.ow_runners.specs.Plain.{plain_giving}
+use Rattle.ow_runners.specs.Plain.{plain_giving, plain_tally}
 use Rattle.ow_invoker.specs.Turns.{Chain, Exchange, Turns as TurnsTo}
 use Rattle.ow_runners.specs.declared.plain_runner.PlainContainer.{PlainContainer}
 use Rattle.ow_runners.specs.declared.plain_runner.PlainRunner.{PlainRunner}
@@ -198,16 +198,16 @@ module _ {P : Type 0} (rows : P → KeptRows) (faults : P → ℕ) where
     chained (over old middle) hall left xs rest,
   )
 
-  pub turned : (old : Session P) (hall : HallView P) (runner : PlainRunner) (left : List (Laid PlainContainer)) (t : Turned)
-      → TurnsTo rows faults plain_giving 0 0 old.hall hall old.given old.shelf left (Ok t) → GoesTo faults old (behind_turn old hall runner left) (Does (machine_of old) Turn) (dones.Turned t)
-  turned old hall runner left t (inl (xs, (turn, chain, steps))) = (
+  pub turned : (old : Session P) (hall : HallView P) (runner : PlainRunner) (left : List (Laid PlainContainer)) (t : Turned) (before now : ℕ)
+      → TurnsTo rows faults plain_giving (plain_tally before) (plain_tally now) old.hall hall old.given old.shelf left (Ok t) → GoesTo faults old (behind_turn old hall runner left) (Does (machine_of old) Turn) (dones.Turned t)
+  turned old hall runner left t ran now (inl (xs, (turn, chain, steps))) = (
     0,
     (
-      (t, refl, inl (refl, record { exchanges = xs; turn = turn; met = chained old hall left xs chain; steps = steps })),
+      (t, refl, inl (refl, record { exchanges = xs; before = ran; now = now; turn = turn; met = chained old hall left xs chain; steps = steps })),
       rose_none (faults old.hall.store) (faults hall.store) (chain_later rows faults old.hall hall old.given xs chain),
     ),
   )
-  turned old hall runner left t (inr (xs, (event, (turn, (middle, (chain, comes)), steps)))) =
+  turned old hall runner left t ran now (inr (xs, (event, (turn, (middle, (chain, comes)), steps)))) =
       let before = rose_none (faults old.hall.store) (faults middle.store) (chain_later rows faults old.hall middle old.given xs chain) in
       let last = rose_once (faults middle.store) (faults hall.store) comes.4 comes.5 in (
         1,
@@ -220,6 +220,8 @@ module _ {P : Type 0} (rows : P → KeptRows) (faults : P → ℕ) where
               record {
                 exchanges = xs;
                 event = event;
+                before = ran;
+                now = now;
                 turn = turn;
                 middle = with_shelf old middle old.shelf;
                 met = chained old middle old.shelf xs chain;
@@ -233,17 +235,17 @@ module _ {P : Type 0} (rows : P → KeptRows) (faults : P → ℕ) where
       )
 
   -- the turn ends early
-  stopped : (old : Session P) (hall : HallView P) (runner : PlainRunner) (left : List (Laid PlainContainer)) (r : Result Turned Want)
-      → TurnsTo rows faults plain_giving 0 0 old.hall hall old.given old.shelf left r → IsLater faults old (behind_turn old hall runner left)
-  stopped old hall runner left (Ok t) (inl (xs, (turn, chain, steps))) =
+  stopped : (old : Session P) (hall : HallView P) (runner : PlainRunner) (left : List (Laid PlainContainer)) (r : Result Turned Want) (before now : ℕ)
+      → TurnsTo rows faults plain_giving (plain_tally before) (plain_tally now) old.hall hall old.given old.shelf left r → IsLater faults old (behind_turn old hall runner left)
+  stopped old hall runner left (Ok t) ran now (inl (xs, (turn, chain, steps))) =
       record { behind = chain_behind rows faults old.hall hall old.given xs chain; count = chain_later rows faults old.hall hall old.given xs chain }
-  stopped old hall runner left (Ok t) (inr (xs, (event, (turn, chain, steps)))) =
+  stopped old hall runner left (Ok t) ran now (inr (xs, (event, (turn, chain, steps)))) =
       record { behind = chain_to_behind rows faults old.hall hall old.given xs event Fails chain; count = chain_to_later rows faults old.hall hall old.given xs event Fails chain }
-  stopped old hall runner left (Err e) (inl (xs, (begins, chain))) =
+  stopped old hall runner left (Err e) ran now (inl (xs, (begins, chain))) =
       record { behind = chain_behind rows faults old.hall hall old.given xs chain; count = chain_later rows faults old.hall hall old.given xs chain }
-  stopped old hall runner left (Err e) (inr (order, (xs, (event, (offers, undone))))) =
+  stopped old hall runner left (Err e) ran now (inr (order, (xs, (event, (offers, undone))))) =
       record { behind = undone_behind rows faults old.hall hall old.given xs event undone; count = undone_later rows faults old.hall hall old.given xs event undone }
 
-  pub stopped_so : (old : Session P) (hall : HallView P) (runner : PlainRunner) (left : List (Laid PlainContainer)) (t : Result Turned Want) (r : Result Done Want) → IsErr r
-      → TurnsTo rows faults plain_giving 0 0 old.hall hall old.given old.shelf left t → ComesTo faults old (behind_turn old hall runner left) (Does (machine_of old) Turn) r
-  stopped_so old hall runner left t r is turns = wants_so faults old (behind_turn old hall runner left) (Does (machine_of old) Turn) r is (stopped old hall runner left t turns)
+  pub stopped_so : (old : Session P) (hall : HallView P) (runner : PlainRunner) (left : List (Laid PlainContainer)) (t : Result Turned Want) (r : Result Done Want) (before now : ℕ) → IsErr r
+      → TurnsTo rows faults plain_giving (plain_tally before) (plain_tally now) old.hall hall old.given old.shelf left t → ComesTo faults old (behind_turn old hall runner left) (Does (machine_of old) Turn) r
+  stopped_so old hall runner left t r before now is turns = wants_so faults old (behind_turn old hall runner left) (Does (machine_of old) Turn) r is (stopped old hall runner left t before now turns)

@@ -1,13 +1,13 @@
 -- Statements that are printed one behind another are read as a day of them.
 use Rattle.std.proofs.Common.{◌≡◌, ℕ, ◌+◌, ◌-◌, ◌<◌, ◌≤◌, false, List, [], ◌∷◌, ◌++◌, length, codes, refl, ap, ◌∙◌, arith, append_assoc, length-append}
 use Rattle.std.specs.List.{All}
+use Rattle.std.proofs.lemmas.Bool.{le-ltb}
 use Rattle.std.proofs.lemmas.List.{take_all}
 use Rattle.std.proofs.lemmas.List.Elements.{All-head, All-tail}
 use Rattle.ow_day.specs.Limits.{most_bytes}
 use Rattle.ow_day.specs.Statement.{Statement, At, Call, Ask, Next, Begun, Answer, Logged, Exit, NoStart, Fault, Lost, Gone, Sweep, Turn, Collect, Drain, Reopen, End}
 use Rattle.ow_day.specs.Day.{Day, Finished, day_from, day_step, going_on, has_more, window}
 use Rattle.ow_day.specs.Printed.{DayIsReadBack, IsPrintable, before_end, printed, printed_day}
-use Rattle.ow_day.proofs.Choices.{is_short}
 use Rattle.ow_day.proofs.Days.{at_no_bytes, by_first}
 use Rattle.ow_day.proofs.Printing.{read_back}
 
@@ -50,5 +50,5 @@ from_here count n (s ∷ ss) can enough =
 pub day_read_back : (ss : List Statement) → All IsPrintable ss → length (printed_day ss) ≤ most_bytes → DayIsReadBack ss
 unfolding window has_more
 day_read_back ss can fits =
-    rw (take_all most_bytes (printed_day ss) fits, is_short most_bytes (length (printed_day ss)) fits)
+    rw (take_all most_bytes (printed_day ss) fits, le-ltb most_bytes (length (printed_day ss)) fits)
     (from_here (length (printed_day ss) + 1) 1 ss can (omega arith))

@@ -2,13 +2,14 @@
 use Rattle.std.proofs.Common.{◌≡◌, ◌⊎◌, ℕ, zero, suc, ◌==◌, ◌&&◌, ◌<◌, ◌+◌, ◌-◌, Bool, true, false, not, nat_lt, if◌then◌else◌, List, [], ◌∷◌, ◌++◌, length, take, drop, position, Option, Some, None, inl, inr, refl, sym, ap, ◌∙◌, subst, arith, append_assoc, append-nil, length-append}
 use Rattle.std.specs.List.{All}
 use Rattle.std.specs.Str.{is_utf8}
+use Rattle.std.proofs.lemmas.Bool.{le-ltb, ltb-false}
 use Rattle.std.proofs.lemmas.List.Elements.{All-cons, All-head, All-nil, All-tail}
 use Rattle.std.proofs.lemmas.Str.{IsUtf8-from_is_utf8, is_utf8-from_IsUtf8}
 use Rattle.ow_day.specs.Limits.{most_line}
 use Rattle.ow_day.specs.Statement.{is_newline}
 use Rattle.ow_day.specs.Day.{FirstLine, LineIs, NoLine, CutLine, Lines, LinesAre, NoLines, CutLines, first_line, line_at, line_in, line_with, lines_in, lines_step, log_text, with_line}
 use Rattle.ow_day.specs.Printed.{EndsInByte, HasNo, IsLogLine, printed_logs}
-use Rattle.ow_day.proofs.Choices.{fits_by, is_apart, is_short}
+use Rattle.ow_day.proofs.Choices.{is_apart}
 use Rattle.ow_day.proofs.Logging.{lines_more}
 use Rattle.ow_day.proofs.Parting.{back_of, first_behind, front_of, none_there, nowhere, split_at}
 
@@ -24,7 +25,7 @@ tail_of [] later = refl
 tail_of (line ∷ lines) later = ap (λ t. 10 ∷ t) (append_assoc line (printed_logs lines) (10 ∷ later) ∙ ap (λ t. line ++ t) (tail_of lines later))
 
 log_read : (line : List ℕ) → IsLogLine line → log_text line ≡ Some line
-log_read line can = rw (is_short most_line (length line) can.most, is_utf8-from_IsUtf8 line can.text.utf8) refl
+log_read line can = rw (le-ltb most_line (length line) can.most, is_utf8-from_IsUtf8 line can.text.utf8) refl
 
 line_before : (more : Bool) (line later : List ℕ) → IsLogLine line → first_line more (line ++ 10 ∷ later) ≡ LineIs line later
 unfolding first_line
@@ -36,7 +37,7 @@ line_last : (line : List ℕ) → IsLogLine line → 0 < length line → first_l
 unfolding first_line
 line_last line can enough =
     let some : (length line == 0) ≡ false = is_apart (length line) 0 enough in
-    rw (some, none_there 10 line can.text.newline, is_short most_line (length line) can.most, log_read line can) refl
+    rw (some, none_there 10 line can.text.newline, le-ltb most_line (length line) can.most, log_read line can) refl
 
 next_line : (more : Bool) (line bytes rest : List ℕ) (lines : List (List ℕ)) (later : List ℕ) → first_line more bytes ≡ LineIs line rest → lines_in more (length lines) rest ≡ LinesAre lines later
     → lines_in more (length (line ∷ lines)) bytes ≡ LinesAre (line ∷ lines) later
@@ -79,7 +80,7 @@ text_by line l rest r true utf8 none short u e = let never : NoLine ≡ LineIs l
 text_by line l rest r false false none short u e = let never : NoLine ≡ LineIs l r = e in cc
 text_by line l rest r false true none short u e =
     let same = same_line line l rest r e in
-    (subst IsLogLine same.0 (record { text = record { utf8 = IsUtf8-from_is_utf8 line u; newline = none }; most = fits_by most_line (length line) short }), same.0, same.1)
+    (subst IsLogLine same.0 (record { text = record { utf8 = IsUtf8-from_is_utf8 line u; newline = none }; most = ltb-false most_line (length line) short }), same.0, same.1)
 
 text_at : (line l rest r : List ℕ) → HasNo 10 line → line_with (log_text line) rest ≡ LineIs l r → IsLogLine l × (line ≡ l) × (rest ≡ r)
 text_at line l rest r none e = text_by line l rest r (nat_lt most_line (length line)) (is_utf8 line) none refl refl e

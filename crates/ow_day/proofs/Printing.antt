@@ -2,6 +2,7 @@
 use Rattle.std.proofs.Common.{◌≡◌, ℕ, ◌==◌, ◌<◌, ◌≤◌, ◌^◌, Bool, false, List, [], ◌∷◌, ◌++◌, length, codes, position, slice_index, Some, None, refl, ap, ◌∙◌, arith, append_assoc, append-nil, length-append}
 use Rattle.std.specs.Fmt.{decimal}
 use Rattle.std.specs.Str.{IsUtf8}
+use Rattle.std.proofs.lemmas.Bool.{le-ltb}
 use Rattle.std.proofs.lemmas.Bool.Decides.{nat_tests}
 use Rattle.std.proofs.lemmas.Fmt.{length-decimal-le}
 use Rattle.std.proofs.lemmas.List.{get_or_at}
@@ -11,7 +12,7 @@ use Rattle.ow_day.specs.Limits.{most_line}
 use Rattle.ow_day.specs.Statement.{Statement, At, Call, Ask, Next, Begun, Answer, Logged, Exit, NoStart, Fault, Lost, Gone, Sweep, Turn, Collect, Drain, Reopen, End, Whole, Asks, Logs, answer_of, ask_of, at_of, begun_of, call_of, collect_of, container_of, exit_of, fault_of, gone_of, line_of, logged_of, lost_of, no_start_of, numbered, reply_of, utf8_text, worded}
 use Rattle.ow_day.specs.Day.{Found, asked, behind_line, first_statement, lines_in, logged}
 use Rattle.ow_day.specs.Printed.{EndsInByte, IsLineText, IsPrintable, IsReadBack, IsWord, logs_head, printed, printed_logs}
-use Rattle.ow_day.proofs.Choices.{is_apart, is_short}
+use Rattle.ow_day.proofs.Choices.{is_apart}
 use Rattle.ow_day.proofs.PrintedLogs.{logs_before, logs_last, rest_of, tail_of}
 use Rattle.ow_records.specs.Id.{id_text}
 use Rattle.ow_records.specs.declared.ids.Id.{Id}
@@ -51,7 +52,7 @@ logged_back run count text small few u = rw (numbered_back run (decimal count ++
 
 exit_back : (run code : ℕ) → run < 2 ^ 64 → code ≤ 255 → exit_of (decimal run ++ 32 ∷ decimal code) ≡ Some (Whole (Exit run code))
 unfolding exit_of
-exit_back run code small most = rw (numbered_back run (decimal code) small, decimal_of-decimal code (omega arith), is_short 255 code most) refl
+exit_back run code small most = rw (numbered_back run (decimal code) small, decimal_of-decimal code (omega arith), le-ltb 255 code most) refl
 
 collect_back : (id : Id) → id.namespace < 2 ^ 64 → id.count < 2 ^ 64 → collect_of (id_text id) ≡ Some (Whole (Collect id))
 unfolding collect_of
@@ -72,65 +73,65 @@ lost_back run small = rw (decimal_of-decimal run small) refl
 gone_back : (slot generation : ℕ) → slot < 2 ^ 32 → generation < 2 ^ 32 → gone_of (decimal slot ++ 32 ∷ decimal generation) ≡ Some (Whole (Gone slot generation))
 unfolding gone_of
 gone_back slot generation small few =
-    rw (numbered_back slot (decimal generation) (omega arith), decimal_of-decimal generation (omega arith), is_short 4294967295 slot (omega arith), is_short 4294967295 generation (omega arith)) refl
+    rw (numbered_back slot (decimal generation) (omega arith), decimal_of-decimal generation (omega arith), le-ltb 4294967295 slot (omega arith), le-ltb 4294967295 generation (omega arith)) refl
 
 at_back : (moment : ℕ) → moment ≤ greatest_moment → at_of (decimal moment) ≡ Some (Whole (At moment))
 unfolding at_of
-at_back moment most = rw (decimal_of-decimal moment (omega arith), is_short greatest_moment moment most) refl
+at_back moment most = rw (decimal_of-decimal moment (omega arith), le-ltb greatest_moment moment most) refl
 
 ask_back : (count : ℕ) → count ≤ most_line → ask_of (decimal count) ≡ Some (Asks count)
 unfolding ask_of
-ask_back count most = rw (decimal_of-decimal count (omega arith), is_short most_line count most) refl
+ask_back count most = rw (decimal_of-decimal count (omega arith), le-ltb most_line count most) refl
 
 -- ---- lines
 
 call_line : (rest : List ℕ) → length (codes "call " ++ rest) ≤ most_line → line_of (codes "call " ++ rest) ≡ call_of rest
 unfolding line_of worded
-call_line rest fits = rw (is_short most_line (length (codes "call " ++ rest)) fits, parted_word (codes "call") rest refl) refl
+call_line rest fits = rw (le-ltb most_line (length (codes "call " ++ rest)) fits, parted_word (codes "call") rest refl) refl
 
 answer_line : (rest : List ℕ) → length (codes "answer " ++ rest) ≤ most_line → line_of (codes "answer " ++ rest) ≡ answer_of rest
 unfolding line_of worded
-answer_line rest fits = rw (is_short most_line (length (codes "answer " ++ rest)) fits, parted_word (codes "answer") rest refl) refl
+answer_line rest fits = rw (le-ltb most_line (length (codes "answer " ++ rest)) fits, parted_word (codes "answer") rest refl) refl
 
 at_line : (rest : List ℕ) → length (codes "at " ++ rest) ≤ most_line → line_of (codes "at " ++ rest) ≡ at_of rest
 unfolding line_of worded
-at_line rest fits = rw (is_short most_line (length (codes "at " ++ rest)) fits, parted_word (codes "at") rest refl) refl
+at_line rest fits = rw (le-ltb most_line (length (codes "at " ++ rest)) fits, parted_word (codes "at") rest refl) refl
 
 ask_line : (rest : List ℕ) → length (codes "ask " ++ rest) ≤ most_line → line_of (codes "ask " ++ rest) ≡ ask_of rest
 unfolding line_of worded
-ask_line rest fits = rw (is_short most_line (length (codes "ask " ++ rest)) fits, parted_word (codes "ask") rest refl) refl
+ask_line rest fits = rw (le-ltb most_line (length (codes "ask " ++ rest)) fits, parted_word (codes "ask") rest refl) refl
 
 logged_line : (rest : List ℕ) → length (codes "logged " ++ rest) ≤ most_line → line_of (codes "logged " ++ rest) ≡ logged_of rest
 unfolding line_of worded reply_of
-logged_line rest fits = rw (is_short most_line (length (codes "logged " ++ rest)) fits, parted_word (codes "logged") rest refl) refl
+logged_line rest fits = rw (le-ltb most_line (length (codes "logged " ++ rest)) fits, parted_word (codes "logged") rest refl) refl
 
 exit_line : (rest : List ℕ) → length (codes "exit " ++ rest) ≤ most_line → line_of (codes "exit " ++ rest) ≡ exit_of rest
 unfolding line_of worded reply_of
-exit_line rest fits = rw (is_short most_line (length (codes "exit " ++ rest)) fits, parted_word (codes "exit") rest refl) refl
+exit_line rest fits = rw (le-ltb most_line (length (codes "exit " ++ rest)) fits, parted_word (codes "exit") rest refl) refl
 
 no_start_line : (rest : List ℕ) → length (codes "nostart " ++ rest) ≤ most_line → line_of (codes "nostart " ++ rest) ≡ no_start_of rest
 unfolding line_of worded reply_of
-no_start_line rest fits = rw (is_short most_line (length (codes "nostart " ++ rest)) fits, parted_word (codes "nostart") rest refl) refl
+no_start_line rest fits = rw (le-ltb most_line (length (codes "nostart " ++ rest)) fits, parted_word (codes "nostart") rest refl) refl
 
 collect_line : (rest : List ℕ) → length (codes "collect " ++ rest) ≤ most_line → line_of (codes "collect " ++ rest) ≡ collect_of rest
 unfolding line_of worded
-collect_line rest fits = rw (is_short most_line (length (codes "collect " ++ rest)) fits, parted_word (codes "collect") rest refl) refl
+collect_line rest fits = rw (le-ltb most_line (length (codes "collect " ++ rest)) fits, parted_word (codes "collect") rest refl) refl
 
 fault_line : (rest : List ℕ) → length (codes "fault " ++ rest) ≤ most_line → line_of (codes "fault " ++ rest) ≡ fault_of rest
 unfolding line_of worded reply_of
-fault_line rest fits = rw (is_short most_line (length (codes "fault " ++ rest)) fits, parted_word (codes "fault") rest refl) refl
+fault_line rest fits = rw (le-ltb most_line (length (codes "fault " ++ rest)) fits, parted_word (codes "fault") rest refl) refl
 
 begun_line : (rest : List ℕ) → length (codes "begun " ++ rest) ≤ most_line → line_of (codes "begun " ++ rest) ≡ begun_of rest
 unfolding line_of worded reply_of container_of
-begun_line rest fits = rw (is_short most_line (length (codes "begun " ++ rest)) fits, parted_word (codes "begun") rest refl) refl
+begun_line rest fits = rw (le-ltb most_line (length (codes "begun " ++ rest)) fits, parted_word (codes "begun") rest refl) refl
 
 lost_line : (rest : List ℕ) → length (codes "lost " ++ rest) ≤ most_line → line_of (codes "lost " ++ rest) ≡ lost_of rest
 unfolding line_of worded reply_of container_of
-lost_line rest fits = rw (is_short most_line (length (codes "lost " ++ rest)) fits, parted_word (codes "lost") rest refl) refl
+lost_line rest fits = rw (le-ltb most_line (length (codes "lost " ++ rest)) fits, parted_word (codes "lost") rest refl) refl
 
 gone_line : (rest : List ℕ) → length (codes "gone " ++ rest) ≤ most_line → line_of (codes "gone " ++ rest) ≡ gone_of rest
 unfolding line_of worded reply_of container_of
-gone_line rest fits = rw (is_short most_line (length (codes "gone " ++ rest)) fits, parted_word (codes "gone") rest refl) refl
+gone_line rest fits = rw (le-ltb most_line (length (codes "gone " ++ rest)) fits, parted_word (codes "gone") rest refl) refl
 
 -- ---- a line and the bytes behind it
 
@@ -140,7 +141,7 @@ behind_newline more line later none = rw (first_behind 10 line later none, front
 
 alone : (line : List ℕ) → position (λ c. c == 10) line ≡ None → length line ≤ most_line → first_statement false line ≡ behind_line false (line_of line) []
 unfolding first_statement
-alone line none fits = rw (none, is_short most_line (length line) fits) refl
+alone line none fits = rw (none, le-ltb most_line (length line) fits) refl
 
 -- a statement of one line
 whole_back : (s : Statement) → position (λ c. c == 10) (printed s) ≡ None → length (printed s) ≤ most_line → line_of (printed s) ≡ Some (Whole s) → IsReadBack s
@@ -154,11 +155,11 @@ unfolding asked
 asked_before more request later =
     let longer : length request < length (request ++ 10 ∷ later) = omega (arith, length-append request (10 ∷ later)) in
     let at : slice_index (request ++ 10 ∷ later) (length request) ≡ 10 = get_or_at request 10 later 0 (length request) refl in
-    rw (is_short (length (request ++ 10 ∷ later)) (length request) (omega arith), is_apart (length (request ++ 10 ∷ later)) (length request) longer, at, front_of request later 10, back_of request later 10) refl
+    rw (le-ltb (length (request ++ 10 ∷ later)) (length request) (omega arith), is_apart (length (request ++ 10 ∷ later)) (length request) longer, at, front_of request later 10, back_of request later 10) refl
 
 asked_last : (request : List ℕ) → asked false (length request) request ≡ Found (Ask request) []
 unfolding asked
-asked_last request = rw (is_short (length request) (length request) (omega arith), is_itself (length request)) refl
+asked_last request = rw (le-ltb (length request) (length request) (omega arith), is_itself (length request)) refl
 
 abbrev asking : List ℕ → List ℕ
 asking request = codes "ask " ++ decimal (length request)

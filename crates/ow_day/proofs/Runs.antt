@@ -1,7 +1,7 @@
 -- A day under way: how each step of the code takes it on, and what it ends in.
 use Rattle.std.proofs.Common.{◌≡◌, ◌<◌, ◌≤◌, ◌+◌, ◌-◌, ◌++◌, ℕ, Bool, true, false, not, List, [], ◌∷◌, Option, Some, None, Result, Ok, Err, OnOk, OnErr, IfNone, IfSome, length, take, drop, refl, sym, ap, subst, ◌∙◌, arith, append_assoc, append-nil, length-append, length-drop, inl, inr, if◌then◌else◌}
 use Rattle.std.specs.Result.{is_err}
-use Rattle.std.proofs.lemmas.Bool.{false≢true}
+use Rattle.std.proofs.lemmas.Bool.{false≢true, le-ltb, lt-ltb}
 use Rattle.std.proofs.Math.Seq.{take-append-add, take-nil, take-append_seam, take-length}
 use Rattle.ow_traits.specs.Streams.{Takes, TakesFront}
 use Rattle.ow_traits.proofs.Taking.{Takes-none, Takes-then, TakesFront-then, took_nothing}
@@ -23,7 +23,6 @@ use Rattle.ow_day.proofs.Carrying.{carried_more}
 use Rattle.ow_day.proofs.Rising.{rose_later, rose_none, rose_then}
 use Rattle.ow_day.proofs.SoFar.{cut_day, read_at_start, read_done, read_more, read_same}
 use Rattle.ow_day.proofs.Days.{at_no_bytes, by_first, cut_nothing, extended, extended-nil, first_last, first_longer, statement_goes_on, with_both}
-use Rattle.ow_day.proofs.Choices.{is_more, is_short}
 
 module _ {P : Type 0} (faults : P → ℕ) where
   -- at the start nothing is read, carried out or written
@@ -73,11 +72,11 @@ module _ {P : Type 0} (faults : P → ℕ) where
 
   has_more-false : (bytes : List ℕ) → length bytes ≤ most_bytes → has_more bytes ≡ false
   unfolding has_more
-  has_more-false bytes le = is_short most_bytes (length bytes) le
+  has_more-false bytes le = le-ltb most_bytes (length bytes) le
 
   has_more-true : (bytes : List ℕ) → most_bytes < length bytes → has_more bytes ≡ true
   unfolding has_more
-  has_more-true bytes lt = is_more most_bytes (length bytes) lt
+  has_more-true bytes lt = lt-ltb most_bytes (length bytes) lt
 
   -- where the end was read, all that was read has its place in the window
   at_end : {t : Opening} (bytes : List ℕ) (before left taken : Option (List ℕ)) (r : Run P) (u : IsUnderWay faults t bytes before left taken r) → r.input.taken ≤ most_bytes → r.ended ≡ true

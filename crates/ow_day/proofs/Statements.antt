@@ -119,10 +119,6 @@ behind_by more line rest later s (Some (Logs run count text)) is none e =
 
 -- ---- the last line of a day
 
-no_bytes : (xs : List ℕ) → length xs ≡ 0 → xs ≡ []
-no_bytes [] none = refl
-no_bytes (x ∷ xs) none = absurd (omega arith)
-
 last_asked : (count : ℕ) (s : Statement) (later : List ℕ) → IsAsked count [] s later → (Ask [] ≡ s) × (count ≡ 0) × (later ≡ [])
 last_asked count s later found = elim found.ends [
   | inl before ↦ absurd (let size = ap length before in omega (arith, size, length-append found.request (10 ∷ later)))

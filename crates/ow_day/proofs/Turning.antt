@@ -1,6 +1,6 @@
 -- No event of a turn opens the service.
 use Rattle.std.proofs.Common.{◌≡◌, ◌++◌, Bool, true, false, List, [], ◌∷◌, inl, inr, refl, ap}
-use Rattle.ow_traits.specs.Runner.{is_answer}
+use Rattle.ow_traits.specs.Runner.{Tally, is_answer}
 use Rattle.ow_traits.specs.declared.replies.RunReply.{RunReply}
 use Rattle.ow_floor.specs.declared.answers.Container.{Container}
 use Rattle.ow_floor.specs.declared.answers.Order.{Order}
@@ -36,59 +36,59 @@ pair first second xs a b (answer, later, is) = rw is (a, one (exchange second la
 
 -- ---- runs
 
-opening_opens : (order : RunOrder) (reply : RunReply) (xs : List Exchange) → Opens plain_giving 0 0 order reply xs → NoneOpens xs
-opening_opens order reply [] opens = tt
-opening_opens order reply (x ∷ xs) (cold, (started, (event, none))) = (ap is_opening event, rw none tt)
+opening_opens : (a b : Tally) (order : RunOrder) (reply : RunReply) (xs : List Exchange) → Opens plain_giving a b order reply xs → NoneOpens xs
+opening_opens a b order reply [] opens = tt
+opening_opens a b order reply (x ∷ xs) (cold, started, event, none, once) = (ap is_opening event, rw none tt)
 
 rest_opens : (answers late : Bool) (order : RunOrder) (shelf : Shelved) (xs : List Exchange) (left : Shelved) → Rests answers late order shelf xs left → NoneOpens xs
 rest_opens true false order shelf xs left rests = rw rests.0 tt
 rest_opens true true order shelf xs left rests = alone _ xs refl rests.0
 rest_opens false late order shelf xs left rests = alone _ xs refl rests.0
 
-carried_opens : (order : RunOrder) (shelf : Shelved) (xs : List Exchange) (left : Shelved) → IsCarriedOut plain_giving 0 0 order shelf xs left → NoneOpens xs
-carried_opens order shelf xs left c =
+carried_opens : (a b : Tally) (order : RunOrder) (shelf : Shelved) (xs : List Exchange) (left : Shelved) → IsCarriedOut plain_giving a b order shelf xs left → NoneOpens xs
+carried_opens a b order shelf xs left c =
     let s = c.settled in
     let ending = rest_opens (is_answer c.reply) (is_late s.answer) order shelf s.ending left s.rests in
     let booking : NoneOpens c.booking = rw s.is (refl, ending) in
-    rw c.is (both_open c.opening c.booking (opening_opens order c.reply c.opening c.opens) booking)
+    rw c.is (both_open c.opening c.booking (opening_opens a b order c.reply c.opening c.opens) booking)
 
-run_opens : (missing : Bool) (order : RunOrder) (shelf : Shelved) (xs : List Exchange) (left : Shelved) → RunFollows missing plain_giving 0 0 order shelf xs left → NoneOpens xs
-run_opens true order shelf xs left follows = alone _ xs refl follows.0
-run_opens false order shelf xs left follows = carried_opens order _ xs left follows
+run_opens : (a b : Tally) (missing : Bool) (order : RunOrder) (shelf : Shelved) (xs : List Exchange) (left : Shelved) → RunFollows missing plain_giving a b order shelf xs left → NoneOpens xs
+run_opens a b true order shelf xs left follows = alone _ xs refl follows.0
+run_opens a b false order shelf xs left follows = carried_opens a b order _ xs left follows
 
 -- ---- other orders
 
-prewarm_opens : (order : PrewarmOrder) (shelf : Shelved) (xs : List Exchange) (left : Shelved) → PrewarmFollows plain_giving 0 0 order shelf xs left → NoneOpens xs
-prewarm_opens order shelf xs left (inl (started, warmed)) = alone _ xs refl warmed.0
-prewarm_opens order shelf xs left (inr (refused, unwarmed)) = pair _ _ xs refl refl unwarmed.0
+prewarm_opens : (a b : Tally) (order : PrewarmOrder) (shelf : Shelved) (xs : List Exchange) (left : Shelved) → PrewarmFollows plain_giving a b order shelf xs left → NoneOpens xs
+prewarm_opens a b order shelf xs left (inl (started, warmed)) = alone _ xs refl warmed.0
+prewarm_opens a b order shelf xs left (inr (refused, unwarmed)) = pair _ _ xs refl refl unwarmed.0
 
 removal_opens : (cs : List Container) (shelf : Shelved) (xs : List Exchange) (left : Shelved) → Removes cs shelf xs left → NoneOpens xs
 removal_opens [] shelf xs left removes = rw removes.0 tt
 removal_opens (c ∷ cs) shelf [] left never = absurd never
 removal_opens (c ∷ cs) shelf (x ∷ xs) left (event, rest) = (ap is_opening event, removal_opens cs _ xs left rest)
 
-follow_opens : (shelf : Shelved) (order : Order) (xs : List Exchange) (left : Shelved) → Follows plain_giving 0 0 shelf order xs left → NoneOpens xs
-follow_opens shelf (orders.Run order) xs left follows = run_opens (is_missing order shelf) order shelf xs left follows
-follow_opens shelf (orders.Prewarm order) xs left follows = prewarm_opens order shelf xs left follows
-follow_opens shelf (orders.Remove containers) xs left follows = removal_opens containers shelf xs left follows
-follow_opens shelf (orders.Nothing why) xs left follows = rw follows.0 tt
+follow_opens : (a b : Tally) (shelf : Shelved) (order : Order) (xs : List Exchange) (left : Shelved) → Follows plain_giving a b shelf order xs left → NoneOpens xs
+follow_opens a b shelf (orders.Run order) xs left follows = run_opens a b (is_missing order shelf) order shelf xs left follows
+follow_opens a b shelf (orders.Prewarm order) xs left follows = prewarm_opens a b order shelf xs left follows.0
+follow_opens a b shelf (orders.Remove containers) xs left follows = removal_opens containers shelf xs left follows.0
+follow_opens a b shelf (orders.Nothing why) xs left follows = rw follows.0 tt
 
-pub turn_opens : (shelf : Shelved) (order : Order) (xs : List Exchange) (left : Shelved) → IsTurn plain_giving 0 0 shelf order xs left → NoneOpens xs
-turn_opens shelf order [] left never = absurd never
-turn_opens shelf order (x ∷ xs) left (is, follows) = (ap (λ (e : Exchange). is_opening e.event) is, follow_opens shelf order xs left follows)
+pub turn_opens : (a b : Tally) (shelf : Shelved) (order : Order) (xs : List Exchange) (left : Shelved) → IsTurn plain_giving a b shelf order xs left → NoneOpens xs
+turn_opens a b shelf order [] left never = absurd never
+turn_opens a b shelf order (x ∷ xs) left (is, follows) = (ap (λ (e : Exchange). is_opening e.event) is, follow_opens a b shelf order xs left follows)
 
 -- ---- up to a runner's reply
 
-offer_opens : (missing : Bool) (order : RunOrder) (shelf : Shelved) (xs : List Exchange) (event : Event) (left : Shelved) → RunOffers missing plain_giving 0 0 order shelf xs event left → NoneOpens xs
-offer_opens true order shelf xs event left never = absurd never
-offer_opens false order shelf xs event left (reply, (is, offered)) = opening_opens order reply xs offered.opens
+offer_opens : (a b : Tally) (missing : Bool) (order : RunOrder) (shelf : Shelved) (xs : List Exchange) (event : Event) (left : Shelved) → RunOffers missing plain_giving a b order shelf xs event left → NoneOpens xs
+offer_opens a b true order shelf xs event left never = absurd never
+offer_opens a b false order shelf xs event left (reply, (is, offered)) = opening_opens a b order reply xs offered.opens
 
-order_offers : (shelf : Shelved) (order : Order) (xs : List Exchange) (event : Event) (left : Shelved) → Offers plain_giving 0 0 shelf order xs event left → NoneOpens xs
-order_offers shelf (orders.Run order) xs event left offers = offer_opens (is_missing order shelf) order shelf xs event left offers
-order_offers shelf (orders.Prewarm order) xs event left never = absurd never
-order_offers shelf (orders.Remove containers) xs event left never = absurd never
-order_offers shelf (orders.Nothing why) xs event left never = absurd never
+order_offers : (a b : Tally) (shelf : Shelved) (order : Order) (xs : List Exchange) (event : Event) (left : Shelved) → Offers plain_giving a b shelf order xs event left → NoneOpens xs
+order_offers a b shelf (orders.Run order) xs event left offers = offer_opens a b (is_missing order shelf) order shelf xs event left offers
+order_offers a b shelf (orders.Prewarm order) xs event left never = absurd never
+order_offers a b shelf (orders.Remove containers) xs event left never = absurd never
+order_offers a b shelf (orders.Nothing why) xs event left never = absurd never
 
-pub offered_opens : (shelf : Shelved) (order : Order) (xs : List Exchange) (event : Event) (left : Shelved) → OffersTurn plain_giving 0 0 shelf order xs event left → NoneOpens xs
-offered_opens shelf order [] event left never = absurd never
-offered_opens shelf order (x ∷ xs) event left (is, offers) = (ap (λ (e : Exchange). is_opening e.event) is, order_offers shelf order xs event left offers)
+pub offered_opens : (a b : Tally) (shelf : Shelved) (order : Order) (xs : List Exchange) (event : Event) (left : Shelved) → OffersTurn plain_giving a b shelf order xs event left → NoneOpens xs
+offered_opens a b shelf order [] event left never = absurd never
+offered_opens a b shelf order (x ∷ xs) event left (is, offers) = (ap (λ (e : Exchange). is_opening e.event) is, order_offers a b shelf order xs event left offers)

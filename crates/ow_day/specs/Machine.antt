@@ -19,7 +19,7 @@ use Rattle.ow_decide.specs.declared.replies.Called.TheVariants as called_replies
 use Rattle.ow_decide.specs.declared.replies.Reply.TheVariants as replies
 use Rattle.ow_items.specs.Sorted.{Entries}
 use Rattle.ow_tenant.specs.Table.{Table}
-use Rattle.ow_runners.specs.Plain.{plain_giving}
+use Rattle.ow_runners.specs.Plain.{plain_giving, plain_tally}
 use Rattle.ow_invoker.specs.Turns.{Exchange, IsTurn, OffersTurn, steps_in}
 use Rattle.ow_runners.specs.declared.plain_runner.PlainContainer.{PlainContainer}
 use Rattle.ow_invoker.specs.declared.shelf.Laid.{Laid}
@@ -103,10 +103,12 @@ abbrev pub FailsAt : Machine → Event → Machine → Type 0
 FailsAt M event N = (before : ℕ) × (later : ℕ) × (N.given ≡ M.given)
     × Comes (λ faults. None) (λ faults. faults) (hall_of M before) (hall_of N later) M.given event Fails
 
--- a turn of the runner of plain code, which has no faults, with the containers that lie there
+-- a turn of the runner of plain code, which has no faults and made so many runs before it and by its end, with the containers that lie there
 pub record TakesTurn (M : Machine) (turned : Turned) (N : Machine) : Type 0 where
   pub exchanges : List Exchange
-  pub turn : IsTurn plain_giving 0 0 M.shelf turned.order exchanges N.shelf
+  pub before : ℕ
+  pub now : ℕ
+  pub turn : IsTurn plain_giving (plain_tally before) (plain_tally now) M.shelf turned.order exchanges N.shelf
   pub met : ExchangesAll M exchanges N
   pub steps : turned.steps ≡ steps_in exchanges
 
@@ -114,7 +116,9 @@ pub record TakesTurn (M : Machine) (turned : Turned) (N : Machine) : Type 0 wher
 pub record FailsTurn (M : Machine) (turned : Turned) (N : Machine) : Type 0 where
   pub exchanges : List Exchange
   pub event : Event
-  pub turn : OffersTurn plain_giving 0 0 M.shelf turned.order exchanges event N.shelf
+  pub before : ℕ
+  pub now : ℕ
+  pub turn : OffersTurn plain_giving (plain_tally before) (plain_tally now) M.shelf turned.order exchanges event N.shelf
   pub middle : Machine
   pub met : ExchangesAll M exchanges middle
   pub fails : FailsAt middle event N

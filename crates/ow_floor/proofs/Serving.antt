@@ -3,23 +3,23 @@ use Rattle.std.proofs.Common.{◌≡◌, ◌==◌, ◌+◌, ◌≤◌, ◌&&◌,
 use Rattle.std.specs.List.{find, slice_get, AllByRecursion}
 use Rattle.std.specs.Prelude.{is_none}
 use Rattle.std.proofs.lemmas.Bool.{eqb-true}
-use Rattle.std.proofs.lemmas.List.Sums.{sum_by-cons}
 use Rattle.ow_traits.specs.declared.replies.Kind.{Kind}
 use Rattle.ow_slots.specs.declared.keys.Key.{Key}
 use Rattle.ow_slots.specs.declared.keys.Start.{Start}
-use Rattle.ow_slots.specs.declared.keys.Start.TheVariants as starts
 use Rattle.ow_slots.specs.declared.states.State.{State}
 use Rattle.ow_slots.specs.declared.states.State.TheVariants.{Vacant, Opening, Prewarmed, Busy, Idle, Closing}
 use Rattle.ow_slots.specs.declared.states.Slot.{Slot}
 use Rattle.ow_slots.specs.Slots.{IsThere, change, change_first, first_with, has, memory_held}
-use Rattle.ow_slots.specs.State.{IsSized, IsVacant, StartFits, after_gone, answered_state, assigned, begun_state, goes, gone_state, holds, is_idle, is_prewarmed, is_vacant, lost_state, opened, overrun_state, removed_state, runs, with_state}
+use Rattle.ow_slots.specs.State.{IsSized, IsVacant, StartFits, after_gone, answered_state, assigned, begun_state, holds, lost_state, opened, overrun_state, removed_state, runs, with_state}
 use Rattle.ow_pool.specs.Keeping.{removed}
 use Rattle.ow_pool.specs.Rules.{IsWithinPool}
 use Rattle.ow_pool.proofs.EventLaws.{answered_lessens, begun_lessens, events_keep, gone_at, lost_lessens, overrun_lessens}
 use Rattle.ow_pool.proofs.OrderLaws.{removed_keeps}
-use Rattle.ow_pool.proofs.Sums.{less_change, less_first, size}
+use Rattle.ow_pool.proofs.Sums.{less_change, less_first}
 use Rattle.ow_lifecycle.specs.Life.{Event, Ran, Prewarming, Removed, Begun, Answered, Lost, Gone, Overran, Reopened}
 use Rattle.ow_lifecycle.specs.Fitting.{changed, emptied}
+use Rattle.ow_lifecycle.proofs.Pool.{all_vacant, none_held}
+use Rattle.ow_lifecycle.proofs.Running.{after_gone_same, begun_same, overrun_same, removed_same, start_free, vacant_free}
 use Rattle.ow_floor.specs.Laws.{tally}
 use Rattle.ow_floor.proofs.Placing.{held_removed}
 use Rattle.ow_floor.proofs.Tallies.{one_if}
@@ -93,74 +93,6 @@ tally_less p q (x ∷ slots) s sub e fails = at (p x) (q x) refl refl (λ found.
 abbrev pub busies : ℕ → List Slot → ℕ
 busies run slots = tally (has (runs run)) slots
 
-idle_apart : (run : ℕ) (s : State) → is_idle s ≡ true → runs run s ≡ false
-idle_apart run Vacant e = refl
-idle_apart run (Opening r k m) e = refl
-idle_apart run (Prewarmed k m) e = refl
-idle_apart run (Busy w) e = cc
-idle_apart run (Idle key last) e = refl
-idle_apart run (Closing m) e = refl
-
-ready_apart : (run : ℕ) (s : State) → is_prewarmed s ≡ true → runs run s ≡ false
-ready_apart run Vacant e = refl
-ready_apart run (Opening r k m) e = refl
-ready_apart run (Prewarmed k m) e = refl
-ready_apart run (Busy w) e = cc
-ready_apart run (Idle key last) e = refl
-ready_apart run (Closing m) e = refl
-
-vacant_apart : (run : ℕ) (s : State) → is_vacant s ≡ true → runs run s ≡ false
-vacant_apart run Vacant e = refl
-vacant_apart run (Opening r k m) e = refl
-vacant_apart run (Prewarmed k m) e = refl
-vacant_apart run (Busy w) e = cc
-vacant_apart run (Idle key last) e = refl
-vacant_apart run (Closing m) e = refl
-
-start_apart : (run : ℕ) (start : Start) (s : Slot) → StartFits start s → runs run s.state ≡ false
-start_apart run starts.Warm s fits = idle_apart run s.state fits
-start_apart run starts.Prewarmed s fits = ready_apart run s.state fits
-start_apart run starts.Cold s fits = vacant_apart run s.state fits.0
-
-begun_same : (run at : ℕ) (s : State) → runs run (begun_state at s) ≡ runs run s
-begun_same run at Vacant = refl
-begun_same run at (Opening r k m) = refl
-begun_same run at (Prewarmed k m) = refl
-begun_same run at (Busy w) = refl
-begun_same run at (Idle key last) = refl
-begun_same run at (Closing m) = refl
-
-overrun_same : (run at : ℕ) (s : State) → runs run (overrun_state at s) ≡ runs run s
-overrun_same run at Vacant = refl
-overrun_same run at (Opening r k m) = refl
-overrun_same run at (Prewarmed k m) = refl
-overrun_same run at (Busy w) = refl
-overrun_same run at (Idle key last) = refl
-overrun_same run at (Closing m) = refl
-
-removed_same : (run : ℕ) (s : State) → runs run (removed_state s) ≡ runs run s
-removed_same run Vacant = refl
-removed_same run (Opening r k m) = refl
-removed_same run (Prewarmed k m) = refl
-removed_same run (Busy w) = refl
-removed_same run (Idle key last) = refl
-removed_same run (Closing m) = refl
-
-gone_same : (run : ℕ) (s : State) → runs run (gone_state s) ≡ runs run s
-gone_same run Vacant = refl
-gone_same run (Opening r k m) = refl
-gone_same run (Prewarmed k m) = refl
-gone_same run (Busy w) = refl
-gone_same run (Idle key last) = refl
-gone_same run (Closing m) = refl
-
-after_gone_same : (run generation : ℕ) (s : Slot) → runs run (after_gone generation s).state ≡ runs run s.state
-after_gone_same run generation s = at (goes generation s)
-  where
-    at : (b : Bool) → runs run (cond b (with_state gone_state s) s).state ≡ runs run s.state
-    at true = gone_same run s.state
-    at false = refl
-
 lost_apart : (run : ℕ) (s : State) → runs run (lost_state s) ≡ false
 lost_apart run Vacant = refl
 lost_apart run (Opening r k m) = refl
@@ -205,7 +137,7 @@ busies_ran m slot run key start at slots fits = found (slice_get slots slot) ref
     found None e h = absurd h
     found (Some s) e h =
         let sum = tally_change (has (runs m)) slot (assigned run key start at) slots s e in
-        let none = start_apart m start s h in
+        let none = start_free start m s h in
         let before : one_if (runs m s.state) ≡ 0 = rw none refl in
         omega (arith, sum, before)
 
@@ -216,7 +148,7 @@ busies_prewarming m slot run kind memory slots fits = found (slice_get slots slo
     found None e h = absurd h
     found (Some s) e h =
         let sum = tally_change (has (runs m)) slot (opened run kind memory) slots s e in
-        let none = vacant_apart m s.state h.0 in
+        let none = vacant_free m s.state h.0 in
         let before : one_if (runs m s.state) ≡ 0 = rw none refl in
         omega (arith, sum, before)
 
@@ -274,13 +206,6 @@ is_order (Ran slot run key start at) = true
 is_order (Prewarming slot run kind memory) = true
 is_order event = false
 
-held_emptied : (slots : List Slot) → memory_held (emptied slots) ≡ 0
-held_emptied [] = refl
-held_emptied (s ∷ slots) =
-    let rest = held_emptied slots in
-    let sum = sum_by-cons size (with_state (λ state. Vacant) s) (emptied slots) in
-    omega (arith, rest, sum)
-
 pub held_less : (e : Event) (slots : List Slot) → is_order e ≡ false → memory_held (changed e slots) ≤ memory_held slots
 held_less (Ran slot run key start at) slots plain = cc
 held_less (Prewarming slot run kind memory) slots plain = cc
@@ -290,11 +215,7 @@ held_less (Answered run alive at) slots plain = less_first _ (with_state (answer
 held_less (Lost run) slots plain = less_first _ (with_state lost_state) slots (λ s h. lost_lessens.less s.state)
 held_less (Gone slot generation) slots plain = less_change slot (after_gone generation) slots (gone_at generation)
 held_less (Overran run at) slots plain = less_first _ (with_state (overrun_state at)) slots (λ s h. (overrun_lessens at).less s.state)
-held_less Reopened slots plain = let none = held_emptied slots in omega (arith, none)
-
-sized_emptied : (slots : List Slot) → AllByRecursion (λ s. IsSized s.state) (emptied slots)
-sized_emptied [] = tt
-sized_emptied (s ∷ slots) = (tt, sized_emptied slots)
+held_less Reopened slots plain = let none = none_held slots in omega (arith, none)
 
 pub within_kept : (e : Event) (slots : List Slot) (pool : ℕ) → is_order e ≡ false → IsWithinPool slots pool → IsWithinPool (changed e slots) pool
 within_kept (Ran slot run key start at) slots pool plain within = cc
@@ -305,4 +226,4 @@ within_kept (Answered run alive at) slots pool plain within = events_keep.answer
 within_kept (Lost run) slots pool plain within = events_keep.lost run slots pool within
 within_kept (Gone slot generation) slots pool plain within = events_keep.gone slot generation slots pool within
 within_kept (Overran run at) slots pool plain within = events_keep.overran run at slots pool within
-within_kept Reopened slots pool plain within = record { within = let none = held_emptied slots in omega (arith, none); sized = sized_emptied slots }
+within_kept Reopened slots pool plain within = record { within = let none = none_held slots in omega (arith, none); sized = all_vacant slots }

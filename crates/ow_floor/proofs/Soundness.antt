@@ -32,7 +32,7 @@ use Rattle.ow_floor.proofs.Standing.{open_ended, open_ordered, open_kept, open_l
 -- ---- ids
 
 -- a new id is apart from those with lesser counts
-apart_at : (x y : Id) (b : Bool) (n : ℕ → ℕ) → (x.namespace == y.namespace) ≡ b → x.count ≡ n x.namespace + 1 → y.count ≤ n y.namespace → same_id x y ≡ false
+pub apart_at : (x y : Id) (b : Bool) (n : ℕ → ℕ) → (x.namespace == y.namespace) ≡ b → x.count ≡ n x.namespace + 1 → y.count ≤ n y.namespace → same_id x y ≡ false
 apart_at x y true n e new old =
     let same : x.namespace ≡ y.namespace = grind (arith, nat_tests) in
     let last : n x.namespace ≡ n y.namespace = ap n same in

@@ -2,7 +2,7 @@ pub mod Beginnings
 pub mod KeepLaws
 pub mod OpenLaws
 pub mod HallLaws
-mod Joined
+pub mod Joined
 mod NoteLaws
 mod RoomLaws
 pub mod UndoneLaws

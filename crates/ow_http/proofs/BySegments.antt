@@ -68,9 +68,6 @@ on_word-miss : {K : Type 0} (x b : ℕ) (w : List ℕ) (f : List (List ℕ) → 
 on_word-miss x b w f o [] n = let e : (b == x) ≡ false = grind (arith, nat_tests) in rw e refl
 on_word-miss x b w f o (s ∷ ss) n = let e : (b == x) ≡ false = grind (arith, nat_tests) in rw e refl
 
-segments-slash : (path : List ℕ) → segments (47 ∷ path) ≡ [] ∷ segments path
-segments-slash path = refl
-
 pub segments-byte : (b : ℕ) (path : List ℕ) → b ≢ 47 → segments (b ∷ path) ≡ onto_first b (segments path)
 segments-byte b path n = let e : (b == 47) ≡ false = grind (arith, nat_tests) in rw e refl
 

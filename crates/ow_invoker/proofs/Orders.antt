@@ -1,6 +1,6 @@
 -- Orders, carried out.
 use Rattle.std.proofs.Common.{◌≡◌, ℕ, List, [], ◌∷◌, ◌++◌, Option, Ok, Err, IfOk, Result, refl, sym, ap, inl, inr, ⊎_elim, append-nil, subst, ◌∙◌}
-use Rattle.ow_traits.specs.Runner.{Giving, RefusesStart}
+use Rattle.ow_traits.specs.Runner.{Giving, RanNone, RefusesStart, Tally}
 use Rattle.ow_traits.specs.declared.replies.RunReply.{RunReply}
 use Rattle.ow_value.specs.declared.memory.NoMemory.{NoMemory as Want}
 use Rattle.ow_floor.specs.declared.answers.Container.{Container}
@@ -55,32 +55,32 @@ module _ {P B : Type 0} (rows : P → KeptRows) (faults : P → ℕ) (old : Hall
         ),
       )
 
-  module _ (gives : Giving) (before now : ℕ) where
+  module _ (gives : Giving) (before now : Tally) where
     -- all of them, and the steps are put together, or memory is wanted for it
-    pub removed : (new : HallView P) (shelf left : List (Laid B)) (cs : List Container) (steps : List TurnStep) (result : Result (List TurnStep) Want)
+    pub removed : (new : HallView P) (shelf left : List (Laid B)) (cs : List Container) (steps : List TurnStep) (result : Result (List TurnStep) Want) → RanNone before now
         → Removed new shelf left cs steps → IfOk result (λ list. list ≡ steps)
         → Carries rows faults gives before now old new at shelf left (orders.Remove cs) result
-    removed new shelf left cs steps (Ok list) h made = inl (h.0, (h.1.0, (h.1.1.0, made ∙ h.1.1.1)))
-    removed new shelf left cs steps (Err e) h made = inl (h.0, (inr h.1.0, h.1.1.0))
+    removed new shelf left cs steps (Ok list) none h made = inl (h.0, ((h.1.0, none), (h.1.1.0, made ∙ h.1.1.1)))
+    removed new shelf left cs steps (Err e) none h made = inl (h.0, (inr (h.1.0, none), h.1.1.0))
 
     -- a container was laid down, and its prewarming has begun
-    pub warmed : (new : HallView P) (shelf left : List (Laid B)) (order : PrewarmOrder) (answer : Told) → gives.starts order.kind × IsLaid order.slot order.generation shelf left
+    pub warmed : (new : HallView P) (shelf left : List (Laid B)) (order : PrewarmOrder) (answer : Told) → gives.starts order.kind × IsLaid order.slot order.generation shelf left → RanNone before now
         → Comes rows faults old new at (events.Begun order.run) (Answers answer)
         → Carries rows faults gives before now old new at shelf left (orders.Prewarm order) (Ok [])
-    warmed new shelf left order answer laid comes = inl (
+    warmed new shelf left order answer laid none comes = inl (
       exchange (events.Begun order.run) answer ∷ [],
-      (inl (laid.0, ((answer, refl), laid.1)), ((new, (comes, refl)), refl)),
+      ((inl (laid.0, ((answer, refl), laid.1)), none), ((new, (comes, refl)), refl)),
     )
 
-    pub unwarmed : (new : HallView P) (shelf left : List (Laid B)) (order : PrewarmOrder) (steps : TwoSteps) → (reply : RunReply) × RefusesStart gives before now order.kind reply → left ≡ shelf
+    pub unwarmed : (new : HallView P) (shelf left : List (Laid B)) (order : PrewarmOrder) (steps : TwoSteps) → (reply : RunReply) × RefusesStart gives before now order.kind reply → left ≡ shelf → RanNone before now
         → (xs : List Exchange) × (AreBoth (events.Lost order.run) (events.Gone order.slot order.generation) xs × Chain rows faults old new at xs × (both steps ≡ steps_in xs))
         → Carries rows faults gives before now old new at shelf left (orders.Prewarm order) (Ok (both steps))
-    unwarmed new shelf left order steps down same k = inl (k.0, (inr (down, (k.1.0, same)), (k.1.1, k.1.2)))
+    unwarmed new shelf left order steps down same none k = inl (k.0, ((inr (down, (k.1.0, same)), none), (k.1.1, k.1.2)))
 
-    pub unheld : (new : HallView P) (shelf left : List (Laid B)) (order : PrewarmOrder) (e : Want) (steps : TwoSteps) → left ≡ shelf
+    pub unheld : (new : HallView P) (shelf left : List (Laid B)) (order : PrewarmOrder) (e : Want) (steps : TwoSteps) → left ≡ shelf → RanNone before now
         → (xs : List Exchange) × (AreBoth (events.Lost order.run) (events.Gone order.slot order.generation) xs × Chain rows faults old new at xs × (both steps ≡ steps_in xs))
         → Carries rows faults gives before now old new at shelf left (orders.Prewarm order) (Err e)
-    unheld new shelf left order e steps same k = inl (k.0, (inl (k.1.0, same), k.1.1))
+    unheld new shelf left order e steps same none k = inl (k.0, (inl ((k.1.0, same), none), k.1.1))
 
     -- the steps are put into a list
     pub in_list : (new : HallView P) (shelf left : List (Laid B)) (order : Order) (steps : Result TwoSteps Want) (result : Result (List TurnStep) Want)
@@ -125,6 +125,6 @@ module _ {P B : Type 0} (rows : P → KeptRows) (faults : P → ℕ) (old : Hall
     )
 
     -- there was no order for want of memory
-    pub unordered : (new : HallView P) (shelf left : List (Laid B)) (e : Want) → left ≡ shelf → commits (decided old at events.Next) ≡ [] → Comes rows faults old new at events.Next Wants
+    pub unordered : (new : HallView P) (shelf left : List (Laid B)) (e : Want) → left ≡ shelf → RanNone before now → commits (decided old at events.Next) ≡ [] → Comes rows faults old new at events.Next Wants
         → Turns rows faults gives before now old new at shelf left (Err e)
-    unordered new shelf left e same none w = inl ([], (same, wants_same rows faults old new at events.Next none w))
+    unordered new shelf left e same ran none w = inl ([], ((same, ran), wants_same rows faults old new at events.Next none w))

@@ -1,7 +1,7 @@
 -- A run, from the parts that it has.
 use Rattle.std.proofs.Common.{◌≡◌, ◌⊎◌, ℕ, Bool, true, false, List, [], ◌∷◌, ◌++◌, Option, None, Ok, Err, Result, refl, sym, ap, inl, inr, ⊎_elim, append-nil, subst, ◌∙◌}
 use Rattle.ow_slots.specs.State.{is_warm}
-use Rattle.ow_traits.specs.Runner.{Giving, RefusesCode, Replies, Steady, is_answer}
+use Rattle.ow_traits.specs.Runner.{Giving, Idles, RanNone, RanOnce, RefusesCode, Replies, Steady, Tally, is_answer}
 use Rattle.ow_traits.specs.declared.replies.RunReply.{RunReply}
 use Rattle.ow_value.specs.declared.memory.NoMemory.{NoMemory as Want}
 use Rattle.ow_floor.specs.declared.answers.Order.TheVariants as orders
@@ -9,15 +9,15 @@ use Rattle.ow_floor.specs.declared.answers.RunOrder.{RunOrder}
 use Rattle.ow_decide.specs.declared.events.Event.TheVariants as events
 use Rattle.ow_decide.specs.declared.events.Told.{Told}
 use Rattle.ow_hall.specs.Comes.{Answers, Comes, HallView, KeptRows}
-use Rattle.ow_invoker.specs.Parts.{Books, Carries, EndsBy, OpensBy, Performs, Settles, Tells, TellsAll, TwoSteps, both, in_order, listed, reply_of}
+use Rattle.ow_invoker.specs.Parts.{Books, Carries, EndsBy, Performs, Settles, Tells, TellsAll, TwoSteps, both, in_order, listed, reply_of}
 use Rattle.ow_invoker.specs.Readiness.{Initialised, UpStarts}
 use Rattle.ow_invoker.specs.Shelf.{IsLaid, without}
-use Rattle.ow_invoker.specs.Turns.{AreBoth, Chain, Exchange, IsAlone, IsCarriedOut, IsGivenUp, IsOffered, IsStarted, IsUnlaid, LiesBy, Opens, Rests, RunFollows, RunOffers, RunStops, exchange, gone, is_late, is_missing, lost, shelf_at, steps_in, steps_of}
+use Rattle.ow_invoker.specs.Turns.{AreBoth, Chain, Exchange, IsAlone, IsCarriedOut, IsGivenUp, IsOffered, IsStarted, IsUnlaid, LiesBy, Opens, OpensBy, Rests, RunFollows, RunOffers, RunStops, exchange, gone, is_late, is_missing, lost, shelf_at, steps_in, steps_of}
 use Rattle.ow_invoker.specs.declared.readying.Readiness.{Readiness}
 use Rattle.ow_invoker.specs.declared.readying.Readiness.TheVariants.{Early, NoMemory, NotHad, Up}
 use Rattle.ow_invoker.specs.declared.shelf.Laid.{Laid}
 use Rattle.ow_invoker.specs.declared.turn.TurnStep.{TurnStep}
-use Rattle.ow_invoker.proofs.Running.{refused_from, replied_from, started_from}
+use Rattle.ow_invoker.proofs.Running.{none_behind, once_behind, refused_from, replied_from, started_from}
 use Rattle.ow_invoker.proofs.Turning.{alone_told, chain_more, opens_so, told_behind}
 
 -- of a kind that the runner starts, whatever came of the initialisation
@@ -27,16 +27,11 @@ up_started gives order (Early held reply) k = tt
 up_started gives order (NotHad seen) k = tt
 up_started gives order NoMemory k = tt
 
-opens_from : (f g h : Giving) (a b c : ℕ) (order : RunOrder) (reply : RunReply) (xs : List Exchange) → Steady f g a b → Steady g h b c
+opens_from : (f g h : Giving) (a b c : Tally) (order : RunOrder) (reply : RunReply) (xs : List Exchange) → Idles f g a b → Steady g h b c
     → Opens g b c order reply xs → Opens f a c order reply xs
 opens_from f g h a b c order reply [] s t x =
-    ⊎_elim (λ w. inl w) (λ refused. inr (refused_from order.kind order.code reply s t refused)) x
-opens_from f g h a b c order reply (x ∷ xs) s t k = (k.0, (started_from f g h a b c order s t k.1.0, k.1.1))
-
-begun_or_not : (b : Bool) (order : RunOrder) (xs : List Exchange) → is_warm order.start ≡ b → OpensBy b order xs
-    → (xs ≡ []) ⊎ ((is_warm order.start ≡ false) × IsAlone (events.Begun order.run) xs)
-begun_or_not true order xs is h = inl h
-begun_or_not false order xs is h = inr (is, h)
+    ⊎_elim (λ w. inl (w.0, once_behind a b c s.ran w.1)) (λ r. inr (refused_from order.kind order.code reply s.steady t r.0, none_behind a b c s.ran r.1)) x
+opens_from f g h a b c order reply (x ∷ xs) s t k = (k.0, started_from f g h a b c order s.steady t k.1, k.2, k.3, once_behind a b c s.ran k.4)
 
 module _ {B : Type 0} where
   rested : (answers late : Bool) (order : RunOrder) (shelf laid : List (Laid B)) (xs : List Exchange) (left : List (Laid B))
@@ -47,11 +42,11 @@ module _ {B : Type 0} where
 
   -- ---- windows of calls
 
-  carried_from : (f g h : Giving) (a b c : ℕ) (order : RunOrder) (shelf : List (Laid B)) (xs : List Exchange) (left : List (Laid B)) → Steady f g a b → Steady g h b c
+  carried_from : (f g h : Giving) (a b c : Tally) (order : RunOrder) (shelf : List (Laid B)) (xs : List Exchange) (left : List (Laid B)) → Idles f g a b → Steady g h b c
       → IsCarriedOut g b c order shelf xs left → IsCarriedOut f a c order shelf xs left
   carried_from f g h a b c order shelf xs left s t k = record {
     reply = k.reply;
-    replies = replied_from order.kind order.code order.params k.reply s t k.replies;
+    replies = replied_from order.kind order.code order.params k.reply s.steady t k.replies;
     opening = k.opening;
     opens = opens_from f g h a b c order k.reply k.opening s t k.opens;
     booking = k.booking;
@@ -59,19 +54,30 @@ module _ {B : Type 0} where
     is = k.is;
   }
 
-  unlaid_from : (f g h : Giving) (a b c : ℕ) (order : RunOrder) (shelf : List (Laid B)) (xs : List Exchange) (left : List (Laid B)) → Steady f g a b → Steady g h b c
+  given_up_from : (f g h : Giving) (a b c : Tally) (order : RunOrder) (shelf : List (Laid B)) (xs : List Exchange) (left : List (Laid B)) → Idles f g a b
+      → IsGivenUp b c order shelf xs left → IsGivenUp a c order shelf xs left
+  given_up_from f g h a b c order shelf xs left s k = record {
+    opening = k.opening;
+    opens = ⊎_elim (λ o. inl (o.0, once_behind a b c s.ran o.1)) (λ o. inr (o.0, o.1, none_behind a b c s.ran o.2)) k.opens;
+    ending = k.ending;
+    ends = k.ends;
+    is = k.is;
+    left_is = k.left_is;
+  }
+
+  unlaid_from : (f g h : Giving) (a b c : Tally) (order : RunOrder) (shelf : List (Laid B)) (xs : List Exchange) (left : List (Laid B)) → Idles f g a b → Steady g h b c
       → IsUnlaid g b c order shelf xs left → IsUnlaid f a c order shelf xs left
   unlaid_from f g h a b c order shelf xs left s t k = record {
     reply = k.reply;
-    replies = replied_from order.kind order.code order.params k.reply s t k.replies;
+    replies = replied_from order.kind order.code order.params k.reply s.steady t k.replies;
     opens = opens_from f g h a b c order k.reply xs s t k.opens;
     left_is = k.left_is;
   }
 
-  offered_from : (f g h : Giving) (a b c : ℕ) (order : RunOrder) (reply : RunReply) (shelf : List (Laid B)) (xs : List Exchange) (left : List (Laid B)) → Steady f g a b → Steady g h b c
+  offered_from : (f g h : Giving) (a b c : Tally) (order : RunOrder) (reply : RunReply) (shelf : List (Laid B)) (xs : List Exchange) (left : List (Laid B)) → Idles f g a b → Steady g h b c
       → IsOffered g b c order reply shelf xs left → IsOffered f a c order reply shelf xs left
   offered_from f g h a b c order reply shelf xs left s t k = record {
-    replies = replied_from order.kind order.code order.params reply s t k.replies;
+    replies = replied_from order.kind order.code order.params reply s.steady t k.replies;
     opens = opens_from f g h a b c order reply xs s t k.opens;
     lies = k.lies;
   }
@@ -129,20 +135,20 @@ module _ {P B : Type 0} (rows : P → KeptRows) (faults : P → ℕ) where
   settled old new at order reply shelf laid left (Ok steps) h (inr k) = inr (subst (λ s. LiesBy (is_answer reply) order shelf s) (sym k.0) h, k.1)
   settled old new at order reply shelf laid left (Err e) h k = inr (subst (λ s. LiesBy (is_answer reply) order shelf s) (sym k.0) h, k.1)
 
-  module _ (gives : Giving) (before now : ℕ) where
+  module _ (gives : Giving) (before now : Tally) where
     -- the run began, and its reply is settled
     pub performed : (old middle new : HallView P) (at : ℕ) (order : RunOrder) (reply : RunReply) (shelf left : List (Laid B)) (result : Result TwoSteps Want)
-        → IsStarted gives order → Replies gives before now order.kind order.code order.params reply
+        → IsStarted gives order → Replies gives before now order.kind order.code order.params reply → RanOnce before now
         → (xs : List Exchange) × (OpensBy (is_warm order.start) order xs × Chain rows faults old middle at xs)
         → Settles rows faults middle new at order reply shelf left result → Performs rows faults gives before now old new at order shelf left result
-    performed old middle new at order reply shelf left (Ok steps) started replies b (inl k) = inl (
+    performed old middle new at order reply shelf left (Ok steps) started replies once b (inl k) = inl (
       b.0 ++ k.0,
       (
         record {
           reply = reply;
           replies = replies;
           opening = b.0;
-          opens = opens_so gives before now order reply (is_warm order.start) b.0 refl started b.1.0;
+          opens = opens_so gives before now order reply (is_warm order.start) b.0 refl started once b.1.0;
           booking = k.0;
           settled = k.1.0;
           is = refl;
@@ -150,51 +156,51 @@ module _ {P B : Type 0} (rows : P → KeptRows) (faults : P → ℕ) where
         (chain_more rows faults old middle new at b.0 k.0 b.1.1 k.1.1.0, told_behind (is_warm order.start) order b.0 k.0 (both steps) b.1.0 k.1.1.1),
       ),
     )
-    performed old middle new at order reply shelf left (Ok steps) started replies b (inr k) = inr (
+    performed old middle new at order reply shelf left (Ok steps) started replies once b (inr k) = inr (
       (
         b.0,
         (
           reply,
           (
-            record { replies = replies; opens = opens_so gives before now order reply (is_warm order.start) b.0 refl started b.1.0; lies = k.0 },
+            record { replies = replies; opens = opens_so gives before now order reply (is_warm order.start) b.0 refl started once b.1.0; lies = k.0 },
             (middle, (b.1.1, k.1.0)),
           ),
         ),
       ),
       k.1.1,
     )
-    performed old middle new at order reply shelf left (Err e) started replies b (inl k) = inl (
+    performed old middle new at order reply shelf left (Err e) started replies once b (inl k) = inl (
       b.0,
       (
         inr (record {
           reply = reply;
           replies = replies;
-          opens = opens_so gives before now order reply (is_warm order.start) b.0 refl started b.1.0;
+          opens = opens_so gives before now order reply (is_warm order.start) b.0 refl started once b.1.0;
           left_is = k.1;
         }),
         subst (λ v. Chain rows faults old v at b.0) (sym k.0) b.1.1,
       ),
     )
-    performed old middle new at order reply shelf left (Err e) started replies b (inr k) = inr (
+    performed old middle new at order reply shelf left (Err e) started replies once b (inr k) = inr (
       b.0,
       (
         reply,
         (
-          record { replies = replies; opens = opens_so gives before now order reply (is_warm order.start) b.0 refl started b.1.0; lies = k.0 },
+          record { replies = replies; opens = opens_so gives before now order reply (is_warm order.start) b.0 refl started once b.1.0; lies = k.0 },
           (middle, (b.1.1, k.1)),
         ),
       ),
     )
 
     -- there was no reply for want of memory
-    pub given_up : (old middle new : HallView P) (at : ℕ) (order : RunOrder) (shelf : List (Laid B)) (e : Want) (steps : TwoSteps)
+    pub given_up : (old middle new : HallView P) (at : ℕ) (order : RunOrder) (shelf : List (Laid B)) (e : Want) (steps : TwoSteps) → RanOnce before now
         → (xs : List Exchange) × (OpensBy (is_warm order.start) order xs × Chain rows faults old middle at xs)
         → (xs : List Exchange) × (AreBoth (lost order) (gone order) xs × Chain rows faults middle new at xs × (both steps ≡ steps_in xs))
         → Performs rows faults gives before now old new at order shelf shelf (Err e)
-    given_up old middle new at order shelf e steps b k = inl (
+    given_up old middle new at order shelf e steps once b k = inl (
       b.0 ++ k.0,
       (
-        inl (record { opening = b.0; opens = begun_or_not (is_warm order.start) order b.0 refl b.1.0; ending = k.0; ends = k.1.0; is = refl; left_is = refl }),
+        inl (record { opening = b.0; opens = inl (b.1.0, once); ending = k.0; ends = k.1.0; is = refl; left_is = refl }),
         chain_more rows faults old middle new at b.0 k.0 b.1.1 k.1.1,
       ),
     )
@@ -205,9 +211,9 @@ module _ {P B : Type 0} (rows : P → KeptRows) (faults : P → ℕ) where
       had_carried : (xs : List Exchange) → IsCarriedOut gives before now order there xs left → RunFollows (is_missing order shelf) gives before now order shelf xs left
       had_carried xs h = subst (λ b. RunFollows b gives before now order shelf xs left) (sym had) (subst (λ s. IsCarriedOut gives before now order s xs left) took h)
 
-      had_stopped : (xs : List Exchange) → IsGivenUp order there xs left ⊎ IsUnlaid gives before now order there xs left → RunStops (is_missing order shelf) gives before now order shelf xs left
+      had_stopped : (xs : List Exchange) → IsGivenUp before now order there xs left ⊎ IsUnlaid gives before now order there xs left → RunStops (is_missing order shelf) gives before now order shelf xs left
       had_stopped xs h = subst (λ b. RunStops b gives before now order shelf xs left) (sym had)
-          (subst (λ s. IsGivenUp order s xs left ⊎ IsUnlaid gives before now order s xs left) took h)
+          (subst (λ s. IsGivenUp before now order s xs left ⊎ IsUnlaid gives before now order s xs left) took h)
 
       had_offered : (xs : List Exchange) (reply : RunReply) → IsOffered gives before now order reply there xs left
           → RunOffers (is_missing order shelf) gives before now order shelf xs (reply_of order reply) left
@@ -222,64 +228,64 @@ module _ {P B : Type 0} (rows : P → KeptRows) (faults : P → ℕ) where
       carried (Err e) (inr h) = inr (h.0, (reply_of order h.1.0, (had_offered h.0 h.1.0 h.1.1.0, inl h.1.1.1)))
 
       -- it replied before any parameters
-      pub early : (reply : RunReply) (result : Result TwoSteps Want) → RefusesCode gives before now order.kind order.code reply → Settles rows faults old new at order reply there left result
+      pub early : (reply : RunReply) (result : Result TwoSteps Want) → RefusesCode gives before now order.kind order.code reply → RanNone before now → Settles rows faults old new at order reply there left result
           → Carries rows faults gives before now old new at shelf left (orders.Run order) (in_order result)
-      early reply (Ok steps) refused (inl k) = inl (
+      early reply (Ok steps) refused none (inl k) = inl (
         k.0,
         (
-          had_carried k.0 (record { reply = reply; replies = refused.1 order.params; opening = []; opens = inr refused; booking = k.0; settled = k.1.0; is = refl }),
+          had_carried k.0 (record { reply = reply; replies = refused.1 order.params; opening = []; opens = inr (refused, none); booking = k.0; settled = k.1.0; is = refl }),
           k.1.1,
         ),
       )
-      early reply (Ok steps) refused (inr k) = inr (
+      early reply (Ok steps) refused none (inr k) = inr (
         [],
         (
           reply_of order reply,
-          (had_offered [] reply (record { replies = refused.1 order.params; opens = inr refused; lies = k.0 }), (old, (refl, k.1.0)), k.1.1),
+          (had_offered [] reply (record { replies = refused.1 order.params; opens = inr (refused, none); lies = k.0 }), (old, (refl, k.1.0)), k.1.1),
         ),
       )
-      early reply (Err e) refused (inl k) = inl (
+      early reply (Err e) refused none (inl k) = inl (
         [],
-        (inl (had_stopped [] (inr (record { reply = reply; replies = refused.1 order.params; opens = inr refused; left_is = k.1 }))), k.0),
+        (inl (had_stopped [] (inr (record { reply = reply; replies = refused.1 order.params; opens = inr (refused, none); left_is = k.1 }))), k.0),
       )
-      early reply (Err e) refused (inr k) = inr (
+      early reply (Err e) refused none (inr k) = inr (
         [],
         (
           reply_of order reply,
-          (had_offered [] reply (record { replies = refused.1 order.params; opens = inr refused; lies = k.0 }), inl (old, (refl, k.1))),
+          (had_offered [] reply (record { replies = refused.1 order.params; opens = inr (refused, none); lies = k.0 }), inl (old, (refl, k.1))),
         ),
       )
 
       -- memory was wanted for it
-      pub unready : (e : Want) (steps : TwoSteps) → left ≡ there
+      pub unready : (e : Want) (steps : TwoSteps) → left ≡ there → is_warm order.start ≡ false → RanNone before now
           → (xs : List Exchange) × (AreBoth (lost order) (gone order) xs × Chain rows faults old new at xs × (both steps ≡ steps_in xs))
           → Carries rows faults gives before now old new at shelf left (orders.Run order) (Err e)
-      unready e steps same k = inl (
+      unready e steps same cold none k = inl (
         k.0,
-        (inl (had_stopped k.0 (inl (record { opening = []; opens = inl refl; ending = k.0; ends = k.1.0; is = refl; left_is = same }))), k.1.1),
+        (inl (had_stopped k.0 (inl (record { opening = []; opens = inr (refl, cold, none); ending = k.0; ends = k.1.0; is = refl; left_is = same }))), k.1.1),
       )
 
     -- it doesn't lie there
-    pub missed : (old new : HallView P) (at : ℕ) (order : RunOrder) (shelf left : List (Laid B)) (step : Option TurnStep) → is_missing order shelf ≡ true → left ≡ shelf
+    pub missed : (old new : HallView P) (at : ℕ) (order : RunOrder) (shelf left : List (Laid B)) (step : Option TurnStep) → is_missing order shelf ≡ true → left ≡ shelf → RanNone before now
         → Tells rows faults old new at (lost order) step → Carries rows faults gives before now old new at shelf left (orders.Run order) (Ok (both (step, None)))
-    missed old new at order shelf left step none same h =
+    missed old new at order shelf left step missing same none h =
         let t = alone_told rows faults old new at (lost order) step h in inl (
           t.0,
-          (subst (λ b. RunFollows b gives before now order shelf t.0 left) (sym none) (t.1.0, same), (t.1.1.0, append-nil (listed step) ∙ t.1.1.1)),
+          (subst (λ b. RunFollows b gives before now order shelf t.0 left) (sym missing) (t.1.0, same, none), (t.1.1.0, append-nil (listed step) ∙ t.1.1.1)),
         )
 
   -- the calls before count too
-  pub performs_from : (f g h : Giving) (a b c : ℕ) (old new : HallView P) (at : ℕ) (order : RunOrder) (shelf left : List (Laid B)) (result : Result TwoSteps Want) → Steady f g a b → Steady g h b c
+  pub performs_from : (f g h : Giving) (a b c : Tally) (old new : HallView P) (at : ℕ) (order : RunOrder) (shelf left : List (Laid B)) (result : Result TwoSteps Want) → Idles f g a b → Steady g h b c
       → Performs rows faults g b c old new at order shelf left result → Performs rows faults f a c old new at order shelf left result
   performs_from f g h a b c old new at order shelf left (Ok steps) s t (inl k) = inl (k.0, (carried_from f g h a b c order shelf k.0 left s t k.1.0, k.1.1))
   performs_from f g h a b c old new at order shelf left (Ok steps) s t (inr k) =
       inr ((k.0.0, (k.0.1.0, (offered_from f g h a b c order k.0.1.0 shelf k.0.0 left s t k.0.1.1.0, k.0.1.1.1))), k.1)
   performs_from f g h a b c old new at order shelf left (Err e) s t (inl k) =
-      inl (k.0, (⊎_elim (λ x. inl x) (λ x. inr (unlaid_from f g h a b c order shelf k.0 left s t x)) k.1.0, k.1.1))
+      inl (k.0, (⊎_elim (λ x. inl (given_up_from f g h a b c order shelf k.0 left s x)) (λ x. inr (unlaid_from f g h a b c order shelf k.0 left s t x)) k.1.0, k.1.1))
   performs_from f g h a b c old new at order shelf left (Err e) s t (inr k) = inr (k.0, (k.1.0, (offered_from f g h a b c order k.1.0 shelf k.0 left s t k.1.1.0, k.1.1.1)))
 
 -- a container that was started, and initialised by the next call
-pub initialised_from : {B S : Type 0} (f g h : Giving) (a b c : ℕ) (order : RunOrder) (ready : Readiness B S) → Steady f g a b → Steady g h b c → Initialised g b c order ready → Initialised f a c order ready
+pub initialised_from : {B S : Type 0} (f g h : Giving) (a b c : Tally) (order : RunOrder) (ready : Readiness B S) → Steady f g a b → Steady g h b c → Initialised g b c order ready → Initialised f a c order ready
 initialised_from f g h a b c order (Up living) s t k = tt
 initialised_from f g h a b c order (Early held reply) s t k = refused_from order.kind order.code reply s t k
 initialised_from f g h a b c order (NotHad seen) s t k = k

@@ -1,7 +1,7 @@
 -- Chains of calls, put together.
 use Rattle.std.proofs.Common.{◌≡◌, ℕ, Bool, true, false, List, [], ◌∷◌, ◌++◌, Option, refl, sym, ap, inl, append-nil, append_assoc, subst, ◌∙◌}
 use Rattle.ow_slots.specs.State.{is_warm}
-use Rattle.ow_traits.specs.Runner.{Giving}
+use Rattle.ow_traits.specs.Runner.{Giving, RanOnce, Tally}
 use Rattle.ow_traits.specs.declared.replies.RunReply.{RunReply}
 use Rattle.ow_floor.specs.declared.answers.RunOrder.{RunOrder}
 use Rattle.ow_decide.specs.declared.events.Event.{Event}
@@ -11,8 +11,8 @@ use Rattle.ow_decide.specs.Decision.{commits}
 use Rattle.ow_hall.specs.Comes.{Answers, Comes, HallView, KeptRows, Stays, Wants, at_hall, decided}
 use Rattle.ow_hall.specs.History.{counted, seen, sight}
 use Rattle.ow_hall.proofs.KeepLaws.{next_commits as orders_keep}
-use Rattle.ow_invoker.specs.Parts.{OpensBy, Tells, TellsAll, both, listed}
-use Rattle.ow_invoker.specs.Turns.{AreBoth, Chain, Exchange, IsAlone, IsStarted, Opens, exchange, steps_in, steps_of}
+use Rattle.ow_invoker.specs.Parts.{Tells, TellsAll, both, listed}
+use Rattle.ow_invoker.specs.Turns.{AreBoth, Chain, Exchange, IsAlone, IsStarted, Opens, OpensBy, exchange, steps_in, steps_of}
 use Rattle.ow_invoker.specs.declared.turn.TurnStep.{TurnStep}
 
 pub steps_more : (xs ys : List Exchange) → steps_in (xs ++ ys) ≡ steps_in xs ++ steps_in ys
@@ -74,7 +74,7 @@ opens_silently false order xs h = ap steps_in h.1
 pub told_behind : (b : Bool) (order : RunOrder) (xs ys : List Exchange) (steps : List TurnStep) → OpensBy b order xs → steps ≡ steps_in ys → steps ≡ steps_in (xs ++ ys)
 told_behind b order xs ys steps h e = e ∙ ap (λ s. s ++ steps_in ys) (sym (opens_silently b order xs h)) ∙ sym (steps_more xs ys)
 
-pub opens_so : (gives : Giving) (before now : ℕ) (order : RunOrder) (reply : RunReply) (b : Bool) (xs : List Exchange) → is_warm order.start ≡ b → IsStarted gives order → OpensBy b order xs
+pub opens_so : (gives : Giving) (before now : Tally) (order : RunOrder) (reply : RunReply) (b : Bool) (xs : List Exchange) → is_warm order.start ≡ b → IsStarted gives order → RanOnce before now → OpensBy b order xs
     → Opens gives before now order reply xs
-opens_so gives before now order reply true xs warm started h = subst (λ ys. Opens gives before now order reply ys) (sym h) (inl warm)
-opens_so gives before now order reply false xs cold started h = subst (λ ys. Opens gives before now order reply ys) (sym h.1) (cold, (started, (refl, refl)))
+opens_so gives before now order reply true xs warm started once h = subst (λ ys. Opens gives before now order reply ys) (sym h) (inl (warm, once))
+opens_so gives before now order reply false xs cold started once h = subst (λ ys. Opens gives before now order reply ys) (sym h.1) (cold, started, refl, refl, once)

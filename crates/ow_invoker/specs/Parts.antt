@@ -1,8 +1,9 @@
 -- The parts of a turn, for private clauses.
 use Rattle.std.specs.Prelude.{◌≡◌, ◌⊎◌, ◌++◌, ℕ, Bool, true, false, List, [], ◌∷◌, Option, Some, None, Result, Ok, Err}
-use Rattle.ow_traits.specs.Runner.{Giving, RefusesCode, RefusesStart, is_answer}
+use Rattle.ow_traits.specs.Runner.{Giving, RefusesCode, RefusesStart, Tally, is_answer}
 use Rattle.ow_traits.specs.declared.replies.RunReply.{RunReply}
 use Rattle.ow_value.specs.declared.memory.NoMemory.{NoMemory as Want}
+use Rattle.ow_slots.specs.State.{is_warm}
 use Rattle.ow_floor.specs.declared.answers.Order.{Order}
 use Rattle.ow_floor.specs.declared.answers.PrewarmOrder.{PrewarmOrder}
 use Rattle.ow_floor.specs.declared.answers.RunOrder.{RunOrder}
@@ -57,11 +58,6 @@ TellsAll rows faults old new at xs steps = Chain rows faults old new at xs × (s
 
 -- ---- runs
 
--- that the run began, where its start isn't warm
-abbrev pub OpensBy : Bool → RunOrder → List Exchange → Type 0
-OpensBy true order xs = xs ≡ []
-OpensBy false order xs = IsAlone (events.Begun order.run) xs
-
 -- the container lies on the shelf where the reply is an answer, unless there is no room
 abbrev pub LaysDown : {B : Type 0} → RunOrder → RunReply → List (Laid B) → List (Laid B) → Result (Unit {0}) Want → Type 0
 LaysDown order reply shelf laid (Ok done) = LiesBy (is_answer reply) order shelf laid
@@ -102,64 +98,64 @@ Settles rows faults old new at order reply shelf left (Err e) =
     ((new ≡ old) × (left ≡ shelf)) ⊎ (LiesBy (is_answer reply) order shelf left × Comes rows faults old new at (reply_of order reply) Wants)
 
 -- a run takes place in its container, up to the booking of its reply, of which this comes
-abbrev pub OffersTo : {P B : Type 0} → (P → KeptRows) → (P → ℕ) → Giving → ℕ → ℕ → HallView P → HallView P → ℕ → RunOrder → List (Laid B) → List (Laid B) → Outcome → Type 0
+abbrev pub OffersTo : {P B : Type 0} → (P → KeptRows) → (P → ℕ) → Giving → Tally → Tally → HallView P → HallView P → ℕ → RunOrder → List (Laid B) → List (Laid B) → Outcome → Type 0
 OffersTo rows faults gives before now old new at order shelf left outcome = (xs : List Exchange)
     × ((reply : RunReply) × (IsOffered gives before now order reply shelf xs left × ChainTo rows faults old new at xs (reply_of order reply) outcome))
 
 -- or to its end
-abbrev pub Performs : {P B : Type 0} → (P → KeptRows) → (P → ℕ) → Giving → ℕ → ℕ → HallView P → HallView P → ℕ → RunOrder → List (Laid B) → List (Laid B) → Result TwoSteps Want → Type 0
+abbrev pub Performs : {P B : Type 0} → (P → KeptRows) → (P → ℕ) → Giving → Tally → Tally → HallView P → HallView P → ℕ → RunOrder → List (Laid B) → List (Laid B) → Result TwoSteps Want → Type 0
 Performs rows faults gives before now old new at order shelf left (Ok steps) =
     ((xs : List Exchange) × (IsCarriedOut gives before now order shelf xs left × TellsAll rows faults old new at xs (both steps)))
     ⊎ (OffersTo rows faults gives before now old new at order shelf left Fails × (both steps ≡ StoreFault ∷ []))
 Performs rows faults gives before now old new at order shelf left (Err e) =
-    ((xs : List Exchange) × ((IsGivenUp order shelf xs left ⊎ IsUnlaid gives before now order shelf xs left) × Chain rows faults old new at xs))
+    ((xs : List Exchange) × ((IsGivenUp before now order shelf xs left ⊎ IsUnlaid gives before now order shelf xs left) × Chain rows faults old new at xs))
     ⊎ OffersTo rows faults gives before now old new at order shelf left Wants
 
 -- ---- getting a container up and initialised
 
 -- it is had, and is up, or its code is refused, or memory was wanted behind that; or it doesn't lie there
-abbrev pub Readied : {B : Type 0} → Giving → ℕ → ℕ → RunOrder → List (Laid B) → List (Laid B) → Readiness B (Unit {0}) → Type 0
+abbrev pub Readied : {B : Type 0} → Giving → Tally → Tally → RunOrder → List (Laid B) → List (Laid B) → Readiness B (Unit {0}) → Type 0
 Readied gives before now order shelf left (Up living) = (is_missing order shelf ≡ false) × (left ≡ shelf_at order shelf) × IsStarted gives order
 Readied gives before now order shelf left (Early held reply) =
     (is_missing order shelf ≡ false) × (left ≡ shelf_at order shelf) × RefusesCode gives before now order.kind order.code reply
 Readied gives before now order shelf left (NotHad seen) = (is_missing order shelf ≡ true) × (left ≡ shelf)
-Readied gives before now order shelf left NoMemory = (is_missing order shelf ≡ false) × (left ≡ shelf_at order shelf)
+Readied gives before now order shelf left NoMemory = (is_missing order shelf ≡ false) × (left ≡ shelf_at order shelf) × (is_warm order.start ≡ false)
 
 -- ---- orders
 
 -- a container is started ahead
-abbrev pub Warms : {B : Type 0} → Giving → ℕ → ℕ → PrewarmOrder → List (Laid B) → List (Laid B) → Warming → Type 0
+abbrev pub Warms : {B : Type 0} → Giving → Tally → Tally → PrewarmOrder → List (Laid B) → List (Laid B) → Warming → Type 0
 Warms gives before now order shelf left Warmed = gives.starts order.kind × IsLaid order.slot order.generation shelf left
 Warms gives before now order shelf left Down = ((reply : RunReply) × RefusesStart gives before now order.kind reply) × (left ≡ shelf)
 Warms gives before now order shelf left Unheld = left ≡ shelf
 
 -- an order is carried out
-abbrev pub CarriesOn : {P B : Type 0} → (P → KeptRows) → (P → ℕ) → Giving → ℕ → ℕ → HallView P → HallView P → ℕ → List (Laid B) → List (Laid B) → Order → List TurnStep → Type 0
+abbrev pub CarriesOn : {P B : Type 0} → (P → KeptRows) → (P → ℕ) → Giving → Tally → Tally → HallView P → HallView P → ℕ → List (Laid B) → List (Laid B) → Order → List TurnStep → Type 0
 CarriesOn rows faults gives before now old new at shelf left order steps =
     (xs : List Exchange) × (Follows gives before now shelf order xs left × TellsAll rows faults old new at xs steps)
 
 -- or up to its runner's reply, at which the store fails
-abbrev pub FailsOn : {P B : Type 0} → (P → KeptRows) → (P → ℕ) → Giving → ℕ → ℕ → HallView P → HallView P → ℕ → List (Laid B) → List (Laid B) → Order → List TurnStep → Type 0
+abbrev pub FailsOn : {P B : Type 0} → (P → KeptRows) → (P → ℕ) → Giving → Tally → Tally → HallView P → HallView P → ℕ → List (Laid B) → List (Laid B) → Order → List TurnStep → Type 0
 FailsOn rows faults gives before now old new at shelf left order steps =
     (xs : List Exchange) × ((event : Event) × (Offers gives before now shelf order xs event left × ChainTo rows faults old new at xs event Fails × (steps ≡ StoreFault ∷ [])))
 
 -- memory is wanted for it
-abbrev pub StopsOn : {P B : Type 0} → (P → KeptRows) → (P → ℕ) → Giving → ℕ → ℕ → HallView P → HallView P → ℕ → List (Laid B) → List (Laid B) → Order → Type 0
+abbrev pub StopsOn : {P B : Type 0} → (P → KeptRows) → (P → ℕ) → Giving → Tally → Tally → HallView P → HallView P → ℕ → List (Laid B) → List (Laid B) → Order → Type 0
 StopsOn rows faults gives before now old new at shelf left order =
     (xs : List Exchange) × ((Stops gives before now shelf order xs left ⊎ Follows gives before now shelf order xs left) × Chain rows faults old new at xs)
 
 -- or for its runner's reply
-abbrev pub StopsLate : {P B : Type 0} → (P → KeptRows) → (P → ℕ) → Giving → ℕ → ℕ → HallView P → HallView P → ℕ → List (Laid B) → List (Laid B) → Order → Type 0
+abbrev pub StopsLate : {P B : Type 0} → (P → KeptRows) → (P → ℕ) → Giving → Tally → Tally → HallView P → HallView P → ℕ → List (Laid B) → List (Laid B) → Order → Type 0
 StopsLate rows faults gives before now old new at shelf left order =
     (xs : List Exchange) × ((event : Event) × (Offers gives before now shelf order xs event left × ChainUndone rows faults old new at xs event))
 
-abbrev pub Carries : {P B : Type 0} → (P → KeptRows) → (P → ℕ) → Giving → ℕ → ℕ → HallView P → HallView P → ℕ → List (Laid B) → List (Laid B) → Order → Result (List TurnStep) Want → Type 0
+abbrev pub Carries : {P B : Type 0} → (P → KeptRows) → (P → ℕ) → Giving → Tally → Tally → HallView P → HallView P → ℕ → List (Laid B) → List (Laid B) → Order → Result (List TurnStep) Want → Type 0
 Carries rows faults gives before now old new at shelf left order (Ok steps) =
     CarriesOn rows faults gives before now old new at shelf left order steps ⊎ FailsOn rows faults gives before now old new at shelf left order steps
 Carries rows faults gives before now old new at shelf left order (Err e) =
     StopsOn rows faults gives before now old new at shelf left order ⊎ StopsLate rows faults gives before now old new at shelf left order
 
 -- and told
-abbrev pub TellsOf : {P B : Type 0} → (P → KeptRows) → (P → ℕ) → Giving → ℕ → ℕ → HallView P → HallView P → ℕ → List (Laid B) → List (Laid B) → Order → Result Turned Want → Type 0
+abbrev pub TellsOf : {P B : Type 0} → (P → KeptRows) → (P → ℕ) → Giving → Tally → Tally → HallView P → HallView P → ℕ → List (Laid B) → List (Laid B) → Order → Result Turned Want → Type 0
 TellsOf rows faults gives before now old new at shelf left order (Ok turned) = (turned.order ≡ order) × Carries rows faults gives before now old new at shelf left order (Ok turned.steps)
 TellsOf rows faults gives before now old new at shelf left order (Err e) = Carries rows faults gives before now old new at shelf left order (Err e)

@@ -1,12 +1,11 @@
 -- How a container comes up that is started, or is in hand.
-use Rattle.std.specs.Prelude.{ℕ}
-use Rattle.ow_traits.specs.Runner.{Giving, RefusesCode}
+use Rattle.ow_traits.specs.Runner.{Giving, RefusesCode, Tally}
 use Rattle.ow_floor.specs.declared.answers.RunOrder.{RunOrder}
 use Rattle.ow_invoker.specs.declared.readying.Readiness.{Readiness}
 use Rattle.ow_invoker.specs.declared.readying.Readiness.TheVariants.{Early, NoMemory, NotHad, Up}
 
 -- it is up, or its code is refused, or memory was wanted
-abbrev pub Initialised : {B S : Type 0} → Giving → ℕ → ℕ → RunOrder → Readiness B S → Type 0
+abbrev pub Initialised : {B S : Type 0} → Giving → Tally → Tally → RunOrder → Readiness B S → Type 0
 Initialised gives before now order (Up living) = Unit {0}
 Initialised gives before now order (Early held reply) = RefusesCode gives before now order.kind order.code reply
 Initialised gives before now order (NotHad seen) = ⊥

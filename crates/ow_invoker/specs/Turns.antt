@@ -1,6 +1,6 @@
 -- What one turn comes to: a chain of calls of the hall, what the turn tells of them, and what lies on the shelf afterwards.
 use Rattle.std.specs.Prelude.{◌≡◌, ◌⊎◌, ◌&&◌, ◌++◌, ℕ, Bool, true, false, not, List, [], ◌∷◌, Result, Ok, Err, if◌then◌else◌}
-use Rattle.ow_traits.specs.Runner.{Giving, RefusesCode, RefusesStart, Replies, is_answer}
+use Rattle.ow_traits.specs.Runner.{Giving, RanNone, RanOnce, RefusesCode, RefusesStart, Replies, Tally, is_answer}
 use Rattle.ow_traits.specs.declared.replies.Kind.{Kind}
 use Rattle.ow_traits.specs.declared.replies.RunReply.{RunReply}
 use Rattle.ow_value.specs.declared.memory.NoMemory.{NoMemory as Want}
@@ -104,10 +104,16 @@ StartsBy starts.Warm gives kind = Unit {0}
 abbrev pub IsStarted : Giving → RunOrder → Type 0
 IsStarted gives order = StartsBy order.start gives order.kind
 
--- that the run began is told where its start isn't warm, and left out only where the code is refused
-abbrev pub Opens : Giving → ℕ → ℕ → RunOrder → RunReply → List Exchange → Type 0
-Opens gives before now order reply [] = (is_warm order.start ≡ true) ⊎ RefusesCode gives before now order.kind order.code reply
-Opens gives before now order reply (x ∷ xs) = (is_warm order.start ≡ false) × (IsStarted gives order × ((x.event ≡ events.Begun order.run) × (xs ≡ [])))
+-- that the run began is told, where its start isn't warm
+abbrev pub OpensBy : Bool → RunOrder → List Exchange → Type 0
+OpensBy true order xs = xs ≡ []
+OpensBy false order xs = IsAlone (events.Begun order.run) xs
+
+-- that the run began is told where its start isn't warm, and left out only where the code is refused, which is then not run; else it is run once
+abbrev pub Opens : Giving → Tally → Tally → RunOrder → RunReply → List Exchange → Type 0
+Opens gives before now order reply [] = ((is_warm order.start ≡ true) × RanOnce before now) ⊎ (RefusesCode gives before now order.kind order.code reply × RanNone before now)
+Opens gives before now order reply (x ∷ xs) =
+    (is_warm order.start ≡ false) × IsStarted gives order × (x.event ≡ events.Begun order.run) × (xs ≡ []) × RanOnce before now
 
 -- behind an answer in time the container lies on the shelf
 abbrev pub StaysLaid : {B : Type 0} → RunOrder → List (Laid B) → List Exchange → List (Laid B) → Type 0
@@ -136,7 +142,7 @@ pub record IsSettled {B : Type 0} (order : RunOrder) (reply : RunReply) (shelf :
   pub rests : Rests (is_answer reply) (is_late answer) order shelf ending left
 
 -- the hall is told that the run began, where that is told, and of a reply that the runner gives, or of a fault where its count rose
-pub record IsCarriedOut {B : Type 0} (gives : Giving) (before now : ℕ) (order : RunOrder) (shelf : List (Laid B)) (xs : List Exchange) (left : List (Laid B)) : Type 0 where
+pub record IsCarriedOut {B : Type 0} (gives : Giving) (before now : Tally) (order : RunOrder) (shelf : List (Laid B)) (xs : List Exchange) (left : List (Laid B)) : Type 0 where
   pub reply : RunReply
   pub replies : Replies gives before now order.kind order.code order.params reply
   pub opening : List Exchange
@@ -145,9 +151,9 @@ pub record IsCarriedOut {B : Type 0} (gives : Giving) (before now : ℕ) (order 
   pub settled : IsSettled order reply shelf booking left
   pub is : xs ≡ opening ++ booking
 
--- a run whose container doesn't lie there is lost; any other one is carried out
-abbrev pub RunFollows : {B : Type 0} → Bool → Giving → ℕ → ℕ → RunOrder → List (Laid B) → List Exchange → List (Laid B) → Type 0
-RunFollows true gives before now order shelf xs left = IsAlone (lost order) xs × (left ≡ shelf)
+-- a run whose container doesn't lie there is lost, and no code is run; any other one is carried out
+abbrev pub RunFollows : {B : Type 0} → Bool → Giving → Tally → Tally → RunOrder → List (Laid B) → List Exchange → List (Laid B) → Type 0
+RunFollows true gives before now order shelf xs left = IsAlone (lost order) xs × (left ≡ shelf) × RanNone before now
 RunFollows false gives before now order shelf xs left = IsCarriedOut gives before now order (shelf_at order shelf) xs left
 
 -- ---- orders
@@ -161,7 +167,7 @@ abbrev pub IsUnwarmed : {B : Type 0} → PrewarmOrder → List (Laid B) → List
 IsUnwarmed order shelf xs left = AreBoth (events.Lost order.run) (events.Gone order.slot order.generation) xs × (left ≡ shelf)
 
 -- it comes up only where the runner starts containers of its kind, and fails only where the runner refuses its start
-abbrev pub PrewarmFollows : {B : Type 0} → Giving → ℕ → ℕ → PrewarmOrder → List (Laid B) → List Exchange → List (Laid B) → Type 0
+abbrev pub PrewarmFollows : {B : Type 0} → Giving → Tally → Tally → PrewarmOrder → List (Laid B) → List Exchange → List (Laid B) → Type 0
 PrewarmFollows gives before now order shelf xs left =
     (gives.starts order.kind × IsWarmed order shelf xs left) ⊎ (((reply : RunReply) × RefusesStart gives before now order.kind reply) × IsUnwarmed order shelf xs left)
 
@@ -171,26 +177,27 @@ Removes [] shelf xs left = (xs ≡ []) × (left ≡ shelf)
 Removes (c ∷ cs) shelf [] left = ⊥
 Removes (c ∷ cs) shelf (x ∷ xs) left = (x.event ≡ gone_of c) × Removes cs (without c.slot c.generation shelf) xs left
 
--- what follows an order
-abbrev pub Follows : {B : Type 0} → Giving → ℕ → ℕ → List (Laid B) → Order → List Exchange → List (Laid B) → Type 0
+-- what follows an order; only a run's runs code
+abbrev pub Follows : {B : Type 0} → Giving → Tally → Tally → List (Laid B) → Order → List Exchange → List (Laid B) → Type 0
 Follows gives before now shelf (orders.Run order) xs left = RunFollows (is_missing order shelf) gives before now order shelf xs left
-Follows gives before now shelf (orders.Prewarm order) xs left = PrewarmFollows gives before now order shelf xs left
-Follows gives before now shelf (orders.Remove containers) xs left = Removes containers shelf xs left
-Follows gives before now shelf (orders.Nothing why) xs left = (xs ≡ []) × (left ≡ shelf)
+Follows gives before now shelf (orders.Prewarm order) xs left = PrewarmFollows gives before now order shelf xs left × RanNone before now
+Follows gives before now shelf (orders.Remove containers) xs left = Removes containers shelf xs left × RanNone before now
+Follows gives before now shelf (orders.Nothing why) xs left = (xs ≡ []) × (left ≡ shelf) × RanNone before now
 
 -- ---- want of memory, and faults of the store
 
--- before there is a reply: the container is stopped, and the run is lost; that it began may have been told
-pub record IsGivenUp {B : Type 0} (order : RunOrder) (shelf : List (Laid B)) (xs : List Exchange) (left : List (Laid B)) : Type 0 where
+-- before there is a reply: the container is stopped, and the run is lost; its code was run once, as what began, or the container wasn't
+-- ready, and it wasn't
+pub record IsGivenUp {B : Type 0} (before now : Tally) (order : RunOrder) (shelf : List (Laid B)) (xs : List Exchange) (left : List (Laid B)) : Type 0 where
   pub opening : List Exchange
-  pub opens : (opening ≡ []) ⊎ ((is_warm order.start ≡ false) × IsAlone (events.Begun order.run) opening)
+  pub opens : (OpensBy (is_warm order.start) order opening × RanOnce before now) ⊎ ((opening ≡ []) × (is_warm order.start ≡ false) × RanNone before now)
   pub ending : List Exchange
   pub ends : AreBoth (lost order) (gone order) ending
   pub is : xs ≡ opening ++ ending
   pub left_is : left ≡ shelf
 
 -- there is no room for the container of an answer: it is stopped, and the reply isn't booked. What was booked before stands
-pub record IsUnlaid {B : Type 0} (gives : Giving) (before now : ℕ) (order : RunOrder) (shelf : List (Laid B)) (xs : List Exchange) (left : List (Laid B)) : Type 0 where
+pub record IsUnlaid {B : Type 0} (gives : Giving) (before now : Tally) (order : RunOrder) (shelf : List (Laid B)) (xs : List Exchange) (left : List (Laid B)) : Type 0 where
   pub reply : RunReply
   pub replies : Replies gives before now order.kind order.code order.params reply
   pub opens : Opens gives before now order reply xs
@@ -202,72 +209,72 @@ LiesBy true order shelf left = IsLaid order.slot order.generation shelf left
 LiesBy false order shelf left = left ≡ shelf
 
 -- a reply is to be booked: its container lies there already. What was booked before stands
-pub record IsOffered {B : Type 0} (gives : Giving) (before now : ℕ) (order : RunOrder) (reply : RunReply) (shelf : List (Laid B)) (xs : List Exchange) (left : List (Laid B)) : Type 0 where
+pub record IsOffered {B : Type 0} (gives : Giving) (before now : Tally) (order : RunOrder) (reply : RunReply) (shelf : List (Laid B)) (xs : List Exchange) (left : List (Laid B)) : Type 0 where
   pub replies : Replies gives before now order.kind order.code order.params reply
   pub opens : Opens gives before now order reply xs
   pub lies : LiesBy (is_answer reply) order shelf left
 
-abbrev pub RunStops : {B : Type 0} → Bool → Giving → ℕ → ℕ → RunOrder → List (Laid B) → List Exchange → List (Laid B) → Type 0
+abbrev pub RunStops : {B : Type 0} → Bool → Giving → Tally → Tally → RunOrder → List (Laid B) → List Exchange → List (Laid B) → Type 0
 RunStops true gives before now order shelf xs left = ⊥
 RunStops false gives before now order shelf xs left =
-    IsGivenUp order (shelf_at order shelf) xs left ⊎ IsUnlaid gives before now order (shelf_at order shelf) xs left
+    IsGivenUp before now order (shelf_at order shelf) xs left ⊎ IsUnlaid gives before now order (shelf_at order shelf) xs left
 
 -- what follows an order that isn't carried out to its end
-abbrev pub Stops : {B : Type 0} → Giving → ℕ → ℕ → List (Laid B) → Order → List Exchange → List (Laid B) → Type 0
+abbrev pub Stops : {B : Type 0} → Giving → Tally → Tally → List (Laid B) → Order → List Exchange → List (Laid B) → Type 0
 Stops gives before now shelf (orders.Run order) xs left = RunStops (is_missing order shelf) gives before now order shelf xs left
-Stops gives before now shelf (orders.Prewarm order) xs left = IsUnwarmed order shelf xs left
-Stops gives before now shelf (orders.Remove containers) xs left = (xs ≡ []) × (left ≡ shelf)
+Stops gives before now shelf (orders.Prewarm order) xs left = IsUnwarmed order shelf xs left × RanNone before now
+Stops gives before now shelf (orders.Remove containers) xs left = (xs ≡ []) × (left ≡ shelf) × RanNone before now
 Stops gives before now shelf (orders.Nothing why) xs left = ⊥
 
-abbrev pub RunOffers : {B : Type 0} → Bool → Giving → ℕ → ℕ → RunOrder → List (Laid B) → List Exchange → Event → List (Laid B) → Type 0
+abbrev pub RunOffers : {B : Type 0} → Bool → Giving → Tally → Tally → RunOrder → List (Laid B) → List Exchange → Event → List (Laid B) → Type 0
 RunOffers true gives before now order shelf xs event left = ⊥
 RunOffers false gives before now order shelf xs event left =
     (reply : RunReply) × ((event ≡ events.Answered order.run reply) × IsOffered gives before now order reply (shelf_at order shelf) xs left)
 
 -- what follows an order up to its runner's reply, which is the next event
-abbrev pub Offers : {B : Type 0} → Giving → ℕ → ℕ → List (Laid B) → Order → List Exchange → Event → List (Laid B) → Type 0
+abbrev pub Offers : {B : Type 0} → Giving → Tally → Tally → List (Laid B) → Order → List Exchange → Event → List (Laid B) → Type 0
 Offers gives before now shelf (orders.Run order) xs event left = RunOffers (is_missing order shelf) gives before now order shelf xs event left
 Offers gives before now shelf other xs event left = ⊥
 
 -- ---- turns
 
 -- a turn: the order, and all that follows it
-abbrev pub IsTurn : {B : Type 0} → Giving → ℕ → ℕ → List (Laid B) → Order → List Exchange → List (Laid B) → Type 0
+abbrev pub IsTurn : {B : Type 0} → Giving → Tally → Tally → List (Laid B) → Order → List Exchange → List (Laid B) → Type 0
 IsTurn gives before now shelf order [] left = ⊥
 IsTurn gives before now shelf order (x ∷ xs) left = (x ≡ exchange events.Next (told.Next order)) × Follows gives before now shelf order xs left
 
 -- the front of a turn: nothing, or the order, and what follows it up to the want of memory
-abbrev pub BeginsTurn : {B : Type 0} → Giving → ℕ → ℕ → List (Laid B) → List Exchange → List (Laid B) → Type 0
-BeginsTurn gives before now shelf [] left = left ≡ shelf
+abbrev pub BeginsTurn : {B : Type 0} → Giving → Tally → Tally → List (Laid B) → List Exchange → List (Laid B) → Type 0
+BeginsTurn gives before now shelf [] left = (left ≡ shelf) × RanNone before now
 BeginsTurn gives before now shelf (x ∷ xs) left =
     (order : Order) × ((x ≡ exchange events.Next (told.Next order)) × (Stops gives before now shelf order xs left ⊎ Follows gives before now shelf order xs left))
 
 -- the order, and what follows it up to its runner's reply
-abbrev pub OffersTurn : {B : Type 0} → Giving → ℕ → ℕ → List (Laid B) → Order → List Exchange → Event → List (Laid B) → Type 0
+abbrev pub OffersTurn : {B : Type 0} → Giving → Tally → Tally → List (Laid B) → Order → List Exchange → Event → List (Laid B) → Type 0
 OffersTurn gives before now shelf order [] event left = ⊥
 OffersTurn gives before now shelf order (x ∷ xs) event left = (x ≡ exchange events.Next (told.Next order)) × Offers gives before now shelf order xs event left
 
 -- the turn is made, and told
-abbrev pub IsMade : {P B : Type 0} → (P → KeptRows) → (P → ℕ) → Giving → ℕ → ℕ → HallView P → HallView P → ℕ → List (Laid B) → List (Laid B) → Turned → Type 0
+abbrev pub IsMade : {P B : Type 0} → (P → KeptRows) → (P → ℕ) → Giving → Tally → Tally → HallView P → HallView P → ℕ → List (Laid B) → List (Laid B) → Turned → Type 0
 IsMade rows faults gives before now old new at shelf left turned =
     (xs : List Exchange) × (IsTurn gives before now shelf turned.order xs left × Chain rows faults old new at xs × (turned.steps ≡ steps_in xs))
 
 -- the store fails at the runner's reply: that is told behind the order, and nothing else; the run stays live
-abbrev pub HasFailed : {P B : Type 0} → (P → KeptRows) → (P → ℕ) → Giving → ℕ → ℕ → HallView P → HallView P → ℕ → List (Laid B) → List (Laid B) → Turned → Type 0
+abbrev pub HasFailed : {P B : Type 0} → (P → KeptRows) → (P → ℕ) → Giving → Tally → Tally → HallView P → HallView P → ℕ → List (Laid B) → List (Laid B) → Turned → Type 0
 HasFailed rows faults gives before now old new at shelf left turned =
     (xs : List Exchange) × ((event : Event) × (OffersTurn gives before now shelf turned.order xs event left × ChainTo rows faults old new at xs event Fails × (turned.steps ≡ StoreFault ∷ [])))
 
 -- memory is wanted: what was booked stands
-abbrev pub HasStopped : {P B : Type 0} → (P → KeptRows) → (P → ℕ) → Giving → ℕ → ℕ → HallView P → HallView P → ℕ → List (Laid B) → List (Laid B) → Type 0
+abbrev pub HasStopped : {P B : Type 0} → (P → KeptRows) → (P → ℕ) → Giving → Tally → Tally → HallView P → HallView P → ℕ → List (Laid B) → List (Laid B) → Type 0
 HasStopped rows faults gives before now old new at shelf left = (xs : List Exchange) × (BeginsTurn gives before now shelf xs left × Chain rows faults old new at xs)
 
 -- or is wanted for the reply, or behind a fault of the store at it
-abbrev pub HasStoppedLate : {P B : Type 0} → (P → KeptRows) → (P → ℕ) → Giving → ℕ → ℕ → HallView P → HallView P → ℕ → List (Laid B) → List (Laid B) → Type 0
+abbrev pub HasStoppedLate : {P B : Type 0} → (P → KeptRows) → (P → ℕ) → Giving → Tally → Tally → HallView P → HallView P → ℕ → List (Laid B) → List (Laid B) → Type 0
 HasStoppedLate rows faults gives before now old new at shelf left =
     (order : Order) × ((xs : List Exchange) × ((event : Event) × (OffersTurn gives before now shelf order xs event left × ChainUndone rows faults old new at xs event)))
 
 -- what comes of a turn
-abbrev pub Turns : {P B : Type 0} → (P → KeptRows) → (P → ℕ) → Giving → ℕ → ℕ → HallView P → HallView P → ℕ → List (Laid B) → List (Laid B) → Result Turned Want → Type 0
+abbrev pub Turns : {P B : Type 0} → (P → KeptRows) → (P → ℕ) → Giving → Tally → Tally → HallView P → HallView P → ℕ → List (Laid B) → List (Laid B) → Result Turned Want → Type 0
 Turns rows faults gives before now old new at shelf left (Ok turned) =
     IsMade rows faults gives before now old new at shelf left turned ⊎ HasFailed rows faults gives before now old new at shelf left turned
 Turns rows faults gives before now old new at shelf left (Err e) =

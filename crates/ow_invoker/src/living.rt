@@ -1,6 +1,6 @@
 // A container in hand.
 ghost use Rattle.std.specs.Prelude.{IfOk};
-ghost use Rattle.ow_traits.specs.Runner.{Initialises, Replies, Steady};
+ghost use Rattle.ow_traits.specs.Runner.{Idles, Initialises, Replies, Runs};
 
 use ow_floor::RunOrder;
 use ow_traits::{RunReply, Runner};
@@ -15,7 +15,7 @@ pub struct Living<B: Drop> {
 
 /// Ends the container.
 pub fn stop<R: Runner>(runner: &mut R, living: Living<R::Container>)
-    ensures { Steady (R.gives runner.old) (R.gives runner.new) (R.faults runner.old) (R.faults runner.new) }
+    ensures { Idles (R.gives runner.old) (R.gives runner.new) (R.tally runner.old) (R.tally runner.new) }
 {
     let Living { container } = living;
     runner.stop(container);
@@ -28,21 +28,21 @@ pub fn init<R: Runner>(
     living: &mut Living<R::Container>,
     order: &RunOrder,
 ) -> Result<Option<RunReply>, NoMemory>
-    ensures steady { Steady (R.gives runner.old) (R.gives runner.new) (R.faults runner.old) (R.faults runner.new) }
-    ensures ready { IfOk result (Initialises (R.gives runner.old) (R.faults runner.old) (R.faults runner.new) order.now.kind order.now.code) }
+    ensures idles { Idles (R.gives runner.old) (R.gives runner.new) (R.tally runner.old) (R.tally runner.new) }
+    ensures ready { IfOk result (Initialises (R.gives runner.old) (R.tally runner.old) (R.tally runner.new) order.now.kind order.now.code) }
 {
     runner.init(alloc, &mut living.container, order.kind, &order.code)
 }
 
-/// Runs the order in the container. After want of memory it is still in hand.
+/// Runs the order once in the container. After want of memory it is still in hand.
 pub fn run<R: Runner>(
     alloc: Global,
     runner: &mut R,
     living: &mut Living<R::Container>,
     order: &RunOrder,
 ) -> Result<RunReply, NoMemory>
-    ensures steady { Steady (R.gives runner.old) (R.gives runner.new) (R.faults runner.old) (R.faults runner.new) }
-    ensures reply { IfOk result (Replies (R.gives runner.old) (R.faults runner.old) (R.faults runner.new) order.now.kind order.now.code order.now.params) }
+    ensures runs { Runs (R.gives runner.old) (R.gives runner.new) (R.tally runner.old) (R.tally runner.new) }
+    ensures reply { IfOk result (Replies (R.gives runner.old) (R.tally runner.old) (R.tally runner.new) order.now.kind order.now.code order.now.params) }
 {
     runner.run(
         alloc,

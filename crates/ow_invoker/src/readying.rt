@@ -1,5 +1,5 @@
 // How the container of a run comes up.
-ghost use Rattle.ow_traits.specs.Runner.{Steady};
+ghost use Rattle.ow_traits.specs.Runner.{Idles};
 ghost use Rattle.ow_invoker.specs.Readiness.{Initialised, UpStarts};
 ghost use Rattle.ow_invoker.specs.Parts.{Readied};
 
@@ -29,8 +29,8 @@ pub(crate) fn make_ready<R: Runner>(
     runner: &mut R,
     order: &RunOrder,
 ) -> Readiness<R::Container, ()>
-    ensures runner { Steady (R.gives runner.old) (R.gives runner.new) (R.faults runner.old) (R.faults runner.new) }
-    ensures ready { Readied (R.gives runner.old) (R.faults runner.old) (R.faults runner.new) order.now shelf.old shelf.new result }
+    ensures runner { Idles (R.gives runner.old) (R.gives runner.new) (R.tally runner.old) (R.tally runner.new) }
+    ensures ready { Readied (R.gives runner.old) (R.tally runner.old) (R.tally runner.new) order.now shelf.old shelf.new result }
 {
     match order.start {
         Start::Cold => open(alloc, runner, order),
@@ -51,8 +51,8 @@ pub fn open<R: Runner, S>(
     runner: &mut R,
     order: &RunOrder,
 ) -> Readiness<R::Container, S>
-    ensures runner { Steady (R.gives runner.old) (R.gives runner.new) (R.faults runner.old) (R.faults runner.new) }
-    ensures ready { Initialised (R.gives runner.old) (R.faults runner.old) (R.faults runner.new) order.now result }
+    ensures runner { Idles (R.gives runner.old) (R.gives runner.new) (R.tally runner.old) (R.tally runner.new) }
+    ensures ready { Initialised (R.gives runner.old) (R.tally runner.old) (R.tally runner.new) order.now result }
     ensures started { UpStarts (R.gives runner.old) order.now result }
 {
     match runner.start(alloc, order.kind, order.memory) {
@@ -69,8 +69,8 @@ pub fn initialise<R: Runner, S>(
     mut living: Living<R::Container>,
     order: &RunOrder,
 ) -> Readiness<R::Container, S>
-    ensures runner { Steady (R.gives runner.old) (R.gives runner.new) (R.faults runner.old) (R.faults runner.new) }
-    ensures ready { Initialised (R.gives runner.old) (R.faults runner.old) (R.faults runner.new) order.now result }
+    ensures runner { Idles (R.gives runner.old) (R.gives runner.new) (R.tally runner.old) (R.tally runner.new) }
+    ensures ready { Initialised (R.gives runner.old) (R.tally runner.old) (R.tally runner.new) order.now result }
 {
     match init(alloc, runner, &mut living, order) {
         Ok(None) => Readiness::Up(living),

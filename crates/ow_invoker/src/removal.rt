@@ -1,6 +1,6 @@
 // Containers that make room for others.
 ghost use Rattle.std.specs.Prelude.{◌≡◌, ◌<◌, ◌≤◌, ◌+◌, ◌++◌, vec_capacity, vec_len};
-ghost use Rattle.ow_traits.specs.Runner.{Steady};
+ghost use Rattle.ow_traits.specs.Runner.{Idles};
 ghost use Rattle.ow_floor.specs.declared.answers.Order.TheVariants as orders;
 ghost use Rattle.ow_invoker.specs.Parts.{Carries, listed};
 
@@ -22,8 +22,8 @@ pub(crate) fn remove<P: Keeper + Drop, R: Runner>(
     at: u64,
     containers: &Items<Container>,
 ) -> Result<TurnSteps, NoMemory>
-    ensures turns { Carries P.rows P.faults (R.gives runner.old) (R.faults runner.old) (R.faults runner.new) hall.old hall.new at shelf.old shelf.new (orders.Remove containers.now) result }
-    ensures runner { Steady (R.gives runner.old) (R.gives runner.new) (R.faults runner.old) (R.faults runner.new) }
+    ensures turns { Carries P.rows P.faults (R.gives runner.old) (R.tally runner.old) (R.tally runner.new) hall.old hall.new at shelf.old shelf.new (orders.Remove containers.now) result }
+    ensures runner { Idles (R.gives runner.old) (R.gives runner.new) (R.tally runner.old) (R.tally runner.new) }
 {
     let Ok(mut steps) = Vec::with_capacity(alloc, containers.len()) else {
         return Err(NoMemory);

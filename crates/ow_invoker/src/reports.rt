@@ -1,11 +1,11 @@
 // What the hall is told of containers and runs, and what a turn tells of it.
 ghost use Rattle.std.specs.Prelude.{◌≡◌, List, IfOk};
-ghost use Rattle.ow_traits.specs.Runner.{Steady};
+ghost use Rattle.ow_traits.specs.Runner.{Idles};
 ghost use Rattle.ow_decide.specs.declared.events.Event.TheVariants as events;
 ghost use Rattle.ow_slots.specs.State.{is_warm};
-ghost use Rattle.ow_invoker.specs.Parts.{Lists, OpensBy, Tells, both};
+ghost use Rattle.ow_invoker.specs.Parts.{Lists, Tells, both};
 ghost use Rattle.ow_invoker.specs.Shelf.{without};
-ghost use Rattle.ow_invoker.specs.Turns.{AreBoth, Chain, Exchange, steps_in};
+ghost use Rattle.ow_invoker.specs.Turns.{AreBoth, Chain, Exchange, OpensBy, steps_in};
 
 use crate::living::stop;
 use crate::shelf::Shelf;
@@ -72,7 +72,7 @@ pub(crate) fn clear<P: Keeper + Drop, R: Runner>(
 ) -> Option<TurnStep>
     ensures tells { Tells P.rows P.faults hall.old hall.new at (events.Gone slot generation) result }
     ensures shelf { shelf.new ≡ without slot generation shelf.old }
-    ensures runner { Steady (R.gives runner.old) (R.gives runner.new) (R.faults runner.old) (R.faults runner.new) }
+    ensures runner { Idles (R.gives runner.old) (R.gives runner.new) (R.tally runner.old) (R.tally runner.new) }
 {
     if let Some(living) = shelf.take(slot, generation) {
         stop(runner, living);

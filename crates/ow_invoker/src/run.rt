@@ -1,6 +1,6 @@
 // A run, from its container to its end.
 ghost use Rattle.std.specs.Prelude.{◌≡◌, List, None, false};
-ghost use Rattle.ow_traits.specs.Runner.{Replies, Steady, is_answer};
+ghost use Rattle.ow_traits.specs.Runner.{Idles, Runs, Steady, is_answer};
 ghost use Rattle.ow_floor.specs.declared.answers.Order.TheVariants as orders;
 ghost use Rattle.ow_invoker.specs.Parts.{Books, Carries, EndsBy, LaysDown, Performs, Settles, TellsAll, in_order, listed};
 ghost use Rattle.ow_invoker.specs.Turns.{Exchange, IsStarted};
@@ -25,8 +25,8 @@ pub(crate) fn run<P: Keeper + Drop, R: Runner>(
     at: u64,
     order: &RunOrder,
 ) -> Result<TwoSteps, NoMemory>
-    ensures turns { Carries P.rows P.faults (R.gives runner.old) (R.faults runner.old) (R.faults runner.new) hall.old hall.new at shelf.old shelf.new (orders.Run order.now) (in_order result) }
-    ensures runner { Steady (R.gives runner.old) (R.gives runner.new) (R.faults runner.old) (R.faults runner.new) }
+    ensures turns { Carries P.rows P.faults (R.gives runner.old) (R.tally runner.old) (R.tally runner.new) hall.old hall.new at shelf.old shelf.new (orders.Run order.now) (in_order result) }
+    ensures runner { Steady (R.gives runner.old) (R.gives runner.new) (R.tally runner.old) (R.tally runner.new) }
 {
     match make_ready(alloc, shelf, runner, order) {
         Readiness::Up(living) => perform(alloc, hall, shelf, runner, at, order, living),
@@ -50,8 +50,8 @@ fn perform<P: Keeper + Drop, R: Runner>(
     mut living: Living<R::Container>,
 ) -> Result<TwoSteps, NoMemory>
     requires { IsStarted (R.gives runner.old) order.now }
-    ensures performs { Performs P.rows P.faults (R.gives runner.old) (R.faults runner.old) (R.faults runner.new) hall.old hall.new at order.now shelf.old shelf.new result }
-    ensures runner { Steady (R.gives runner.old) (R.gives runner.new) (R.faults runner.old) (R.faults runner.new) }
+    ensures performs { Performs P.rows P.faults (R.gives runner.old) (R.tally runner.old) (R.tally runner.new) hall.old hall.new at order.now shelf.old shelf.new result }
+    ensures runner { Runs (R.gives runner.old) (R.gives runner.new) (R.tally runner.old) (R.tally runner.new) }
 {
     begin(hall, at, order);
     match living::run(alloc, runner, &mut living, order) {
@@ -77,7 +77,7 @@ fn settle<P: Keeper + Drop, R: Runner>(
 ) -> Result<TwoSteps, NoMemory>
     requires { held ≡ None → is_answer reply ≡ false }
     ensures settles { Settles P.rows P.faults hall.old hall.new at order.now reply shelf.old shelf.new result }
-    ensures runner { Steady (R.gives runner.old) (R.gives runner.new) (R.faults runner.old) (R.faults runner.new) }
+    ensures runner { Idles (R.gives runner.old) (R.gives runner.new) (R.tally runner.old) (R.tally runner.new) }
 {
     match lay_down(shelf, runner, order, &reply, held) {
         Ok(()) => book(alloc, hall, shelf, runner, at, order, reply),
@@ -95,7 +95,7 @@ fn lay_down<R: Runner>(
 ) -> Result<(), NoMemory>
     requires { held ≡ None → is_answer reply.now ≡ false }
     ensures lays { LaysDown order.now reply.now shelf.old shelf.new result }
-    ensures runner { Steady (R.gives runner.old) (R.gives runner.new) (R.faults runner.old) (R.faults runner.new) }
+    ensures runner { Idles (R.gives runner.old) (R.gives runner.new) (R.tally runner.old) (R.tally runner.new) }
 {
     let Some(living) = held else {
         return Ok(());
@@ -124,7 +124,7 @@ fn book<P: Keeper + Drop, R: Runner>(
     reply: RunReply,
 ) -> Result<TwoSteps, NoMemory>
     ensures books { Books P.rows P.faults hall.old hall.new at order.now reply shelf.old shelf.new result }
-    ensures runner { Steady (R.gives runner.old) (R.gives runner.new) (R.faults runner.old) (R.faults runner.new) }
+    ensures runner { Idles (R.gives runner.old) (R.gives runner.new) (R.tally runner.old) (R.tally runner.new) }
 {
     let answers = reply.is_answer();
     match hall.answered(alloc, at, order.run, reply) {
@@ -153,7 +153,7 @@ fn end<P: Keeper + Drop, R: Runner>(
 ) -> Option<TurnStep>
     ensures ends { (xs : List Exchange) × (EndsBy answers late order.now shelf.old xs shelf.new
         × TellsAll P.rows P.faults hall.old hall.new at xs (listed result)) }
-    ensures runner { Steady (R.gives runner.old) (R.gives runner.new) (R.faults runner.old) (R.faults runner.new) }
+    ensures runner { Idles (R.gives runner.old) (R.gives runner.new) (R.tally runner.old) (R.tally runner.new) }
 {
     if answers {
         if late {

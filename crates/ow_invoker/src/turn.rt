@@ -49,8 +49,8 @@ pub fn day_turn<P: Keeper + Drop, R: Runner>(
     runner: &mut R,
     at: u64,
 ) -> Result<Turned, NoMemory>
-    ensures turns { Turns P.rows P.faults (R.gives runner.old) (R.faults runner.old) (R.faults runner.new) hall.old hall.new at shelf.old shelf.new result }
-    ensures runner { Steady (R.gives runner.old) (R.gives runner.new) (R.faults runner.old) (R.faults runner.new) }
+    ensures turns { Turns P.rows P.faults (R.gives runner.old) (R.tally runner.old) (R.tally runner.new) hall.old hall.new at shelf.old shelf.new result }
+    ensures runner { Steady (R.gives runner.old) (R.gives runner.new) (R.tally runner.old) (R.tally runner.new) }
 {
     let Ok(()) = shelf.make_room() else {
         return Err(NoMemory);
@@ -70,8 +70,8 @@ fn follow<P: Keeper + Drop, R: Runner>(
     at: u64,
     order: Order,
 ) -> Result<Turned, NoMemory>
-    ensures turns { TellsOf P.rows P.faults (R.gives runner.old) (R.faults runner.old) (R.faults runner.new) hall.old hall.new at shelf.old shelf.new order result }
-    ensures runner { Steady (R.gives runner.old) (R.gives runner.new) (R.faults runner.old) (R.faults runner.new) }
+    ensures turns { TellsOf P.rows P.faults (R.gives runner.old) (R.tally runner.old) (R.tally runner.new) hall.old hall.new at shelf.old shelf.new order result }
+    ensures runner { Steady (R.gives runner.old) (R.gives runner.new) (R.tally runner.old) (R.tally runner.new) }
 {
     match carry(alloc, hall, shelf, runner, at, &order) {
         Ok(steps) => Ok(Turned { order, steps }),
@@ -87,8 +87,8 @@ fn carry<P: Keeper + Drop, R: Runner>(
     at: u64,
     order: &Order,
 ) -> Result<TurnSteps, NoMemory>
-    ensures turns { Carries P.rows P.faults (R.gives runner.old) (R.faults runner.old) (R.faults runner.new) hall.old hall.new at shelf.old shelf.new order.now result }
-    ensures runner { Steady (R.gives runner.old) (R.gives runner.new) (R.faults runner.old) (R.faults runner.new) }
+    ensures turns { Carries P.rows P.faults (R.gives runner.old) (R.tally runner.old) (R.tally runner.new) hall.old hall.new at shelf.old shelf.new order.now result }
+    ensures runner { Steady (R.gives runner.old) (R.gives runner.new) (R.tally runner.old) (R.tally runner.new) }
 {
     match order {
         Order::Run(order) => list(alloc, run(alloc, hall, shelf, runner, at, order)),

@@ -1,5 +1,5 @@
 // Containers that are started ahead of any run.
-ghost use Rattle.ow_traits.specs.Runner.{Steady};
+ghost use Rattle.ow_traits.specs.Runner.{Idles};
 ghost use Rattle.ow_floor.specs.declared.answers.Order.TheVariants as orders;
 ghost use Rattle.ow_invoker.specs.Parts.{Carries, Warms, in_order};
 
@@ -32,8 +32,8 @@ pub(crate) fn prewarm<P: Keeper + Drop, R: Runner>(
     at: u64,
     order: &PrewarmOrder,
 ) -> Result<TwoSteps, NoMemory>
-    ensures turns { Carries P.rows P.faults (R.gives runner.old) (R.faults runner.old) (R.faults runner.new) hall.old hall.new at shelf.old shelf.new (orders.Prewarm order.now) (in_order result) }
-    ensures runner { Steady (R.gives runner.old) (R.gives runner.new) (R.faults runner.old) (R.faults runner.new) }
+    ensures turns { Carries P.rows P.faults (R.gives runner.old) (R.tally runner.old) (R.tally runner.new) hall.old hall.new at shelf.old shelf.new (orders.Prewarm order.now) (in_order result) }
+    ensures runner { Idles (R.gives runner.old) (R.gives runner.new) (R.tally runner.old) (R.tally runner.new) }
 {
     match warm(alloc, shelf, runner, order) {
         Warming::Warmed => {
@@ -54,8 +54,8 @@ fn warm<R: Runner>(
     runner: &mut R,
     order: &PrewarmOrder,
 ) -> Warming
-    ensures warms { Warms (R.gives runner.old) (R.faults runner.old) (R.faults runner.new) order.now shelf.old shelf.new result }
-    ensures runner { Steady (R.gives runner.old) (R.gives runner.new) (R.faults runner.old) (R.faults runner.new) }
+    ensures warms { Warms (R.gives runner.old) (R.tally runner.old) (R.tally runner.new) order.now shelf.old shelf.new result }
+    ensures runner { Idles (R.gives runner.old) (R.gives runner.new) (R.tally runner.old) (R.tally runner.new) }
 {
     match runner.start(alloc, order.kind, order.memory) {
         Ok(Started::Up(container)) => {

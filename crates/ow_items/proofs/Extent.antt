@@ -1,5 +1,5 @@
 -- Sorted rows are what they answer at each key.
-use Rattle.std.proofs.Common.{◌≡◌, ◌≢◌, ℕ, List, [], ◌∷◌, Bool, true, false, cond, Option, Some, None, Ordering, Less, Equal, Greater, is_eq, refl, sym, ap, ◌∙◌, subst}
+use Rattle.std.proofs.Common.{◌≡◌, ℕ, List, [], ◌∷◌, Bool, true, false, cond, Option, Some, None, Ordering, Less, Equal, Greater, is_eq, refl, sym, ap, ◌∙◌, subst}
 use Rattle.std.specs.List.Sorted.{IsStrictlySortedBy}
 use Rattle.std.specs.Ordering.{match_ordering}
 use Rattle.std.specs.Str.{bytes_eq}
@@ -19,11 +19,6 @@ abbrev Row : Type 0
 Row = List ℕ × List ℕ
 
 -- ---- one key
-
-not_eq : (o : Ordering) → o ≢ Equal → is_eq o ≡ false
-not_eq Less h = refl
-not_eq Equal h = absurd (h refl)
-not_eq Greater h = refl
 
 pub is_Equal : (o : Ordering) → is_eq o ≡ true → o ≡ Equal
 is_Equal Less h = cc

@@ -6,11 +6,10 @@ use Rattle.std.proofs.lemmas.Bool.{and_parts}
 use Rattle.std.proofs.lemmas.Slice.Eq.{bytes_eq-Decides}
 use Rattle.ow_value.specs.Value.{Pairs, AreParams}
 use Rattle.ow_names.specs.FullName.{IsFullName}
-use Rattle.ow_names.specs.Name.{IsName, first_fault}
-use Rattle.ow_names.specs.Path.{home, named_in, or_fault}
+use Rattle.ow_names.specs.Name.{IsName}
+use Rattle.ow_names.specs.Path.{home, named_in}
 use Rattle.ow_names.specs.declared.full.FullName.{FullName}
-use Rattle.ow_names.specs.declared.refusal.NameRefusal.{NameRefusal}
-use Rattle.ow_names.proofs.NameLaws.{first_fault-name}
+use Rattle.ow_names.proofs.PathLaws.{no_fault}
 use Rattle.ow_entity.specs.Body.{binding_given, draft_of, draft_unless, entity_of, or_bad_name}
 use Rattle.ow_entity.specs.Chain.{and_then, first_some, result_map}
 use Rattle.ow_entity.specs.Finish.{finished_row, row_of_body}
@@ -28,9 +27,6 @@ use Rattle.ow_entity.proofs.PairLaws.{pairs_given-value}
 use Rattle.ow_keep.specs.Allowed.{is_binding}
 
 -- ---- its binding
-
-no_fault : (s : List ℕ) (r : Result FullName NameRefusal) → IsName s → or_fault (first_fault s) r ≡ r
-no_fault s r h = ap (λ o. or_fault o r) (first_fault-name s h)
 
 named_back : (here namespace name : List ℕ) → IsName namespace → IsName name → home here namespace ≡ namespace
     → named_in here namespace None name ≡ Ok (record { namespace = namespace; «package» = None; name = name })

@@ -81,11 +81,11 @@ by_key_all P (i ∷ is) all = put_all P i (by_key is) all.0 (by_key_all P is all
 
 -- ---- for each element
 
-first_of : {X : Type 0} (P : X → Type 0) (xs ys : List X) → AllByRecursion P (xs ++ ys) → AllByRecursion P xs
+pub first_of : {X : Type 0} (P : X → Type 0) (xs ys : List X) → AllByRecursion P (xs ++ ys) → AllByRecursion P xs
 first_of P [] ys all = tt
 first_of P (x ∷ xs) ys all = (all.0, first_of P xs ys all.1)
 
-rest_of : {X : Type 0} (P : X → Type 0) (xs ys : List X) → AllByRecursion P (xs ++ ys) → AllByRecursion P ys
+pub rest_of : {X : Type 0} (P : X → Type 0) (xs ys : List X) → AllByRecursion P (xs ++ ys) → AllByRecursion P ys
 rest_of P [] ys all = all
 rest_of P (x ∷ xs) ys all = rest_of P xs ys all.1
 
@@ -93,7 +93,7 @@ from_mapped : {X Y : Type 0} (P : Y → Type 0) (f : X → Y) (xs : List X) → 
 from_mapped P f [] all = tt
 from_mapped P f (x ∷ xs) all = (all.0, from_mapped P f xs all.1)
 
-to_mapped : {X Y : Type 0} (P : Y → Type 0) (f : X → Y) (xs : List X) → AllByRecursion (λ x. P (f x)) xs → AllByRecursion P (map f xs)
+pub to_mapped : {X Y : Type 0} (P : Y → Type 0) (f : X → Y) (xs : List X) → AllByRecursion (λ x. P (f x)) xs → AllByRecursion P (map f xs)
 to_mapped P f [] all = tt
 to_mapped P f (x ∷ xs) all = (all.0, to_mapped P f xs all.1)
 

@@ -1,10 +1,10 @@
 -- Ids that stand nowhere in a list, and keys that therefore don't.
 use Rattle.std.proofs.Common.{◌≡◌, ◌==◌, ◌+◌, ◌≤◌, ℕ, Bool, true, false, cond, List, [], ◌∷◌, ◌++◌, map, refl, ap, arith}
 use Rattle.std.specs.List.{AllByRecursion}
-use Rattle.std.proofs.lemmas.Bool.Decides.{nat_tests}
 use Rattle.ow_floor.specs.declared.activations.Open.{Open}
 use Rattle.ow_floor.specs.Laws.{times}
 use Rattle.ow_floor.specs.View.{ids_of, put_id, is_in}
+use Rattle.ow_floor.proofs.Soundness.{apart_at}
 use Rattle.ow_items.specs.Item.{done_key, open_key}
 use Rattle.ow_items.specs.Lists.{Lacks}
 use Rattle.ow_kept.proofs.Keys.{done_other, open_other}
@@ -17,18 +17,11 @@ use Rattle.ow_records.specs.Id.{same_id}
 use Rattle.ow_records.specs.Known.{IsId}
 use Rattle.ow_records.specs.Unrecorded.{unrecorded_of}
 
-apart_by : (x y : Id) (b : Bool) (n : ℕ → ℕ) → (x.namespace == y.namespace) ≡ b → x.count ≡ n x.namespace + 1 → y.count ≤ n y.namespace → same_id x y ≡ false
-apart_by x y true n e new old =
-    let same : x.namespace ≡ y.namespace = grind (arith, nat_tests) in
-    let last : n x.namespace ≡ n y.namespace = ap n same in
-    grind (arith, nat_tests)
-apart_by x y false n e new old = rw e refl
-
 -- an id that is behind the last of its namespace is none that was drawn
 pub new_nowhere : (x : Id) (xs : List Activation) (n : ℕ → ℕ) → x.count ≡ n x.namespace + 1 → AllByRecursion (λ a. a.id.count ≤ n a.id.namespace) xs → times x (map (λ a. a.id) xs) ≡ 0
 new_nowhere x [] n new drawn = refl
 new_nowhere x (a ∷ xs) n new drawn =
-    let here : same_id x a.id ≡ false = apart_by x a.id (x.namespace == a.id.namespace) n refl new drawn.0 in
+    let here : same_id x a.id ≡ false = apart_at x a.id (x.namespace == a.id.namespace) n refl new drawn.0 in
     let rest = new_nowhere x xs n new drawn.1 in
     rw here (omega (arith, rest))
 

@@ -19,7 +19,7 @@ picked_by : {X : Type 0} (P : X → Type 0) (p : X → Bool) (x : X) (xs : List 
 picked_by P p x xs true h k = (h, k)
 picked_by P p x xs false h k = k
 
-picked : {X : Type 0} (P : X → Type 0) (p : X → Bool) (xs : List X) → AllByRecursion P xs → AllByRecursion P (filter p xs)
+pub picked : {X : Type 0} (P : X → Type 0) (p : X → Bool) (xs : List X) → AllByRecursion P xs → AllByRecursion P (filter p xs)
 picked P p [] h = tt
 picked P p (x ∷ xs) h = picked_by P p x xs (p x) h.0 (picked P p xs h.1)
 

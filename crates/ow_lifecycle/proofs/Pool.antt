@@ -20,14 +20,14 @@ use Rattle.ow_lifecycle.specs.Fitting.{AreFit, ArePlaced, AreWithinPool, IsPlace
 use Rattle.ow_lifecycle.proofs.Changing.{begin, changes}
 
 -- vacant slots are within every pool
-none_held : (slots : List Slot) → memory_held (emptied slots) ≡ 0
+pub none_held : (slots : List Slot) → memory_held (emptied slots) ≡ 0
 none_held [] = refl
 none_held (s ∷ slots) =
     let rest = none_held slots in
     let sum = sum_by-cons (λ (x : Slot). state_memory x.state) (with_state (λ state. Vacant) s) (emptied slots) in
     omega (arith, rest, sum)
 
-all_vacant : (slots : List Slot) → AllByRecursion (λ (s : Slot). IsSized s.state) (emptied slots)
+pub all_vacant : (slots : List Slot) → AllByRecursion (λ (s : Slot). IsSized s.state) (emptied slots)
 all_vacant [] = tt
 all_vacant (s ∷ slots) = (tt, all_vacant slots)
 

@@ -62,7 +62,7 @@ none_emptied run [] = refl
 none_emptied run (s ∷ slots) = none_emptied run slots
 
 -- what no event but an order, an answer and a loss makes of it
-begun_same : (run at : ℕ) (s : State) → runs run (begun_state at s) ≡ runs run s
+pub begun_same : (run at : ℕ) (s : State) → runs run (begun_state at s) ≡ runs run s
 begun_same run at Vacant = refl
 begun_same run at (Opening r kind memory) = refl
 begun_same run at (Prewarmed kind memory) = refl
@@ -70,7 +70,7 @@ begun_same run at (Busy w) = refl
 begun_same run at (Idle key last) = refl
 begun_same run at (Closing memory) = refl
 
-overrun_same : (run at : ℕ) (s : State) → runs run (overrun_state at s) ≡ runs run s
+pub overrun_same : (run at : ℕ) (s : State) → runs run (overrun_state at s) ≡ runs run s
 overrun_same run at Vacant = refl
 overrun_same run at (Opening r kind memory) = refl
 overrun_same run at (Prewarmed kind memory) = refl
@@ -78,7 +78,7 @@ overrun_same run at (Busy w) = refl
 overrun_same run at (Idle key last) = refl
 overrun_same run at (Closing memory) = refl
 
-removed_same : (run : ℕ) (s : State) → runs run (removed_state s) ≡ runs run s
+pub removed_same : (run : ℕ) (s : State) → runs run (removed_state s) ≡ runs run s
 removed_same run Vacant = refl
 removed_same run (Opening r kind memory) = refl
 removed_same run (Prewarmed kind memory) = refl
@@ -94,7 +94,7 @@ gone_same run (Busy w) = refl
 gone_same run (Idle key last) = refl
 gone_same run (Closing memory) = refl
 
-after_gone_same : (run generation : ℕ) (s : Slot) → runs run (after_gone generation s).state ≡ runs run s.state
+pub after_gone_same : (run generation : ℕ) (s : Slot) → runs run (after_gone generation s).state ≡ runs run s.state
 after_gone_same run generation s = by_test (goes generation s)
   where
     by_test : (b : Bool) → runs run (cond b (with_state gone_state s) s).state ≡ runs run s.state
@@ -124,7 +124,7 @@ prewarmed_free run (Busy w) h = cc
 prewarmed_free run (Idle key last) h = refl
 prewarmed_free run (Closing memory) h = refl
 
-vacant_free : (run : ℕ) (s : State) → is_vacant s ≡ true → runs run s ≡ false
+pub vacant_free : (run : ℕ) (s : State) → is_vacant s ≡ true → runs run s ≡ false
 vacant_free run Vacant h = refl
 vacant_free run (Opening r kind memory) h = refl
 vacant_free run (Prewarmed kind memory) h = refl
@@ -132,7 +132,7 @@ vacant_free run (Busy w) h = cc
 vacant_free run (Idle key last) h = refl
 vacant_free run (Closing memory) h = refl
 
-start_free : (start : Start) (run : ℕ) (s : Slot) → StartFits start s → runs run s.state ≡ false
+pub start_free : (start : Start) (run : ℕ) (s : Slot) → StartFits start s → runs run s.state ≡ false
 start_free starts.Warm run s fits = idle_free run s.state fits
 start_free starts.Prewarmed run s fits = prewarmed_free run s.state fits
 start_free starts.Cold run s fits = vacant_free run s.state fits.0

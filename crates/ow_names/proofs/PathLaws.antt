@@ -54,7 +54,7 @@ parts-full_text n h =
     ∙ ap (λ x. [] ∷ x) (slice_split_at is_slash n.namespace 47 (local_text n.package n.name) (no_slash n.namespace h.namespace) refl)
     ∙ ap (λ x. [] ∷ n.namespace ∷ x) (parts-local n.package n.name h.inside h.name)
 
-no_fault : (s : List ℕ) (r : Result FullName NameRefusal) → IsName s → or_fault (first_fault s) r ≡ r
+pub no_fault : (s : List ℕ) (r : Result FullName NameRefusal) → IsName s → or_fault (first_fault s) r ≡ r
 no_fault s r h = ap (λ o. or_fault o r) (first_fault-name s h)
 
 of_local : (here ns : List ℕ) (pack : Option (List ℕ)) (name : List ℕ) → IsName ns → IfSome pack IsName → IsName name
@@ -82,7 +82,7 @@ stays x = by_test (bytes_eq x (codes "_")) x (codes "_") refl
 abbrev ok : FullName → Result FullName NameRefusal
 ok n = Ok n
 
-full_text-inj : (a b : FullName) → IsFullName a → IsFullName b → full_text a ≡ full_text b → a ≡ b
+pub full_text-inj : (a b : FullName) → IsFullName a → IsFullName b → full_text a ≡ full_text b → a ≡ b
 full_text-inj a b ha hb e =
     let p : resolved (codes "_") (full_text a) ≡ Ok a = reads_back (codes "_") a ha (stays a.namespace) in
     let q : resolved (codes "_") (full_text b) ≡ Ok b = reads_back (codes "_") b hb (stays b.namespace) in

@@ -4,8 +4,6 @@
 mod asking;
 mod ending;
 mod talking;
-#[cfg(test)]
-mod tests;
 
 pub use ending::Ending;
 pub use talking::connection;

@@ -1,5 +1,5 @@
 -- What removals free.
-use Rattle.std.proofs.Common.{◌≡◌, ◌==◌, ◌+◌, ◌-◌, ◌≤◌, ◌<◌, ◌||◌, ◌++◌, ℕ, suc, Bool, true, false, cond, List, [], ◌∷◌, Option, take, refl, sym, arith}
+use Rattle.std.proofs.Common.{◌≡◌, ◌==◌, ◌+◌, ◌-◌, ◌≤◌, ◌<◌, ◌||◌, ◌++◌, ℕ, suc, Bool, true, false, cond, List, [], ◌∷◌, take, refl, sym, arith}
 use Rattle.std.specs.Prelude.{nat_le}
 use Rattle.std.specs.List.{AllByRecursion}
 use Rattle.std.proofs.lemmas.Bool.Decides.{nat_tests}
@@ -44,10 +44,6 @@ Facts n slots c = (n ≤ c.slot) × Frees n slots c
 or_false : (b : Bool) → (b || false) ≡ b
 or_false true = refl
 or_false false = refl
-
-or_true : (b : Bool) → (b || true) ≡ true
-or_true true = refl
-or_true false = refl
 
 lift_fact : (n : ℕ) (s : Slot) (slots : List Slot) (c : Candidate) → Facts (suc n) slots c → Facts n (s ∷ slots) c
 lift_fact n s slots c f = (
@@ -201,10 +197,6 @@ shortest_freeing slots memory pool rest passes done (c ∷ left) test is all unm
 
 le_true : (a b : ℕ) → a ≤ b → nat_le a b ≡ true
 le_true a b le = grind (arith, nat_tests)
-
-same_tail : (a b : Bool) (x : Option (List Candidate)) (y z : Option (List Candidate)) → (a ≡ false → y ≡ z) → cond a x y ≡ cond a x z
-same_tail true b x y z e = refl
-same_tail false b x y z e = e refl
 
 -- four are enough
 pub four_enough : (rest memory pool : ℕ) (done left : List Candidate) → rest ≤ pool → memory ≤ 512 → AllByRecursion (λ c. 128 ≤ c.memory) left → Holds rest left

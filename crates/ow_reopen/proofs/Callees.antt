@@ -16,7 +16,7 @@ use Rattle.ow_packages.specs.declared.effective_action.Effective.{Effective}
 use Rattle.ow_tables.specs.Rows.{is_row, standing}
 use Rattle.ow_reopen.specs.Lasting.{AreWritable, IsLastingRow}
 use Rattle.ow_reopen.proofs.Each.{all_found}
-use Rattle.ow_reopen.proofs.Names.{some_if, some_mapped, some_then}
+use Rattle.ow_tenant.proofs.HomeLaws.{some_if, some_mapped, some_then}
 
 found_lasts : (p : Row → Bool) (rs : List Row) → AreWritable rs → IfSome (find p rs) IsLastingRow
 found_lasts p rs all = IfSome_then (find p rs) (all_found IsLastingRow p rs all) (λ r h. h.0)

@@ -1,5 +1,5 @@
 -- What is kept of rows and a trace that last, lasts.
-use Rattle.std.proofs.Common.{◌≡◌, ◌≤◌, ◌-◌, ◌&&◌, ℕ, true, List, [], ◌∷◌, ◌++◌, filter, map, max, nat_le, Option, Some, None, IfSome, refl, arith}
+use Rattle.std.proofs.Common.{◌≡◌, ◌≤◌, ◌-◌, ◌&&◌, ℕ, true, List, [], ◌∷◌, filter, map, max, nat_le, Option, Some, None, IfSome, refl, arith}
 use Rattle.std.specs.List.{AllByRecursion, cons_option, filter_map}
 use Rattle.std.proofs.lemmas.Bool.{and_from, le-leb}
 use Rattle.ow_entity.specs.declared.rows.Row.{Row}
@@ -16,7 +16,9 @@ use Rattle.ow_keep.specs.Allowed.{are_durations, is_called, is_duration, is_mome
 use Rattle.ow_keep.specs.declared.allowed.TheConstants.{GREATEST_MOMENT}
 use Rattle.ow_keep.proofs.Opens.{opens_shallow}
 use Rattle.ow_kept.specs.Kept.{count_item, is_kept, unrecorded}
+use Rattle.ow_kept.proofs.Allowing.{first_of, rest_of, to_mapped}
 use Rattle.ow_kept.proofs.Ids.{all_both, all_put}
+use Rattle.ow_kept.proofs.Knowing.{picked}
 use Rattle.ow_kept.proofs.Shallow.{ends_shallow}
 use Rattle.ow_records.specs.declared.activations.Activation.{Activation}
 use Rattle.ow_records.specs.declared.ids.Id.{Id}
@@ -28,21 +30,6 @@ use Rattle.ow_records.specs.Record.{init_of, start_of, wait_of}
 use Rattle.ow_records.specs.Unrecorded.{unrecorded_of}
 use Rattle.ow_reopen.specs.Lasting.{AreEarly, IsDue, IsEarly, IsLasting, IsLastingRow, IsTimely}
 use Rattle.ow_reopen.specs.Laws.{KeptLasts}
-use Rattle.ow_reopen.proofs.Each.{all_kept}
-
--- ---- for each element
-
-first_of : {X : Type 0} (P : X → Type 0) (xs ys : List X) → AllByRecursion P (xs ++ ys) → AllByRecursion P xs
-first_of P [] ys all = tt
-first_of P (x ∷ xs) ys all = (all.0, first_of P xs ys all.1)
-
-rest_of : {X : Type 0} (P : X → Type 0) (xs ys : List X) → AllByRecursion P (xs ++ ys) → AllByRecursion P ys
-rest_of P [] ys all = all
-rest_of P (x ∷ xs) ys all = rest_of P xs ys all.1
-
-to_mapped : {X Y : Type 0} (P : Y → Type 0) (f : X → Y) (xs : List X) → AllByRecursion (λ x. P (f x)) xs → AllByRecursion P (map f xs)
-to_mapped P f [] all = tt
-to_mapped P f (x ∷ xs) all = (all.0, to_mapped P f xs all.1)
 
 -- ---- counts
 
@@ -186,7 +173,7 @@ pub kept_lasts : KeptLasts
 kept_lasts rs T sound writable early = (
   record { shallow = refl; fit = refl },
   all_both IsLasting (map count_item (drawn T)) _ (to_mapped IsLasting count_item (drawn T) (all_more (λ (id : Id). 1 ≤ id.count) (λ id. IsLasting (count_item id)) (drawn T) count_lasts (all_counted T early)))
-      (all_both IsLasting (map items.Row (filter is_kept rs)) _ (to_mapped IsLasting items.Row (filter is_kept rs) (all_kept (λ r. IsLasting (items.Row r)) is_kept rs (all_more IsLastingRow (λ r. IsLasting (items.Row r)) rs (λ r h. h.lasts) writable)))
+      (all_both IsLasting (map items.Row (filter is_kept rs)) _ (to_mapped IsLasting items.Row (filter is_kept rs) (picked (λ r. IsLasting (items.Row r)) is_kept rs (all_more IsLastingRow (λ r. IsLasting (items.Row r)) rs (λ r h. h.lasts) writable)))
       (all_both IsLasting (map items.Open (unrecorded T)) (map items.Done (all_records T)) (to_mapped IsLasting items.Open (unrecorded T) (opens_last T early))
       (to_mapped IsLasting items.Done (all_records T) (all_both (λ r. IsLasting (items.Done r)) (resumed T) (records T) (all_taken T early) (records_last T sound early))))),
 )

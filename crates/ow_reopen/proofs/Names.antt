@@ -1,16 +1,15 @@
 -- Names that are read are names by their parts, and the row of a body has the name that it is read under.
-use Rattle.std.proofs.Common.{◌≡◌, ◌==◌, ◌+◌, ℕ, List, [], ◌∷◌, Bool, true, false, cond, codes, drop, is_some, IfSome, IfOk, Option, Some, None, option_map, option_and_then, Result, Ok, Err, refl, sym, ap, ◌∙◌, subst}
+use Rattle.std.proofs.Common.{◌≡◌, ◌==◌, ◌+◌, ℕ, List, [], ◌∷◌, Bool, true, false, cond, codes, drop, is_some, IfSome, IfOk, Option, Some, None, option_map, Result, Ok, Err, refl, sym, ◌∙◌, subst}
 use Rattle.std.specs.List.{AllByRecursion}
 use Rattle.std.specs.Str.{bytes_eq}
-use Rattle.ow_value.specs.Value.{V, null, boolean, whole, text, list, object, text_cmp}
+use Rattle.ow_value.specs.Value.{V, null, boolean, whole, text, list, object}
 use Rattle.ow_value.specs.Decimal.{digits_of}
-use Rattle.ow_names.specs.FullName.{IsFullName, full_text}
+use Rattle.ow_names.specs.FullName.{IsFullName}
 use Rattle.ow_names.specs.Name.{IsName, first_fault}
 use Rattle.ow_names.specs.Path.{home, named, named_in, of_full_text, of_local, of_rooted, or_fault, parts, within}
 use Rattle.ow_names.specs.declared.full.FullName.{FullName}
 use Rattle.ow_names.specs.declared.refusal.NameRefusal.{NameRefusal}
 use Rattle.ow_names.proofs.NameLaws.{name_if_no_fault}
-use Rattle.ow_names.proofs.PathLaws.{equal_names}
 use Rattle.ow_entity.specs.Body.{action_draft, draft_of, draft_unless, entity_of, first_refusal, package_draft}
 use Rattle.ow_entity.specs.Chain.{and_then, result_map}
 use Rattle.ow_entity.specs.Finish.{action_made, action_over, finished_row, new_action, old_action, old_package, package_made, package_over, row_of_body}
@@ -41,12 +40,10 @@ use Rattle.ow_records.specs.FieldsIn.{name_read, version_in}
 use Rattle.ow_records.specs.Id.{hex_number}
 use Rattle.ow_records.specs.declared.record.Record.{Record}
 use Rattle.ow_records.specs.declared.unrecorded.Unrecorded.{Unrecorded}
+use Rattle.ow_tenant.proofs.HomeLaws.{some_if, some_mapped, some_then}
 use Rattle.ow_decide.proofs.Results.{if_ok_map}
 
 -- ---- what holds of what is there, and of what isn't refused
-
-pub from_ok : {A E : Type 0} (P : A → Type 0) (r : Result A E) (x : A) → r ≡ Ok x → IfOk r P → P x
-from_ok {A = A} {E = E} P r x e h = subst (λ (y : Result A E). IfOk y P) e h
 
 pub after : {A B E : Type 0} (M : A → Type 0) (N : B → Type 0) (r : Result A E) (f : A → Result B E) → IfOk r M → ((x : A) → M x → IfOk (f x) N) → IfOk (and_then r f) N
 after M N (Ok x) f made keeps = keeps x made
@@ -67,18 +64,6 @@ ok_unless P false e x h = h
 ok_if : {A E : Type 0} (P : A → Type 0) (b : Bool) (e : E) (x : A) → P x → IfOk (cond b (Ok x) (Err e)) P
 ok_if P true e x h = h
 ok_if P false e x h = tt
-
-pub some_if : {A : Type 0} (P : A → Type 0) (b : Bool) (o e : Option A) → IfSome o P → IfSome e P → IfSome (cond b o e) P
-some_if P true o e first second = first
-some_if P false o e first second = second
-
-pub some_mapped : {A B : Type 0} (P : A → Type 0) (Q : B → Type 0) (f : A → B) (o : Option A) → ((x : A) → P x → Q (f x)) → IfSome o P → IfSome (option_map f o) Q
-some_mapped P Q f None g h = tt
-some_mapped P Q f (Some x) g h = g x h
-
-pub some_then : {A B : Type 0} (P : A → Type 0) (Q : B → Type 0) (f : A → Option B) (o : Option A) → ((x : A) → P x → IfSome (f x) Q) → IfSome o P → IfSome (option_and_then f o) Q
-some_then P Q f None g h = tt
-some_then P Q f (Some x) g h = g x h
 
 -- ---- names
 
@@ -128,10 +113,6 @@ read_full (Err e) h = tt
 -- what a full text is read as
 full_read : (s : List ℕ) → IfSome (full_name_of s) IsFullName
 full_read s = read_full (of_full_text s) (rooted_full (parts s))
-
--- two such names with one text are one
-pub same_name : (a b : FullName) → IsFullName a → IsFullName b → full_text a ≡ full_text b → a ≡ b
-same_name a b ha hb e = (equal_names a b _ ha hb refl).0 (ap (λ t. text_cmp t (full_text b)) e ∙ (equal_names b b _ hb hb refl).1 refl)
 
 -- ---- the rows of drafts, and the drafts of bodies
 

@@ -1,5 +1,5 @@
 -- The rows that last still do behind what is decided.
-use Rattle.std.proofs.Common.{◌≡◌, ◌≤◌, ◌&&◌, ℕ, List, [], ◌∷◌, Bool, true, false, cond, codes, map, nat_le, not, IfSome, IfOk, Option, Some, None, Result, Ok, Err, Ordering, Less, Equal, Greater, refl, sym, ◌∙◌, subst, arith}
+use Rattle.std.proofs.Common.{◌≡◌, ◌≤◌, ◌&&◌, ℕ, List, [], ◌∷◌, Bool, true, false, cond, map, nat_le, not, IfSome, IfOk, Option, Some, None, Result, Ok, Err, Ordering, Less, Equal, Greater, refl, sym, ◌∙◌, subst, arith}
 use Rattle.std.specs.List.{AllByRecursion}
 use Rattle.std.specs.Ordering.{match_ordering}
 use Rattle.std.proofs.lemmas.Bool.{and_parts, leb-true}
@@ -15,7 +15,7 @@ use Rattle.ow_names.specs.Name.{IsName, first_fault}
 use Rattle.ow_names.specs.Path.{home, named, named_in, or_fault}
 use Rattle.ow_names.specs.declared.full.FullName.{FullName}
 use Rattle.ow_names.specs.declared.refusal.NameRefusal.{NameRefusal}
-use Rattle.ow_names.proofs.NameLaws.{name_if_no_fault}
+use Rattle.ow_names.proofs.PathLaws.{full_text-inj}
 use Rattle.ow_entity.specs.Body.{entity_of}
 use Rattle.ow_entity.specs.Finish.{finished_row}
 use Rattle.ow_entity.specs.Row.{draft_kind, draft_name, name_of}
@@ -51,13 +51,16 @@ use Rattle.ow_keep.specs.Kept.{MayStand}
 use Rattle.ow_keep.specs.Split.{Parts as KeptParts, split}
 use Rattle.ow_keep.proofs.Whole.{judged-sound}
 use Rattle.ow_kept.specs.Opening.{resumed_records}
-use Rattle.ow_tables.specs.Builtin.{builtin, echo, is_builtin, utils}
+use Rattle.ow_kept.proofs.Knowing.{picked}
+use Rattle.ow_tables.specs.Builtin.{builtin, is_builtin}
 use Rattle.ow_tables.specs.Refusal.{old_row}
 use Rattle.ow_tables.specs.Rows.{is_row, key, key_of, with_row, without}
+use Rattle.ow_tables.proofs.BuiltinLaws.{echo_full, utils_full}
 use Rattle.ow_tenant.specs.ByText.{ByText, value_at}
 use Rattle.ow_tenant.specs.Table.{Table}
 use Rattle.ow_tenant.specs.Tenants.{holder_of}
 use Rattle.ow_tenant.specs.declared.entries.Holder.{Holder}
+use Rattle.ow_tenant.proofs.HomeLaws.{some_if}
 use Rattle.ow_decide.specs.Asking.{ask_decision, put_of, request_done}
 use Rattle.ow_decide.specs.Calling.{call_decision, call_plan}
 use Rattle.ow_decide.specs.Decision.{all_changed}
@@ -69,20 +72,15 @@ use Rattle.ow_decide.specs.Tenants.{asker}
 use Rattle.ow_decide.specs.declared.events.Event.{Event}
 use Rattle.ow_decide.specs.declared.events.Event.TheVariants as events
 use Rattle.ow_decide.proofs.RowLaws.{request_rows}
+use Rattle.ow_hall.proofs.Joined.{ok_of}
 use Rattle.ow_reopen.specs.Bodies.{RowsOfBodies}
 use Rattle.ow_reopen.specs.RowsKept.{IsPlaced}
 use Rattle.ow_reopen.specs.Lasting.{AreHomes, AreWritable, IsLasting, IsLastingRow}
 use Rattle.ow_reopen.specs.Laws.{RowsLast}
-use Rattle.ow_reopen.proofs.Each.{all_found, all_kept}
-use Rattle.ow_reopen.proofs.Names.{IsNamedItem, after, after_any, entity_named, finished_named, from_ok, judged_items, named_in_full, same_name, some_if}
+use Rattle.ow_reopen.proofs.Each.{all_found}
+use Rattle.ow_reopen.proofs.Names.{IsNamedItem, after, after_any, entity_named, finished_named, judged_items, named_in_full}
 
 -- ---- the rows from the start
-
-echo_full : IsFullName echo.name
-echo_full = record { namespace = name_if_no_fault (codes "whisk.system") refl; inside = name_if_no_fault (codes "utils") refl; name = name_if_no_fault (codes "echo") refl }
-
-utils_full : IsFullName utils.name
-utils_full = record { namespace = name_if_no_fault (codes "whisk.system") refl; inside = tt; name = name_if_no_fault (codes "utils") refl }
 
 pub builtin_writable : AreWritable builtin
 unfolding row_value
@@ -285,7 +283,7 @@ tail_same a b s t e = cc
 
 found_named : (kind : EntityKind) (name : FullName) (r : Row) → IsFullName name → IsFullName (name_of r) → is_row kind name r ≡ true → name_of r ≡ name
 found_named kind name r full named e =
-    same_name (name_of r) name named full (tail_same _ _ (full_text name) (full_text (name_of r)) ((bytes_eq-Decides (key kind name) (key_of r)).0 e))
+    full_text-inj (name_of r) name named full (tail_same _ _ (full_text name) (full_text (name_of r)) ((bytes_eq-Decides (key kind name) (key_of r)).0 e))
 
 old_lasts : (d : Draft) (name : FullName) (rs : List Row) → IsFullName name → draft_name d ≡ name → AreWritable rs → IfSome (old_row d rs) (λ (o : Row). IsLasting (items.Row o) × (name_of o ≡ name))
 old_lasts d name rs full e all =
@@ -314,8 +312,8 @@ asker_home t key homes = some_or_else (λ (h : Holder). IsName h.home) (holder_o
 module _ (core : RowsOfBodies) (S : Sight) (all : AreWritable S.rows) where
   made : (d : Draft) (r : Row) → IsGiven d → finished_row d (old_row d S.rows) ≡ Ok r → IsLastingRow r
   made d r g e =
-      let drafted : draft_name d ≡ g.name = from_ok (λ (x : Draft). draft_name x ≡ g.name) (entity_of g.kind g.name g.body) d g.drafted (entity_named g.kind g.name g.body) in
-      let called_so : name_of r ≡ draft_name d = from_ok (λ (x : Row). name_of x ≡ draft_name d) (finished_row d (old_row d S.rows)) r e (finished_named d (old_row d S.rows)) in
+      let drafted : draft_name d ≡ g.name = ok_of (λ (x : Draft). draft_name x ≡ g.name) (entity_of g.kind g.name g.body) d g.drafted (entity_named g.kind g.name g.body) in
+      let called_so : name_of r ≡ draft_name d = ok_of (λ (x : Row). name_of x ≡ draft_name d) (finished_row d (old_row d S.rows)) r e (finished_named d (old_row d S.rows)) in
       record {
         lasts = core g.kind g.name g.body d (old_row d S.rows) r g.placed g.within g.drafted e (old_lasts d g.name S.rows g.full drafted all);
         named = subst IsFullName (sym (called_so ∙ drafted)) g.full;
@@ -325,7 +323,7 @@ module _ (core : RowsOfBodies) (S : Sight) (all : AreWritable S.rows) where
   put_good c d r given is e = all_with IsLastingRow r S.rows (made d r (subst IsGivenSome is given) e) all
 
   removed_good : (kind : EntityKind) (name : FullName) → AreWritable (without kind name S.rows)
-  removed_good kind name = all_kept IsLastingRow (λ (r : Row). not (is_row kind name r)) S.rows all
+  removed_good kind name = picked IsLastingRow (λ (r : Row). not (is_row kind name r)) S.rows all
 
   asked_rows : (p : Parts) → AreHomes S.tenants → AreWritable (all_changed (ask_decision S.moment (request_done S p)).changes S.rows)
   asked_rows p homes =

@@ -1,6 +1,7 @@
 // The runner of plain code.
 ghost use Rattle.std.specs.Prelude.{◌≡◌, ◌↔◌, List, ℕ, OnOk, IfOk, Some, codes};
 ghost use Rattle.ow_value.specs.Value.{Pairs};
+ghost use Rattle.ow_traits.specs.Runner.{no_calls};
 ghost use Rattle.ow_runners.specs.Plain.{PlainGives, PlainStarts};
 
 use crate::plain_cases::PlainCases;
@@ -10,7 +11,9 @@ use std::alloc::Global;
 
 /// Runs plain code itself, and no programs. It never fails.
 #[derive(Drop)]
-pub struct PlainRunner {}
+pub struct PlainRunner {
+    runs: u64,
+}
 
 /// What a run of plain code takes place in: it keeps the cases of the code that it saw last.
 #[derive(Drop)]
@@ -47,20 +50,20 @@ impl PlainRunner {
         ensures gives { (kind : Kind) (code : List ℕ) (params : Pairs) (reply : RunReply)
             → ((⟦<PlainRunner as Runner>⟧.gives result).replies kind code params reply ↔ PlainGives kind code params reply) }
         ensures starts { (kind : Kind) → ((⟦<PlainRunner as Runner>⟧.gives result).starts kind ↔ PlainStarts kind) }
-        ensures faults { ⟦<PlainRunner as Runner>⟧.faults result ≡ 0 }
+        ensures tally { ⟦<PlainRunner as Runner>⟧.tally result ≡ no_calls }
     {
-        PlainRunner {}
+        PlainRunner { runs: 0 }
     }
 }
 
 impl Runner for PlainRunner {
     type Container = PlainContainer;
 
-    ghost use Rattle.ow_runners.specs.Plain.{plain_giving};
+    ghost use Rattle.ow_runners.specs.Plain.{plain_giving, plain_tally};
 
     ghost gives = { λ r. plain_giving };
 
-    ghost faults = { λ r. 0 };
+    ghost tally = { λ r. plain_tally r.runs };
 
     fn faults(&self) -> u64 {
         0
@@ -99,6 +102,7 @@ impl Runner for PlainRunner {
         code: &Str,
         params: &Params,
     ) -> Result<RunReply, NoMemory> {
+        self.runs = self.runs.saturating_add(1);
         match kind {
             Kind::Plain => answer(alloc, c, code, params),
             Kind::Program => no_program(alloc),

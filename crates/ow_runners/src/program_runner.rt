@@ -2,6 +2,7 @@
 ghost use Rattle.std.specs.Prelude.{◌≡◌, ◌↔◌, ◌≢◌, List, ℕ, IfOk, codes, option_map};
 ghost use Rattle.ow_value.specs.Text.{compact};
 ghost use Rattle.ow_value.specs.Value.{Pairs, members_of, object};
+ghost use Rattle.ow_traits.specs.Runner.{no_calls};
 ghost use Rattle.ow_runners.specs.Program.{PathGives, ProgramGives, path_of};
 
 use crate::plain_runner::{PlainContainer, answer};
@@ -20,6 +21,7 @@ pub struct ProgramRunner<R: Processes<Started = SystemProcess> + Threads + Drop>
     // The name and the path of each program.
     programs: Pairs,
     faults: u64,
+    runs: u64,
 }
 
 impl<R: Processes<Started = SystemProcess> + Threads + Drop> ProgramRunner<R> {
@@ -31,12 +33,13 @@ impl<R: Processes<Started = SystemProcess> + Threads + Drop> ProgramRunner<R> {
         ensures gives { (kind : Kind) (code : List ℕ) (params : Pairs) (reply : RunReply)
             → ((⟦<ProgramRunner<R> as Runner>⟧.gives result).replies kind code params reply ↔ ProgramGives programs kind code params reply) }
         ensures starts { (kind : Kind) → (⟦<ProgramRunner<R> as Runner>⟧.gives result).starts kind }
-        ensures faults { ⟦<ProgramRunner<R> as Runner>⟧.faults result ≡ 0 }
+        ensures tally { ⟦<ProgramRunner<R> as Runner>⟧.tally result ≡ no_calls }
     {
         ProgramRunner {
             rt,
             programs,
             faults: 0,
+            runs: 0,
         }
     }
 
@@ -70,7 +73,7 @@ impl<R: Processes<Started = SystemProcess> + Threads + Drop> Runner for ProgramR
 
     ghost gives = { λ r. program_giving r.programs };
 
-    ghost faults = { λ r. r.faults };
+    ghost tally = { λ r. record { faults = r.faults; runs = r.runs } };
 
     fn faults(&self) -> u64 {
         self.faults
@@ -112,6 +115,7 @@ impl<R: Processes<Started = SystemProcess> + Threads + Drop> Runner for ProgramR
         code: &Str,
         params: &Params,
     ) -> Result<RunReply, NoMemory> {
+        self.runs = self.runs.saturating_add(1);
         match kind {
             Kind::Plain => answer(alloc, c, code, params),
             Kind::Program => {

@@ -1,7 +1,7 @@
 -- The threads that are begun before anybody is accepted, and what they come to.
 use Rattle.std.proofs.Common.{◌≡◌, ◌++◌, ◌∙◌, ℕ, zero, Bool, false, List, [], ◌∷◌, Option, Result, Ok, Err, OnOk, length, map, ap, arith, refl, subst, sym, append_assoc, append-nil}
 use Rattle.std.proofs.lemmas.List.{map-append}
-use Rattle.ow_traits.specs.Runner.{Giving}
+use Rattle.ow_traits.specs.Runner.{Giving, Tally}
 use Rattle.ow_threads.specs.Tasks.{AllEnd, pending}
 use Rattle.ow_desk.specs.Notes.{Notes, no_notes}
 use Rattle.ow_peer.specs.declared.ending.Ending.{Ending}
@@ -105,11 +105,11 @@ all_end_by IsFor ends goes so (t ∷ ts) [] ds f e = absurd f
 all_end_by IsFor ends goes so (t ∷ ts) (w ∷ ws) [] f e = absurd e
 all_end_by IsFor ends goes so (t ∷ ts) (w ∷ ws) (d ∷ ds) f e = (so t w d f.0 e.0, all_end_by IsFor ends goes so ts ws ds f.1 e.1)
 
-module _ {K R D : Type 0} (left taken : K → Option (List ℕ)) (gives : R → Giving) (faults : R → ℕ) (notes : D → Notes) (ending : D → Option Ending) (o : Outset) where
+module _ {K R D : Type 0} (left taken : K → Option (List ℕ)) (gives : R → Giving) (tally : R → Tally) (notes : D → Notes) (ending : D → Option Ending) (o : Outset) where
   abbrev Goes : Work K R → D → Type 0
-  Goes w d = Ends left taken gives faults o w no_notes (notes d) (ending d)
+  Goes w d = Ends left taken gives tally o w no_notes (notes d) (ending d)
 
-  work_so : (workers : List R) (last : R) (ds : List D) → AllEnd Goes (map (λ r. Turns r) workers ++ Sweeps ∷ Reaps last ∷ []) ds → AllWork gives faults o (workers ++ last ∷ []) (map notes ds)
+  work_so : (workers : List R) (last : R) (ds : List D) → AllEnd Goes (map (λ r. Turns r) workers ++ Sweeps ∷ Reaps last ∷ []) ds → AllWork gives tally o (workers ++ last ∷ []) (map notes ds)
   work_so [] last [] e = absurd e
   work_so [] last (s ∷ []) e = absurd e.1
   work_so [] last (s ∷ p ∷ []) e = record {
@@ -143,15 +143,15 @@ module _ {K R D : Type 0} (left taken : K → Option (List ℕ)) (gives : R → 
 
   pub all_work : {T : Type 0} (work : T → Work K R) (start : T → Notes) (begins : T → Outset) (runners : List R) (old before : List (T × Bool)) (ds : List D)
       → BeginsAll (λ t w. (work t ≡ w) × (start t ≡ no_notes) × (begins t ≡ o)) runners old before → old ≡ []
-      → AllEnd (λ t d. Ends left taken gives faults (begins t) (work t) (start t) (notes d) (ending d)) (pending zero before) ds → AllWork gives faults o runners (map notes ds)
+      → AllEnd (λ t d. Ends left taken gives tally (begins t) (work t) (start t) (notes d) (ending d)) (pending zero before) ds → AllWork gives tally o runners (map notes ds)
   all_work work start begins runners old before ds b none all =
       let fresh : before ≡ [] ++ map (λ t. (t, false)) b.begun.started = b.begun.tasks ∙ ap (λ z. z ++ map (λ t. (t, false)) b.begun.started) none in
       let started : pending zero before ≡ b.begun.started = ap (λ z. pending zero z) fresh ∙ pending_behind [] b.begun.started in
-      let mine : AllEnd (λ t d. Ends left taken gives faults (begins t) (work t) (start t) (notes d) (ending d)) b.begun.started ds =
-      subst (λ ts. AllEnd (λ t d. Ends left taken gives faults (begins t) (work t) (start t) (notes d) (ending d)) ts ds) started all in
+      let mine : AllEnd (λ t d. Ends left taken gives tally (begins t) (work t) (start t) (notes d) (ending d)) b.begun.started ds =
+      subst (λ ts. AllEnd (λ t d. Ends left taken gives tally (begins t) (work t) (start t) (notes d) (ending d)) ts ds) started all in
       let went : AllEnd Goes (map (λ r. Turns r) b.workers ++ Sweeps ∷ Reaps b.last ∷ []) ds =
-      all_end_by (λ t w. (work t ≡ w) × (start t ≡ no_notes) × (begins t ≡ o)) (λ t d. Ends left taken gives faults (begins t) (work t) (start t) (notes d) (ending d)) Goes
-      (λ t w d f e. subst (λ x. Ends left taken gives faults x w no_notes (notes d) (ending d)) f.2
-      (subst (λ n. Ends left taken gives faults (begins t) w n (notes d) (ending d)) f.1 (subst (λ v. Ends left taken gives faults (begins t) v (start t) (notes d) (ending d)) f.0 e)))
+      all_end_by (λ t w. (work t ≡ w) × (start t ≡ no_notes) × (begins t ≡ o)) (λ t d. Ends left taken gives tally (begins t) (work t) (start t) (notes d) (ending d)) Goes
+      (λ t w d f e. subst (λ x. Ends left taken gives tally x w no_notes (notes d) (ending d)) f.2
+      (subst (λ n. Ends left taken gives tally (begins t) w n (notes d) (ending d)) f.1 (subst (λ v. Ends left taken gives tally (begins t) v (start t) (notes d) (ending d)) f.0 e)))
       b.begun.started (map (λ r. Turns r) b.workers ++ Sweeps ∷ Reaps b.last ∷ []) ds b.begun.all_for mine in
-      subst (λ rs. AllWork gives faults o rs (map notes ds)) (sym b.runners_are) (work_so b.workers b.last ds went)
+      subst (λ rs. AllWork gives tally o rs (map notes ds)) (sym b.runners_are) (work_so b.workers b.last ds went)

@@ -1,7 +1,7 @@
 -- What the calls of workers, the sweeper and the reaper make of their notes.
-use Rattle.std.proofs.Common.{◌≡◌, ◌≤◌, ℕ, Option, Some, None, Result, Ok, Err, IfOk, OnErr, inl, inr, ⊎_elim, subst, arith}
+use Rattle.std.proofs.Common.{◌≡◌, ◌≤◌, ℕ, Option, Some, None, Result, Ok, Err, IfOk, OnErr, inl, inr, ⊎_elim, refl, subst, arith}
 use Rattle.ow_value.specs.declared.memory.NoMemory.{NoMemory as Want}
-use Rattle.ow_traits.specs.Runner.{Giving, RefusesStart, Steady}
+use Rattle.ow_traits.specs.Runner.{Giving, Idles, RefusesStart, Steady, Tally}
 use Rattle.ow_traits.specs.declared.replies.Kind.{Kind}
 use Rattle.ow_traits.specs.declared.replies.RunReply.{RunReply}
 use Rattle.ow_traits.specs.declared.replies.RunReply.TheVariants.{Answer, Exit, NoStart, Fault}
@@ -21,9 +21,9 @@ use Rattle.ow_serve.specs.Working.{BooksOnce, Leads, ReapsOnce, Stand, WorksOnce
 
 -- ---- what a turn is with what its runner gives now it is with what that gave at first
 
-module _ (f g : Giving) (a b before now : ℕ) (s : Steady f g a b) (le : before ≤ now) (tells : Option ℕ) where
-  at_first : Steady f g before before
-  at_first = record { back = s.back; on = s.on; starts_back = s.starts_back; starts_on = s.starts_on; later = omega arith }
+module _ (f g : Giving) (a b before now : Tally) (s : Steady f g a b) (le : before.faults ≤ now.faults) (tells : Option ℕ) where
+  at_first : Idles f g before before
+  at_first = record { steady = record { back = s.back; on = s.on; starts_back = s.starts_back; starts_on = s.starts_on; later = omega arith }; ran = refl }
 
   at_last : Steady g g before now
   at_last = record { back = λ kind code params reply x. x; on = λ kind code params reply x. x; starts_back = λ kind x. x; starts_on = λ kind x. x; later = le }
@@ -58,7 +58,7 @@ module _ (f g : Giving) (a b before now : ℕ) (s : Steady f g a b) (le : before
 
     follows_by : (order : Order) (n m : Notes) (v w : View) (turn : Turn) → Follows g before now tells opening order n m v w turn → Follows f before now tells opening order n m v w turn
     follows_by (orders.Run order) n m v w turn x = (run_by order n m v w turn x.0, x.1)
-    follows_by (orders.Prewarm order) n m v w turn x = (warm_by order n m v w turn x.0, x.1)
+    follows_by (orders.Prewarm order) n m v w turn x = (warm_by order n m v w turn x.0, x.1, x.2)
     follows_by (orders.Remove containers) n m v w turn x = x
     follows_by (orders.Nothing why) n m v w turn x = x
 
@@ -66,11 +66,11 @@ module _ (f g : Giving) (a b before now : ℕ) (s : Steady f g a b) (le : before
     turned_by n m v w turn x =
         ⊎_elim (λ y. inl y) (λ y. inr (record { order = y.order; taken = y.taken; next = y.next; follows = follows_by y.order y.taken m v w turn y.follows })) x
 
-pub works_by : {f g : Giving} {a b : ℕ} {tells : Option ℕ} {opening : ℕ} {old new : Stand} → Steady f g a b → WorksOnce g tells opening old new → WorksOnce f tells opening old new
+pub works_by : {f g : Giving} {a b : Tally} {tells : Option ℕ} {opening : ℕ} {old new : Stand} → Steady f g a b → WorksOnce g tells opening old new → WorksOnce f tells opening old new
 works_by {f = f} {g = g} {a = a} {b = b} {tells = tells} {opening = opening} {old = old} {new = new} s x = record {
   turn = x.turn;
   behind = x.behind;
-  turned = turned_by f g a b old.faults x.behind.faults s x.later tells opening old.notes x.behind.notes old.view x.behind.view x.turn x.turned;
+  turned = turned_by f g a b old.tally x.behind.tally s x.later tells opening old.notes x.behind.notes old.view x.behind.view x.turn x.turned;
   later = x.later;
   books = x.books;
 }
@@ -79,7 +79,7 @@ works_by {f = f} {g = g} {a = a} {b = b} {tells = tells} {opening = opening} {ol
 
 -- a turn, and behind it what books the reply that it left
 pub works_so : {gives : Giving} {tells : Option ℕ} {opening : ℕ} {old new : Stand} (turn : Turn) (behind : Stand) (left : Option Job) → left ≡ to_book turn
-    → Turned gives old.faults behind.faults tells opening old.notes behind.notes old.view behind.view turn → old.faults ≤ behind.faults → Leads (BooksOnce tells) (left, behind) (None, new)
+    → Turned gives old.tally behind.tally tells opening old.notes behind.notes old.view behind.view turn → old.tally.faults ≤ behind.tally.faults → Leads (BooksOnce tells) (left, behind) (None, new)
     → WorksOnce gives tells opening old new
 works_so {tells = tells} {new = new} turn behind left is turned later books = record {
   turn = turn;

@@ -3,7 +3,7 @@ use Rattle.std.proofs.Common.{◌≡◌, ◌++◌, ◌⊎◌, ℕ, zero, Bool, L
 use Rattle.std.specs.Prelude.{IsOkAnd}
 use Rattle.std.specs.Option.{option_to_list}
 use Rattle.std.proofs.lemmas.List.{reverse-append, reverse-reverse}
-use Rattle.ow_traits.specs.Runner.{Giving}
+use Rattle.ow_traits.specs.Runner.{Giving, Tally}
 use Rattle.ow_threads.specs.Tasks.{AllEnd, Joined, pending}
 use Rattle.ow_audit.specs.Differs.{Matches}
 use Rattle.ow_audit.specs.Places.{placed, standing_at}
@@ -416,15 +416,15 @@ serves_as Own Mine Talks Work Done old new most end book receipts endings own wo
     by_end ends.NoMemory b s = s
 
 -- by the clock, the moment and the receipts with which it was opened
-pub opened_serves : {K R : Type 0} (left taken : K → Option (List ℕ)) (gives : R → Giving) (faults : R → ℕ) (runners : List R) (tells clock : Option ℕ) (opened now : ℕ) (n : Notes) (first : Entry)
+pub opened_serves : {K R : Type 0} (left taken : K → Option (List ℕ)) (gives : R → Giving) (tally : R → Tally) (runners : List R) (tells clock : Option ℕ) (opened now : ℕ) (n : Notes) (first : Entry)
     (old new : Option (List K)) (most : ℕ) (end : ServedEnd) (book : Option BookView) (receipts : List Notes) (endings : List Ending)
     → tells ≡ clock → opened ≡ now → n ≡ opening_notes first → IfSome clock (λ m. now ≡ m)
-    → Serves (Drains tells n) (TalksAlone left taken tells) (AllWork gives faults (fresh_outset tells opened) runners) old new most end book receipts endings
-    → Serves (OpensAndDrains clock) (TalksAlone left taken clock) (AllWorkBy gives faults clock runners) old new most end book receipts endings
-opened_serves left taken gives faults runners tells clock opened now n first old new most end book receipts endings same at noted moment s =
-    let by_clock = subst (λ (x : Option ℕ). Serves (Drains x n) (TalksAlone left taken x) (AllWork gives faults (fresh_outset x opened) runners) old new most end book receipts endings) same s in
-    let by_moment = subst (λ (x : ℕ). Serves (Drains clock n) (TalksAlone left taken clock) (AllWork gives faults (fresh_outset clock x) runners) old new most end book receipts endings) at by_clock in
+    → Serves (Drains tells n) (TalksAlone left taken tells) (AllWork gives tally (fresh_outset tells opened) runners) old new most end book receipts endings
+    → Serves (OpensAndDrains clock) (TalksAlone left taken clock) (AllWorkBy gives tally clock runners) old new most end book receipts endings
+opened_serves left taken gives tally runners tells clock opened now n first old new most end book receipts endings same at noted moment s =
+    let by_clock = subst (λ (x : Option ℕ). Serves (Drains x n) (TalksAlone left taken x) (AllWork gives tally (fresh_outset x opened) runners) old new most end book receipts endings) same s in
+    let by_moment = subst (λ (x : ℕ). Serves (Drains clock n) (TalksAlone left taken clock) (AllWork gives tally (fresh_outset clock x) runners) old new most end book receipts endings) at by_clock in
     let by_notes =
-    subst (λ (x : Notes). Serves (Drains clock x) (TalksAlone left taken clock) (AllWork gives faults (fresh_outset clock now) runners) old new most end book receipts endings) noted by_moment in
-    serves_as (Drains clock (opening_notes first)) (OpensAndDrains clock) (TalksAlone left taken clock) (AllWork gives faults (fresh_outset clock now) runners) (AllWorkBy gives faults clock runners)
+    subst (λ (x : Notes). Serves (Drains clock x) (TalksAlone left taken clock) (AllWork gives tally (fresh_outset clock now) runners) old new most end book receipts endings) noted by_moment in
+    serves_as (Drains clock (opening_notes first)) (OpensAndDrains clock) (TalksAlone left taken clock) (AllWork gives tally (fresh_outset clock now) runners) (AllWorkBy gives tally clock runners)
     old new most end book receipts endings (λ m drains. (first, drains)) (λ ns work. (now, moment, work)) by_notes

@@ -1,6 +1,6 @@
 -- What workers, the sweeper and the reaper do until they are to end, call by call.
 use Rattle.std.specs.Prelude.{◌≡◌, ◌≤◌, ◌++◌, ℕ, List, [], ◌∷◌, Option, Some, None, IfSome}
-use Rattle.ow_traits.specs.Runner.{Giving}
+use Rattle.ow_traits.specs.Runner.{Giving, RanNone, Tally}
 use Rattle.ow_board.specs.View.{KeepsOthers, fresh_view}
 use Rattle.ow_board.specs.declared.view.View.{View}
 use Rattle.ow_desk.specs.Notes.{Notes, no_notes}
@@ -37,15 +37,15 @@ fresh_outset tells opened = outset tells opened fresh_view
 
 -- ---- workers
 
--- where a worker stands: its notes, what its pass shows of the board, and its runner's count of faults
+-- where a worker stands: its notes, what its pass shows of the board, and its runner's counts of faults and runs
 pub record Stand : Type 0 where
   pub notes : Notes
   pub view : View
-  pub faults : ℕ
+  pub tally : Tally
 
 -- it stands at these
-abbrev pub stand : Notes → View → ℕ → Stand
-stand n v faults = record { notes = n; view = v; faults = faults }
+abbrev pub stand : Notes → View → Tally → Stand
+stand n v tally = record { notes = n; view = v; tally = tally }
 
 -- the reply that a turn, or a call that books one, leaves to be booked
 abbrev pub to_book : Turn → Option Job
@@ -58,7 +58,7 @@ abbrev pub next_job : Next → Option Job
 next_job (nexts.Book job) = Some job
 next_job next = None
 
--- one call that books the reply which is left: before it and behind it, which reply is left, and where the worker stands
+-- one call that books the reply which is left, and runs no code: before it and behind it, which reply is left, and where the worker stands
 pub record BooksOnce (tells : Option ℕ) (old new : Option Job × Stand) : Type 0 where
   pub job : Job
   pub turn : Turn
@@ -66,20 +66,21 @@ pub record BooksOnce (tells : Option ℕ) (old new : Option Job × Stand) : Type
   pub booked : Booked tells job.order job.reply job.laid old.1.notes new.1.notes old.1.view.steps old.1.view new.1.view turn
   pub others : KeepsOthers job.order.slot old.1.view new.1.view
   pub leaves : new.0 ≡ to_book turn
-  pub later : old.1.faults ≤ new.1.faults
+  pub later : old.1.tally.faults ≤ new.1.tally.faults
+  pub ran : RanNone old.1.tally new.1.tally
 
 -- one turn, and behind it the calls that book its reply, until none is left
 pub record WorksOnce (gives : Giving) (tells : Option ℕ) (opening : ℕ) (old new : Stand) : Type 0 where
   pub turn : Turn
   pub behind : Stand
-  pub turned : Turned gives old.faults behind.faults tells opening old.notes behind.notes old.view behind.view turn
-  pub later : old.faults ≤ behind.faults
+  pub turned : Turned gives old.tally behind.tally tells opening old.notes behind.notes old.view behind.view turn
+  pub later : old.tally.faults ≤ behind.tally.faults
   pub books : Leads (BooksOnce tells) (to_book turn, behind) (None, new)
 
--- a worker's turns, one after the other, with a runner that gave this at first, at this count of faults
-pub record MakesTurns (gives : Giving) (faults : ℕ) (o : Outset) (n m : Notes) : Type 0 where
+-- a worker's turns, one after the other, with a runner that gave this at first, at these counts
+pub record MakesTurns (gives : Giving) (tally : Tally) (o : Outset) (n m : Notes) : Type 0 where
   pub last : Stand
-  pub works : Leads (WorksOnce gives o.tells o.opened) (stand n o.view faults) last
+  pub works : Leads (WorksOnce gives o.tells o.opened) (stand n o.view tally) last
   pub notes : m ≡ last.notes
 
 -- ---- the sweeper and the reaper
@@ -104,13 +105,13 @@ pub record MakesReapings (o : Outset) (n m : Notes) : Type 0 where
 -- ---- all of them
 
 -- each of these runners has a worker, which made turns from receipts of nothing on
-abbrev pub AllWorked : {R : Type 0} → (R → Giving) → (R → ℕ) → Outset → List R → List Notes → Type 0
-AllWorked gives faults o [] [] = Unit {0}
-AllWorked gives faults o (r ∷ rs) (n ∷ ns) = MakesTurns (gives r) (faults r) o no_notes n × AllWorked gives faults o rs ns
-AllWorked gives faults o rs ns = ⊥
+abbrev pub AllWorked : {R : Type 0} → (R → Giving) → (R → Tally) → Outset → List R → List Notes → Type 0
+AllWorked gives tally o [] [] = Unit {0}
+AllWorked gives tally o (r ∷ rs) (n ∷ ns) = MakesTurns (gives r) (tally r) o no_notes n × AllWorked gives tally o rs ns
+AllWorked gives tally o rs ns = ⊥
 
 -- each runner but the last has a worker; behind these stand the sweeper, and the reaper, who has the last runner
-pub record AllWork {R : Type 0} (gives : R → Giving) (faults : R → ℕ) (o : Outset) (runners : List R) (others : List Notes) : Type 0 where
+pub record AllWork {R : Type 0} (gives : R → Giving) (tally : R → Tally) (o : Outset) (runners : List R) (others : List Notes) : Type 0 where
   pub workers : List R
   pub last : R
   pub runners_are : runners ≡ workers ++ last ∷ []
@@ -118,10 +119,10 @@ pub record AllWork {R : Type 0} (gives : R → Giving) (faults : R → ℕ) (o :
   pub by_sweeper : Notes
   pub by_reaper : Notes
   pub others_are : others ≡ by_workers ++ by_sweeper ∷ by_reaper ∷ []
-  pub worked : AllWorked gives faults o workers by_workers
+  pub worked : AllWorked gives tally o workers by_workers
   pub swept : MakesSweeps o.tells no_notes by_sweeper
   pub reaped : MakesReapings o no_notes by_reaper
 
--- they began with a pass that shows nothing, at the moment of the opening, which is that of the clock where it tells one
-abbrev pub AllWorkBy : {R : Type 0} → (R → Giving) → (R → ℕ) → Option ℕ → List R → List Notes → Type 0
-AllWorkBy gives faults tells runners others = (opened : ℕ) × IfSome tells (λ m. opened ≡ m) × AllWork gives faults (fresh_outset tells opened) runners others
+-- they began with a pass that shows nothing, at some moment, which is that of the clock where it tells one
+abbrev pub AllWorkBy : {R : Type 0} → (R → Giving) → (R → Tally) → Option ℕ → List R → List Notes → Type 0
+AllWorkBy gives tally tells runners others = (opened : ℕ) × IfSome tells (λ m. opened ≡ m) × AllWork gives tally (fresh_outset tells opened) runners others

@@ -75,7 +75,7 @@ where
 {
     type Done = Done<R, P>;
 
-    ghost ends = { λ t d. Ends K.left K.taken R.gives R.faults (outset (C.tells t.clock.value) t.opened (view_of t.pass)) t.work t.notes.notes d.notes.notes d.ending };
+    ghost ends = { λ t d. Ends K.left K.taken R.gives R.tally (outset (C.tells t.clock.value) t.opened (view_of t.pass)) t.work t.notes.notes d.notes.notes d.ending };
 
     fn run(self) -> Done<R, P> {
         let Duty {
@@ -127,7 +127,7 @@ fn work_with<H: Wait + Drop, R: Runner + Drop, P: Keeper + Drop, C: Clock + Drop
     runner: R,
 ) -> Done<R, P>
     ensures ending { result.ending ≡ None }
-    ensures turns { MakesTurns (R.gives runner) (R.faults runner) (outset (C.tells hands.clock.value) hands.opened (view_of hands.pass)) hands.notes.notes result.notes.notes }
+    ensures turns { MakesTurns (R.gives runner) (R.tally runner) (outset (C.tells hands.clock.value) hands.opened (view_of hands.pass)) hands.notes.notes result.notes.notes }
 {
     let (mut hands, mut runner) = (hands, runner);
     let (alloc, opened) = (hands.alloc, hands.opened);

@@ -55,7 +55,7 @@ where
     requires wants { AreWantsSized tenants.wants }
     requires pool { IsPoolSized tenants.pool }
     requires runners { 2 ≤ length runners.items }
-    ensures serves { Serves (OpensAndDrains (C.tells clock.value)) (TalksAlone K.left K.taken (C.tells clock.value)) (AllWorkBy R.gives R.faults (C.tells clock.value) runners.items)
+    ensures serves { Serves (OpensAndDrains (C.tells clock.value)) (TalksAlone K.left K.taken (C.tells clock.value)) (AllWorkBy R.gives R.tally (C.tells clock.value) runners.items)
         (L.peers listener.old) (L.peers listener.new) (unwrap_or words.connections 18446744073709551615) result.end result.book (map (λ r. r.notes) result.receipts.items) result.endings.items }
     ensures listener { result.listener_faults ≡ L.faults listener.new - L.faults listener.old }
     ensures fault { result.end ≡ ServedEnd.ListenFault → Rose (L.faults listener.old) (L.faults listener.new) }
@@ -111,7 +111,7 @@ fn run<
 where
     R::Container: Send + 'static,
     requires runners { 2 ≤ length runners.items }
-    ensures serves { Serves (Drains (C.tells house.clock.value) house.notes.notes) (TalksAlone K.left K.taken (C.tells house.clock.value)) (AllWork R.gives R.faults (fresh_outset (C.tells house.clock.value) house.opened) runners.items)
+    ensures serves { Serves (Drains (C.tells house.clock.value) house.notes.notes) (TalksAlone K.left K.taken (C.tells house.clock.value)) (AllWork R.gives R.tally (fresh_outset (C.tells house.clock.value) house.opened) runners.items)
         (L.peers listener.old) (L.peers listener.new) (unwrap_or words.now.connections 18446744073709551615) result.end result.book (map (λ r. r.notes) result.receipts.items) result.endings.items }
     ensures listener { result.listener_faults ≡ L.faults listener.new - L.faults listener.old }
     ensures fault { result.end ≡ ServedEnd.ListenFault → Rose (L.faults listener.old) (L.faults listener.new) }
@@ -151,7 +151,7 @@ where
     R::Container: Send + 'static,
     requires runners { 2 ≤ length runners.items }
     requires fresh { crew.old.tasks ≡ [] }
-    ensures serves { Serves (Drains (C.tells house.clock.value) house.notes.notes) (TalksAlone K.left K.taken (C.tells house.clock.value)) (AllWork R.gives R.faults (fresh_outset (C.tells house.clock.value) house.opened) runners.items)
+    ensures serves { Serves (Drains (C.tells house.clock.value) house.notes.notes) (TalksAlone K.left K.taken (C.tells house.clock.value)) (AllWork R.gives R.tally (fresh_outset (C.tells house.clock.value) house.opened) runners.items)
         (L.peers listener.old) (L.peers listener.new) (unwrap_or words.now.connections 18446744073709551615) result.end result.book (map (λ r. r.notes) result.receipts.items) result.endings.items }
     ensures later { L.faults listener.old ≤ L.faults listener.new }
     ensures fault { result.end ≡ ServedEnd.ListenFault → Rose (L.faults listener.old) (L.faults listener.new) }

@@ -1,6 +1,6 @@
 // What workers, the sweeper and the reaper do until they are to end.
 ghost use Rattle.std.specs.Prelude.{◌≡◌, ◌≤◌, Some, None};
-ghost use Rattle.ow_traits.specs.Runner.{Steady};
+ghost use Rattle.ow_traits.specs.Runner.{Idles, Steady};
 ghost use Rattle.ow_board.specs.Board.{IsPassOf, size, view_of};
 ghost use Rattle.ow_serve.specs.Working.{BooksOnce, Leads, MakesReapings, MakesSweeps, MakesTurns, WorksOnce, next_job, outset, stand, to_book};
 
@@ -43,7 +43,7 @@ pub(crate) fn work_on<H: Wait, P: Keeper + Drop, R: Runner, C: Clock, G: Gate>(
 )
     requires { IsPassOf place.now.board pass.old }
     ensures pass { IsPassOf place.now.board pass.new }
-    ensures turns { MakesTurns (R.gives runner.old) (R.faults runner.old) (outset (C.tells clock.now) opened (view_of pass.old)) notes.old.notes notes.new.notes }
+    ensures turns { MakesTurns (R.gives runner.old) (R.tally runner.old) (outset (C.tells clock.now) opened (view_of pass.old)) notes.old.notes notes.new.notes }
 {
     for _ in rt.forever() {
         if place.is_over() {
@@ -67,8 +67,8 @@ fn work_once<H: Wait, P: Keeper + Drop, R: Runner, C: Clock, G: Gate>(
 )
     requires { IsPassOf place.now.board pass.old }
     ensures pass { IsPassOf place.now.board pass.new }
-    ensures runner { Steady (R.gives runner.old) (R.gives runner.new) (R.faults runner.old) (R.faults runner.new) }
-    ensures works { WorksOnce (R.gives runner.old) (C.tells clock.now) opened (stand notes.old.notes (view_of pass.old) (R.faults runner.old)) (stand notes.new.notes (view_of pass.new) (R.faults runner.new)) }
+    ensures runner { Steady (R.gives runner.old) (R.gives runner.new) (R.tally runner.old) (R.tally runner.new) }
+    ensures works { WorksOnce (R.gives runner.old) (C.tells clock.now) opened (stand notes.old.notes (view_of pass.old) (R.tally runner.old)) (stand notes.new.notes (view_of pass.new) (R.tally runner.new)) }
 {
     let turned = turn(
         rt,
@@ -102,8 +102,8 @@ fn book_on<H: Wait, P: Keeper + Drop, R: Runner, C: Clock>(
 )
     requires { IsPassOf place.now.board pass.old }
     ensures pass { IsPassOf place.now.board pass.new }
-    ensures runner { Steady (R.gives runner.old) (R.gives runner.new) (R.faults runner.old) (R.faults runner.new) }
-    ensures books { Leads (BooksOnce (C.tells clock.now)) (Some job, stand notes.old.notes (view_of pass.old) (R.faults runner.old)) (None, stand notes.new.notes (view_of pass.new) (R.faults runner.new)) }
+    ensures runner { Idles (R.gives runner.old) (R.gives runner.new) (R.tally runner.old) (R.tally runner.new) }
+    ensures books { Leads (BooksOnce (C.tells clock.now)) (Some job, stand notes.old.notes (view_of pass.old) (R.tally runner.old)) (None, stand notes.new.notes (view_of pass.new) (R.tally runner.new)) }
 {
     let mut job = job;
     for _ in rt.forever() {

@@ -19,10 +19,10 @@ utils_name = name_if_no_fault (codes "utils") refl
 echo_name : IsName (codes "echo")
 echo_name = name_if_no_fault (codes "echo") refl
 
-echo_full : IsFullName echo.name
+pub echo_full : IsFullName echo.name
 echo_full = record { namespace = system_name; inside = utils_name; name = echo_name }
 
-utils_full : IsFullName utils.name
+pub utils_full : IsFullName utils.name
 utils_full = record { namespace = system_name; inside = tt; name = utils_name }
 
 -- the text of a name is that of its parts

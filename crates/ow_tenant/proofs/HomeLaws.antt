@@ -20,15 +20,15 @@ use Rattle.ow_tenant.specs.declared.rights.Right.{Right}
 
 -- ---- options
 
-some_if : {A : Type 0} (P : A → Type 0) (b : Bool) (o e : Option A) → IfSome o P → IfSome e P → IfSome (cond b o e) P
+pub some_if : {A : Type 0} (P : A → Type 0) (b : Bool) (o e : Option A) → IfSome o P → IfSome e P → IfSome (cond b o e) P
 some_if P true o e first second = first
 some_if P false o e first second = second
 
-some_mapped : {A B : Type 0} (P : A → Type 0) (Q : B → Type 0) (f : A → B) (o : Option A) → ((x : A) → P x → Q (f x)) → IfSome o P → IfSome (option_map f o) Q
+pub some_mapped : {A B : Type 0} (P : A → Type 0) (Q : B → Type 0) (f : A → B) (o : Option A) → ((x : A) → P x → Q (f x)) → IfSome o P → IfSome (option_map f o) Q
 some_mapped P Q f None g h = tt
 some_mapped P Q f (Some x) g h = g x h
 
-some_then : {A B : Type 0} (P : A → Type 0) (Q : B → Type 0) (f : A → Option B) (o : Option A) → ((x : A) → P x → IfSome (f x) Q) → IfSome o P → IfSome (option_and_then f o) Q
+pub some_then : {A B : Type 0} (P : A → Type 0) (Q : B → Type 0) (f : A → Option B) (o : Option A) → ((x : A) → P x → IfSome (f x) Q) → IfSome o P → IfSome (option_and_then f o) Q
 some_then P Q f None g h = tt
 some_then P Q f (Some x) g h = g x h
 

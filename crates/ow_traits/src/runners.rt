@@ -1,6 +1,6 @@
 // What actions are run by.
-ghost use Rattle.std.specs.Prelude.{◌≡◌, ℕ, IfOk};
-ghost use Rattle.ow_traits.specs.Runner.{Giving, Initialises, Replies, Starts, Steady};
+ghost use Rattle.std.specs.Prelude.{◌≡◌, IfOk};
+ghost use Rattle.ow_traits.specs.Runner.{Giving, Idles, Initialises, Replies, Runs, Starts, Tally};
 
 use crate::{Kind, RunReply};
 use ow_value::{NoMemory, Params, Str};
@@ -24,12 +24,12 @@ pub trait Runner {
     /// Which replies it gives to a kind, a code and parameters, and of which kinds its containers come up.
     ghost gives: { Self → Giving };
 
-    /// How many calls failed.
-    ghost faults: { Self → ℕ };
+    /// How many calls failed, and how often code was run. Both counts stand still at the greatest u64.
+    ghost tally: { Self → Tally };
 
     /// How many calls failed. The count stands still at the greatest u64.
     fn faults(&self) -> u64
-        ensures { result ≡ faults self.now };
+        ensures { result ≡ (tally self.now).faults };
 
     /// Starts a container for code of this kind. The memory is in MB.
     fn start(
@@ -38,8 +38,8 @@ pub trait Runner {
         kind: Kind,
         memory: u32,
     ) -> Result<Started<Self::Container>, NoMemory>
-        ensures steady { Steady (gives self.old) (gives self.new) (faults self.old) (faults self.new) }
-        ensures started { IfOk result (Starts (gives self.old) (faults self.old) (faults self.new) kind) };
+        ensures idles { Idles (gives self.old) (gives self.new) (tally self.old) (tally self.new) }
+        ensures started { IfOk result (Starts (gives self.old) (tally self.old) (tally self.new) kind) };
 
     /// Makes a container ready for the code. Where it can't be, the reply, which is no answer, is that of each run of the code.
     fn init(
@@ -49,10 +49,10 @@ pub trait Runner {
         kind: Kind,
         code: &Str,
     ) -> Result<Option<RunReply>, NoMemory>
-        ensures steady { Steady (gives self.old) (gives self.new) (faults self.old) (faults self.new) }
-        ensures ready { IfOk result (Initialises (gives self.old) (faults self.old) (faults self.new) kind code.now) };
+        ensures idles { Idles (gives self.old) (gives self.new) (tally self.old) (tally self.new) }
+        ensures ready { IfOk result (Initialises (gives self.old) (tally self.old) (tally self.new) kind code.now) };
 
-    /// Runs the code with the parameters. The reply is that of the code handed in, whichever container is lent.
+    /// Runs the code once with the parameters. The reply is that of the code handed in, whichever container is lent.
     fn run(
         &mut self,
         alloc: Global,
@@ -61,10 +61,10 @@ pub trait Runner {
         code: &Str,
         params: &Params,
     ) -> Result<RunReply, NoMemory>
-        ensures steady { Steady (gives self.old) (gives self.new) (faults self.old) (faults self.new) }
-        ensures reply { IfOk result (Replies (gives self.old) (faults self.old) (faults self.new) kind code.now params.now) };
+        ensures runs { Runs (gives self.old) (gives self.new) (tally self.old) (tally self.new) }
+        ensures reply { IfOk result (Replies (gives self.old) (tally self.old) (tally self.new) kind code.now params.now) };
 
     /// Ends a container.
     fn stop(&mut self, c: Self::Container)
-        ensures { Steady (gives self.old) (gives self.new) (faults self.old) (faults self.new) };
+        ensures { Idles (gives self.old) (gives self.new) (tally self.old) (tally self.new) };
 }

@@ -1,6 +1,7 @@
 // A runner in memory, of which some calls are to fail.
 ghost use Rattle.std.specs.Prelude.{◌≡◌, ◌↔◌, List, ℕ, Contains};
 ghost use Rattle.ow_value.specs.Value.{Pairs};
+ghost use Rattle.ow_traits.specs.Runner.{no_calls};
 
 use crate::calls::Calls;
 use crate::{Kind, RunReply, Runner, Started};
@@ -14,6 +15,7 @@ pub struct ScriptRunner {
     script: Items<RunReply>,
     at: usize,
     calls: Calls,
+    runs: u64,
 }
 
 impl ScriptRunner {
@@ -25,12 +27,13 @@ impl ScriptRunner {
         ensures gives { (kind : Kind) (code : List ℕ) (params : Pairs) (reply : RunReply)
             → ((⟦<ScriptRunner as Runner>⟧.gives result).replies kind code params reply ↔ Contains script reply) }
         ensures starts { (kind : Kind) → (⟦<ScriptRunner as Runner>⟧.gives result).starts kind }
-        ensures faults { ⟦<ScriptRunner as Runner>⟧.faults result ≡ 0 }
+        ensures tally { ⟦<ScriptRunner as Runner>⟧.tally result ≡ no_calls }
     {
         ScriptRunner {
             script,
             at: 0,
             calls: Calls::new(failing),
+            runs: 0,
         }
     }
 }
@@ -42,7 +45,7 @@ impl Runner for ScriptRunner {
 
     ghost gives = { λ r. record { replies = λ kind code params reply. Contains r.script reply; starts = λ kind. Unit {0} } };
 
-    ghost faults = { λ r. r.calls.faults };
+    ghost tally = { λ r. record { faults = r.calls.faults; runs = r.runs } };
 
     fn faults(&self) -> u64 {
         self.calls.faults
@@ -81,6 +84,7 @@ impl Runner for ScriptRunner {
         _code: &Str,
         _params: &Params,
     ) -> Result<RunReply, NoMemory> {
+        self.runs = self.runs.saturating_add(1);
         if self.calls.fails_next() {
             return Ok(RunReply::Fault);
         }

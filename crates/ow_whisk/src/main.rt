@@ -2,20 +2,8 @@
 
 //! The program: the words of the command line, standard input, output and error, sockets, the store, and the exit status.
 
-#[cfg(test)]
-mod containers;
-#[cfg(test)]
-mod endings;
 mod serving;
-#[cfg(test)]
-mod stores;
-#[cfg(test)]
-mod tables;
-#[cfg(test)]
-mod tests;
 mod unkept;
-#[cfg(test)]
-mod waits;
 
 ghost use Rattle.std.specs.Prelude.{◌≡◌};
 ghost use Rattle.std.specs.Process.{exit_status};

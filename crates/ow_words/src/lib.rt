@@ -8,8 +8,6 @@ mod option_word;
 mod parse;
 mod plain;
 mod read;
-#[cfg(test)]
-mod tests;
 
 pub use command::{Command, ServeWords, WordsRefusal};
 pub use laws::{

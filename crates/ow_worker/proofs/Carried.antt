@@ -1,19 +1,19 @@
 -- What a turn's parts make of it.
 use Rattle.std.proofs.Common.{◌∙◌, ℕ, inl, inr, ⊎_elim, refl, subst, sym}
 use Rattle.std.specs.Prelude.{Option, Some, None}
-use Rattle.ow_traits.specs.Runner.{Giving, Steady}
+use Rattle.ow_traits.specs.Runner.{Giving, Idles, Steady, Tally}
 use Rattle.ow_floor.specs.declared.answers.RunOrder.{RunOrder}
-use Rattle.ow_invoker.proofs.Running.{refused_from, replied_from, started_from}
+use Rattle.ow_invoker.proofs.Running.{none_behind, once_behind, refused_from, replied_from, started_from}
 use Rattle.ow_board.specs.declared.view.View.{View}
 use Rattle.ow_desk.specs.Notes.{Notes}
 use Rattle.ow_worker.specs.declared.outcome.Turn.{Turn}
 use Rattle.ow_worker.specs.declared.outcome.Turn.TheVariants as turns
 use Rattle.ow_board.specs.View.{KeepsOthers}
 use Rattle.ow_worker.specs.Shown.{WasHad}
-use Rattle.ow_worker.specs.Turned.{Carried, Performs, RunTurn}
+use Rattle.ow_worker.specs.Turned.{Abandoned, Carried, Performs, RunTurn}
 
 -- a run that came to a booking is neither lost nor given up
-pub carried_turns : {gives : Giving} {before now : ℕ} {tells : Option ℕ} {opening : ℕ} {order : RunOrder} {n m : Notes} {v w : View} (turn : Turn)
+pub carried_turns : {gives : Giving} {before now : Tally} {tells : Option ℕ} {opening : ℕ} {order : RunOrder} {n m : Notes} {v w : View} (turn : Turn)
     → Carried gives before now tells opening order n m v w turn → Performs gives before now tells opening order n m v w turn
 carried_turns turns.Ran t = t
 carried_turns turns.Removed t = t
@@ -24,18 +24,25 @@ carried_turns (turns.StoreFault job) t = t
 carried_turns (turns.NoMemory None) t = absurd t.settles.books
 carried_turns (turns.NoMemory (Some job)) t = t
 
-carried_within : {f g h : Giving} {a b c : ℕ} {tells : Option ℕ} {opening : ℕ} {order : RunOrder} {n m : Notes} {v w : View} (turn : Turn) → Steady f g a b → Steady g h b c
+carried_within : {f g h : Giving} {a b c : Tally} {tells : Option ℕ} {opening : ℕ} {order : RunOrder} {n m : Notes} {v w : View} (turn : Turn) → Idles f g a b → Steady g h b c
     → Carried g b c tells opening order n m v w turn → Carried f a c tells opening order n m v w turn
-carried_within {order = order} turn s t x = record {
+carried_within {a = a} {b = b} {c = c} {order = order} turn s t x = record {
   reply = x.reply;
-  replies = replied_from order.kind order.code order.params x.reply s t x.replies;
+  replies = replied_from order.kind order.code order.params x.reply s.steady t x.replies;
   opened = x.opened;
-  opens = ⊎_elim (λ y. inl (started_from _ _ _ _ _ _ order s t y.0, y.1)) (λ y. inr (y.0, refused_from order.kind order.code x.reply s t y.1)) x.opens;
+  opens = ⊎_elim (λ y. inl (started_from _ _ _ _ _ _ order s.steady t y.0, y.1, once_behind a b c s.ran y.2)) (λ y. inr (y.0, refused_from order.kind order.code x.reply s.steady t y.1, none_behind a b c s.ran y.2)) x.opens;
   settles = x.settles;
 }
 
+abandoned_within : (f g : Giving) (a b c : Tally) (tells : Option ℕ) (order : RunOrder) (n m : Notes) → Idles f g a b → Abandoned tells b c order n m → Abandoned tells a c order n m
+abandoned_within f g a b c tells order n m s x = record {
+  opened = x.opened;
+  opens = ⊎_elim (λ y. inl (y.0, once_behind a b c s.ran y.1)) (λ y. inr (y.0, y.1, none_behind a b c s.ran y.2)) x.opens;
+  gives_up = x.gives_up;
+}
+
 -- a run behind its container, which it had before
-pub run_turned : (gives : Giving) (before now : ℕ) (tells : Option ℕ) (opening : ℕ) (order : RunOrder) (n m : Notes) (v w ready : View) (turn : Turn) → WasHad order v ready
+pub run_turned : (gives : Giving) (before now : Tally) (tells : Option ℕ) (opening : ℕ) (order : RunOrder) (n m : Notes) (v w ready : View) (turn : Turn) → WasHad order v ready
     → Performs gives before now tells opening order n m ready w turn → RunTurn gives before now tells opening order n m v w turn
 run_turned gives before now tells opening order n m v w ready turns.Ran had x = (ready, had, x)
 run_turned gives before now tells opening order n m v w ready turns.Removed had x = (ready, had, x)
@@ -47,7 +54,7 @@ run_turned gives before now tells opening order n m v w ready (turns.NoMemory No
 run_turned gives before now tells opening order n m v w ready (turns.NoMemory (Some job)) had x = (ready, had, x)
 
 -- the calls of the runner before count too
-pub performs_within : {f g h : Giving} {a b c : ℕ} (tells : Option ℕ) (opening : ℕ) (order : RunOrder) (n m : Notes) (v w : View) (turn : Turn) → Steady f g a b → Steady g h b c
+pub performs_within : {f g h : Giving} {a b c : Tally} (tells : Option ℕ) (opening : ℕ) (order : RunOrder) (n m : Notes) (v w : View) (turn : Turn) → Idles f g a b → Steady g h b c
     → Performs g b c tells opening order n m v w turn → Performs f a c tells opening order n m v w turn
 performs_within tells opening order n m v w turns.Ran s t x = carried_within turns.Ran s t x
 performs_within tells opening order n m v w turns.Removed s t x = carried_within turns.Removed s t x
@@ -55,7 +62,7 @@ performs_within tells opening order n m v w turns.Warmed s t x = carried_within 
 performs_within tells opening order n m v w (turns.Lost seen) s t x = x
 performs_within tells opening order n m v w turns.Idle s t x = carried_within turns.Idle s t x
 performs_within tells opening order n m v w (turns.StoreFault job) s t x = carried_within (turns.StoreFault job) s t x
-performs_within tells opening order n m v w (turns.NoMemory None) s t x = x
+performs_within {f = f} {g = g} {a = a} {b = b} {c = c} tells opening order n m v w (turns.NoMemory None) s t x = (abandoned_within f g a b c tells order n m s x.0, x.1)
 performs_within tells opening order n m v w (turns.NoMemory (Some job)) s t x = carried_within (turns.NoMemory (Some job)) s t x
 
 -- ---- other slots

@@ -1,6 +1,6 @@
 -- The parts of a run, each with the notes before and after it.
 use Rattle.std.specs.Prelude.{◌≡◌, ◌⊎◌, ℕ, Bool, true, false, Option, Some}
-use Rattle.ow_traits.specs.Runner.{Giving, RefusesCode, is_answer}
+use Rattle.ow_traits.specs.Runner.{Giving, RefusesCode, Tally, is_answer}
 use Rattle.ow_traits.specs.declared.replies.RunReply.{RunReply}
 use Rattle.ow_slots.specs.State.{is_cold, is_warm}
 use Rattle.ow_floor.specs.declared.answers.RunOrder.{RunOrder}
@@ -20,7 +20,7 @@ use Rattle.ow_worker.specs.Noted.{FaultNoted, GoneNoted, ReplyNoted}
 
 -- ---- for private clauses: getting a container up and initialised
 
-module _ (gives : Giving) (before now : ℕ) where
+module _ (gives : Giving) (before now : Tally) where
   -- it is had, and is up, or the code is refused, or memory was wanted behind that; or it isn't had
   abbrev pub Readied : {B : Type 0} → RunOrder → View → View → Readiness B ℕ → Type 0
   Readied order v w (Up living) = IsStarted gives order × WasHad order v w

@@ -1,6 +1,6 @@
 -- What a turn of a worker adds to its receipts, and what its pass shows of the board.
 use Rattle.std.specs.Prelude.{◌≡◌, ◌⊎◌, ℕ, true, false, List, [], ◌∷◌, Option, None}
-use Rattle.ow_traits.specs.Runner.{Giving, RefusesCode, RefusesStart, Replies}
+use Rattle.ow_traits.specs.Runner.{Giving, RanNone, RanOnce, RefusesCode, RefusesStart, Replies, Tally}
 use Rattle.ow_traits.specs.declared.replies.RunReply.{RunReply}
 use Rattle.ow_slots.specs.State.{is_cold, is_warm}
 use Rattle.ow_floor.specs.declared.answers.Container.{Container}
@@ -28,27 +28,31 @@ module _ (tells : Option ℕ) where
   abbrev pub ToldBegun : RunOrder → Notes → Notes → Type 0
   ToldBegun order n m = (BegunNoted tells order.run n m × (is_warm order.start ≡ false)) ⊎ ((m ≡ n) × (is_warm order.start ≡ true))
 
-  -- memory was wanted before there was a reply: the run is lost and its container gone; that it began may have been told
-  pub record Abandoned (order : RunOrder) (n m : Notes) : Type 0 where
+  -- memory was wanted before there was a reply: the run is lost and its container gone; its code was run once, as what began, or the
+  -- container wasn't ready, and it wasn't
+  pub record Abandoned (before now : Tally) (order : RunOrder) (n m : Notes) : Type 0 where
     pub opened : Notes
-    pub opens : (BegunNoted tells order.run n opened × (is_warm order.start ≡ false)) ⊎ (opened ≡ n)
+    pub opens : (ToldBegun order n opened × RanOnce before now) ⊎ ((opened ≡ n) × (is_warm order.start ≡ false) × RanNone before now)
     pub gives_up : GivenUp tells order.run order.slot order.generation opened m
 
-  -- the container of a warm or a prewarmed start isn't had
-  pub record NotCarried (order : RunOrder) (seen : ℕ) (n m : Notes) (start : ℕ) (w : View) : Type 0 where
+  -- the container of a warm or a prewarmed start isn't had, and no code is run
+  pub record NotCarried (before now : Tally) (order : RunOrder) (seen : ℕ) (n m : Notes) (start : ℕ) (w : View) : Type 0 where
     pub start_is : is_cold order.start ≡ false
     pub shown : WasNotHad order.slot order.generation seen start w
     pub lost : LostNoted tells order.run n m
+    pub ran : RanNone before now
 
-module _ (gives : Giving) (before now : ℕ) where
+module _ (gives : Giving) (before now : Tally) where
   -- a container doesn't come up only where the runner refuses its start
   abbrev pub IsDown : PrewarmOrder → Type 0
   IsDown order = (reply : RunReply) × RefusesStart gives before now order.kind reply
 
-module _ (gives : Giving) (before now : ℕ) (tells : Option ℕ) where
-  -- that the run began is left out only where the code is refused; a new container is of a kind that the runner starts
+module _ (gives : Giving) (before now : Tally) (tells : Option ℕ) where
+  -- that the run began is left out only where the code is refused, which is then not run; else it is run once, and a new container is of a
+  -- kind that the runner starts
   abbrev pub Opens : RunOrder → RunReply → Notes → Notes → Type 0
-  Opens order reply n m = (IsStarted gives order × ToldBegun tells order n m) ⊎ ((m ≡ n) × RefusesCode gives before now order.kind order.code reply)
+  Opens order reply n m = (IsStarted gives order × ToldBegun tells order n m × RanOnce before now)
+      ⊎ ((m ≡ n) × RefusesCode gives before now order.kind order.code reply × RanNone before now)
 
   module _ (opening : ℕ) where
     -- behind its container a run has a reply: one that the runner gives, or a fault where its count rose
@@ -61,8 +65,8 @@ module _ (gives : Giving) (before now : ℕ) (tells : Option ℕ) where
 
     -- its container isn't had; or it is had, and the run goes on from there, or is given up with no later step on that slot
     abbrev pub RunTurn : RunOrder → Notes → Notes → View → View → Turn → Type 0
-    RunTurn order n m v w (turns.Lost seen) = NotCarried tells order seen n m v.steps w
-    RunTurn order n m v w (turns.NoMemory None) = WasHad order v w × Abandoned tells order n m
+    RunTurn order n m v w (turns.Lost seen) = NotCarried tells before now order seen n m v.steps w
+    RunTurn order n m v w (turns.NoMemory None) = WasHad order v w × Abandoned tells before now order n m
     RunTurn order n m v w turn = (ready : View) × WasHad order v ready × Carried order n m ready w turn
 
   -- ---- containers ahead
@@ -86,13 +90,13 @@ module _ (tells : Option ℕ) where
 
 -- ---- turns
 
-module _ (gives : Giving) (before now : ℕ) (tells : Option ℕ) (opening : ℕ) where
-  -- what follows an order; a run and a prewarming leave what was shown of other slots
+module _ (gives : Giving) (before now : Tally) (tells : Option ℕ) (opening : ℕ) where
+  -- what follows an order, of which only a run's runs code; a run and a prewarming leave what was shown of other slots
   abbrev pub Follows : Order → Notes → Notes → View → View → Turn → Type 0
   Follows (orders.Run order) n m v w turn = RunTurn gives before now tells opening order n m v w turn × KeepsOthers order.slot v w
-  Follows (orders.Prewarm order) n m v w turn = WarmTurn gives before now tells order n m v w turn × KeepsOthers order.slot v w
-  Follows (orders.Remove containers) n m v w turn = (turn ≡ turns.Removed) × Removes tells containers n m v w
-  Follows (orders.Nothing why) n m v w turn = (turn ≡ turns.Idle) × (m ≡ n) × (w ≡ v)
+  Follows (orders.Prewarm order) n m v w turn = WarmTurn gives before now tells order n m v w turn × KeepsOthers order.slot v w × RanNone before now
+  Follows (orders.Remove containers) n m v w turn = (turn ≡ turns.Removed) × Removes tells containers n m v w × RanNone before now
+  Follows (orders.Nothing why) n m v w turn = (turn ≡ turns.Idle) × (m ≡ n) × (w ≡ v) × RanNone before now
 
   pub record CarriesOut (n m : Notes) (v w : View) (turn : Turn) : Type 0 where
     pub order : Order
@@ -102,11 +106,11 @@ module _ (gives : Giving) (before now : ℕ) (tells : Option ℕ) (opening : ℕ
 
   -- no order for want of memory; or an order, and what follows it
   abbrev pub Turned : Notes → Notes → View → View → Turn → Type 0
-  Turned n m v w turn = ((m ≡ n) × (w ≡ v) × (turn ≡ turns.NoMemory None)) ⊎ CarriesOut n m v w turn
+  Turned n m v w turn = ((m ≡ n) × (w ≡ v) × (turn ≡ turns.NoMemory None) × RanNone before now) ⊎ CarriesOut n m v w turn
 
 -- ---- for private clauses: a container ahead, and a run in its container
 
-module _ (gives : Giving) (before now : ℕ) where
+module _ (gives : Giving) (before now : Tally) where
   -- it was put on the board, or its slot wasn't empty; else the pass made no step
   abbrev pub Warms : PrewarmOrder → View → View → Warming → Type 0
   Warms order v w warmings.Up = gives.starts order.kind × WasPut order.slot order.generation prewarmed v.steps w
@@ -118,5 +122,5 @@ module _ (gives : Giving) (before now : ℕ) where
     -- the run is given up, and the pass made no step; or it has a reply
     abbrev pub Performs : RunOrder → Notes → Notes → View → View → Turn → Type 0
     Performs order n m v w (turns.Lost seen) = ⊥
-    Performs order n m v w (turns.NoMemory None) = Abandoned tells order n m × (w ≡ v)
+    Performs order n m v w (turns.NoMemory None) = Abandoned tells before now order n m × (w ≡ v)
     Performs order n m v w turn = Carried gives before now tells opening order n m v w turn

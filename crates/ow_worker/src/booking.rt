@@ -1,6 +1,6 @@
 // How a reply is booked, and what follows.
 ghost use Rattle.std.specs.Prelude.{◌≡◌, ◌≤◌, ◌+◌};
-ghost use Rattle.ow_traits.specs.Runner.{Steady};
+ghost use Rattle.ow_traits.specs.Runner.{Idles};
 ghost use Rattle.ow_board.specs.Board.{size, view_of, IsPassOf, StaysPassOf};
 ghost use Rattle.ow_board.specs.View.{KeepsOthers};
 ghost use Rattle.ow_desk.specs.Fitting.{IsSlot};
@@ -34,7 +34,7 @@ pub(crate) fn book<H: Wait, P: Keeper + Drop, R: Runner, C: Clock>(
     requires room { 2 ≤ notes.old.room }
     ensures pass { StaysPassOf board.now pass.old pass.new }
     ensures on { GoesOn (view_of pass.old) (view_of pass.new) }
-    ensures runner { Steady (R.gives runner.old) (R.gives runner.new) (R.faults runner.old) (R.faults runner.new) }
+    ensures runner { Idles (R.gives runner.old) (R.gives runner.new) (R.tally runner.old) (R.tally runner.new) }
     ensures others { KeepsOthers job.order.slot (view_of pass.old) (view_of pass.new) }
     ensures booked { Booked (C.tells clock.now) job.order job.reply job.laid notes.old.notes notes.new.notes (view_of pass.old).steps (view_of pass.old) (view_of pass.new) result }
 {
@@ -81,7 +81,7 @@ fn end<H: Wait, P: Keeper + Drop, R: Runner, C: Clock>(
     requires room { 1 ≤ notes.old.room }
     ensures pass { StaysPassOf board.now pass.old pass.new }
     ensures on { GoesOn (view_of pass.old) (view_of pass.new) }
-    ensures runner { Steady (R.gives runner.old) (R.gives runner.new) (R.faults runner.old) (R.faults runner.new) }
+    ensures runner { Idles (R.gives runner.old) (R.gives runner.new) (R.tally runner.old) (R.tally runner.new) }
     ensures others { KeepsOthers order.now.slot (view_of pass.old) (view_of pass.new) }
     ensures ended { Ended (C.tells clock.now) order.now notes.old.notes notes.new.notes (view_of pass.old).steps (view_of pass.old) (view_of pass.new) laid late }
 {

@@ -1,6 +1,6 @@
 // How a container is taken from the board.
 ghost use Rattle.std.specs.Prelude.{◌≡◌, ◌<◌, ◌≤◌, ◌+◌, IfErr, OnOk};
-ghost use Rattle.ow_traits.specs.Runner.{Steady};
+ghost use Rattle.ow_traits.specs.Runner.{Idles};
 ghost use Rattle.ow_board.specs.Word.{IsFull};
 ghost use Rattle.ow_board.specs.View.{KeepsOthers, SawLast};
 ghost use Rattle.ow_board.specs.Board.{size, view_of, IsPassOf, StaysPassOf, HasTaken, FoundGone};
@@ -76,7 +76,7 @@ pub(crate) fn take_back<H: Wait, P: Keeper + Drop, R: Runner, C: Clock>(
     ensures pass { StaysPassOf board.now pass.old pass.new }
     ensures on { GoesOn (view_of pass.old) (view_of pass.new) }
     ensures others { KeepsOthers slot (view_of pass.old) (view_of pass.new) }
-    ensures runner { Steady (R.gives runner.old) (R.gives runner.new) (R.faults runner.old) (R.faults runner.new) }
+    ensures runner { Idles (R.gives runner.old) (R.gives runner.new) (R.tally runner.old) (R.tally runner.new) }
     ensures room { notes.old.room ≤ notes.new.room + 1 }
     ensures back { TakenBack (C.tells clock.now) slot generation notes.old.notes notes.new.notes (view_of pass.old).steps (view_of pass.new) }
 {

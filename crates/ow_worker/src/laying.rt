@@ -1,6 +1,6 @@
 // What becomes of a container whose run has a reply.
 ghost use Rattle.std.specs.Prelude.{◌≡◌, ◌≤◌, ◌+◌, ℕ, false, None, OnOk, OnErr};
-ghost use Rattle.ow_traits.specs.Runner.{Steady, is_answer};
+ghost use Rattle.ow_traits.specs.Runner.{Idles, is_answer};
 ghost use Rattle.ow_board.specs.Board.{size, view_of, IsPassOf, StaysPassOf, HasPut, FoundTaken};
 ghost use Rattle.ow_board.specs.View.{KeepsOthers};
 ghost use Rattle.ow_desk.specs.Fitting.{IsSlot};
@@ -37,7 +37,7 @@ pub(crate) fn lay_down<H: Wait, P: Keeper + Drop, R: Runner, C: Clock>(
     requires none { held ≡ None → is_answer reply.now ≡ false }
     ensures pass { StaysPassOf board.now pass.old pass.new }
     ensures on { GoesOn (view_of pass.old) (view_of pass.new) }
-    ensures runner { Steady (R.gives runner.old) (R.gives runner.new) (R.faults runner.old) (R.faults runner.new) }
+    ensures runner { Idles (R.gives runner.old) (R.gives runner.new) (R.tally runner.old) (R.tally runner.new) }
     ensures room { notes.old.room ≤ notes.new.room + 1 }
     ensures others { KeepsOthers order.now.slot (view_of pass.old) (view_of pass.new) }
     ensures laid { LaidDown (C.tells clock.now) opened order.now reply.now notes.old.notes notes.new.notes (view_of pass.old) (view_of pass.new) result }

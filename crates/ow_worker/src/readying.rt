@@ -1,6 +1,6 @@
 // How the container of a run comes up.
 ghost use Rattle.std.specs.Prelude.{◌≡◌, ◌≤◌};
-ghost use Rattle.ow_traits.specs.Runner.{Steady};
+ghost use Rattle.ow_traits.specs.Runner.{Idles};
 ghost use Rattle.ow_board.specs.Board.{size, view_of, IsPassOf, StaysPassOf};
 ghost use Rattle.ow_board.specs.View.{KeepsOthers};
 ghost use Rattle.ow_desk.specs.Fitting.{IsSlot};
@@ -30,9 +30,9 @@ pub(crate) fn make_ready<R: Runner, G: Gate>(
     requires slot { IsSlot order.now.slot order.now.generation }
     ensures pass { StaysPassOf board.now pass.old pass.new }
     ensures on { GoesOn (view_of pass.old) (view_of pass.new) }
-    ensures runner { Steady (R.gives runner.old) (R.gives runner.new) (R.faults runner.old) (R.faults runner.new) }
+    ensures runner { Idles (R.gives runner.old) (R.gives runner.new) (R.tally runner.old) (R.tally runner.new) }
     ensures others { KeepsOthers order.now.slot (view_of pass.old) (view_of pass.new) }
-    ensures ready { Readied (R.gives runner.old) (R.faults runner.old) (R.faults runner.new) order.now (view_of pass.old) (view_of pass.new) result }
+    ensures ready { Readied (R.gives runner.old) (R.tally runner.old) (R.tally runner.new) order.now (view_of pass.old) (view_of pass.new) result }
 {
     if order.start == Start::Cold {
         return open(alloc, runner, order);

@@ -1,6 +1,6 @@
 // The reaper.
 ghost use Rattle.std.specs.Prelude.{◌≡◌, ◌-◌, ◌/◌, ◌<◌, ◌≤◌, ℕ, Some, None, IfOk, IfSome, IfNone, OnErr};
-ghost use Rattle.ow_traits.specs.Runner.{Steady};
+ghost use Rattle.ow_traits.specs.Runner.{Idles};
 ghost use Rattle.ow_board.specs.Board.{size, view_of, IsPassOf, StaysPassOf};
 ghost use Rattle.ow_worker.specs.Reaped.{Deals, HasReaped, KeepsBehind, SlotReaped};
 
@@ -36,7 +36,7 @@ pub fn reap<H: Wait, P: Keeper + Drop, R: Runner, C: Clock, G: Gate>(
 ) -> Result<u32, NoMemory>
     requires { IsPassOf board.now pass.old }
     ensures pass { StaysPassOf board.now pass.old pass.new }
-    ensures runner { Steady (R.gives runner.old) (R.gives runner.new) (R.faults runner.old) (R.faults runner.new) }
+    ensures runner { Idles (R.gives runner.old) (R.gives runner.new) (R.tally runner.old) (R.tally runner.new) }
     ensures ok { IfOk result (λ count. HasReaped (C.tells clock.now) opened notes.old.notes notes.new.notes (view_of pass.old) (view_of pass.new) (size board.now) count) }
     ensures err { OnErr result ((k : ℕ) × (count : ℕ) × (k ≤ size board.now) × HasReaped (C.tells clock.now) opened notes.old.notes notes.new.notes (view_of pass.old) (view_of pass.new) k count × KeepsBehind k (view_of pass.old) (view_of pass.new)) }
 {
@@ -72,7 +72,7 @@ fn reap_slot<H: Wait, P: Keeper + Drop, R: Runner, C: Clock>(
     requires pass { IsPassOf board.now pass.old × (i < size board.now) }
     requires room { 1 ≤ notes.old.room }
     ensures pass { StaysPassOf board.now pass.old pass.new }
-    ensures runner { Steady (R.gives runner.old) (R.gives runner.new) (R.faults runner.old) (R.faults runner.new) }
+    ensures runner { Idles (R.gives runner.old) (R.gives runner.new) (R.tally runner.old) (R.tally runner.new) }
     ensures reaped { SlotReaped (C.tells clock.now) i elapsed notes.old.notes notes.new.notes (view_of pass.old) (view_of pass.new) result }
     ensures one { result ≤ 1 }
 {

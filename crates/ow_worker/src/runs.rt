@@ -1,6 +1,6 @@
 // A run, from its container to its end.
 ghost use Rattle.std.specs.Prelude.{◌≡◌, ◌≤◌, false, None};
-ghost use Rattle.ow_traits.specs.Runner.{Steady, is_answer};
+ghost use Rattle.ow_traits.specs.Runner.{Idles, Runs, Steady, is_answer};
 ghost use Rattle.ow_board.specs.Board.{size, view_of, IsPassOf, StaysPassOf};
 ghost use Rattle.ow_board.specs.View.{KeepsOthers};
 ghost use Rattle.ow_desk.specs.Fitting.{IsSlot};
@@ -41,9 +41,9 @@ pub(crate) fn carry<H: Wait, P: Keeper + Drop, R: Runner, C: Clock, G: Gate>(
     requires slot { IsSlot order.slot order.generation }
     requires room { 4 ≤ notes.old.room }
     ensures pass { StaysPassOf board.now pass.old pass.new }
-    ensures runner { Steady (R.gives runner.old) (R.gives runner.new) (R.faults runner.old) (R.faults runner.new) }
+    ensures runner { Steady (R.gives runner.old) (R.gives runner.new) (R.tally runner.old) (R.tally runner.new) }
     ensures others { KeepsOthers order.slot (view_of pass.old) (view_of pass.new) }
-    ensures turned { RunTurn (R.gives runner.old) (R.faults runner.old) (R.faults runner.new) (C.tells clock.now) opened order notes.old.notes notes.new.notes (view_of pass.old) (view_of pass.new) result }
+    ensures turned { RunTurn (R.gives runner.old) (R.tally runner.old) (R.tally runner.new) (C.tells clock.now) opened order notes.old.notes notes.new.notes (view_of pass.old) (view_of pass.new) result }
 {
     match make_ready(alloc, board, pass, runner, gate, &order) {
         Readiness::Up(living) => perform(
@@ -91,9 +91,9 @@ fn perform<H: Wait, P: Keeper + Drop, R: Runner, C: Clock, G: Gate>(
     requires slot { IsSlot order.slot order.generation }
     requires room { 4 ≤ notes.old.room }
     ensures pass { StaysPassOf board.now pass.old pass.new }
-    ensures runner { Steady (R.gives runner.old) (R.gives runner.new) (R.faults runner.old) (R.faults runner.new) }
+    ensures runner { Runs (R.gives runner.old) (R.gives runner.new) (R.tally runner.old) (R.tally runner.new) }
     ensures others { KeepsOthers order.slot (view_of pass.old) (view_of pass.new) }
-    ensures performs { Performs (R.gives runner.old) (R.faults runner.old) (R.faults runner.new) (C.tells clock.now) opened order notes.old.notes notes.new.notes (view_of pass.old) (view_of pass.new) result }
+    ensures performs { Performs (R.gives runner.old) (R.tally runner.old) (R.tally runner.new) (C.tells clock.now) opened order notes.old.notes notes.new.notes (view_of pass.old) (view_of pass.new) result }
 {
     tell_begun(rt, desk, clock, notes, &order);
     gate.pass(Stage::BeforeRun(order.run));
@@ -151,7 +151,7 @@ fn settle<H: Wait, P: Keeper + Drop, R: Runner, C: Clock>(
     requires room { 3 ≤ notes.old.room }
     requires none { held ≡ None → is_answer reply ≡ false }
     ensures pass { StaysPassOf board.now pass.old pass.new }
-    ensures runner { Steady (R.gives runner.old) (R.gives runner.new) (R.faults runner.old) (R.faults runner.new) }
+    ensures runner { Idles (R.gives runner.old) (R.gives runner.new) (R.tally runner.old) (R.tally runner.new) }
     ensures others { KeepsOthers order.slot (view_of pass.old) (view_of pass.new) }
     ensures settled { Settled (C.tells clock.now) opened order reply notes.old.notes notes.new.notes (view_of pass.old) (view_of pass.new) result }
 {

@@ -1,6 +1,6 @@
 // A worker's turns.
 ghost use Rattle.std.specs.Prelude.{◌≡◌, ◌≤◌};
-ghost use Rattle.ow_traits.specs.Runner.{Steady};
+ghost use Rattle.ow_traits.specs.Runner.{Idles, Steady};
 ghost use Rattle.ow_board.specs.Board.{size, view_of, IsPassOf, StaysPassOf};
 ghost use Rattle.ow_board.specs.View.{KeepsOthers};
 ghost use Rattle.ow_worker.specs.Parts.{Booked};
@@ -36,8 +36,8 @@ pub fn turn<H: Wait, P: Keeper + Drop, R: Runner, C: Clock, G: Gate>(
 ) -> Turn
     requires { IsPassOf board.now pass.old × (512 ≤ size board.now) }
     ensures pass { StaysPassOf board.now pass.old pass.new }
-    ensures runner { Steady (R.gives runner.old) (R.gives runner.new) (R.faults runner.old) (R.faults runner.new) }
-    ensures turned { Turned (R.gives runner.old) (R.faults runner.old) (R.faults runner.new) (C.tells clock.now) opened notes.old.notes notes.new.notes (view_of pass.old) (view_of pass.new) result }
+    ensures runner { Steady (R.gives runner.old) (R.gives runner.new) (R.tally runner.old) (R.tally runner.new) }
+    ensures turned { Turned (R.gives runner.old) (R.tally runner.old) (R.tally runner.new) (C.tells clock.now) opened notes.old.notes notes.new.notes (view_of pass.old) (view_of pass.new) result }
 {
     let Ok(order) = take_order(rt, alloc, desk, clock, notes) else {
         return Turn::NoMemory(None);
@@ -80,7 +80,7 @@ pub fn again<H: Wait, P: Keeper + Drop, R: Runner, C: Clock>(
 ) -> Turn
     requires { IsPassOf board.now pass.old × (512 ≤ size board.now) }
     ensures pass { StaysPassOf board.now pass.old pass.new }
-    ensures runner { Steady (R.gives runner.old) (R.gives runner.new) (R.faults runner.old) (R.faults runner.new) }
+    ensures runner { Idles (R.gives runner.old) (R.gives runner.new) (R.tally runner.old) (R.tally runner.new) }
     ensures others { KeepsOthers job.order.slot (view_of pass.old) (view_of pass.new) }
     ensures booked { Booked (C.tells clock.now) job.order job.reply job.laid notes.old.notes notes.new.notes (view_of pass.old).steps (view_of pass.old) (view_of pass.new) result }
 {

@@ -1,7 +1,7 @@
 // Containers that are started ahead of any run, and containers that make room.
 ghost use Rattle.std.specs.Prelude.{◌≡◌, ◌<◌, ◌≤◌, ◌+◌, length};
 ghost use Rattle.std.specs.List.{AllByRecursion};
-ghost use Rattle.ow_traits.specs.Runner.{Steady};
+ghost use Rattle.ow_traits.specs.Runner.{Idles};
 ghost use Rattle.ow_board.specs.Board.{size, view_of, IsPassOf, StaysPassOf};
 ghost use Rattle.ow_board.specs.View.{KeepsOthers};
 ghost use Rattle.ow_desk.specs.Fitting.{IsSlot};
@@ -40,9 +40,9 @@ pub(crate) fn prewarm<H: Wait, P: Keeper + Drop, R: Runner, C: Clock>(
     requires slot { IsSlot order.slot order.generation }
     requires room { 2 ≤ notes.old.room }
     ensures pass { StaysPassOf board.now pass.old pass.new }
-    ensures runner { Steady (R.gives runner.old) (R.gives runner.new) (R.faults runner.old) (R.faults runner.new) }
+    ensures runner { Idles (R.gives runner.old) (R.gives runner.new) (R.tally runner.old) (R.tally runner.new) }
     ensures others { KeepsOthers order.slot (view_of pass.old) (view_of pass.new) }
-    ensures warms { WarmTurn (R.gives runner.old) (R.faults runner.old) (R.faults runner.new) (C.tells clock.now) order notes.old.notes notes.new.notes (view_of pass.old) (view_of pass.new) result }
+    ensures warms { WarmTurn (R.gives runner.old) (R.tally runner.old) (R.tally runner.new) (C.tells clock.now) order notes.old.notes notes.new.notes (view_of pass.old) (view_of pass.new) result }
 {
     match warm(alloc, board, pass, runner, &order) {
         Warming::Up => {
@@ -87,9 +87,9 @@ fn warm<R: Runner>(
     requires slot { IsSlot order.now.slot order.now.generation }
     ensures pass { StaysPassOf board.now pass.old pass.new }
     ensures on { GoesOn (view_of pass.old) (view_of pass.new) }
-    ensures runner { Steady (R.gives runner.old) (R.gives runner.new) (R.faults runner.old) (R.faults runner.new) }
+    ensures runner { Idles (R.gives runner.old) (R.gives runner.new) (R.tally runner.old) (R.tally runner.new) }
     ensures others { KeepsOthers order.now.slot (view_of pass.old) (view_of pass.new) }
-    ensures warms { Warms (R.gives runner.old) (R.faults runner.old) (R.faults runner.new) order.now (view_of pass.old) (view_of pass.new) result }
+    ensures warms { Warms (R.gives runner.old) (R.tally runner.old) (R.tally runner.new) order.now (view_of pass.old) (view_of pass.new) result }
 {
     match runner.start(alloc, order.kind, order.memory) {
         Err(_) => Warming::Wanting,
@@ -122,7 +122,7 @@ pub(crate) fn remove<H: Wait, P: Keeper + Drop, R: Runner, C: Clock>(
     requires slots { AllByRecursion (λ c. IsSlot c.slot c.generation) containers.now }
     requires room { length containers.now ≤ notes.old.room }
     ensures pass { StaysPassOf board.now pass.old pass.new }
-    ensures runner { Steady (R.gives runner.old) (R.gives runner.new) (R.faults runner.old) (R.faults runner.new) }
+    ensures runner { Idles (R.gives runner.old) (R.gives runner.new) (R.tally runner.old) (R.tally runner.new) }
     ensures removes { Removes (C.tells clock.now) containers.now notes.old.notes notes.new.notes (view_of pass.old) (view_of pass.new) }
 {
     if let Some((container, rest)) = containers.split_first() {

@@ -2,11 +2,11 @@ use Rattle.std.proofs.Common.{refl, inl, [], take, get_or, sym, subst, arith}
 use Rattle.std.proofs.lemmas.List.{take_more}
 use Rattle.ow_floor.specs.declared.answers.Container.{Container}
 use Rattle.ow_invoker.proofs.Orders.{Removed, removed_more}
-use Rattle.ow_invoker.proofs.Running.{steady_trans}
+use Rattle.ow_invoker.proofs.Running.{idles_trans}
 use Rattle.ow_invoker.proofs.removal.remove.Goals as goal
 
 pub returns-in_default-clause-turns : goal.returns-in_default-clause-turns
-returns-in_default-clause-turns g c = inl ([], (inl (refl, refl), refl))
+returns-in_default-clause-turns g c = inl ([], (inl (refl, refl, refl), refl))
 
 pub loop-container-preserved : goal.loop-container-preserved
 loop-container-preserved g c =
@@ -19,7 +19,7 @@ loop-container-preserved g c =
           (sym (take_more items i none c.loop-container-test.true))
           (removed_more g.P.Keeper.rows g.P.Keeper.faults c.args.hall.now c.args.at c.loop-container.hall c.clear-step.new.hall c.args.shelf.now c.loop-container.shelf c.clear-step.new.shelf (take i items)
           (get_or items i none) c.loop-container.steps.items c.note.new.steps.items c.clear-step.result inv.removed c.clear-step.ensures.tells c.clear-step.ensures.shelf c.note.ensures.steps);
-      steady = steady_trans inv.steady c.clear-step.ensures.runner;
+      idles = idles_trans inv.idles c.clear-step.ensures.runner;
       few = let a = inv.few in let b = c.note.ensures.few in omega arith;
       room = let a = inv.room in let b = c.note.ensures.room in omega arith;
     }

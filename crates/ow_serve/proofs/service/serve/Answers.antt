@@ -10,7 +10,7 @@ returns-in-Ok-new-clause-serves g c =
     let h = c.in-Ok-new.house in
     let first = c.in-Ok-new.ensures.first in
     let clock = c.in-Ok-new.ensures.clock in
-    opened_serves g.K.Link.left g.K.Link.taken g.R.Runner.gives g.R.Runner.faults c.args.runners.items (g.C.Clock.tells h.clock.value) (g.C.Clock.tells c.args.clock.value) h.opened c.now-opened.result h.notes.notes first.0
+    opened_serves g.K.Link.left g.K.Link.taken g.R.Runner.gives g.R.Runner.tally c.args.runners.items (g.C.Clock.tells h.clock.value) (g.C.Clock.tells c.args.clock.value) h.opened c.now-opened.result h.notes.notes first.0
     _ _ _ _ _ _ _ (ap (λ a. g.C.Clock.tells a.value) clock.0) clock.1 first.2 (rw c.deref.ensures at c.now-opened.ensures) c.run.ensures.serves
 
 pub returns-clause-serves : goal.returns-clause-serves

@@ -1,10 +1,10 @@
 use Rattle.std.proofs.Common.{refl}
-use Rattle.ow_invoker.proofs.Running.{steady_refl, steady_trans}
+use Rattle.ow_invoker.proofs.Running.{idles_refl, idles_trans}
 use Rattle.ow_serve.specs.Working.{goes_on, stays}
 use Rattle.ow_serve.proofs.working.book_on.Goals as goal
 
 pub loop-init : goal.loop-init
-loop-init g c = record { pass = c.requires; runner = steady_refl _ _; books = stays }
+loop-init g c = record { pass = c.requires; runner = idles_refl _ _; books = stays }
 
 pub loop-preserved : goal.loop-preserved
 loop-preserved g c =
@@ -12,7 +12,7 @@ loop-preserved g c =
     let one = c.again-turned.ensures in
     record {
       pass = one.pass.0;
-      runner = steady_trans was.runner one.runner;
+      runner = idles_trans was.runner one.runner;
       books = goes_on was.books (record {
         job = c.loop.job;
         turn = c.again-turned.result;
@@ -20,12 +20,13 @@ loop-preserved g c =
         booked = one.booked;
         others = one.others;
         leaves = c.in-Some-left.ensures;
-        later = one.runner.later;
+        later = one.runner.steady.later;
+        ran = one.runner.ran;
       });
     }
 
 pub returns-in-None-left-clause-runner : goal.returns-in-None-left-clause-runner
-returns-in-None-left-clause-runner g c = steady_trans c.loop.invariant.runner c.again-turned.ensures.runner
+returns-in-None-left-clause-runner g c = idles_trans c.loop.invariant.runner c.again-turned.ensures.runner
 
 pub returns-in-None-left-clause-books : goal.returns-in-None-left-clause-books
 returns-in-None-left-clause-books g c =
@@ -37,5 +38,6 @@ returns-in-None-left-clause-books g c =
       booked = one.booked;
       others = one.others;
       leaves = c.in-None-left.ensures;
-      later = one.runner.later;
+      later = one.runner.steady.later;
+      ran = one.runner.ran;
     })

@@ -16,7 +16,7 @@ loop-preserved g c =
 
 pub returns-then-is_over-clause-turns : goal.returns-then-is_over-clause-turns
 returns-then-is_over-clause-turns g c = record {
-  last = stand c.loop.notes.notes (view_of c.loop.pass) (g.R.Runner.faults c.loop.runner);
+  last = stand c.loop.notes.notes (view_of c.loop.pass) (g.R.Runner.tally c.loop.runner);
   works = c.loop.invariant.works;
   notes = refl;
 }

@@ -11,7 +11,7 @@ pub returns-in-Pause-clause-works : goal.returns-in-Pause-clause-works
 returns-in-Pause-clause-works g c = works_so c.turn-turned.result _ None c.in-Pause.ensures c.turn-turned.ensures.turned c.turn-turned.ensures.runner.later stays
 
 pub returns-in-Book-clause-runner : goal.returns-in-Book-clause-runner
-returns-in-Book-clause-runner g c = steady_trans c.turn-turned.ensures.runner c.book_on.ensures.runner
+returns-in-Book-clause-runner g c = steady_trans c.turn-turned.ensures.runner c.book_on.ensures.runner.steady
 
 pub returns-in-Book-clause-works : goal.returns-in-Book-clause-works
 returns-in-Book-clause-works g c =

@@ -1,6 +1,6 @@
 use Rattle.std.proofs.Common.{arith, ◌∙◌, ◌+◌, refl, subst}
 use Rattle.ow_board.specs.Board.{view_of}
-use Rattle.ow_invoker.proofs.Running.{steady_trans}
+use Rattle.ow_invoker.proofs.Running.{idles_trans}
 use Rattle.ow_desk.specs.Notes.{Notes}
 use Rattle.ow_worker.specs.Reaped.{SlotReaped}
 use Rattle.ow_worker.proofs.Slots.{reaped_more}
@@ -16,7 +16,7 @@ loop-i-preserved g c =
     c.reserve.ensures.notes one.reaped in record {
       pass = (one.pass.0, one.pass.1 ∙ inv.pass.1);
       on = omega (arith, inv.on, more);
-      runner = steady_trans inv.runner one.runner;
+      runner = idles_trans inv.runner one.runner;
       few = omega (arith, inv.few, one.one);
       behind = λ j le. one.reaped.others j (λ e. omega (arith, e, le)) ∙ inv.behind j (omega (arith, le));
       reaped = reaped_more (g.C.Clock.tells c.args.clock.now) c.loop-i.i c.seconds_since-elapsed.result (view_of c.args.pass.now).steps c.loop-i.taken c.reap_slot-taken.result (c.loop-i.taken + c.reap_slot-taken.result)

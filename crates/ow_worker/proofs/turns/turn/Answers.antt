@@ -17,5 +17,5 @@ returns-in-Prewarm-clause-turned g c = inr (record {
   order = orders.Prewarm c.in-Prewarm.order;
   taken = c.take_order.new.notes.notes;
   next = subst (λ (o : Order). NextNoted (g.C.Clock.tells c.args.clock.now) c.args.notes.now.notes c.take_order.new.notes.notes o) c.in-Prewarm.is c.in-Ok.ensures.order;
-  follows = (c.prewarm.ensures.warms, c.prewarm.ensures.others);
+  follows = (c.prewarm.ensures.warms, c.prewarm.ensures.others, c.prewarm.ensures.runner.ran);
 })
