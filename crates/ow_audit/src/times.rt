@@ -1,6 +1,5 @@
 // How many times each place of a book stands in receipts.
 ghost use Rattle.std.specs.Prelude.{◌≡◌, ◌+◌, ◌<◌, ◌≤◌, ◌==◌, ℕ, Some, None, cond, length, slice_index, IfOk, MatchOption};
-ghost use Rattle.ow_desk.specs.declared.placed.Placed.{Placed as PlacedValue};
 ghost use Rattle.ow_audit.specs.Numbers.{capped};
 ghost use Rattle.ow_audit.specs.Places.{AreTimes, notes_of, placed, times};
 

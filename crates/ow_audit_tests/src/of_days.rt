@@ -19,9 +19,15 @@ type Held = Receipts<MemoryKeeper>;
 // One namespace, and one key in it.
 const TABLE: &str = "namespace,1,guest,,,\nkey,k1,anna,guest,,\n";
 
-// The body of a put.
-const ACTION: &str =
-    r#"{"exec":{"kind":"plain:1","code":"{\"cases\":[{\"when\":{},\"give\":{\"greeting\":\"Hello\"}}]}"}}"#;
+// A get of an action, a put and an invocation.
+const GET: &str =
+    "GET /api/v1/namespaces/_/actions/hello HTTP/1.1\r\nX-Whisk-Key: k1\r\nContent-Type: application/json\r\nContent-Length: 0\r\n\r\n";
+
+const PUT: &str =
+    "PUT /api/v1/namespaces/_/actions/hello HTTP/1.1\r\nX-Whisk-Key: k1\r\nContent-Type: application/json\r\nContent-Length: 98\r\n\r\n{\"exec\":{\"kind\":\"plain:1\",\"code\":\"{\\\"cases\\\":[{\\\"when\\\":{},\\\"give\\\":{\\\"greeting\\\":\\\"Hello\\\"}}]}\"}}";
+
+const POST: &str =
+    "POST /api/v1/namespaces/_/actions/hello HTTP/1.1\r\nX-Whisk-Key: k1\r\nContent-Type: application/json\r\nContent-Length: 2\r\n\r\n{}";
 
 // The greatest size of a request for which a new book has room.
 const MOST: u64 = 1_073_741_696;
@@ -81,14 +87,26 @@ fn office(alloc: Global) -> Result<(Office, Issuer<MemoryKeeper>), Fail>
     }
 }
 
+// Of the opening of a hall, and three of nothing.
+fn four_receipts(
+    alloc: Global,
+    issuer: &Issuer<MemoryKeeper>,
+    opened: &Office,
+) -> Result<Vec<Held>, Fail>
+    requires { (e : EntryValue) × (opened.now.hall.ledger.entries ≡ e ∷ []) }
+{
+    let mut receipts = Vec::new(alloc);
+    receipts.push(Receipts::opening(alloc, issuer, opened)?)?;
+    receipts.push(Receipts::new(alloc, issuer)?)?;
+    receipts.push(Receipts::new(alloc, issuer)?)?;
+    receipts.push(Receipts::new(alloc, issuer)?)?;
+    Ok(receipts)
+}
+
 fn open_days(alloc: Global) -> Result<Days, Fail> {
     let (first, issuer) = office(alloc)?;
+    let receipts = four_receipts(alloc, &issuer, &first)?;
     let (second, _other) = office(alloc)?;
-    let mut receipts = Vec::new(alloc);
-    receipts.push(Receipts::opening(alloc, &issuer, &first)?)?;
-    receipts.push(Receipts::new(alloc, &issuer)?)?;
-    receipts.push(Receipts::new(alloc, &issuer)?)?;
-    receipts.push(Receipts::new(alloc, &issuer)?)?;
     Ok(Days {
         first,
         second,
@@ -96,19 +114,14 @@ fn open_days(alloc: Global) -> Result<Days, Fail> {
     })
 }
 
-// A request for the action, with this body.
-fn request(alloc: Global, method: &str, body: &str) -> Result<Request, Fail> {
-    let length = body.len();
-    let text = format!(in alloc;
-        "{method} /api/v1/namespaces/_/actions/hello HTTP/1.1\r\nX-Whisk-Key: k1\r\nContent-Type: application/json\r\nContent-Length: {length}\r\n\r\n{body}"
-    )?;
+fn request(alloc: Global, text: &str) -> Result<Request, Fail> {
     let read = read_request(alloc, text.as_bytes())?;
     Ok(read.request)
 }
 
 // A get of the greatest size.
 fn greatest(alloc: Global) -> Result<Request, Fail> {
-    let mut request = request(alloc, "GET", "")?;
+    let mut request = request(alloc, GET)?;
     request.size = MOST;
     Ok(request)
 }
@@ -127,10 +140,10 @@ fn asks(
 // Does what a letter stands for.
 fn does(alloc: Global, held: &mut Held, desk: &mut Office, act: u8, at: u64) -> Result<(), Fail> {
     match act {
-        b'g' => asks(alloc, held, desk, at, &request(alloc, "GET", "")?),
+        b'g' => asks(alloc, held, desk, at, &request(alloc, GET)?),
         b'f' => asks(alloc, held, desk, at, &greatest(alloc)?),
-        b'p' => asks(alloc, held, desk, at, &request(alloc, "PUT", ACTION)?),
-        b'i' => asks(alloc, held, desk, at, &request(alloc, "POST", "{}")?),
+        b'p' => asks(alloc, held, desk, at, &request(alloc, PUT)?),
+        b'i' => asks(alloc, held, desk, at, &request(alloc, POST)?),
         b'n' => {
             let _order = held.next(alloc, desk, at)?;
             Ok(())
@@ -192,28 +205,41 @@ fn letter(entry: &Entry) -> &'static str {
     }
 }
 
-fn side(alloc: Global, side: &Side) -> Result<String, Fail> {
-    Ok(match side {
+fn put_number(alloc: Global, text: &mut String, number: u64) -> Result<(), Fail> {
+    let digits = format!(in alloc; "{number}")?;
+    text.push_str(digits.as_str())?;
+    Ok(())
+}
+
+fn put_side(alloc: Global, text: &mut String, side: &Side) -> Result<(), Fail> {
+    text.push_str(" ")?;
+    match side {
         Side::One(entry) => {
-            let letter = letter(entry);
-            let at = entry.at;
-            format!(in alloc; "{letter}{at}")?
+            text.push_str(letter(entry))?;
+            put_number(alloc, text, entry.at)
         }
-        Side::Count(count) => format!(in alloc; "#{count}")?,
-        Side::Nothing => format!(in alloc; "-")?,
-    })
+        Side::Count(count) => {
+            text.push_str("#")?;
+            put_number(alloc, text, *count)
+        }
+        Side::Nothing => {
+            text.push_str("-")?;
+            Ok(())
+        }
+    }
 }
 
 fn shown(alloc: Global, difference: &Option<Difference>) -> Result<String, Fail> {
+    let mut text = String::new(alloc);
     match difference {
-        None => Ok(format!(in alloc; "match")?),
+        None => text.push_str("match")?,
         Some(found) => {
-            let place = found.place;
-            let held = side(alloc, &found.held)?;
-            let kept = side(alloc, &found.kept)?;
-            Ok(format!(in alloc; "{place} {held} {kept}")?)
+            put_number(alloc, &mut text, found.place)?;
+            put_side(alloc, &mut text, &found.held)?;
+            put_side(alloc, &mut text, &found.kept)?;
         }
     }
+    Ok(text)
 }
 
 // What is shown once the steps are done, where so many receipts are compared.

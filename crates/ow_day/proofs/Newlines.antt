@@ -1,29 +1,8 @@
 -- The first place in a list that passes, and lists that are put behind one another.
-use Rattle.std.proofs.Common.{◌≡◌, ◌≤◌, ◌+◌, ◌-◌, ◌++◌, ℕ, zero, suc, Bool, true, false, List, [], ◌∷◌, Option, Some, None, length, take, drop, refl, sym, ap, ◌∙◌, arith, cond, nat_lt, position, length-take, length-drop}
+use Rattle.std.proofs.Common.{◌≡◌, ◌≤◌, ◌+◌, ◌-◌, ◌++◌, ℕ, zero, suc, Bool, true, false, List, [], ◌∷◌, Option, Some, None, length, take, drop, refl, sym, ap, ◌∙◌, arith, position, length-take, length-drop}
 use Rattle.std.specs.Option.{option_map}
-use Rattle.std.proofs.lemmas.Bool.Decides.{nat_tests}
 use Rattle.std.proofs.lemmas.List.{take-append-drop, drop-drop, take_rest}
-
-lt_suc : (k n : ℕ) → nat_lt (1 + k) (suc n) ≡ nat_lt k n
-lt_suc k n = grind (arith, nat_tests)
-
-lt_zero : (n : ℕ) → nat_lt 0 (suc n) ≡ true
-lt_zero n = grind (arith, nat_tests)
-
-behind : (k n : ℕ) (t : Bool) → nat_lt k n ≡ t → ◌≡◌ {A = Option ℕ} (cond (nat_lt (1 + k) (suc n)) (Some (1 + k)) None) (option_map suc (cond (nat_lt k n) (Some k) None))
-behind k n true is = rw (lt_suc k n, is) (ap Some (omega arith))
-behind k n false is = rw (lt_suc k n, is) refl
-
--- the first place behind an element that doesn't pass is one further
-pub position-cons_fails : (p : ℕ → Bool) (x : ℕ) (xs : List ℕ) → p x ≡ false → position p (x ∷ xs) ≡ option_map suc (position p xs)
-position-cons_fails p x xs fails = rw fails (behind _ (length xs) _ refl)
-
-pub position-cons_passes : (p : ℕ → Bool) (x : ℕ) (xs : List ℕ) → p x ≡ true → position p (x ∷ xs) ≡ Some 0
-position-cons_passes p x xs passes = rw (passes, lt_zero (length xs)) refl
-
-pub none_of : (o : Option ℕ) → option_map suc o ≡ None → o ≡ None
-none_of None is = refl
-none_of (Some k) is = cc
+use Rattle.ow_runners.proofs.Lines.{none_of, position-cons_fails, position-cons_passes}
 
 some_of : (o : Option ℕ) (k : ℕ) → option_map suc o ≡ Some k → o ≡ Some (k - 1)
 some_of None k is = cc

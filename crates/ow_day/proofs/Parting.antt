@@ -10,9 +10,10 @@ use Rattle.std.proofs.lemmas.List.{drop_at, drop_more, get_or-take, take-append-
 use Rattle.std.proofs.lemmas.List.Elements.{All-cons, All-drop, All-from_get_or, All-head, All-nil, All-same, All-tail, All-take}
 use Rattle.std.proofs.lemmas.List.Quantifiers.{position-Some}
 use Rattle.std.proofs.lemmas.Option.{none-some, some_pair_parts}
+use Rattle.ow_runners.proofs.Lines.{none_of, position-cons_fails, position-cons_passes}
 use Rattle.ow_day.specs.Statement.{parted, parted_at}
 use Rattle.ow_day.specs.Printed.{HasNo}
-use Rattle.ow_day.proofs.Newlines.{none_of, position-append_none, position-cons_fails, position-cons_passes}
+use Rattle.ow_day.proofs.Newlines.{position-append_none}
 
 -- a byte that stands nowhere has no first place
 pub none_there : (byte : ℕ) (xs : List ℕ) → HasNo byte xs → position (λ c. c == byte) xs ≡ None

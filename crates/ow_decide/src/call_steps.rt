@@ -8,7 +8,7 @@ ghost use Rattle.ow_kept.specs.Keeping.{KeepingView};
 ghost use Rattle.ow_decide.specs.Calling.{admitted_plan, call_decision, call_plan, called_plan, callee_in, charged_namespace, fitting, given_over, invocation_plan, merged_plan, pairs_of, plan_for, until_of};
 ghost use Rattle.ow_decide.specs.Sight.{Sight, within_limits};
 ghost use Rattle.ow_decide.specs.Making.{admits};
-ghost use Rattle.ow_decide.specs.Making.{AreCounted, Carries, CommitsPlan, IsCommitOf, IsSeen, Makes, plan_in};
+ghost use Rattle.ow_decide.specs.Making.{AreCounted, Carries, CommitsPlan, IsSeen, Makes, plan_in};
 
 use crate::askers::office;
 use crate::commits::{accepting, is_store_full};

@@ -1,6 +1,5 @@
 // What is to be committed to the store, and whether that has room for it.
 ghost use Rattle.std.specs.Prelude.{◌≡◌, ◌∷◌, List, IfOk};
-ghost use Rattle.std.specs.Option.{option_copied};
 ghost use Rattle.ow_entity.specs.declared.rows.Row.{Row};
 ghost use Rattle.ow_floor.specs.Calls.{IsNext, activation_of};
 ghost use Rattle.ow_floor.specs.Laws.{IsSound};
@@ -15,9 +14,8 @@ ghost use Rattle.ow_traits.specs.Changes.{changed};
 ghost use Rattle.ow_decide.specs.Making.{IsCommitOf};
 ghost use Rattle.ow_decide.specs.Sight.{is_store_full};
 
-use ow_entity::{EntityKind, Lookup, Row};
+use ow_entity::{Lookup, Row};
 use ow_floor::Plan;
-use ow_http::{Reason, ServiceRefusal};
 use ow_kept::{Commit, Keeping};
 use ow_records::{ExecKind, Unrecorded};
 use ow_several::copied4;

@@ -1,7 +1,6 @@
 // What reads show, of what whoever asks may see.
-ghost use Rattle.std.specs.Prelude.{◌≡◌, [], Some, None, Ok, true, if◌then◌else◌, filter, option_and_then, IfOk, OnOk, IfSome, option_copied};
+ghost use Rattle.std.specs.Prelude.{◌≡◌, [], Some, None, Ok, true, if◌then◌else◌, filter, IfOk, OnOk, IfSome, option_copied};
 ghost use Rattle.ow_value.specs.View.{view};
-ghost use Rattle.ow_entity.specs.Row.{name_of};
 ghost use Rattle.ow_floor.specs.Laws.{Stands};
 ghost use Rattle.ow_floor.specs.Trace.{Trace, all_records};
 ghost use Rattle.ow_http.specs.Parts.{Parts};
@@ -14,7 +13,7 @@ ghost use Rattle.ow_entity.specs.declared.kinds.EntityKind.TheVariants as kinds;
 ghost use Rattle.ow_packages.specs.Access.{lying_in, package_at, package_of, reached_package};
 ghost use Rattle.ow_tables.specs.Rows.{found, standing};
 ghost use Rattle.ow_decide.specs.Asking.{act_of, granted_call, shown_done};
-ghost use Rattle.ow_decide.specs.Reading.{action_behind, action_read, id_of, namespace_of, part_value, read_done, read_value, recorded, recorded_under, row_read};
+ghost use Rattle.ow_decide.specs.Reading.{action_read, id_of, namespace_of, part_value, read_done, read_value, recorded, recorded_under, row_read};
 ghost use Rattle.ow_decide.specs.Named.{AreNamed, IsNamed, action_bound, action_in, bound_name};
 ghost use Rattle.ow_decide.specs.Sight.{Sight};
 ghost use Rattle.ow_decide.specs.Making.{change_of, done_of};

@@ -1,6 +1,6 @@
 // Rows as clients see them, among those that stand.
 ghost use Rattle.std.specs.Prelude.{◌≡◌, [], ◌∷◌, codes, IfOk};
-ghost use Rattle.ow_value.specs.Value.{V, list, items_of};
+ghost use Rattle.ow_value.specs.Value.{list, items_of};
 ghost use Rattle.ow_value.specs.View.{view};
 ghost use Rattle.ow_tables.specs.Rows.{with_row};
 ghost use Rattle.ow_decide.specs.Shown.{actions_of, shown_row, shown_with, with_member};

@@ -2,7 +2,7 @@
 use Rattle.std.proofs.Common.{arith, ◌≡◌, ◌∙◌, ◌==◌, ◌+◌, ◌++◌, ◌<◌, ◌≤◌, ℕ, zero, suc, Bool, true, false, cond, List, [], ◌∷◌, Option, Some, None, length, refl, sym, ap, subst}
 use Rattle.std.specs.Prelude.{◌||◌, ◌&&◌, map}
 use Rattle.std.specs.List.{AllByRecursion, find, slice_get}
-use Rattle.std.proofs.lemmas.Bool.Decides.{nat_tests}
+use Rattle.std.proofs.lemmas.Bool.{eqb-true}
 use Rattle.ow_slots.specs.declared.keys.Start.{Start}
 use Rattle.ow_slots.specs.declared.keys.Start.TheVariants as starts
 use Rattle.ow_slots.specs.declared.states.Slot.{Slot}
@@ -58,15 +58,12 @@ at_slot P L n i (Some s) is stand there = subst P (sym (stand.here i s is)) ther
 here : (P : Slot → Type 0) (L : Life) (n i : ℕ) → SlotsStand L n → IsThere P (slice_get (slots_of L n) i) → P (slot_of L i)
 here P L n i stand there = at_slot P L n i (slice_get (slots_of L n) i) refl stand there
 
-same_number : (a b : ℕ) → (a == b) ≡ true → a ≡ b
-same_number a b is = grind (arith, nat_tests)
-
 -- one more in this slot, which is vacant, or none
 raised_by : (L : Life) (n slot i : ℕ) (b : Bool) → (slot == i) ≡ b → SlotsStand L n → IsThere IsVacant (slice_get (slots_of L n) slot)
     → generation_of L i ≤ greatest → cond b (generation_of L i + 1) (generation_of L i) ≤ greatest
 raised_by L n slot i true is stand vacant small =
     let free = here IsVacant L n slot stand vacant in
-    let less : generation_of L i < greatest = subst (λ (m : ℕ). generation_of L m < greatest) (same_number slot i is) free.1 in
+    let less : generation_of L i < greatest = subst (λ (m : ℕ). generation_of L m < greatest) (eqb-true slot i is) free.1 in
     omega (arith, less)
 raised_by L n slot i false is stand vacant small = small
 

@@ -1,14 +1,14 @@
 -- The book tallies no more faults of the store than calls of it have failed.
-use Rattle.std.proofs.Common.{arith, ◌≡◌, ◌+◌, ◌==◌, ◌<◌, ◌≤◌, ℕ, Bool, true, false, cond, List, [], ◌∷◌, ap, refl}
-use Rattle.ow_traits.specs.declared.change_list.Change.{Change}
+use Rattle.std.proofs.Common.{arith, ◌≡◌, ◌+◌, ◌==◌, ◌<◌, ◌≤◌, ℕ, Bool, true, false, cond, ap, refl}
 use Rattle.ow_decide.specs.Decision.{commits}
 use Rattle.ow_decide.specs.declared.events.Event.{Event}
 use Rattle.ow_hall.specs.declared.entry.Entry.{Entry}
 use Rattle.ow_hall.specs.declared.posting.Posting.{Posting}
 use Rattle.ow_hall.specs.declared.posting.Posting.TheVariants.{Booked, Quiet, Denied, Unbooked}
-use Rattle.ow_hall.specs.Comes.{Answers, Comes, Fails, HallView, Holds, KeptRows, Outcome, Stays, Wants, at_hall, decided}
+use Rattle.ow_hall.specs.Comes.{Answers, Comes, Fails, HallView, KeptRows, Outcome, Wants, at_hall, decided}
 use Rattle.ow_hall.specs.History.{posting}
 use Rattle.ow_hall.specs.Ledger.{Ledger, one_more, posted_as}
+use Rattle.ow_hall.proofs.Faults.{holds_later, stays_later}
 use Rattle.ow_desk.specs.Desks.{IsWithinFaults}
 
 one_by : (b : Bool) (n : ℕ) → cond b n (n + 1) ≤ n + 1
@@ -26,25 +26,17 @@ stored_stays Denied e L = refl
 stored_stays Unbooked e L = refl
 
 module _ {P : Type 0} (rows : P → KeptRows) (faults : P → ℕ) where
-  holds_later : (changes : List Change) (old new : P) → Holds rows faults changes old new → faults old ≤ faults new
-  holds_later [] old new same = let e : faults new ≡ faults old = ap faults same in omega arith
-  holds_later (c ∷ cs) old new holds = holds.1
-
-  stays_later : (changes : List Change) (old new : P) → Stays rows faults changes old new → faults old ≤ faults new
-  stays_later [] old new same = let e : faults new ≡ faults old = ap faults same in omega arith
-  stays_later (c ∷ cs) old new stays = stays.1
-
   -- whatever comes of an event
   pub still_within : (old new : HallView P) (at since before : ℕ) (event : Event) (o : Outcome) → Comes rows faults old new at event o
       → IsWithinFaults (faults old.store) since old.ledger.stored before → IsWithinFaults (faults new.store) since new.ledger.stored before
   still_within old new at since before event (Answers t) comes within less =
-      let later = holds_later (commits (decided old at event)) old.store new.store comes.3 in
+      let later = holds_later rows faults (commits (decided old at event)) old.store new.store comes.3 in
       let same = ap (λ (l : Ledger). l.stored) comes.1 in
       let stays = stored_stays (posting old.ledger.entries t) (record { at = at_hall old at; event = event; answer = t }) old.ledger in
       let so = within (omega (arith, later, less)) in
       omega (arith, later, same, stays, so)
   still_within old new at since before event Wants comes within less =
-      let later = stays_later (commits (decided old at event)) old.store new.store comes.2 in
+      let later = stays_later rows faults (commits (decided old at event)) old.store new.store comes.2 in
       let same = ap (λ (l : Ledger). l.stored) comes.0 in
       let so = within (omega (arith, later, less)) in
       omega (arith, later, same, so)

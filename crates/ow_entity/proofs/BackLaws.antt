@@ -2,6 +2,7 @@
 use Rattle.std.proofs.Common.{◌≡◌, ℕ, pos, List, [], ◌∷◌, Bool, true, false, cond, length, is_some, Option, Some, None, Result, Ok, Err, refl, ap, ◌∙◌, arith}
 use Rattle.std.specs.Result.{result_err, result_unwrap_or}
 use Rattle.ow_value.specs.Value.{V, Pairs, AreParams, whole}
+use Rattle.ow_value.specs.Decimal.{if_within}
 use Rattle.ow_names.specs.declared.full.FullName.{FullName}
 use Rattle.ow_entity.specs.declared.kinds.EntityKind.TheVariants as kinds
 use Rattle.ow_entity.specs.declared.field_name.FieldName.{FieldName}
@@ -17,7 +18,7 @@ use Rattle.ow_entity.specs.declared.rows.Row.TheVariants as rows
 use Rattle.ow_entity.specs.declared.rows.Draft.{Draft}
 use Rattle.ow_entity.specs.declared.rows.Draft.TheVariants as drafts
 use Rattle.ow_entity.specs.declared.finishing.TheConstants.{FIRST_VERSION}
-use Rattle.ow_entity.specs.Bounds.{IsBetween, number_within}
+use Rattle.ow_entity.specs.Bounds.{IsBetween}
 use Rattle.ow_entity.specs.Body.{number_in_range, number_or_none, no_limits, limits_given, exec_given, exec_in, draft_unless, draft_of, entity_of}
 use Rattle.ow_entity.specs.Chain.{and_then, first_some, result_map}
 use Rattle.ow_entity.specs.Finish.{finished_row, row_of_body}
@@ -41,7 +42,7 @@ exec_given-value e h = ap (result_map Some) (exec_in-value e h)
 
 -- ---- its limits
 
-within-between : (least most n : ℕ) → IsBetween least most n → number_within least most n ≡ Some n
+pub within-between : (least most n : ℕ) → IsBetween least most n → if_within least most n ≡ Some n
 within-between least most n h = grind arith
 
 number-value : (name : FieldName) (least most n : ℕ) → IsBetween least most n → number_or_none name least most (Some (whole (pos n))) ≡ Ok (Some n)

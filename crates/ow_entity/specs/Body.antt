@@ -4,6 +4,7 @@ use Rattle.std.specs.Result.{result_err, result_unwrap_or}
 use Rattle.std.specs.Str.{bytes_eq}
 use Rattle.ow_value.specs.Value.{V, boolean, whole, text, object}
 use Rattle.ow_value.specs.Field.{field}
+use Rattle.ow_value.specs.Decimal.{if_within}
 use Rattle.ow_names.specs.declared.full.FullName.{FullName}
 use Rattle.ow_names.specs.declared.refusal.NameRefusal.{NameRefusal}
 use Rattle.ow_names.specs.Path.{named_in}
@@ -22,7 +23,6 @@ use Rattle.ow_entity.specs.declared.rows.Draft.TheVariants as drafts
 use Rattle.ow_entity.specs.Chain.{and_then, first_some, result_map}
 use Rattle.ow_entity.specs.FieldName.{field_name}
 use Rattle.ow_entity.specs.Pairs.{pairs_field}
-use Rattle.ow_entity.specs.Bounds.{number_within}
 use Rattle.ow_entity.specs.PlainCode.{name_count}
 use Rattle.ow_entity.specs.Code.{plain_code, program_name}
 
@@ -50,7 +50,7 @@ number_in_range name None = Err (OutOfRange name)
 number_in_range name (Some n) = Ok n
 
 abbrev pub number_given : FieldName → ℕ → ℕ → ℤ → Result ℕ EntityRefusal
-number_given name least most (pos n) = number_in_range name (number_within least most n)
+number_given name least most (pos n) = number_in_range name (if_within least most n)
 number_given name least most (negsuc n) = Err (OutOfRange name)
 
 abbrev pub number_or_none : FieldName → ℕ → ℕ → Option V → Result (Option ℕ) EntityRefusal

@@ -1,6 +1,7 @@
 // Numbers between bounds, and the limits of runs.
 ghost use Rattle.std.specs.Prelude.{◌≡◌};
-ghost use Rattle.ow_entity.specs.Bounds.{IsBetween, number_within};
+ghost use Rattle.ow_value.specs.Decimal.{if_within};
+ghost use Rattle.ow_entity.specs.Bounds.{IsBetween};
 
 use std::marker::Model;
 
@@ -53,7 +54,7 @@ impl<const LEAST: u32, const MOST: u32> Model for Bounded<LEAST, MOST> {
 impl<const LEAST: u32, const MOST: u32> Bounded<LEAST, MOST> {
     /// The number, where it lies within the bounds.
     pub fn of(number: u64) -> Option<Bounded<LEAST, MOST>>
-        ensures { result ≡ number_within LEAST MOST number }
+        ensures { result ≡ if_within LEAST MOST number }
     {
         if LEAST as u64 <= number && number <= MOST as u64 {
             Some(Bounded {

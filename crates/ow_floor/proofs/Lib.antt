@@ -6,7 +6,6 @@ pub mod Wanting
 pub mod Refusing
 pub mod Lateness
 pub mod Results
-pub mod Counting
 pub mod Restoring
 pub mod Drawn
 pub mod Blocking

@@ -2,6 +2,7 @@
 use Rattle.std.proofs.Common.{◌≡◌, ◌+◌, ◌≤◌, ◌++◌, ℕ, Bool, true, false, cond, List, [], ◌∷◌, Option, Some, None, map, refl, ◌∙◌, arith}
 use Rattle.std.specs.Prelude.{nat_le, fold, max}
 use Rattle.std.specs.List.{find, slice_get, position, AllByRecursion}
+use Rattle.std.proofs.lemmas.Bool.{and_parts}
 use Rattle.ow_traits.specs.declared.prewarms.Prewarm.{Prewarm}
 use Rattle.ow_traits.specs.declared.replies.Kind.{Kind}
 use Rattle.ow_slots.specs.declared.keys.Key.{Key}
@@ -19,7 +20,7 @@ use Rattle.ow_pool.specs.declared.candidates.Candidate.{Candidate}
 use Rattle.ow_pool.specs.Candidates.{candidates_from, numbers_of, shortest}
 use Rattle.ow_pool.specs.Keeping.{CanAllGo, IsFor, removed}
 use Rattle.ow_pool.specs.Rules.{fresh, is_ready, is_used_at, is_wanted, last_uses, makes_room, place_of, placed, prewarm_or_wait, prewarmed, removal, remove_or_wait, run_or, warmest}
-use Rattle.ow_pool.proofs.OrderLaws.{IfBeginning, Goable, KeysTell, all_front, all_go, at_position, both_of, can_go, distinct_front, le_of, now_go, open_fits, ready_fits, ready_size, remove_one, shortest_begins, warm_fits, warm_size}
+use Rattle.ow_pool.proofs.OrderLaws.{IfBeginning, Goable, KeysTell, all_front, all_go, at_position, can_go, distinct_front, le_of, now_go, open_fits, ready_fits, ready_size, remove_one, shortest_begins, warm_fits, warm_size}
 use Rattle.ow_pool.proofs.Room.{Distinct, distinct}
 use Rattle.ow_pool.proofs.Sums.{held_change, size}
 use Rattle.ow_floor.proofs.Firsts.{find_passes}
@@ -122,7 +123,7 @@ placed_fits tell slots head pool within =
 wanted_room : (slots : List Slot) (pool : ℕ) (w : Prewarm) (wants : List Prewarm) → find (is_wanted slots pool) wants ≡ Some w → memory_held slots + w.memory ≤ pool
 wanted_room slots pool w wants e =
     let passes = find_passes (is_wanted slots pool) w wants e in
-    le_of (memory_held slots + w.memory) pool (both_of _ (nat_le (memory_held slots + w.memory) pool) passes).1
+    le_of (memory_held slots + w.memory) pool (and_parts _ (nat_le (memory_held slots + w.memory) pool) passes).1
 
 prewarm_places : (slots : List Slot) (pool : ℕ) (wants : List Prewarm) → (n : Option ℕ) (w : Option Prewarm)
     → position can_open slots ≡ n → find (is_wanted slots pool) wants ≡ w → PlaceFits slots None pool (prewarm_or_wait n w)

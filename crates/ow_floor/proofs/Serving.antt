@@ -1,6 +1,6 @@
 -- What events of slots do to the slots that are busy with a run, to those that hold one, and to what they hold.
 use Rattle.std.proofs.Common.{◌≡◌, ◌==◌, ◌+◌, ◌≤◌, ◌&&◌, ℕ, zero, suc, Bool, true, false, cond, List, [], ◌∷◌, Option, Some, None, refl, ap, ◌∙◌, arith}
-use Rattle.std.specs.List.{find, slice_get, AllByRecursion}
+use Rattle.std.specs.List.{find, slice_get}
 use Rattle.std.specs.Prelude.{is_none}
 use Rattle.std.proofs.lemmas.Bool.{eqb-true}
 use Rattle.ow_traits.specs.declared.replies.Kind.{Kind}
@@ -10,7 +10,7 @@ use Rattle.ow_slots.specs.declared.states.State.{State}
 use Rattle.ow_slots.specs.declared.states.State.TheVariants.{Vacant, Opening, Prewarmed, Busy, Idle, Closing}
 use Rattle.ow_slots.specs.declared.states.Slot.{Slot}
 use Rattle.ow_slots.specs.Slots.{IsThere, change, change_first, first_with, has, memory_held}
-use Rattle.ow_slots.specs.State.{IsSized, IsVacant, StartFits, after_gone, answered_state, assigned, begun_state, holds, lost_state, opened, overrun_state, removed_state, runs, with_state}
+use Rattle.ow_slots.specs.State.{IsVacant, StartFits, after_gone, answered_state, assigned, begun_state, holds, lost_state, opened, overrun_state, removed_state, runs, with_state}
 use Rattle.ow_pool.specs.Keeping.{removed}
 use Rattle.ow_pool.specs.Rules.{IsWithinPool}
 use Rattle.ow_pool.proofs.EventLaws.{answered_lessens, begun_lessens, events_keep, gone_at, lost_lessens, overrun_lessens}

@@ -27,7 +27,7 @@ use Rattle.ow_floor.proofs.Firsts.{remove_none, update_none}
 use Rattle.ow_floor.proofs.Serving.{within_kept}
 use Rattle.ow_floor.proofs.Slotting.{slots_opened, vacant_held}
 use Rattle.ow_floor.proofs.Soundness.{sound_start}
-use Rattle.ow_floor.proofs.Counting.{owed_slot}
+use Rattle.ow_lifecycle.proofs.Owing.{owed_of}
 use Rattle.ow_floor.specs.Laws.{Stands}
 use Rattle.std.specs.List.{AllByRecursion}
 use Rattle.std.specs.Prelude.{replicate}
@@ -263,7 +263,7 @@ opened_store pool wants = record {
 
 vacant_owed : (n : ℕ) → owed (replicate n vacant_slot) ≡ 0
 vacant_owed zero = refl
-vacant_owed (suc n) = let rest = vacant_owed n in let sum = sum_by-cons owed_slot vacant_slot (replicate n vacant_slot) in omega (arith, rest, sum)
+vacant_owed (suc n) = let rest = vacant_owed n in let sum = sum_by-cons owed_of vacant_slot (replicate n vacant_slot) in omega (arith, rest, sum)
 
 vacant_sized : (n : ℕ) → AllByRecursion (λ s. IsSized s.state) (replicate n vacant_slot)
 vacant_sized zero = tt

@@ -1,5 +1,5 @@
 // Slots that can be held: what was before is kept as the slots that were changed since.
-ghost use Rattle.std.specs.Prelude.{◌≡◌, ◌≤◌, ◌<◌, ◌^◌, ℕ, length, position, replicate, slice_get, true, false, vec_len, vec_capacity, IfOk, OnOk, OnErr};
+ghost use Rattle.std.specs.Prelude.{◌≡◌, ◌≤◌, ◌<◌, ◌^◌, ℕ, position, replicate, slice_get, true, false, vec_len, vec_capacity, IfOk, OnOk, OnErr};
 ghost use Rattle.ow_slots.specs.Slots.{IsThere, change, change_first, first_with, gone_answer, has, run_answer, vacant_slot};
 ghost use Rattle.ow_slots.specs.State.{IsUnrecorded, IsVacant, StartFits, after_gone, answered_state, assigned, awaits, begun_state, holds, lost_state, opened, overrun_state, recorded_of, runs, with_state};
 ghost use Rattle.ow_pool.specs.Keeping.{CanAllGo, removed};

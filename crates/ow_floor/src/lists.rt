@@ -6,9 +6,9 @@ ghost use Rattle.ow_floor.specs.View.{is_end_of, is_number, is_of, put_id, wait_
 ghost use Rattle.ow_floor.specs.Trace.{blocked_by};
 ghost use Rattle.ow_entity.specs.declared.bounds.TheConstants.{LEAST_MEMORY};
 ghost use Rattle.ow_slots.specs.Slots.{IsThere, first_with, gone_answer, run_answer, vacant_slot};
-ghost use Rattle.ow_slots.specs.State.{IsUnrecorded, IsVacant, StartFits, awaits, holds, recorded_of, runs};
+ghost use Rattle.ow_slots.specs.State.{IsUnrecorded, IsVacant, StartFits, awaits, holds, runs};
 ghost use Rattle.ow_pool.specs.Keeping.{CanAllGo, IsCarriedOut};
-ghost use Rattle.ow_pool.specs.Rules.{IsHeadSized, IsWithinPool, place_of};
+ghost use Rattle.ow_pool.specs.Rules.{IsHeadSized, place_of};
 ghost use Rattle.ow_lifecycle.specs.Life.{Event, Removed};
 ghost use Rattle.ow_lifecycle.specs.Owed.{may_begin, owed, owed_by};
 ghost use Rattle.ow_slots.specs.declared.states.State.TheVariants.{Busy};

@@ -1,15 +1,14 @@
 // Orders: what is done next.
-ghost use Rattle.std.specs.Prelude.{◌≡◌, ◌+◌, ◌<◌, length, slice_get, None, Some, option_copied, IfOk, IfSome, OnErr};
+ghost use Rattle.std.specs.Prelude.{◌≡◌, ◌+◌, ◌<◌, length, slice_get, None, Some, IfOk, IfSome, OnErr};
 ghost use Rattle.std.specs.List.{find};
 ghost use Rattle.ow_slots.specs.Slots.{IsThere};
-ghost use Rattle.ow_slots.specs.State.{IsMemory, IsVacant, StartFits};
+ghost use Rattle.ow_slots.specs.State.{IsMemory, StartFits};
 ghost use Rattle.ow_pool.specs.Keeping.{IsPrewarming, IsRemoval, IsRun};
-ghost use Rattle.ow_pool.specs.Rules.{IsHeadSized};
 ghost use Rattle.ow_pool.specs.declared.answers.Place.TheVariants as places;
 ghost use Rattle.ow_floor.specs.View.{containers_of, generation_after, key_of, waits};
 ghost use Rattle.ow_floor.specs.Calls.{HasWork, head_by, idle_of, place_on};
 ghost use Rattle.ow_floor.specs.Ends.{IsOrdered};
-ghost use Rattle.ow_floor.specs.Store.{IsGood, IsSpot, SpotOf, opens, show};
+ghost use Rattle.ow_floor.specs.Store.{IsGood, IsSpot, opens, show};
 
 use crate::lists::Lists;
 use crate::runs::generation_in;

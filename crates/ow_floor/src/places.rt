@@ -1,6 +1,5 @@
 // Places in lists.
 ghost use Rattle.std.specs.Prelude.{◌≡◌, length, position};
-ghost use Rattle.std.specs.List.{find};
 ghost use Rattle.ow_floor.specs.View.{is_in, last_of, is_number, is_of, wait_in, waits};
 ghost use Rattle.ow_floor.specs.Store.{AreGone, CellOf, SpotOf, run_in};
 ghost use Rattle.ow_floor.specs.Places.{PlaceOf, has, has_id, has_open};

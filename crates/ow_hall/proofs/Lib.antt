@@ -1,4 +1,5 @@
 pub mod Beginnings
+pub mod Faults
 pub mod KeepLaws
 pub mod OpenLaws
 pub mod HallLaws

@@ -1,7 +1,7 @@
 // The book and what it counts.
 ghost use Rattle.std.specs.Prelude.{◌≡◌, ◌↔◌, ◌+◌, ◌*◌, ◌^◌, ◌<◌, ◌≤◌, ◌∷◌, length, reverse, IsTrue, IfOk, OnOk};
 ghost use Rattle.ow_decide.specs.Sight.{is_full};
-ghost use Rattle.ow_hall.specs.History.{counted, event_bytes, is_idle, moment, posting, told_bytes};
+ghost use Rattle.ow_hall.specs.History.{counted, is_idle, moment, posting};
 ghost use Rattle.ow_hall.specs.Commits.{is_fault, uncommitted};
 ghost use Rattle.ow_hall.specs.Ledger.{IsReady, cost, faulted, no_entries, one_more, posted, posted_as};
 

@@ -1,7 +1,5 @@
 // What the types of a hall's parts tell of what is kept of it. These functions do nothing but look.
 ghost use Rattle.std.specs.List.{AllByRecursion};
-ghost use Rattle.ow_floor.specs.Laws.{Stands};
-ghost use Rattle.ow_floor.specs.Trace.{Trace};
 ghost use Rattle.ow_hall.specs.History.{seen};
 ghost use Rattle.ow_keep.specs.Known.{IsItem};
 ghost use Rattle.ow_names.specs.Name.{IsName};

@@ -7,7 +7,6 @@ ghost use Rattle.ow_floor.specs.Trace.{Opened as FloorOpened, Resumed};
 ghost use Rattle.ow_tables.specs.Builtin.{builtin};
 ghost use Rattle.ow_tables.specs.Rows.{resumed};
 ghost use Rattle.ow_tenant.specs.Tenants.{pool_of};
-ghost use Rattle.ow_keep.specs.Kept.{TellsBad};
 ghost use Rattle.ow_keep.specs.Moments.{parts_moment};
 ghost use Rattle.ow_keep.specs.Split.{HoldsItems, parts_of};
 ghost use Rattle.ow_kept.specs.Opening.{abandoned, resumed_records};

@@ -7,12 +7,11 @@ ghost use Rattle.ow_floor.specs.Owed.{owed};
 ghost use Rattle.ow_floor.specs.Trace.{Trace};
 ghost use Rattle.ow_keep.specs.Known.{IsItem};
 ghost use Rattle.ow_kept.specs.Kept.{kept_items};
-ghost use Rattle.ow_pool.specs.Rules.{AreWantsSized};
 ghost use Rattle.ow_decide.specs.Decisions.{decide, is_opening, taken_told, wants_memory};
 ghost use Rattle.ow_decide.specs.Decision.{all_changed};
-ghost use Rattle.ow_hall.specs.History.{seen, waits_after};
+ghost use Rattle.ow_hall.specs.History.{waits_after};
 ghost use Rattle.ow_decide.specs.Making.{HasPlace, changes_of, telling};
-ghost use Rattle.ow_hall.specs.State.{CommitsEnds, Does, HasRoomOf, IsAt, KeepsCommit, KeepsNotes, Makes, Notes, NotesEnds, NotesInvoked, StaysKept, all_ended};
+ghost use Rattle.ow_hall.specs.State.{CommitsEnds, Does, HasRoomOf, KeepsCommit, KeepsNotes, Makes, Notes, NotesEnds, NotesInvoked, StaysKept, all_ended};
 ghost use Rattle.ow_tenant.specs.Table.{Table};
 
 use ow_counts::Counts;

@@ -3,6 +3,7 @@ use Rattle.std.proofs.Common.{◌≡◌, ℕ, ◌-◌, List, [], ◌∷◌, ◌+
 use Rattle.std.proofs.lemmas.Bool.Decides.{nat_tests}
 use Rattle.std.proofs.lemmas.List.{append-nil}
 use Rattle.std.specs.List.{onto_first}
+use Rattle.std.proofs.lemmas.Bool.{and_parts}
 use Rattle.matchit.specs.Rows.{RowsOf}
 use Rattle.matchit.specs.Seek.{step, or_else, seek, first, param_step}
 use Rattle.ow_names.specs.Path.{parts as segments}
@@ -15,21 +16,13 @@ abbrev pub is_word : List ℕ → Bool
 is_word [] = true
 is_word (x ∷ w) = (nat_lt x 256 && not (x == 47)) && is_word w
 
-first_of_both : (a b : Bool) → (a && b) ≡ true → a ≡ true
-first_of_both true b e = refl
-first_of_both false b e = e
-
-second_of_both : (a b : Bool) → (a && b) ≡ true → b ≡ true
-second_of_both true b e = e
-second_of_both false b e = cc
-
 word-is : (w : List ℕ) → is_word w ≡ true → IsWord w
 word-is [] e = tt
 word-is (x ∷ w) e =
-    let h = first_of_both (nat_lt x 256 && not (x == 47)) (is_word w) e in
-    let low = first_of_both (nat_lt x 256) (not (x == 47)) h in
-    let no = second_of_both (nat_lt x 256) (not (x == 47)) h in
-    (grind (arith, nat_tests, low), (λ q. grind (arith, nat_tests, no, q)), word-is w (second_of_both (nat_lt x 256 && not (x == 47)) (is_word w) e))
+    let h = (and_parts (nat_lt x 256 && not (x == 47)) (is_word w) e).0 in
+    let low = (and_parts (nat_lt x 256) (not (x == 47)) h).0 in
+    let no = (and_parts (nat_lt x 256) (not (x == 47)) h).1 in
+    (grind (arith, nat_tests, low), (λ q. grind (arith, nat_tests, no, q)), word-is w (and_parts (nat_lt x 256 && not (x == 47)) (is_word w) e).1)
 
 abbrev is_nil : {A : Type 0} → List A → Bool
 is_nil [] = true
@@ -47,8 +40,8 @@ is_apart (x ∷ w) r = is_nil (step 256 r) && (is_nil (step 257 r) && is_apart w
 apart-is : {K : Type 0} (w : List ℕ) (r : RowsOf K) → is_apart w r ≡ true → Parts w r
 apart-is [] r e = nil-is r e
 apart-is (x ∷ w) r e =
-    let f = second_of_both _ _ e in
-    (nil-is _ (first_of_both _ _ e), nil-is _ (first_of_both _ _ f), apart-is w (step x r) (second_of_both _ _ f))
+    let f = (and_parts _ _ e).1 in
+    (nil-is _ (and_parts _ _ e).0, nil-is _ (and_parts _ _ f).0, apart-is w (step x r) (and_parts _ _ f).1)
 
 -- a route that ends here
 abbrev pub ends : {K : Type 0} → K → RowsOf K

@@ -1,23 +1,15 @@
 -- The store's count of faults doesn't fall, whatever comes of an event.
 use Rattle.std.proofs.Common.{◌≡◌, ◌≤◌, ℕ, List, [], ◌∷◌, ap, arith, inl, inr}
-use Rattle.ow_traits.specs.declared.change_list.Change.{Change}
 use Rattle.ow_decide.specs.Decision.{commits}
 use Rattle.ow_decide.specs.declared.events.Event.{Event}
-use Rattle.ow_hall.specs.Comes.{Answers, Comes, Fails, HallView, Holds, KeptRows, Outcome, Stays, Wants, decided}
+use Rattle.ow_hall.specs.Comes.{Answers, Comes, Fails, HallView, KeptRows, Outcome, Wants, decided}
+use Rattle.ow_hall.proofs.Faults.{holds_later, stays_later}
 use Rattle.ow_invoker.specs.Turns.{Chain, ChainTo, ChainUndone, Exchange}
 
 module _ {P : Type 0} (rows : P → KeptRows) (faults : P → ℕ) where
-  holds_later : (changes : List Change) (old new : P) → Holds rows faults changes old new → faults old ≤ faults new
-  holds_later [] old new same = let e : faults new ≡ faults old = ap faults same in omega arith
-  holds_later (c ∷ cs) old new holds = holds.1
-
-  stays_later : (changes : List Change) (old new : P) → Stays rows faults changes old new → faults old ≤ faults new
-  stays_later [] old new same = let e : faults new ≡ faults old = ap faults same in omega arith
-  stays_later (c ∷ cs) old new stays = stays.1
-
   pub comes_later : (old new : HallView P) (at : ℕ) (event : Event) (o : Outcome) → Comes rows faults old new at event o → faults old.store ≤ faults new.store
-  comes_later old new at event (Answers t) comes = holds_later (commits (decided old at event)) old.store new.store comes.3
-  comes_later old new at event Wants comes = stays_later (commits (decided old at event)) old.store new.store comes.2
+  comes_later old new at event (Answers t) comes = holds_later rows faults (commits (decided old at event)) old.store new.store comes.3
+  comes_later old new at event Wants comes = stays_later rows faults (commits (decided old at event)) old.store new.store comes.2
   comes_later old new at event Fails comes = comes.4
 
   pub chain_later : (old new : HallView P) (at : ℕ) (xs : List Exchange) → Chain rows faults old new at xs → faults old.store ≤ faults new.store

@@ -12,7 +12,7 @@ use Rattle.ow_hall.specs.Comes.{Answers, Comes, HallView, KeptRows}
 use Rattle.ow_invoker.specs.Parts.{Books, Carries, EndsBy, Performs, Settles, Tells, TellsAll, TwoSteps, both, in_order, listed, reply_of}
 use Rattle.ow_invoker.specs.Readiness.{Initialised, UpStarts}
 use Rattle.ow_invoker.specs.Shelf.{IsLaid, without}
-use Rattle.ow_invoker.specs.Turns.{AreBoth, Chain, Exchange, IsAlone, IsCarriedOut, IsGivenUp, IsOffered, IsStarted, IsUnlaid, LiesBy, Opens, OpensBy, Rests, RunFollows, RunOffers, RunStops, exchange, gone, is_late, is_missing, lost, shelf_at, steps_in, steps_of}
+use Rattle.ow_invoker.specs.Turns.{AreBoth, Chain, Exchange, IsCarriedOut, IsGivenUp, IsOffered, IsStarted, IsUnlaid, LiesBy, Opens, OpensBy, Rests, RunFollows, RunOffers, RunStops, exchange, gone, is_late, is_missing, lost, shelf_at, steps_in, steps_of}
 use Rattle.ow_invoker.specs.declared.readying.Readiness.{Readiness}
 use Rattle.ow_invoker.specs.declared.readying.Readiness.TheVariants.{Early, NoMemory, NotHad, Up}
 use Rattle.ow_invoker.specs.declared.shelf.Laid.{Laid}

@@ -2,7 +2,7 @@
 use Rattle.std.proofs.Common.{◌∙◌, ◌≤◌, ℕ, ap, refl, List, ⊎_elim, arith}
 use Rattle.std.proofs.lemmas.Bool.{cases_lt}
 use Rattle.ow_value.specs.Value.{Pairs}
-use Rattle.ow_traits.specs.Runner.{Giving, Idles, RanNone, RanOnce, RefusesCode, RefusesStart, Replies, Steady, Tally, counted}
+use Rattle.ow_traits.specs.Runner.{Giving, Idles, RanNone, RanOnce, RefusesCode, RefusesStart, Replies, Runs, Steady, Tally, counted}
 use Rattle.ow_traits.specs.Streams.{Rose}
 use Rattle.ow_traits.specs.declared.replies.Kind.{Kind}
 use Rattle.ow_traits.specs.declared.replies.RunReply.{RunReply}
@@ -29,11 +29,14 @@ none_behind a b c first then' = then' ∙ first
 pub once_behind : (a b c : Tally) → RanNone a b → RanOnce b c → RanOnce a c
 once_behind a b c none once = once ∙ ap (λ n. counted n) none
 
-pub once_before : (a b c : Tally) → RanOnce a b → RanNone b c → RanOnce a c
+once_before : (a b c : Tally) → RanOnce a b → RanNone b c → RanOnce a c
 once_before a b c once none = none ∙ once
 
 pub idles_trans : {f g h : Giving} {a b c : Tally} → Idles f g a b → Idles g h b c → Idles f h a c
 idles_trans {a = a} {b = b} {c = c} s t = record { steady = steady_trans s.steady t.steady; ran = none_behind a b c s.ran t.ran }
+
+pub runs_idles : {f g h : Giving} {a b c : Tally} → Runs f g a b → Idles g h b c → Runs f h a c
+runs_idles {a = a} {b = b} {c = c} s t = record { steady = steady_trans s.steady t.steady; ran = once_before a b c s.ran t.ran }
 
 -- ---- replies
 

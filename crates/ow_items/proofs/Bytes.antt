@@ -3,11 +3,11 @@ use Rattle.std.proofs.Common.{◌≡◌, ◌+◌, ℕ, List, [], ◌∷◌, leng
 use Rattle.std.specs.List.Sorted.{IsStrictlySortedBy}
 use Rattle.std.specs.Ordering.{match_ordering}
 use Rattle.ow_value.specs.Value.{text_cmp}
-use Rattle.ow_value.proofs.KeySearch.{equal_texts}
+use Rattle.ow_value.proofs.KeySearch.{equal_texts, is_equal}
 use Rattle.ow_traits.specs.Rows.{AreRows, text_of, with_row, without}
 use Rattle.ow_items.specs.Bytes.{AreApart, weight_at, bytes_of, weight}
 use Rattle.ow_items.specs.Sorted.{Entries, rows_of}
-use Rattle.ow_items.proofs.Extent.{AreRows-rows_of, below_none, is_Equal, text_of-rows_of}
+use Rattle.ow_items.proofs.Extent.{AreRows-rows_of, below_none, text_of-rows_of}
 
 abbrev Row : Type 0
 Row = List ℕ × List ℕ
@@ -40,7 +40,7 @@ drop_by : (k : List ℕ) (e : Row) (es : Entries) (b : Bool) → is_eq (text_cmp
     → bytes_of (cond b es (e ∷ without k es)) + weight_at k (e ∷ es) ≡ bytes_of (e ∷ es)
 drop_by k e es true g h =
     let found : weight_at k (e ∷ es) ≡ length k + length e.1 = at_by k e es true g in
-    let same : length k ≡ length e.0 = ap length (equal_texts k e.0 (is_Equal (text_cmp k e.0) g)) in
+    let same : length k ≡ length e.0 = ap length (equal_texts k e.0 (is_equal (text_cmp k e.0) g)) in
     omega (arith, found, same)
 drop_by k e es false g h =
     let found : weight_at k (e ∷ es) ≡ weight_at k es = at_by k e es false g in

@@ -5,9 +5,9 @@ use Rattle.json.specs.Token.{Token, end_array}
 use Rattle.ow_value.specs.Value.{V, Pairs, items_of, members_of}
 use Rattle.ow_value.specs.Text.{value_tokens, items_tokens, members_tokens}
 use Rattle.ow_names.specs.declared.full.FullName.{FullName}
-use Rattle.ow_records.specs.Written.{cause_members as before_cause}
+use Rattle.ow_records.specs.Written.{cause_members}
 use Rattle.ow_records.specs.declared.ids.Id.{Id}
-use Rattle.ow_items.specs.Item.{binding_members, cause_members}
+use Rattle.ow_items.specs.Item.{binding_members}
 use Rattle.ow_items.specs.Tokens.{binding_tokens, cause_tokens, values_tokens}
 
 pub then_ok : {T E : Type 0} {P Q : Type 0} (r : Result T E) → (P → Q) → OnOk r P → OnOk r Q
@@ -33,10 +33,6 @@ five t a b c d m {u = u} e f g h i = two t a (b ++ (c ++ (d ++ m))) e (four u b 
 pub caused : (o : Option Id) (ps : Pairs) → cause_tokens o ++ members_tokens (members_of ps) ≡ members_tokens (members_of (cause_members o ps))
 caused None ps = refl
 caused (Some cause) ps = refl
-
-pub recorded_cause : (o : Option Id) (ps : Pairs) → cause_tokens o ++ members_tokens (members_of ps) ≡ members_tokens (members_of (before_cause o ps))
-recorded_cause None ps = refl
-recorded_cause (Some cause) ps = refl
 
 pub bound : (o : Option FullName) (ps : Pairs) → binding_tokens o ++ members_tokens (members_of ps) ≡ members_tokens (members_of (binding_members o ps))
 bound None ps = refl

@@ -6,7 +6,7 @@ use Rattle.std.specs.Str.{bytes_eq}
 use Rattle.std.proofs.lemmas.Map.Text.{is_eq-slice_cmp}
 use Rattle.std.proofs.lemmas.Slice.Eq.{bytes_eq-Decides}
 use Rattle.ow_value.specs.Value.{text_cmp}
-use Rattle.ow_value.proofs.KeySearch.{turned, equal_texts}
+use Rattle.ow_value.proofs.KeySearch.{turned, equal_texts, is_equal}
 use Rattle.ow_value.proofs.Entries.{rises_with, above_more, Above}
 use Rattle.ow_traits.specs.Changes.{changed, after_change}
 use Rattle.ow_traits.specs.Rows.{AreRows, text_of, with_row, without}
@@ -20,13 +20,8 @@ Row = List ℕ × List ℕ
 
 -- ---- one key
 
-pub is_Equal : (o : Ordering) → is_eq o ≡ true → o ≡ Equal
-is_Equal Less h = cc
-is_Equal Equal h = refl
-is_Equal Greater h = cc
-
 pub same : (k : List ℕ) → text_cmp k k ≡ Equal
-same k = is_Equal (text_cmp k k) (is_eq-slice_cmp k k ∙ (bytes_eq-Decides k k).1 refl)
+same k = is_equal (text_cmp k k) (is_eq-slice_cmp k k ∙ (bytes_eq-Decides k k).1 refl)
 
 -- an entry is found at a key or not
 at_entry : (q : List ℕ) (e : Row) (es : Entries) → text_of q (e ∷ es) ≡ cond (bytes_eq q e.0) (Some e.1) (text_of q es)
@@ -84,7 +79,7 @@ drop_by : (q k : List ℕ) (e : Row) (es : Entries) (b : Bool) → is_eq (text_c
     → text_of q (cond b es (e ∷ without k es)) ≡ cond (bytes_eq q k) None (text_of q (e ∷ es))
 unfolding IsStrictlySortedBy
 drop_by q k e es true g s h =
-    let same_key : k ≡ e.0 = equal_texts k e.0 (is_Equal (text_cmp k e.0) g) in
+    let same_key : k ≡ e.0 = equal_texts k e.0 (is_equal (text_cmp k e.0) g) in
     by_test (bytes_eq q k) refl same_key
   where
     by_test : (b : Bool) → bytes_eq q k ≡ b → k ≡ e.0 → text_of q es ≡ cond b None (text_of q (e ∷ es))

@@ -10,7 +10,7 @@ use Rattle.ow_entity.specs.declared.rows.Row.{Row as EntityRow}
 use Rattle.ow_entity.specs.declared.rows.Row.TheVariants as rows
 use Rattle.ow_records.specs.Id.{hex_16, id_text}
 use Rattle.ow_records.specs.Notes.{kind_text}
-use Rattle.ow_records.specs.Written.{record_value}
+use Rattle.ow_records.specs.Written.{record_value, cause_members}
 use Rattle.ow_records.specs.WrittenNotes.{path_text}
 use Rattle.ow_records.specs.declared.ids.Id.{Id}
 use Rattle.ow_records.specs.declared.unrecorded.Unrecorded.{Unrecorded}
@@ -48,11 +48,6 @@ item_key (Done r) = done_key r.id
 abbrev pub binding_members : Option FullName → Pairs → Pairs
 binding_members None members = members
 binding_members (Some bound) members = (codes "binding", text (full_text bound)) ∷ members
-
--- the cause, if there is one, before these
-abbrev pub cause_members : Option Id → Pairs → Pairs
-cause_members None members = members
-cause_members (Some cause) members = (codes "cause", text (id_text cause)) ∷ members
 
 abbrev pub open_members : Option FullName → Option Id → Unrecorded → Pairs
 open_members bound cause u =

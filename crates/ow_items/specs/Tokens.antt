@@ -8,12 +8,12 @@ use Rattle.ow_names.specs.FullName.{full_text}
 use Rattle.ow_names.specs.declared.full.FullName.{FullName}
 use Rattle.ow_records.specs.Id.{id_text}
 use Rattle.ow_records.specs.Notes.{kind_text}
-use Rattle.ow_records.specs.Written.{cause_members as before_cause, lines_value, response_value, status_text}
+use Rattle.ow_records.specs.Written.{cause_members, lines_value, response_value, status_text}
 use Rattle.ow_records.specs.WrittenNotes.{notes_value, path_text}
 use Rattle.ow_records.specs.declared.ids.Id.{Id}
 use Rattle.ow_records.specs.declared.record.Record.{Record}
 use Rattle.ow_records.specs.declared.unrecorded.Unrecorded.{Unrecorded}
-use Rattle.ow_items.specs.Item.{binding_members, cause_members}
+use Rattle.ow_items.specs.Item.{binding_members}
 
 -- the tokens of values one after the other
 abbrev pub values_tokens : List V → List Token
@@ -49,7 +49,7 @@ abbrev pub from_duration : Record → Pairs
 from_duration r = (codes "duration", whole (pos (r.span.end - r.span.start))) ∷ (codes "end", whole (pos r.span.end)) ∷ from_logs r
 
 abbrev pub from_notes : Record → Pairs
-from_notes r = (codes "annotations", notes_value r.notes) ∷ before_cause r.cause (from_duration r)
+from_notes r = (codes "annotations", notes_value r.notes) ∷ cause_members r.cause (from_duration r)
 
 -- ---- the members of an activation that has not ended, from one of them on
 

@@ -1,6 +1,6 @@
 // Members of objects, written token by token.
 ghost use Rattle.std.specs.Prelude.{◌≡◌, ◌∷◌, [], ◌++◌, pos, string_bytes, IfOk, OnOk};
-ghost use Rattle.json.specs.Token.{Token, key};
+ghost use Rattle.json.specs.Token.{key};
 ghost use Rattle.ow_value.specs.Value.{boolean, text, whole};
 ghost use Rattle.ow_value.specs.Text.{value_tokens};
 ghost use Rattle.ow_entity.specs.Written.{limits_value, shown_version};

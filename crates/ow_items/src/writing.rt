@@ -1,6 +1,5 @@
 // The keys of rows.
-ghost use Rattle.std.specs.Prelude.{◌≡◌, ◌++◌, string_bytes, IfOk};
-ghost use Rattle.ow_records.specs.Id.{id_text};
+ghost use Rattle.std.specs.Prelude.{◌≡◌, ◌++◌, IfOk};
 ghost use Rattle.ow_items.specs.Item.{count_key, entity_key, open_key, done_key, row_kind};
 
 use ow_entity::Row;

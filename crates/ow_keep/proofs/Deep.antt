@@ -7,7 +7,7 @@ use Rattle.ow_value.specs.declared.reader.ValueRefusal.{ValueRefusal}
 use Rattle.ow_value.specs.declared.reader.ValueRefusal.TheVariants.{NotJson, NotWhole, TooDeep}
 use Rattle.ow_keep.specs.ItemIn.{deep_value_of, value_read}
 
-abbrev whole_within : ℕ → Option V → Result V ValueRefusal
+abbrev pub whole_within : ℕ → Option V → Result V ValueRefusal
 whole_within limit None = Err NotWhole
 whole_within limit (Some v) = cond (nat_le (depth v) limit) (Ok v) (Err TooDeep)
 
@@ -33,7 +33,7 @@ whole_no_deeper (Some w) x n e = by_test (nat_le (depth w) most_nested) e
 -- ---- of what was parsed, whatever that is
 
 module _ {D : Type 0} (value : D → Option V) where
-  abbrev of_data : ℕ → Option D → Result V ValueRefusal
+  abbrev pub of_data : ℕ → Option D → Result V ValueRefusal
   of_data limit None = Err NotJson
   of_data limit (Some d) = whole_within limit (value d)
 

@@ -1,6 +1,7 @@
 -- The items of rows, each kind by itself, are entries whose rows they are.
-use Rattle.std.proofs.Common.{◌≡◌, ◌||◌, ℕ, List, [], ◌∷◌, map, Bool, true, false, cond, Some, None, is_eq, Result, Ok, Err, IfOk, refl, sym, ap, ◌∙◌, subst, append_assoc, arith}
+use Rattle.std.proofs.Common.{◌≡◌, ℕ, List, [], ◌∷◌, map, Bool, true, false, cond, Some, None, is_eq, Result, Ok, Err, IfOk, refl, sym, ap, ◌∙◌, subst, append_assoc, arith}
 use Rattle.std.proofs.lemmas.Map.Text.{is_eq-slice_cmp}
+use Rattle.std.proofs.Math.Bool.{or-true}
 use Rattle.ow_value.specs.Value.{text_cmp}
 use Rattle.ow_traits.specs.Rows.{AreRows, text_of}
 use Rattle.ow_traits.specs.declared.change_list.Change.TheVariants.{Put}
@@ -63,13 +64,9 @@ parts_kept rows is (Err x) kept rise e = tt
 
 -- ---- items one after another
 
-or_true : (b : Bool) → b || true ≡ true
-or_true true = refl
-or_true false = refl
-
 -- an item behind some parts, and before others
 pub push_joined : (p q : Parts) (i : Item) → joined_parts (behind_parts p i) q ≡ joined_parts p (with_item i q)
-push_joined p q Version = λ n. record (joined_parts p q) { versioned = sym (or_true p.versioned) n }
+push_joined p q Version = λ n. record (joined_parts p q) { versioned = sym (or-true p.versioned) n }
 push_joined p q (Count namespace count) = λ n. record (joined_parts p q) { counts = append_assoc p.counts ((record { namespace = namespace; count = count }) ∷ []) q.counts n }
 push_joined p q (Row r) = λ n. record (joined_parts p q) { entities = append_assoc p.entities (r ∷ []) q.entities n }
 push_joined p q (Open u) = λ n. record (joined_parts p q) { unrecorded = append_assoc p.unrecorded (u ∷ []) q.unrecorded n }

@@ -1,9 +1,8 @@
 // The activation that a value is which has not ended. What is read here may be written otherwise.
-ghost use Rattle.std.specs.Prelude.{◌≡◌, option_and_then, codes, IfOk};
+ghost use Rattle.std.specs.Prelude.{◌≡◌, IfOk};
 ghost use Rattle.ow_value.specs.Value.{members_of, object};
 ghost use Rattle.ow_value.specs.Field.{field};
 ghost use Rattle.ow_value.specs.View.{view};
-ghost use Rattle.ow_records.specs.NotesIn.{as_kind, as_limits};
 ghost use Rattle.ow_keep.specs.OpenIn.{as_full_name, binding_in, full_name_of, open_from};
 
 use ow_names::{FullName, NameRefusal, read_full_text};

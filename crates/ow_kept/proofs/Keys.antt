@@ -2,13 +2,12 @@
 use Rattle.std.proofs.Common.{◌≡◌, ◌==◌, ℕ, ◌<◌, ◌^◌, List, Bool, true, false, Some, is_eq, refl, sym, ap, ◌∙◌, subst, arith}
 use Rattle.std.proofs.lemmas.Bool.Decides.{nat_tests}
 use Rattle.ow_value.specs.Value.{text_cmp}
-use Rattle.ow_value.proofs.KeySearch.{equal_texts}
+use Rattle.ow_value.proofs.KeySearch.{equal_texts, is_equal}
 use Rattle.ow_entity.specs.declared.rows.Row.{Row}
 use Rattle.ow_entity.specs.declared.rows.Row.TheVariants as rows
 use Rattle.ow_floor.proofs.Alters.{same_id_refl}
 use Rattle.ow_items.specs.declared.item.Item.TheVariants as items
 use Rattle.ow_items.specs.Item.{count_key, done_key, item_key, open_key}
-use Rattle.ow_items.proofs.Extent.{is_Equal}
 use Rattle.ow_records.specs.declared.ids.Id.{Id}
 use Rattle.ow_records.specs.Id.{hex_16, hex_number, id_of, id_text, same_id}
 use Rattle.ow_records.specs.Known.{IsId}
@@ -17,7 +16,7 @@ use Rattle.ow_tables.specs.Rows.{key_of}
 
 -- texts that are not the same
 other_by : (x y : List ℕ) (b : Bool) → is_eq (text_cmp x y) ≡ b → (x ≡ y → ⊥) → b ≡ false
-other_by x y true e differ = absurd (differ (equal_texts x y (is_Equal (text_cmp x y) e)))
+other_by x y true e differ = absurd (differ (equal_texts x y (is_equal (text_cmp x y) e)))
 other_by x y false e differ = refl
 
 pub other : (x y : List ℕ) → (x ≡ y → ⊥) → is_eq (text_cmp x y) ≡ false

@@ -5,7 +5,7 @@ use Rattle.std.specs.Ordering.{match_ordering}
 use Rattle.std.specs.Str.{bytes_eq}
 use Rattle.std.proofs.lemmas.Map.Text.{is_eq-slice_cmp}
 use Rattle.ow_value.specs.Value.{text_cmp}
-use Rattle.ow_value.proofs.KeySearch.{equal_texts}
+use Rattle.ow_value.proofs.KeySearch.{equal_texts, is_equal}
 use Rattle.ow_entity.specs.declared.rows.Row.{Row}
 use Rattle.ow_entity.specs.Row.{kind_of, name_of}
 use Rattle.ow_traits.specs.declared.change_list.Change.TheVariants.{Drop as Dropped}
@@ -14,7 +14,6 @@ use Rattle.ow_tables.specs.Rows.{is_row, key_of, with_row, without}
 use Rattle.ow_items.specs.declared.item.Item.TheVariants as items
 use Rattle.ow_items.specs.Item.{entity_key}
 use Rattle.ow_items.specs.Sorted.{Makes}
-use Rattle.ow_items.proofs.Extent.{is_Equal}
 use Rattle.ow_items.proofs.Lists.{put_front}
 use Rattle.ow_kept.specs.Commits.{put_of}
 use Rattle.ow_kept.specs.Kept.{is_kept}
@@ -27,13 +26,13 @@ pub kept_alike : (r x : Row) → key_of r ≡ key_of x → is_kept r ≡ is_kept
 kept_alike r x same = ap (λ k. not (list_any (λ b. bytes_eq k (key_of b)) builtin)) same
 
 pub equal_by : (r x : Row) → is_eq (text_cmp (key_of r) (key_of x)) ≡ true → entity_key r ≡ entity_key x
-equal_by r x same = equal_texts (entity_key r) (entity_key x) (is_Equal (text_cmp (entity_key r) (entity_key x)) (row_keys r x ∙ same))
+equal_by r x same = equal_texts (entity_key r) (entity_key x) (is_equal (text_cmp (entity_key r) (entity_key x)) (row_keys r x ∙ same))
 
 pub other_by : (r x : Row) → is_eq (text_cmp (key_of r) (key_of x)) ≡ false → is_eq (text_cmp (entity_key r) (entity_key x)) ≡ false
 other_by r x other = row_keys r x ∙ other
 
 pub places_are : (r x : Row) → is_eq (text_cmp (key_of r) (key_of x)) ≡ true → key_of r ≡ key_of x
-places_are r x same = equal_texts (key_of r) (key_of x) (is_Equal (text_cmp (key_of r) (key_of x)) same)
+places_are r x same = equal_texts (key_of r) (key_of x) (is_equal (text_cmp (key_of r) (key_of x)) same)
 
 -- ---- a row is put
 

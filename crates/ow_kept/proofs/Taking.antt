@@ -1,12 +1,11 @@
 -- What rows hold: what of it is apart, and what it makes once it is taken over.
-use Rattle.std.proofs.Common.{◌≡◌, ◌+◌, ℕ, List, [], ◌∷◌, ◌++◌, Bool, true, false, cond, filter, map, is_eq, Ordering, Less, Equal, Greater, Option, Some, None, refl, sym, ap, ◌∙◌, subst, arith, append_assoc, append-nil}
+use Rattle.std.proofs.Common.{◌≡◌, ◌+◌, ℕ, List, [], ◌∷◌, ◌++◌, Bool, true, false, cond, filter, map, is_eq, Ordering, Option, Some, None, refl, sym, ap, ◌∙◌, subst, arith, append_assoc, append-nil}
 use Rattle.std.specs.List.{AllByRecursion, flat_map}
-use Rattle.std.specs.Ordering.{ordering_reverse}
 use Rattle.std.specs.Str.{bytes_eq}
 use Rattle.std.proofs.lemmas.Cmp.{nat_list_cmp_total}
 use Rattle.std.proofs.lemmas.Map.Text.{is_eq-slice_cmp}
 use Rattle.ow_value.specs.Value.{text_cmp}
-use Rattle.ow_value.proofs.KeySearch.{equal_texts}
+use Rattle.ow_value.proofs.KeySearch.{equal_texts, reversed_eq, is_equal}
 use Rattle.ow_entity.specs.declared.rows.Row.{Row}
 use Rattle.ow_traits.specs.Rows.{text_of}
 use Rattle.ow_traits.specs.declared.change_list.Change.TheVariants.{Drop as Dropped}
@@ -14,7 +13,6 @@ use Rattle.ow_items.specs.declared.item.Item.TheVariants as items
 use Rattle.ow_items.specs.Item.{done_key, entity_key, item_text, open_key}
 use Rattle.ow_items.specs.Lists.{Lacks}
 use Rattle.ow_items.specs.Sorted.{Entries, Makes, rows_of}
-use Rattle.ow_items.proofs.Extent.{is_Equal}
 use Rattle.ow_items.proofs.Lists.{absent, makes_then, put_end}
 use Rattle.ow_items.proofs.Parts.{or_text, text_of-append}
 use Rattle.ow_kept.specs.Commits.{end_changes, put_of}
@@ -35,13 +33,8 @@ use Rattle.ow_tables.specs.Rows.{resumed, with_row}
 
 -- ---- each activation that had not ended gets its record
 
-reverse_eq : (o : Ordering) → is_eq (ordering_reverse o) ≡ is_eq o
-reverse_eq Less = refl
-reverse_eq Equal = refl
-reverse_eq Greater = refl
-
 pub turn : (a b : List ℕ) → is_eq (text_cmp a b) ≡ false → is_eq (text_cmp b a) ≡ false
-turn a b h = ap is_eq (nat_list_cmp_total.antisymm b a) ∙ reverse_eq (text_cmp a b) ∙ h
+turn a b h = ap is_eq (nat_list_cmp_total.antisymm b a) ∙ reversed_eq (text_cmp a b) ∙ h
 
 lacks_end : (key : List ℕ) (ds : List Record) (r : Record) → Lacks done_of key ds → is_eq (text_cmp key (done_key r.id)) ≡ false → Lacks done_of key (ds ++ r ∷ [])
 lacks_end key [] r h e = (e, tt)
@@ -104,7 +97,7 @@ alike_by false t x y h = refl
 
 none_there : (q : List ℕ) (r : Row) (rs : List Row) → Lacks row_of (entity_key r) rs → bytes_eq q (entity_key r) ≡ true → text_of q (map row_of rs) ≡ None
 none_there q r rs lacks e =
-    let same : q ≡ entity_key r = equal_texts q (entity_key r) (is_Equal (text_cmp q (entity_key r)) (is_eq-slice_cmp q (entity_key r) ∙ e)) in
+    let same : q ≡ entity_key r = equal_texts q (entity_key r) (is_equal (text_cmp q (entity_key r)) (is_eq-slice_cmp q (entity_key r) ∙ e)) in
     subst (λ (k : List ℕ). text_of k (map row_of rs) ≡ None) (sym same) (absent row_of (entity_key r) rs lacks)
 
 pub resumed_text : (q : List ℕ) (rs xs : List Row) → AreApartBy row_of rs → AllByRecursion (λ r. is_kept r ≡ true) rs
@@ -129,7 +122,7 @@ swapped (Some t) y h = ap (λ w. or_text w (Some t)) (sym (h t refl))
 there_by : (q : List ℕ) (r : Row) (rs : List Row) (es : Entries) (t : List ℕ) (b : Bool) → is_eq (text_cmp q (entity_key r)) ≡ b → cond b (Some (item_text (items.Row r))) (text_of q (map row_of rs)) ≡ Some t
     → text_of (entity_key r) es ≡ None → (text_of q (map row_of rs) ≡ Some t → text_of q es ≡ None) → text_of q es ≡ None
 there_by q r rs es t true e found none rest =
-    subst (λ (k : List ℕ). text_of k es ≡ None) (sym (equal_texts q (entity_key r) (is_Equal (text_cmp q (entity_key r)) e))) none
+    subst (λ (k : List ℕ). text_of k es ≡ None) (sym (equal_texts q (entity_key r) (is_equal (text_cmp q (entity_key r)) e))) none
 there_by q r rs es t false e found none rest = rest found
 
 row_alone : (q : List ℕ) (rs : List Row) (es : Entries) → ((r : Row) → text_of (entity_key r) es ≡ None) → (t : List ℕ) → text_of q (map row_of rs) ≡ Some t → text_of q es ≡ None

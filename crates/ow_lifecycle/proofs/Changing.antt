@@ -1,6 +1,7 @@
 -- The slots after an event are those before it, which it has changed.
 use Rattle.std.proofs.Common.{◌≡◌, ◌==◌, ◌+◌, ◌&&◌, ◌||◌, ℕ, zero, suc, Bool, true, false, cond, List, [], ◌∷◌, Option, Some, None, replicate, refl, sym, ap, ◌∙◌, arith, subst, add-zero}
 use Rattle.std.specs.List.{slice_get, AllByRecursion}
+use Rattle.std.proofs.lemmas.Bool.{and_parts, eqb-true}
 use Rattle.ow_traits.specs.declared.replies.Kind.{Kind}
 use Rattle.ow_slots.specs.declared.keys.Key.{Key}
 use Rattle.ow_slots.specs.declared.keys.Start.{Start}
@@ -12,7 +13,7 @@ use Rattle.ow_slots.specs.State.{CanGo, IsUnrecorded, after_gone, answered_state
 use Rattle.ow_pool.specs.Keeping.{CanAllGo, removed}
 use Rattle.ow_lifecycle.specs.Life.{Event, Life, Ran, Prewarming, Removed, Begun, Answered, Lost, Gone, Overran, Reopened, generation_of, is_among, is_held, memory_of, slot_of, slots_of, state_of, table}
 use Rattle.ow_lifecycle.specs.Fitting.{AreFit, Goes, IsAny, changed}
-use Rattle.ow_lifecycle.proofs.Runs.{SomeSlot, awaits_holds, eq_of, one_run, runs_holds}
+use Rattle.ow_lifecycle.proofs.Runs.{SomeSlot, awaits_holds, one_run, runs_holds}
 use Rattle.ow_lifecycle.proofs.States.{memory_right, state_answered, state_begun, state_gone, state_lost, state_overran, state_prewarming, state_ran, state_removed, when}
 use Rattle.ow_lifecycle.proofs.Tables.{change_first_table, change_table, constant_table, equal_table, found_in, map_table, there_in}
 
@@ -69,18 +70,13 @@ prewarming_each L slot run kind memory n = rw (state_prewarming L slot run kind 
     by_name true = refl
     by_name false = refl
 
-both_of : (a b : Bool) → (a && b) ≡ true → (a ≡ true) × (b ≡ true)
-both_of true true e = (refl, refl)
-both_of true false e = cc
-both_of false b e = cc
-
 gone_each : (L : Life) (slot g : ℕ) → goes g (slot_of L slot) ≡ true → (n : ℕ) → slot_of (Gone slot g ∷ L) n ≡ cond (slot == n) (after_gone g (slot_of L n)) (slot_of L n)
 gone_each L slot g it_goes n =
-    rw (state_gone L slot g (both_of (generation_of L slot == g) (takes_gone (state_of L slot)) it_goes).1 n) (by_name (slot == n) refl)
+    rw (state_gone L slot g (and_parts (generation_of L slot == g) (takes_gone (state_of L slot)) it_goes).1 n) (by_name (slot == n) refl)
   where
     by_name : (b : Bool) → (slot == n) ≡ b → record { generation = generation_of L n; state = cond b (gone_state (state_of L n)) (state_of L n) } ≡ cond b (after_gone g (slot_of L n)) (slot_of L n)
     by_name true e =
-        let here : goes g (slot_of L n) ≡ true = subst (λ (i : ℕ). goes g (slot_of L i) ≡ true) (eq_of slot n e) it_goes in
+        let here : goes g (slot_of L n) ≡ true = subst (λ (i : ℕ). goes g (slot_of L i) ≡ true) (eqb-true slot n e) it_goes in
         rw here refl
     by_name false e = refl
 
@@ -142,7 +138,7 @@ named P [] j all e = cc
 named P (n ∷ ns) j all e = by_name (n == j) refl e (named P ns j all.1)
   where
     by_name : (b : Bool) → (n == j) ≡ b → (b || is_among j ns) ≡ true → (is_among j ns ≡ true → P j) → P j
-    by_name true eb any rest = subst P (eq_of n j eb) all.0
+    by_name true eb any rest = subst P (eqb-true n j eb) all.0
     by_name false eb any rest = rest any
 
 -- what can be removed holds the memory of its slot

@@ -1,8 +1,9 @@
 -- What each event leaves to come.
-use Rattle.std.proofs.Common.{◌≡◌, ◌+◌, ◌≤◌, ◌&&◌, ℕ, zero, suc, Bool, true, false, cond, not, List, [], ◌∷◌, Option, Some, None, refl, arith}
+use Rattle.std.proofs.Common.{◌≡◌, ◌+◌, ◌≤◌, ◌==◌, ◌&&◌, ℕ, zero, suc, Bool, true, false, cond, not, List, [], ◌∷◌, Option, Some, None, refl, arith}
 use Rattle.std.specs.Prelude.{is_none}
 use Rattle.std.specs.List.{find, slice_get}
 use Rattle.std.proofs.lemmas.List.Sums.{sum_by-cons}
+use Rattle.std.proofs.lemmas.Bool.{and_parts}
 use Rattle.ow_slots.specs.declared.keys.Key.{Key}
 use Rattle.ow_slots.specs.declared.states.State.{State}
 use Rattle.ow_slots.specs.declared.states.State.TheVariants.{Vacant, Opening, Prewarmed, Busy, Idle, Closing}
@@ -15,7 +16,7 @@ use Rattle.ow_lifecycle.specs.Life.{Event, Ran, Prewarming, Removed, Begun, Answ
 use Rattle.ow_lifecycle.specs.Fitting.{Goes, IsAny, IsFit, changed, emptied}
 use Rattle.ow_lifecycle.specs.Owed.{fall_of, may_begin, owed, owed_by, rise_of}
 
-abbrev owed_of : Slot → ℕ
+abbrev pub owed_of : Slot → ℕ
 owed_of s = owed_by s.state
 
 -- what a change of one slot does to the sum
@@ -150,13 +151,9 @@ gone_less (Busy w) h = gone_busy w.gone (cond (may_begin w) 1 0) h
 gone_less (Idle key last) h = omega arith
 gone_less (Closing memory) h = omega arith
 
-second_of : (a b : Bool) → (a && b) ≡ true → b ≡ true
-second_of true b e = e
-second_of false b e = cc
-
 gone_at : (generation : ℕ) (s : Slot) → goes generation s ≡ true → owed_of (after_gone generation s) + 1 ≤ owed_of s
 gone_at generation s h =
-    let le = gone_less s.state (second_of _ (takes_gone s.state) h) in
+    let le = gone_less s.state (and_parts (s.generation == generation) (takes_gone s.state) h).1 in
     rw h (omega (arith, le))
 
 removed_less : (s : State) → owed_by (removed_state s) ≤ owed_by s
@@ -201,7 +198,7 @@ gone_at_most : (generation : ℕ) (s : Slot) → owed_of (after_gone generation 
 gone_at_most generation s = by_test (goes generation s) refl
   where
     by_test : (b : Bool) → goes generation s ≡ b → owed_of (cond b (with_state gone_state s) s) ≤ owed_of s + 0
-    by_test true e = let le = gone_less s.state (second_of _ (takes_gone s.state) e) in omega (arith, le)
+    by_test true e = let le = gone_less s.state (and_parts (s.generation == generation) (takes_gone s.state) e).1 in omega (arith, le)
     by_test false e = omega arith
 
 all_removed : (ns : List ℕ) (slots : List Slot) → owed (removed ns slots) ≤ owed slots

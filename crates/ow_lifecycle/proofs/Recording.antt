@@ -2,6 +2,7 @@
 use Rattle.std.proofs.Common.{◌≡◌, ◌==◌, ◌+◌, ◌≤◌, ◌<◌, ◌&&◌, ℕ, Bool, true, false, cond, [], ◌∷◌, Option, Some, None, refl, sym, ap, ◌∙◌, arith, subst}
 use Rattle.std.specs.Prelude.{is_none}
 use Rattle.std.proofs.lemmas.Bool.Decides.{nat_tests}
+use Rattle.std.proofs.lemmas.Bool.{eqb-true}
 use Rattle.ow_slots.specs.declared.states.State.TheVariants.{Idle, Closing}
 use Rattle.ow_slots.specs.declared.states.Slot.{Slot}
 use Rattle.ow_slots.specs.Slots.{first_with, has}
@@ -10,7 +11,7 @@ use Rattle.ow_slots.specs.State.{IsUnrecorded, holds, recorded_of, runs}
 use Rattle.ow_lifecycle.specs.Life.{Event, Life, Order, RunOrder, PrewarmOrder, Reply, Run, Prewarm, Remove, Ran, Prewarming, Removed, Begun, Answered, Lost, Gone, Overran, Reopened, begun_at, is_among, is_gone, is_lost, last_order, memory_of, overran_after, overran_at, prewarm_order, prewarm_state, reply_to, run_count, run_order, run_state, since, slot_of, slots_of, state_by, state_of}
 use Rattle.ow_lifecycle.specs.Fitting.{AreFit}
 use Rattle.ow_lifecycle.proofs.Changing.{some_slot}
-use Rattle.ow_lifecycle.proofs.Runs.{alone, counted, eq_of, held, is_of, runs_holds}
+use Rattle.ow_lifecycle.proofs.Runs.{alone, counted, held, is_of, runs_holds}
 use Rattle.ow_lifecycle.proofs.Tables.{found_in}
 
 other_run : (r run count : ℕ) → run ≤ count → count < r → (r == run) ≡ false
@@ -47,7 +48,7 @@ since_order event r later false same = same
 -- the run that is the next was never recorded
 next_unrecorded : (L : Life) (size run r : ℕ) → AreFit L size → run ≡ run_count L + 1 → (run == r) ≡ true → overran_at r L ≡ None
 next_unrecorded L size run r fit next e =
-    let same : run ≡ r = eq_of run r e in
+    let same : run ≡ r = eqb-true run r e in
     unrecorded_before L size r fit (omega (arith, next, same))
 
 recorded_since : (L : Life) (size r n : ℕ) → AreFit L size → is_of r (last_order L n) ≡ true → overran_at r (since L n) ≡ overran_at r L
@@ -118,7 +119,7 @@ ahead_unrecorded (Overran run at ∷ L) size r n fit h =
     let some = some_slot (runs run) IsUnrecorded L size fit.0 in
     not_again (r == run) at (overran_at r L)
     (λ e.
-    let same : r ≡ run = eq_of r run e in
+    let same : r ≡ run = eqb-true r run e in
     let passes : runs r (state_of L some.slot) ≡ true = subst (λ (k : ℕ). runs k (state_of L some.slot) ≡ true) (sym same) some.passes in
     let here : some.slot ≡ n = alone L size r some.slot n fit.1 (held L r some.slot (runs_holds r (state_of L some.slot) passes)) (ahead_of r (last_order L n) h) in
     ahead_busy r n (memory_of L n) (since L n) (last_order L n) h (subst (λ (i : ℕ). runs r (state_of L i) ≡ true) here passes))
@@ -149,7 +150,7 @@ recorded_by : (r n m : ℕ) (later : Life) (all : Option ℕ) (last : Option Ord
 recorded_by r n m later all None same ahead of h = cc
 recorded_by r n m later all (Some (Run o)) same ahead of h =
     recorded_run o r m (is_gone n later) (reply_to o.run later) (is_lost o.run later) (overran_at o.run later) (begun_at o.run later) h
-    ∙ ap (λ k. overran_at k later) (eq_of o.run r of)
+    ∙ ap (λ k. overran_at k later) (eqb-true o.run r of)
     ∙ same of
 recorded_by r n m later all (Some (Prewarm o)) same ahead of h = ahead_state o m (is_gone n later) (is_lost o.run later) (begun_at o.run later) ∙ sym (ahead of)
 recorded_by r n m later all (Some Remove) same ahead of h = cc

@@ -2,6 +2,7 @@
 use Rattle.std.proofs.Common.{◌≡◌, ◌==◌, ◌&&◌, ◌||◌, ℕ, zero, suc, Bool, true, false, cond, not, List, [], ◌∷◌, Option, Some, None, refl, sym, ap, ◌∙◌, subst}
 use Rattle.std.specs.Prelude.{is_none}
 use Rattle.std.specs.List.{list_any, slice_get}
+use Rattle.std.proofs.lemmas.Bool.{eqb-true}
 use Rattle.ow_slots.specs.declared.keys.Key.{Key}
 use Rattle.ow_slots.specs.declared.keys.Start.{Start}
 use Rattle.ow_slots.specs.declared.keys.Start.TheVariants as starts
@@ -14,7 +15,7 @@ use Rattle.ow_pool.specs.Keeping.{removed}
 use Rattle.ow_lifecycle.specs.Life.{Event, Life, Ran, Prewarming, Removed, Begun, Answered, Lost, Gone, Overran, Reopened, is_running, slot_of, slots_of, state_of, table}
 use Rattle.ow_lifecycle.specs.Fitting.{AreFit, IsAny, emptied}
 use Rattle.ow_lifecycle.proofs.Changing.{changes, some_slot}
-use Rattle.ow_lifecycle.proofs.Runs.{eq_of, runs_holds}
+use Rattle.ow_lifecycle.proofs.Runs.{runs_holds}
 use Rattle.ow_lifecycle.proofs.States.{state_answered, state_lost, when}
 
 -- some slot is busy with the run
@@ -148,7 +149,7 @@ placed P run n g slots b free new there = by_found (slice_get slots n) refl ther
 
 -- a state that had another run
 other : (w r run : ℕ) → (r == run) ≡ false → (w == r) ≡ true → (w == run) ≡ false
-other w r run apart e = subst (λ (k : ℕ). (k == run) ≡ false) (sym (eq_of w r e)) apart
+other w r run apart e = subst (λ (k : ℕ). (k == run) ≡ false) (sym (eqb-true w r e)) apart
 
 answered_busy : (run at : ℕ) (key : Key) (g c : Bool) (m : ℕ) → runs run (cond g Vacant (cond c (Idle key at) (Closing m))) ≡ false
 answered_busy run at key true c m = refl
@@ -204,7 +205,7 @@ ended p f event L size run r has_it free passes states made = by_run (r == run) 
 
     by_run : (b : Bool) → (r == run) ≡ b → is_busy run (slots_of (event ∷ L) size) ≡ (not b && is_busy run (slots_of L size))
     by_run true e =
-        subst (λ (k : ℕ). is_busy k (slots_of (event ∷ L) size) ≡ false) (eq_of r run e)
+        subst (λ (k : ℕ). is_busy k (slots_of (event ∷ L) size) ≡ false) (eqb-true r run e)
         (none_table (has (runs r)) (slot_of (event ∷ L)) 0 size gone_now)
     by_run false e =
         ap (is_busy run) made

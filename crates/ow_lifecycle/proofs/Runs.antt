@@ -1,7 +1,7 @@
 -- Each run stands in one slot, and the last order of a slot has its memory.
 use Rattle.std.proofs.Common.{◌≡◌, ◌==◌, ◌+◌, ◌≤◌, ◌&&◌, ℕ, Bool, true, false, cond, [], ◌∷◌, Option, Some, None, refl, sym, ap, ◌∙◌, arith, subst}
 use Rattle.std.specs.Prelude.{is_none, not}
-use Rattle.std.proofs.lemmas.Bool.Decides.{nat_tests}
+use Rattle.std.proofs.lemmas.Bool.{eqb-true}
 use Rattle.ow_traits.specs.declared.replies.Kind.{Kind}
 use Rattle.ow_slots.specs.declared.keys.Key.{Key}
 use Rattle.ow_slots.specs.declared.keys.Start.{Start}
@@ -22,9 +22,6 @@ is_of r (Some (Run o)) = o.run == r
 is_of r (Some (Prewarm o)) = o.run == r
 is_of r (Some Remove) = false
 
-pub eq_of : (a b : ℕ) → (a == b) ≡ true → a ≡ b
-eq_of a b h = grind (arith, nat_tests)
-
 counted_by : (x : Order) (r count : ℕ) (b : Bool) (last : Option Order) → (is_of r (Some x) ≡ true → r ≤ count + 1) → (is_of r last ≡ true → r ≤ count)
     → is_of r (cond b (Some x) last) ≡ true → r ≤ count + 1
 counted_by x r count true last new old h = new h
@@ -36,7 +33,7 @@ dropped_by r count false last old h = old h
 
 -- the number of a run that is the next
 numbered : (run count r : ℕ) → run ≡ count + 1 → (run == r) ≡ true → r ≡ count + 1
-numbered run count r next e = sym (eq_of run r e) ∙ next
+numbered run count r next e = sym (eqb-true run r e) ∙ next
 
 -- no order has a number that was not drawn
 pub counted : (L : Life) (size r n : ℕ) → AreFit L size → is_of r (last_order L n) ≡ true → r ≤ run_count L
@@ -59,7 +56,7 @@ alone_by : (x : Order) (slot r i j count : ℕ) (bi bj : Bool) (li lj : Option O
     → (is_of r (Some x) ≡ true → r ≡ count + 1) → (is_of r li ≡ true → r ≤ count) → (is_of r lj ≡ true → r ≤ count)
     → (is_of r li ≡ true → is_of r lj ≡ true → i ≡ j)
     → is_of r (cond bi (Some x) li) ≡ true → is_of r (cond bj (Some x) lj) ≡ true → i ≡ j
-alone_by x slot r i j count true true li lj ei ej new oldi oldj rest hi hj = sym (eq_of slot i ei) ∙ eq_of slot j ej
+alone_by x slot r i j count true true li lj ei ej new oldi oldj rest hi hj = sym (eqb-true slot i ei) ∙ eqb-true slot j ej
 alone_by x slot r i j count true false li lj ei ej new oldi oldj rest hi hj = let a = new hi in let b = oldj hj in absurd (omega arith)
 alone_by x slot r i j count false true li lj ei ej new oldi oldj rest hi hj = let a = oldi hi in let b = new hj in absurd (omega arith)
 alone_by x slot r i j count false false li lj ei ej new oldi oldj rest hi hj = rest hi hj
@@ -249,7 +246,7 @@ coheres_remove m last false old = old
 found_own : (L : Life) (size slot run : ℕ) (key : Key) (start : Start) → IsNextRun (slots_of L size) (run_count L) slot run key start → (n : ℕ) → (slot == n) ≡ true
     → IsFor start key (state_of L n)
 found_own L size slot run key start fit n e =
-    subst (λ (i : ℕ). IsFor start key (state_of L i)) (eq_of slot n e) (there_in (λ (s : Slot). IsFor start key s.state) (slot_of L) size slot fit.own)
+    subst (λ (i : ℕ). IsFor start key (state_of L i)) (eqb-true slot n e) (there_in (λ (s : Slot). IsFor start key s.state) (slot_of L) size slot fit.own)
 
 pub coherent : (L : Life) (size : ℕ) → AreFit L size → (n : ℕ) → Coheres (last_order L n) (memory_of L n)
 coherent [] size fit n = tt

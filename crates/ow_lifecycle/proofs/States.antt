@@ -1,6 +1,7 @@
 -- What each event makes of the state of a slot.
 use Rattle.std.proofs.Common.{◌≡◌, ◌==◌, ◌&&◌, ℕ, Bool, true, false, cond, List, [], ◌∷◌, Option, Some, None, refl, subst}
 use Rattle.std.specs.Prelude.{is_none}
+use Rattle.std.proofs.lemmas.Bool.{eqb-true}
 use Rattle.ow_traits.specs.declared.replies.Kind.{Kind}
 use Rattle.ow_slots.specs.declared.keys.Key.{Key}
 use Rattle.ow_slots.specs.declared.keys.Start.{Start}
@@ -9,7 +10,7 @@ use Rattle.ow_slots.specs.declared.states.State.TheVariants.{Vacant, Opening, Bu
 use Rattle.ow_slots.specs.State.{answered_state, awaits, begun_state, gone_state, holds, is_cold, is_warm, lost_state, overrun_state, runs, state_memory, takes_gone, work_of}
 use Rattle.ow_lifecycle.specs.Life.{Event, Life, Order, RunOrder, PrewarmOrder, Reply, Run, Prewarm, Remove, Ran, Prewarming, Removed, Begun, Answered, Lost, Gone, Overran, begun_at, busy_state, is_among, is_gone, is_held, is_lost, last_order, memory_of, overran_at, prewarm_order, prewarm_state, remove_state, reply_to, run_order, run_state, since, state_by, state_of}
 use Rattle.ow_lifecycle.specs.Fitting.{AreFit}
-use Rattle.ow_lifecycle.proofs.Runs.{Coheres, SomeSlot, awaits_holds, coherent, eq_of, is_of, only, runs_holds}
+use Rattle.ow_lifecycle.proofs.Runs.{Coheres, SomeSlot, awaits_holds, coherent, is_of, only, runs_holds}
 
 -- a state that passes is changed
 abbrev pub when : (State → Bool) → (State → State) → State → State
@@ -212,7 +213,7 @@ gone_by slot g n m later (Some Remove) fits = gone_remove m (slot == n) (is_gone
 
 pub state_gone : (L : Life) (slot g : ℕ) → takes_gone (state_of L slot) ≡ true → (n : ℕ) → state_of (Gone slot g ∷ L) n ≡ cond (slot == n) (gone_state (state_of L n)) (state_of L n)
 state_gone L slot g fits n =
-    gone_by slot g n (memory_of L n) (since L n) (last_order L n) (λ e. subst (λ (i : ℕ). takes_gone (state_of L i) ≡ true) (eq_of slot n e) fits)
+    gone_by slot g n (memory_of L n) (since L n) (last_order L n) (λ e. subst (λ (i : ℕ). takes_gone (state_of L i) ≡ true) (eqb-true slot n e) fits)
 
 -- an order that doesn't name the slot is no event of its container
 record IsApart (event : Event) : Type 0 where

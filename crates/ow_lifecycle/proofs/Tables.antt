@@ -1,16 +1,12 @@
 -- Changes of a table of a function's values.
-use Rattle.std.proofs.Common.{◌≡◌, ◌==◌, ◌+◌, ◌≤◌, ◌<◌, ℕ, zero, suc, Bool, true, false, cond, List, [], ◌∷◌, Some, length, map, replicate, refl, sym, ap, ◌∙◌, arith, subst, zero-add}
+use Rattle.std.proofs.Common.{◌≡◌, ◌==◌, ◌+◌, ◌≤◌, ◌<◌, ℕ, zero, suc, Bool, true, false, cond, ◌∷◌, Some, length, map, replicate, refl, sym, ap, ◌∙◌, arith, subst, zero-add}
 use Rattle.std.specs.List.{find, slice_get}
 use Rattle.std.proofs.lemmas.Bool.Decides.{nat_tests}
+use Rattle.ow_pool.proofs.Room.{apart_of, apart_up}
 use Rattle.ow_slots.specs.declared.states.Slot.{Slot}
 use Rattle.ow_slots.specs.Slots.{IsThere, change, change_first}
+use Rattle.ow_slots.proofs.Changes.{there_within}
 use Rattle.ow_lifecycle.specs.Life.{table}
-
-apart_of : (a b : ℕ) → a < b → (b == a) ≡ false
-apart_of a b lt = grind (arith, nat_tests)
-
-apart_up : (a b : ℕ) → a < b → (a == b) ≡ false
-apart_up a b lt = grind (arith, nat_tests)
 
 pub self_same : (a b : ℕ) → a ≡ b → (a == b) ≡ true
 self_same a b e = grind (arith, nat_tests)
@@ -109,14 +105,9 @@ get_from f k (suc n) (suc i) lt =
 pub get_table : {X : Type 0} (f : ℕ → X) (n i : ℕ) → i < n → slice_get (table f 0 n) i ≡ Some (f i)
 get_table f n i lt = get_from f 0 n i lt ∙ ap (λ j. Some (f j)) (zero-add i)
 
-within : (P : Slot → Type 0) (xs : List Slot) (i : ℕ) → IsThere P (slice_get xs i) → i < length xs
-within P [] i there = absurd there
-within P (x ∷ xs) zero there = omega arith
-within P (x ∷ xs) (suc i) there = let h = within P xs i there in omega (arith, h)
-
 pub within_table : (P : Slot → Type 0) (f : ℕ → Slot) (n i : ℕ) → IsThere P (slice_get (table f 0 n) i) → i < n
 within_table P f n i there =
-    let lt = within P (table f 0 n) i there in
+    let lt = there_within P (table f 0 n) i there in
     let long = length-table f 0 n in
     omega (arith, lt, long)
 

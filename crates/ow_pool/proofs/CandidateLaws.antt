@@ -3,6 +3,7 @@ use Rattle.std.proofs.Common.{◌≡◌, ◌==◌, ◌+◌, ◌-◌, ◌≤◌, 
 use Rattle.std.specs.Prelude.{nat_lt}
 use Rattle.std.specs.List.{slice_get, AllByRecursion}
 use Rattle.std.proofs.lemmas.Bool.Decides.{nat_tests}
+use Rattle.std.proofs.Math.Bool.{or-true}
 use Rattle.ow_slots.specs.declared.states.State.{State}
 use Rattle.ow_slots.specs.declared.states.State.TheVariants.{Vacant, Opening, Prewarmed, Busy, Idle, Closing}
 use Rattle.ow_slots.specs.declared.states.Slot.{Slot}
@@ -117,11 +118,6 @@ stand_now slots (c ∷ cs) all =
     let e : c.slot - 0 ≡ c.slot = omega arith in
     (subst (λ (i : ℕ). IsThere (IsCandidate c.slot c) (slice_get slots i)) e all.0.1, stand_now slots cs all.1)
 
--- and each slot that can be removed is one of them
-or_true : (b : Bool) → (b || true) ≡ true
-or_true true = refl
-or_true false = refl
-
 here_among : (k : ℕ) (state : State) (x : Candidate) (cs : List Candidate) → candidate_in k state ≡ Some x → is_among (put_if (candidate_in k state) cs) k ≡ true
 here_among k state x cs e =
     let own = own_number k state x e in
@@ -130,7 +126,7 @@ here_among k state x cs e =
 
 later_among : (k n : ℕ) (found : Option Candidate) (cs : List Candidate) → is_among cs n ≡ true → is_among (put_if found cs) n ≡ true
 later_among k n None cs e = e
-later_among k n (Some x) cs e = rw (among_put x cs n, e) (or_true (x.slot == n))
+later_among k n (Some x) cs e = rw (among_put x cs n, e) (or-true (x.slot == n))
 
 each_from : (k i : ℕ) (slots : List Slot) (x : Candidate) → IsThere (IsCandidate (k + i) x) (slice_get slots i) → is_among (candidates_from k slots) (k + i) ≡ true
 each_from k i [] x there = absurd there

@@ -1,10 +1,11 @@
 -- Each order of the rules can be carried out, and keeps the pool.
-use Rattle.std.proofs.Common.{◌≡◌, ◌==◌, ◌+◌, ◌-◌, ◌≤◌, ◌&&◌, ◌++◌, ℕ, zero, suc, Bool, true, false, cond, List, [], ◌∷◌, Option, Some, None, map, get_or, refl, ap, arith, subst}
+use Rattle.std.proofs.Common.{◌≡◌, ◌==◌, ◌+◌, ◌-◌, ◌≤◌, ◌++◌, ℕ, zero, suc, Bool, true, false, cond, List, [], ◌∷◌, Option, Some, None, map, get_or, refl, ap, arith, subst}
 use Rattle.std.specs.Prelude.{nat_le, nat_lt, fold, max}
 use Rattle.std.specs.List.{find, slice_get, position, AllByRecursion}
 use Rattle.std.proofs.lemmas.Bool.Decides.{nat_tests}
 use Rattle.std.proofs.lemmas.List.Quantifiers.{position-Some}
 use Rattle.std.proofs.lemmas.Option.{slice_get-get_or}
+use Rattle.std.proofs.lemmas.Bool.{and_parts, eqb-true}
 use Rattle.ow_traits.specs.declared.prewarms.Prewarm.{Prewarm}
 use Rattle.ow_traits.specs.declared.replies.Kind.{Kind}
 use Rattle.ow_traits.specs.declared.replies.Kind.TheVariants as kinds
@@ -30,19 +31,11 @@ use Rattle.ow_pool.proofs.EventLaws.{removed_size, removed_sized}
 use Rattle.ow_pool.proofs.Room.{Distinct, all_put, distinct, first_false}
 use Rattle.ow_pool.proofs.Sums.{Sized, all_change, held_change, size}
 
-pub both_of : (a b : Bool) → (a && b) ≡ true → (a ≡ true) × (b ≡ true)
-both_of true true e = (refl, refl)
-both_of true false e = cc
-both_of false b e = cc
-
 kind_eq : (a b : Kind) → same_kind a b ≡ true → a ≡ b
 kind_eq kinds.Plain kinds.Plain e = refl
 kind_eq kinds.Plain kinds.Program e = cc
 kind_eq kinds.Program kinds.Plain e = cc
 kind_eq kinds.Program kinds.Program e = refl
-
-eq_of : (a b : ℕ) → (a == b) ≡ true → a ≡ b
-eq_of a b h = grind (arith, nat_tests)
 
 pub le_of : (a b : ℕ) → nat_le a b ≡ true → a ≤ b
 le_of a b e = grind (arith, nat_tests)
@@ -67,7 +60,7 @@ warm_fits tell key at Vacant e = cc
 warm_fits tell key at (Opening r k m) e = cc
 warm_fits tell key at (Prewarmed k m) e = cc
 warm_fits tell key at (Busy w) e = cc
-warm_fits tell key at (Idle own last) e = (refl, tell own key (both_of (same_key own key) (last == at) e).0)
+warm_fits tell key at (Idle own last) e = (refl, tell own key (and_parts (same_key own key) (last == at) e).0)
 warm_fits tell key at (Closing m) e = cc
 
 pub warm_size : (key : Key) (s : State) → IsFor starts.Warm key s → state_memory s ≡ key.memory
@@ -82,8 +75,8 @@ pub ready_fits : (key : Key) (s : State) → is_ready (kind_of key.exec) key.mem
 ready_fits key Vacant e = cc
 ready_fits key (Opening r k m) e = cc
 ready_fits key (Prewarmed k m) e =
-    let h = both_of (same_kind k (kind_of key.exec)) (m == key.memory) e in
-    (refl, (kind_eq k (kind_of key.exec) h.0, eq_of m key.memory h.1))
+    let h = and_parts (same_kind k (kind_of key.exec)) (m == key.memory) e in
+    (refl, (kind_eq k (kind_of key.exec) h.0, eqb-true m key.memory h.1))
 ready_fits key (Busy w) e = cc
 ready_fits key (Idle own last) e = cc
 ready_fits key (Closing m) e = cc
@@ -98,7 +91,7 @@ ready_size key (Closing m) fits = absurd fits
 
 pub open_fits : (s : Slot) → can_open s ≡ true → IsVacant s
 open_fits s e =
-    let h = both_of (is_vacant s.state) (nat_lt s.generation GREATEST_GENERATION) e in
+    let h = and_parts (is_vacant s.state) (nat_lt s.generation GREATEST_GENERATION) e in
     (h.0, let small = h.1 in grind (arith, nat_tests))
 
 run_keeps : (start : Start) (slots : List Slot) (head : Head) (pool n : ℕ) (s : Slot) → IsWithinPool slots pool → IsMemory head.key.memory → slice_get slots n ≡ Some s
@@ -308,7 +301,7 @@ wanted_fits slots pool w (x ∷ wants) sized e = at (is_wanted slots pool x) ref
         → (find (is_wanted slots pool) wants ≡ Some w → Wanted slots pool w) → Wanted slots pool w
     at true t found rest =
         let same : x ≡ w = cc in
-        let here : Wanted slots pool x = record { room = le_of (memory_held slots + x.memory) pool (both_of _ (nat_le (memory_held slots + x.memory) pool) t).1; sized = sized.0 } in
+        let here : Wanted slots pool x = record { room = le_of (memory_held slots + x.memory) pool (and_parts _ (nat_le (memory_held slots + x.memory) pool) t).1; sized = sized.0 } in
         subst (λ (y : Prewarm). Wanted slots pool y) same here
     at false t found rest = rest found
 

@@ -11,10 +11,10 @@ use Rattle.ow_pool.specs.declared.candidates.Candidate.{Candidate}
 use Rattle.ow_pool.specs.Candidates.{put, put_if, is_before, is_closing, candidate_in, candidates_from, is_among, outside, shortest}
 use Rattle.ow_pool.specs.Four.{freeing}
 
-apart_of : (a b : ℕ) → a < b → (b == a) ≡ false
+pub apart_of : (a b : ℕ) → a < b → (b == a) ≡ false
 apart_of a b lt = grind (arith, nat_tests)
 
-apart_up : (a b : ℕ) → a < b → (a == b) ≡ false
+pub apart_up : (a b : ℕ) → a < b → (a == b) ≡ false
 apart_up a b lt = grind (arith, nat_tests)
 
 pub self_same : (a : ℕ) → (a == a) ≡ true

@@ -42,7 +42,7 @@ digits_of-decimal n h =
 
 -- ---- hexadecimal digits
 
-byte_fits : (k n : ℕ) → byte_at k n < 256
+pub byte_fits : (k n : ℕ) → byte_at k n < 256
 byte_fits zero n = omega arith
 byte_fits (suc k) n = omega arith
 

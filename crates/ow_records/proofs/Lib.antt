@@ -1,4 +1,3 @@
-pub mod Alike
 pub mod Confirmed
 pub mod IdLaws
 pub mod LowerIds

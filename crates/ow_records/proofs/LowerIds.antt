@@ -1,6 +1,6 @@
 -- A text in lower case that is an id's, and an id's text.
 use Rattle.std.proofs.Common.{◌≡◌, ℕ, ◌+◌, ◌*◌, ◌^◌, ◌<◌, ◌++◌, ◌/◌, ◌%◌, zero, suc, Bool, true, false, List, [], ◌∷◌, length, take, drop, slice_index, subst, Some, None, Result, Ok, Err, if◌then◌else◌, refl, sym, ap, ◌∙◌, arith, length-take, length-drop}
-use Rattle.std.specs.Int.{byte_at, bytes_high_first, from_be_bytes, to_be_bytes, w64}
+use Rattle.std.specs.Int.{bytes_high_first, from_be_bytes, to_be_bytes, w64}
 use Rattle.std.specs.Str.{bytes_eq}
 use Rattle.std.proofs.lemmas.List.{take-append-drop}
 use Rattle.std.proofs.lemmas.Nat.{be_bytes_8, from_be_bytes-to_be_bytes_8}
@@ -13,7 +13,7 @@ use Rattle.ow_records.specs.Id.{id_of, id_text}
 use Rattle.ow_records.specs.Known.{IsId}
 use Rattle.ow_records.specs.declared.ids.Id.{Id}
 use Rattle.ow_records.specs.LowerId.{id_decoded, id_of_bytes, id_of_lower}
-use Rattle.ow_records.proofs.IdLaws.{id_back}
+use Rattle.ow_records.proofs.IdLaws.{id_back, byte_fits}
 
 -- ---- bytes
 
@@ -33,13 +33,9 @@ drop_small zero xs h i = h i
 drop_small (suc n) [] h i = omega arith
 drop_small (suc n) (x ∷ xs) h i = drop_small n xs (λ j. h (suc j)) i
 
-byte_small : (k n : ℕ) → byte_at k n < 256
-byte_small zero n = omega arith
-byte_small (suc k) n = omega arith
-
 number_small : (k n i : ℕ) → slice_index (bytes_high_first k n) i < 256
 number_small zero n i = omega arith
-number_small (suc k) n zero = byte_small k n
+number_small (suc k) n zero = byte_fits k n
 number_small (suc k) n (suc i) = number_small k n i
 
 read_small : (bytes : List ℕ) → IsBytes bytes → from_be_bytes w64 bytes < 2 ^ 64

@@ -8,11 +8,11 @@ use Rattle.ow_names.specs.FullName.{IsFullName}
 use Rattle.ow_names.specs.Name.{IsName}
 use Rattle.ow_names.specs.declared.full.FullName.{FullName}
 use Rattle.ow_names.proofs.NameLaws.{first_fault-name}
-use Rattle.ow_entity.specs.Bounds.{IsBetween, number_within}
 use Rattle.ow_entity.specs.FitAction.{IsFitLimits}
 use Rattle.ow_entity.specs.Pairs.{pair_value}
 use Rattle.ow_entity.specs.Written.{limits_value, shown_version}
 use Rattle.ow_entity.specs.declared.bounds.Limits.{Limits}
+use Rattle.ow_entity.proofs.BackLaws.{within-between}
 use Rattle.ow_records.specs.FieldsIn.{cause_given, as_number, as_path, lines_listed, name_of, small_version, unless_fault, version_of}
 use Rattle.ow_records.specs.Id.{id_of, id_text}
 use Rattle.ow_records.specs.Known.{AreNotes, IsId, IsKnown, IsResponse, IsSpan}
@@ -58,11 +58,8 @@ version_back n h = ap (option_and_then small_version) (digits_of-decimal n (omeg
 
 -- ---- limits and names
 
-in_bounds : (least most n : ℕ) → IsBetween least most n → number_within least most n ≡ Some n
-in_bounds least most n h = grind arith
-
 pub limits_back : (l : Limits) → IsFitLimits l → as_limits (limits_value l) ≡ Some l
-limits_back l h = λ i. limits_with (in_bounds _ _ l.timeout h.timeout i) (in_bounds _ _ l.memory h.memory i) (in_bounds _ _ l.logs h.logs i)
+limits_back l h = λ i. limits_with (within-between _ _ l.timeout h.timeout i) (within-between _ _ l.memory h.memory i) (within-between _ _ l.logs h.logs i)
 
 pub kind_back : (k : ExecKind) → kind_named (kind_text k) ≡ Some k
 kind_back Plain = refl

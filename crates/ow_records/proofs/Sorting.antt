@@ -9,7 +9,7 @@ use Rattle.std.proofs.lemmas.List.{append-nil}
 use Rattle.std.proofs.lemmas.List.Folds.{find-append}
 use Rattle.std.proofs.lemmas.List.Sums.{fold-append}
 use Rattle.ow_value.specs.Value.{text_cmp}
-use Rattle.ow_value.proofs.KeySearch.{equal_texts, test_of, turned, rises_at}
+use Rattle.ow_value.proofs.KeySearch.{equal_texts, test_of, turned, ranks, lt_down, le_down}
 use Rattle.ow_records.specs.declared.record.Record.{Record}
 use Rattle.ow_records.specs.declared.ids.Id.{Id}
 use Rattle.ow_records.specs.Records.{id_key, id_numbers, is_of_id, put_by, sorted_by}
@@ -44,28 +44,6 @@ not_above : (a b : List ℕ) (o : Ordering) → text_cmp a b ≡ o → is_lt o �
 not_above a b Less e f = cc
 not_above a b Equal e f = λ g. let h = turned a b Equal e in cc
 not_above a b Greater e f = λ g. let h = turned a b Greater e in cc
-
--- texts in order stand in that order to a third
-ranks : (a b k : List ℕ) (o : Ordering) → text_cmp a b ≡ o → o ≢ Greater → ordering_index (text_cmp a k) ≤ ordering_index (text_cmp b k)
-ranks a b k Less e n = rises_at a b k _ e refl
-ranks a b k Equal e n = omega (arith, ap ordering_index (nat_list_cmp_total.congr a b k e))
-ranks a b k Greater e n = absurd (n refl)
-
-lt_down : (p q : Ordering) → ordering_index p ≤ ordering_index q → is_lt q ≡ true → is_lt p ≡ true
-lt_down Less q le e = refl
-lt_down Equal Less le e = absurd (omega arith)
-lt_down Equal Equal le e = cc
-lt_down Equal Greater le e = cc
-lt_down Greater Less le e = absurd (omega arith)
-lt_down Greater Equal le e = cc
-lt_down Greater Greater le e = cc
-
-le_down : (p q : Ordering) → ordering_index p ≤ ordering_index q → is_le q ≡ true → is_le p ≡ true
-le_down Less q le e = refl
-le_down Equal q le e = refl
-le_down Greater Less le e = absurd (omega arith)
-le_down Greater Equal le e = absurd (omega arith)
-le_down Greater Greater le e = cc
 
 -- ---- what holds of all
 

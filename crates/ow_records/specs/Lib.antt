@@ -13,7 +13,6 @@ pub mod RecordIn
 pub mod RecordRefusal
 pub mod Records
 pub mod Response
-pub mod SameValue
 pub mod Span
 pub mod Unrecorded
 pub mod Written

@@ -2,7 +2,7 @@
 use Rattle.std.specs.Prelude.{ℕ, List, codes, is_some, if◌then◌else◌, option_map, option_and_then, Option, Some, None}
 use Rattle.std.specs.Str.{bytes_eq}
 use Rattle.ow_value.specs.Value.{V, list, Items, no_items, item}
-use Rattle.ow_entity.specs.Bounds.{number_within}
+use Rattle.ow_value.specs.Decimal.{if_within}
 use Rattle.ow_entity.specs.Pairs.{pair_of}
 use Rattle.ow_entity.specs.declared.bounds.TheConstants.{LEAST_TIMEOUT, MOST_TIMEOUT, LEAST_MEMORY, MOST_MEMORY, LEAST_LOGS, MOST_LOGS}
 use Rattle.ow_entity.specs.declared.bounds.Limits.{Limits}
@@ -27,9 +27,9 @@ limits_with timeout memory logs =
 -- each limit within its bounds
 abbrev pub as_limits : V → Option Limits
 as_limits v = limits_with
-    (option_and_then (number_within LEAST_TIMEOUT MOST_TIMEOUT) (number_in (codes "timeout") v))
-    (option_and_then (number_within LEAST_MEMORY MOST_MEMORY) (number_in (codes "memory") v))
-    (option_and_then (number_within LEAST_LOGS MOST_LOGS) (number_in (codes "logs") v))
+    (option_and_then (if_within LEAST_TIMEOUT MOST_TIMEOUT) (number_in (codes "timeout") v))
+    (option_and_then (if_within LEAST_MEMORY MOST_MEMORY) (number_in (codes "memory") v))
+    (option_and_then (if_within LEAST_LOGS MOST_LOGS) (number_in (codes "logs") v))
 
 -- ---- the list
 

@@ -1,11 +1,11 @@
 -- The record that a value is.
-use Rattle.std.specs.Prelude.{ℕ, List, codes, nat_le, if◌then◌else◌, option_map, option_and_then, Option, Some, None}
+use Rattle.std.specs.Prelude.{ℕ, Bool, List, codes, nat_le, if◌then◌else◌, option_map, option_and_then, Option, Some, None}
 use Rattle.ow_value.specs.Value.{V, Pairs}
 use Rattle.ow_value.specs.Field.{field}
+use Rattle.ow_value.specs.SameValue.{same_value}
 use Rattle.ow_records.specs.FieldsIn.{as_lines, as_object, cause_in, id_in, name_in, number_in, text_in, version_in}
 use Rattle.ow_records.specs.NotesIn.{as_notes}
 use Rattle.ow_records.specs.Response.{ResponseView}
-use Rattle.ow_records.specs.SameValue.{same_value}
 use Rattle.ow_records.specs.Span.{SpanView}
 use Rattle.ow_records.specs.Written.{record_value}
 use Rattle.ow_records.specs.declared.ids.Id.{Id}
@@ -80,9 +80,13 @@ record_with head texts told = option_and_then (λ h. option_and_then (λ t. opti
 unfoldable pub record_from : V → Option Record
 record_from v = record_with (head_in v) (texts_in v) (told_in v)
 
+-- whether the record is written as the value
+unfoldable pub is_written_as : Record → V → Bool
+is_written_as r v = same_value (record_value r) v
+
 -- the record, where it is written as the value
 abbrev pub confirmed : V → Record → Option Record
-confirmed v r = if same_value (record_value r) v then Some r else None
+confirmed v r = if is_written_as r v then Some r else None
 
 -- the record that is written as the value
 unfoldable pub record_in : V → Option Record

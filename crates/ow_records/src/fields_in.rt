@@ -3,7 +3,7 @@ ghost use Rattle.std.specs.Prelude.{◌≡◌, ◌∷◌, option_map, option_and
 ghost use Rattle.ow_value.specs.Value.{items_of, members_of, object};
 ghost use Rattle.ow_value.specs.Field.{field};
 ghost use Rattle.ow_value.specs.View.{view};
-ghost use Rattle.ow_records.specs.FieldsIn.{as_id, as_lines, as_name, as_number, as_path, as_text, as_version, cause_in, id_in, lines_listed, name_in, name_of, number_in, path_in, path_of, text_in, version_in, version_of};
+ghost use Rattle.ow_records.specs.FieldsIn.{as_id, as_lines, as_number, as_path, cause_in, id_in, lines_listed, name_in, name_of, number_in, path_in, path_of, text_in, version_in, version_of};
 
 use crate::Id;
 use ow_names::{EntityName, FullName, NameRefusal, read_full_text, read_name};

@@ -3,9 +3,7 @@ ghost use Rattle.std.specs.Prelude.{◌≡◌, ◌≢◌, codes, Some, None, IfO
 ghost use Rattle.ow_value.specs.Value.{members_of, object};
 ghost use Rattle.ow_value.specs.Field.{field};
 ghost use Rattle.ow_value.specs.View.{view};
-ghost use Rattle.ow_records.specs.RecordIn.{as_response, confirmed, head_in, joined, record_from, record_in, record_with, span_in, texts_in, texts_with, told_in, told_with};
-ghost use Rattle.ow_records.specs.SameValue.{same_value};
-ghost use Rattle.ow_records.specs.Written.{record_value};
+ghost use Rattle.ow_records.specs.RecordIn.{as_response, confirmed, head_in, is_written_as, joined, record_from, record_in, record_with, span_in, texts_in, texts_with, told_in, told_with};
 
 use crate::fields_in::{cause_in, id_in, lines_in, name_in, number_in, text_in, version_in};
 use crate::notes_in::notes_in;
@@ -61,7 +59,7 @@ fn confirmed(alloc: Global, found: Record, value: &Val) -> Result<Record, Record
 }
 
 fn is_written(alloc: Global, found: &Record, value: &Val) -> Result<bool, NoMemory>
-    ensures { IfOk result (λ b. b ≡ same_value (record_value found.now) (view value.now)) }
+    ensures { IfOk result (λ b. b ≡ is_written_as found.now (view value.now)) }
 {
     let written = write_record(alloc, found)?;
     Ok(written.same(value))

@@ -8,8 +8,8 @@ use Rattle.ow_keep.specs.Known.{IsItem}
 use Rattle.ow_kept.specs.Fit.{IsFit}
 use Rattle.ow_kept.specs.Kept.{kept_items}
 use Rattle.ow_kept.proofs.Allowing.{kept_allowed}
-use Rattle.ow_tenant.specs.Table.{Table}
-use Rattle.ow_reopen.specs.Lasting.{AreEarly, AreHomes, AreWritable, IsLasting}
+use Rattle.ow_tenant.specs.Table.{Table, AreHomes}
+use Rattle.ow_reopen.specs.Lasting.{AreEarly, AreWritable, IsLasting}
 use Rattle.ow_reopen.specs.Laws.{BooksAreAllowed, BooksLast, RowsLast}
 use Rattle.ow_reopen.proofs.KeptLaws.{kept_lasts}
 use Rattle.ow_reopen.proofs.TraceLaws.{traces_last}

@@ -2,7 +2,6 @@
 use Rattle.std.proofs.Common.{◌≡◌, ◌≤◌, ◌-◌, ◌&&◌, ℕ, true, List, [], ◌∷◌, filter, map, max, nat_le, Option, Some, None, IfSome, refl, arith}
 use Rattle.std.specs.List.{AllByRecursion, cons_option, filter_map}
 use Rattle.std.proofs.lemmas.Bool.{and_from, le-leb}
-use Rattle.ow_entity.specs.declared.rows.Row.{Row}
 use Rattle.ow_floor.specs.declared.activations.Open.{Open}
 use Rattle.ow_floor.specs.declared.activations.State.{State}
 use Rattle.ow_floor.specs.declared.runs.Run.{Run}

@@ -9,7 +9,7 @@ use Rattle.ow_value.specs.Nesting.{most_nested}
 use Rattle.ow_value.specs.Read.{json_of, reading, whole_of}
 use Rattle.ow_value.specs.Value.{V, depth, text_cmp}
 use Rattle.ow_value.specs.declared.reader.ValueRefusal.{ValueRefusal}
-use Rattle.ow_value.specs.declared.reader.ValueRefusal.TheVariants.{NotJson, NotWhole, TooDeep}
+use Rattle.ow_value.specs.declared.reader.ValueRefusal.TheVariants.{TooDeep}
 use Rattle.ow_names.specs.FullName.{IsFullName, full_text}
 use Rattle.ow_names.specs.Name.{IsName, first_fault}
 use Rattle.ow_names.specs.Path.{home, named, named_in, or_fault}
@@ -50,6 +50,7 @@ use Rattle.ow_keep.specs.Judged.{judged}
 use Rattle.ow_keep.specs.Kept.{MayStand}
 use Rattle.ow_keep.specs.Split.{Parts as KeptParts, split}
 use Rattle.ow_keep.proofs.Whole.{judged-sound}
+use Rattle.ow_keep.proofs.Deep.{of_data, whole_within}
 use Rattle.ow_kept.specs.Opening.{resumed_records}
 use Rattle.ow_kept.proofs.Knowing.{picked}
 use Rattle.ow_tables.specs.Builtin.{builtin, is_builtin}
@@ -57,7 +58,7 @@ use Rattle.ow_tables.specs.Refusal.{old_row}
 use Rattle.ow_tables.specs.Rows.{is_row, key, key_of, with_row, without}
 use Rattle.ow_tables.proofs.BuiltinLaws.{echo_full, utils_full}
 use Rattle.ow_tenant.specs.ByText.{ByText, value_at}
-use Rattle.ow_tenant.specs.Table.{Table}
+use Rattle.ow_tenant.specs.Table.{Table, AreHomes}
 use Rattle.ow_tenant.specs.Tenants.{holder_of}
 use Rattle.ow_tenant.specs.declared.entries.Holder.{Holder}
 use Rattle.ow_tenant.proofs.HomeLaws.{some_if}
@@ -75,7 +76,7 @@ use Rattle.ow_decide.proofs.RowLaws.{request_rows}
 use Rattle.ow_hall.proofs.Joined.{ok_of}
 use Rattle.ow_reopen.specs.Bodies.{RowsOfBodies}
 use Rattle.ow_reopen.specs.RowsKept.{IsPlaced}
-use Rattle.ow_reopen.specs.Lasting.{AreHomes, AreWritable, IsLasting, IsLastingRow}
+use Rattle.ow_reopen.specs.Lasting.{AreWritable, IsLasting, IsLastingRow}
 use Rattle.ow_reopen.specs.Laws.{RowsLast}
 use Rattle.ow_reopen.proofs.Each.{all_found}
 use Rattle.ow_reopen.proofs.Names.{IsNamedItem, after, after_any, entity_named, finished_named, judged_items, named_in_full}
@@ -146,20 +147,12 @@ within_by : (limit : ℕ) (v : V) (b : Bool) → nat_le (depth v) limit ≡ b �
 within_by limit v true e = leb-true (depth v) limit e
 within_by limit v false e = tt
 
-abbrev whole_within : ℕ → Option V → Result V ValueRefusal
-whole_within limit None = Err NotWhole
-whole_within limit (Some v) = cond (nat_le (depth v) limit) (Ok v) (Err TooDeep)
-
 whole_is_within : (limit : ℕ) (o : Option V) → IsWithin limit (whole_within limit o)
 whole_is_within limit None = tt
 whole_is_within limit (Some v) = within_by limit v (nat_le (depth v) limit) refl
 
 module _ {D : Type 0} (value : D → Option V) where
-  abbrev of_data : ℕ → Option D → Result V ValueRefusal
-  of_data limit None = Err NotJson
-  of_data limit (Some d) = whole_within limit (value d)
-
-  data_is_within : (limit : ℕ) (o : Option D) → IsWithin limit (of_data limit o)
+  data_is_within : (limit : ℕ) (o : Option D) → IsWithin limit (of_data value limit o)
   data_is_within limit None = tt
   data_is_within limit (Some d) = whole_is_within limit (value d)
 

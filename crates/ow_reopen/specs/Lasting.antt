@@ -1,12 +1,9 @@
 -- What lasts from event to event, so that what is kept is allowed at the next opening.
-use Rattle.std.specs.Prelude.{◌≡◌, ◌≤◌, ℕ, true, List, IfSome}
+use Rattle.std.specs.Prelude.{◌≡◌, ◌≤◌, true, List, IfSome}
 use Rattle.std.specs.List.{AllByRecursion}
 use Rattle.ow_names.specs.FullName.{IsFullName}
-use Rattle.ow_names.specs.Name.{IsName}
 use Rattle.ow_entity.specs.Row.{name_of}
 use Rattle.ow_entity.specs.declared.rows.Row.{Row}
-use Rattle.ow_tenant.specs.Table.{Table}
-use Rattle.ow_tenant.specs.declared.entries.Holder.{Holder}
 use Rattle.ow_floor.specs.Trace.{Item, Trace, Accepted, Begun, Ended, Ordered, Resumed}
 use Rattle.ow_floor.specs.declared.runs.Run.{Run}
 use Rattle.ow_items.specs.declared.item.Item.{Item as KeptItem}
@@ -31,10 +28,6 @@ pub record IsLastingRow (r : Row) : Type 0 where
 -- each row is one
 abbrev pub AreWritable : List Row → Type 0
 AreWritable rs = AllByRecursion IsLastingRow rs
-
--- each key's own namespace is a name, which it is in a table that was read
-abbrev pub AreHomes : Table → Type 0
-AreHomes t = AllByRecursion (λ (e : List ℕ × Holder). IsName e.1.home) t.keys
 
 -- ---- what happened
 

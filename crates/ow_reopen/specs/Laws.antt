@@ -15,8 +15,8 @@ use Rattle.ow_keep.specs.Known.{IsItem}
 use Rattle.ow_keep.specs.declared.allowed.TheConstants.{GREATEST_MOMENT}
 use Rattle.ow_kept.specs.Fit.{AreCountsSmall, by_key}
 use Rattle.ow_kept.specs.Kept.{kept_items}
-use Rattle.ow_reopen.specs.Lasting.{AreEarly, AreHomes, AreWritable, IsLasting}
-use Rattle.ow_tenant.specs.Table.{Table, table_of}
+use Rattle.ow_reopen.specs.Lasting.{AreEarly, AreWritable, IsLasting}
+use Rattle.ow_tenant.specs.Table.{Table, table_of, AreHomes}
 
 -- ---- from event to event
 

@@ -1,5 +1,4 @@
 pub mod Container
-pub mod Equal
 pub mod Filling
 pub mod Lines
 pub mod Reading

@@ -14,12 +14,16 @@ behind : (k n : ℕ) (t : Bool) → nat_lt k n ≡ t → ◌≡◌ {A = Option �
 behind k n true is = rw (lt_suc k n, is) (ap Some (omega arith))
 behind k n false is = rw (lt_suc k n, is) refl
 
--- the place of the first newline, by whether it stands at the front
-place_here : (b : ℕ) (bs : List ℕ) → is_newline b ≡ true → position is_newline (b ∷ bs) ≡ Some 0
-place_here b bs here = rw (here, lt_zero (length bs)) refl
+-- the first place behind an element that doesn't pass is one further
+pub position-cons_fails : (p : ℕ → Bool) (x : ℕ) (xs : List ℕ) → p x ≡ false → position p (x ∷ xs) ≡ option_map suc (position p xs)
+position-cons_fails p x xs fails = rw fails (behind _ (length xs) _ refl)
 
-place_later : (b : ℕ) (bs : List ℕ) → is_newline b ≡ false → position is_newline (b ∷ bs) ≡ option_map suc (position is_newline bs)
-place_later b bs later = rw later (behind _ (length bs) _ refl)
+pub position-cons_passes : (p : ℕ → Bool) (x : ℕ) (xs : List ℕ) → p x ≡ true → position p (x ∷ xs) ≡ Some 0
+position-cons_passes p x xs passes = rw (passes, lt_zero (length xs)) refl
+
+pub none_of : (o : Option ℕ) → option_map suc o ≡ None → o ≡ None
+none_of None is = refl
+none_of (Some k) is = cc
 
 line_later : (b : ℕ) (bs : List ℕ) (i : ℕ) (o : Option ℕ) → position is_newline bs ≡ o → is_newline b ≡ false → option_map suc o ≡ Some i
     → ((j : ℕ) → position is_newline bs ≡ Some j → lines_in bs ≡ take j bs ∷ lines_in (drop (suc j) bs))
@@ -31,10 +35,10 @@ line_by : (b : ℕ) (bs : List ℕ) (i : ℕ) (t : Bool) → is_newline b ≡ t 
     → ((j : ℕ) → position is_newline bs ≡ Some j → lines_in bs ≡ take j bs ∷ lines_in (drop (suc j) bs))
     → lines_in (b ∷ bs) ≡ take i (b ∷ bs) ∷ lines_in (drop (suc i) (b ∷ bs))
 line_by b bs i true here at rest =
-    let h : ◌≡◌ {A = Option ℕ} (Some 0) (Some i) = sym (place_here b bs here) ∙ at in
+    let h : ◌≡◌ {A = Option ℕ} (Some 0) (Some i) = sym (position-cons_passes is_newline b bs here) ∙ at in
     let e : 0 ≡ i = cc in
     rw (← e, here) refl
-line_by b bs i false later at rest = line_later b bs i (position is_newline bs) refl later (sym (place_later b bs later) ∙ at) rest
+line_by b bs i false later at rest = line_later b bs i (position is_newline bs) refl later (sym (position-cons_fails is_newline b bs later) ∙ at) rest
 
 -- where a newline stands, the first line stands before it
 pub lines_at : (bs : List ℕ) (i : ℕ) → position is_newline bs ≡ Some i → lines_in bs ≡ take i bs ∷ lines_in (drop (suc i) bs)
@@ -50,14 +54,10 @@ whole_more : (b : ℕ) (bs : List ℕ) → with_byte b (whole bs) ≡ (b ∷ bs)
 whole_more b [] = refl
 whole_more b (c ∷ bs) = refl
 
-none_of : (o : Option ℕ) → option_map suc o ≡ None → o ≡ None
-none_of None is = refl
-none_of (Some k) is = cc
-
 whole_front : (b : ℕ) (bs : List ℕ) (t : Bool) → is_newline b ≡ t → position is_newline (b ∷ bs) ≡ None
     → (position is_newline bs ≡ None → lines_in bs ≡ whole bs) → lines_in (b ∷ bs) ≡ whole (b ∷ bs)
-whole_front b bs true here none rest = let h = sym (place_here b bs here) ∙ none in cc
-whole_front b bs false later none rest = rw later (ap (with_byte b) (rest (none_of _ (sym (place_later b bs later) ∙ none))) ∙ whole_more b bs)
+whole_front b bs true here none rest = let h = sym (position-cons_passes is_newline b bs here) ∙ none in cc
+whole_front b bs false later none rest = rw later (ap (with_byte b) (rest (none_of _ (sym (position-cons_fails is_newline b bs later) ∙ none))) ∙ whole_more b bs)
 
 whole_by : (bs : List ℕ) → position is_newline bs ≡ None → lines_in bs ≡ whole bs
 whole_by [] none = refl

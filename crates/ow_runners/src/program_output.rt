@@ -1,5 +1,5 @@
 // What a program wrote, and how it ended, as a reply.
-ghost use Rattle.std.specs.Prelude.{◌≡◌, ◌+◌, ◌<◌, ◌∷◌, IfOk, length, map, position};
+ghost use Rattle.std.specs.Prelude.{◌≡◌, ◌+◌, ◌<◌, ◌∷◌, IfOk, length, position};
 ghost use Rattle.std.specs.Process.{exit_code};
 ghost use Rattle.std.specs.Str.Lossy.{utf8_lossy};
 ghost use Rattle.ow_runners.specs.Program.{is_newline, lines_in, logs_in, reply_of};

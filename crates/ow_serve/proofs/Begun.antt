@@ -1,5 +1,5 @@
 -- The threads that are begun before anybody is accepted, and what they come to.
-use Rattle.std.proofs.Common.{◌≡◌, ◌++◌, ◌∙◌, ℕ, zero, Bool, false, List, [], ◌∷◌, Option, Result, Ok, Err, OnOk, length, map, ap, arith, refl, subst, sym, append_assoc, append-nil}
+use Rattle.std.proofs.Common.{◌≡◌, ◌++◌, ◌∙◌, ℕ, zero, Bool, false, List, [], ◌∷◌, Option, Some, None, IsSomeAnd, Result, Ok, Err, OnOk, length, map, ap, arith, refl, subst, sym, append_assoc, append-nil}
 use Rattle.std.proofs.lemmas.List.{map-append}
 use Rattle.ow_traits.specs.Runner.{Giving, Tally}
 use Rattle.ow_threads.specs.Tasks.{AllEnd, pending}
@@ -8,7 +8,7 @@ use Rattle.ow_peer.specs.declared.ending.Ending.{Ending}
 use Rattle.ow_serve.specs.declared.duty.Work.{Work}
 use Rattle.ow_serve.specs.declared.duty.Work.TheVariants.{Turns, Sweeps, Reaps}
 use Rattle.ow_serve.specs.Duties.{AllFor, AllStarted, BeginsAll, Ends}
-use Rattle.ow_serve.specs.Working.{AllWork, Outset}
+use Rattle.ow_serve.specs.Working.{AllWork, MakesTurns, Outset}
 use Rattle.ow_serve.proofs.Seating.{pending_behind}
 
 -- ---- tasks that are started
@@ -105,9 +105,13 @@ all_end_by IsFor ends goes so (t ∷ ts) [] ds f e = absurd f
 all_end_by IsFor ends goes so (t ∷ ts) (w ∷ ws) [] f e = absurd e
 all_end_by IsFor ends goes so (t ∷ ts) (w ∷ ws) (d ∷ ds) f e = (so t w d f.0 e.0, all_end_by IsFor ends goes so ts ws ds f.1 e.1)
 
-module _ {K R D : Type 0} (left taken : K → Option (List ℕ)) (gives : R → Giving) (tally : R → Tally) (notes : D → Notes) (ending : D → Option Ending) (o : Outset) where
+some_and : {X : Type 0} (P : X → Type 0) (o : Option X) → IsSomeAnd o P → (x : X) × P x
+some_and P None h = absurd h
+some_and P (Some x) h = (x, h)
+
+module _ {K R D : Type 0} (left taken : K → Option (List ℕ)) (gives : R → Giving) (tally : R → Tally) (notes : D → Notes) (ending : D → Option Ending) (back : D → Option R) (o : Outset) where
   abbrev Goes : Work K R → D → Type 0
-  Goes w d = Ends left taken gives tally o w no_notes (notes d) (ending d)
+  Goes w d = Ends left taken gives tally o w no_notes (notes d) (ending d) (back d)
 
   work_so : (workers : List R) (last : R) (ds : List D) → AllEnd Goes (map (λ r. Turns r) workers ++ Sweeps ∷ Reaps last ∷ []) ds → AllWork gives tally o (workers ++ last ∷ []) (map notes ds)
   work_so [] last [] e = absurd e
@@ -122,12 +126,13 @@ module _ {K R D : Type 0} (left taken : K → Option (List ℕ)) (gives : R → 
     others_are = refl;
     worked = tt;
     swept = e.0.1;
-    reaped = e.1.0.1;
+    reaped = e.1.0.2;
   }
   work_so [] last (s ∷ p ∷ d ∷ ds) e = absurd e.1.1
   work_so (r ∷ workers) last [] e = absurd e
   work_so (r ∷ workers) last (d ∷ ds) e =
       let rest = work_so workers last ds e.1 in
+      let turns = some_and (λ x. MakesTurns (gives r) (tally r) (tally x) o no_notes (notes d)) (back d) e.0.1 in
       record {
         workers = r ∷ rest.workers;
         last = rest.last;
@@ -136,22 +141,22 @@ module _ {K R D : Type 0} (left taken : K → Option (List ℕ)) (gives : R → 
         by_sweeper = rest.by_sweeper;
         by_reaper = rest.by_reaper;
         others_are = ap (λ ns. notes d ∷ ns) rest.others_are;
-        worked = (e.0.1, rest.worked);
+        worked = ((tally turns.0, turns.1), rest.worked);
         swept = rest.swept;
         reaped = rest.reaped;
       }
 
   pub all_work : {T : Type 0} (work : T → Work K R) (start : T → Notes) (begins : T → Outset) (runners : List R) (old before : List (T × Bool)) (ds : List D)
       → BeginsAll (λ t w. (work t ≡ w) × (start t ≡ no_notes) × (begins t ≡ o)) runners old before → old ≡ []
-      → AllEnd (λ t d. Ends left taken gives tally (begins t) (work t) (start t) (notes d) (ending d)) (pending zero before) ds → AllWork gives tally o runners (map notes ds)
+      → AllEnd (λ t d. Ends left taken gives tally (begins t) (work t) (start t) (notes d) (ending d) (back d)) (pending zero before) ds → AllWork gives tally o runners (map notes ds)
   all_work work start begins runners old before ds b none all =
       let fresh : before ≡ [] ++ map (λ t. (t, false)) b.begun.started = b.begun.tasks ∙ ap (λ z. z ++ map (λ t. (t, false)) b.begun.started) none in
       let started : pending zero before ≡ b.begun.started = ap (λ z. pending zero z) fresh ∙ pending_behind [] b.begun.started in
-      let mine : AllEnd (λ t d. Ends left taken gives tally (begins t) (work t) (start t) (notes d) (ending d)) b.begun.started ds =
-      subst (λ ts. AllEnd (λ t d. Ends left taken gives tally (begins t) (work t) (start t) (notes d) (ending d)) ts ds) started all in
+      let mine : AllEnd (λ t d. Ends left taken gives tally (begins t) (work t) (start t) (notes d) (ending d) (back d)) b.begun.started ds =
+      subst (λ ts. AllEnd (λ t d. Ends left taken gives tally (begins t) (work t) (start t) (notes d) (ending d) (back d)) ts ds) started all in
       let went : AllEnd Goes (map (λ r. Turns r) b.workers ++ Sweeps ∷ Reaps b.last ∷ []) ds =
-      all_end_by (λ t w. (work t ≡ w) × (start t ≡ no_notes) × (begins t ≡ o)) (λ t d. Ends left taken gives tally (begins t) (work t) (start t) (notes d) (ending d)) Goes
-      (λ t w d f e. subst (λ x. Ends left taken gives tally x w no_notes (notes d) (ending d)) f.2
-      (subst (λ n. Ends left taken gives tally (begins t) w n (notes d) (ending d)) f.1 (subst (λ v. Ends left taken gives tally (begins t) v (start t) (notes d) (ending d)) f.0 e)))
+      all_end_by (λ t w. (work t ≡ w) × (start t ≡ no_notes) × (begins t ≡ o)) (λ t d. Ends left taken gives tally (begins t) (work t) (start t) (notes d) (ending d) (back d)) Goes
+      (λ t w d f e. subst (λ x. Ends left taken gives tally x w no_notes (notes d) (ending d) (back d)) f.2
+      (subst (λ n. Ends left taken gives tally (begins t) w n (notes d) (ending d) (back d)) f.1 (subst (λ v. Ends left taken gives tally (begins t) v (start t) (notes d) (ending d) (back d)) f.0 e)))
       b.begun.started (map (λ r. Turns r) b.workers ++ Sweeps ∷ Reaps b.last ∷ []) ds b.begun.all_for mine in
       subst (λ rs. AllWork gives tally o rs (map notes ds)) (sym b.runners_are) (work_so b.workers b.last ds went)

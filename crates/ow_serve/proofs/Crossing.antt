@@ -10,10 +10,9 @@ use Rattle.ow_serve.specs.contracts.duty.Done as Done
 use Rattle.ow_serve.specs.contracts.duty.Duty as Duty
 use Rattle.ow_serve.specs.contracts.duty.Work as Work
 use Rattle.ow_serve.specs.contracts.place.Place as Place
-use Rattle.ow_serve.proofs.Crossing.Values.{values}
+use Rattle.ow_value.proofs.Crossing.{values}
 use Rattle.ow_serve.proofs.Crossing.Halls.{desk_send, receipts_send}
 use Rattle.ow_serve.proofs.Crossing.Boards.{board_send, board_sync, pass_send}
-mod Values
 mod Entries
 mod Halls
 mod Boards

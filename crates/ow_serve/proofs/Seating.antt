@@ -174,12 +174,12 @@ earlier_behind ((b, false) ∷ before) ts = ap (λ us. b ∷ us) (earlier_behind
 
 -- ---- who serves a peer
 
-pub served_by : {K R : Type 0} (left taken : K → Option (List ℕ)) (gives : R → Giving) (tally : R → Tally) (o : Outset) (tells : Option ℕ) (opened : ℕ) (work : Work K R) (k : K) (n m : Notes) (told : Option Ending)
-    → work ≡ works.Serves k → n ≡ no_notes → o ≡ fresh_outset tells opened → Ends left taken gives tally o work n m told → IsServed left taken tells k m told
-served_by left taken gives tally o tells opened work k n m (Some ending) is none begun e =
-    let mine = subst (λ w. Ends left taken gives tally o w n m (Some ending)) is e in
+pub served_by : {K R : Type 0} (left taken : K → Option (List ℕ)) (gives : R → Giving) (tally : R → Tally) (o : Outset) (tells : Option ℕ) (opened : ℕ) (work : Work K R) (k : K) (n m : Notes) (told : Option Ending) (back : Option R)
+    → work ≡ works.Serves k → n ≡ no_notes → o ≡ fresh_outset tells opened → Ends left taken gives tally o work n m told back → IsServed left taken tells k m told
+served_by left taken gives tally o tells opened work k n m (Some ending) back is none begun e =
+    let mine = subst (λ w. Ends left taken gives tally o w n m (Some ending) back) is e in
     (ending, refl, subst (λ x. TalksFrom left taken x k no_notes m ending) (ap (λ (x : Outset). x.tells) begun) (subst (λ x. TalksFrom left taken o.tells k x m ending) none mine))
-served_by left taken gives tally o tells opened work k n m None is none begun e = absurd (subst (λ w. Ends left taken gives tally o w n m None) is e)
+served_by left taken gives tally o tells opened work k n m None back is none begun e = absurd (subst (λ w. Ends left taken gives tally o w n m None back) is e)
 
 module _ {K D : Type 0} (left taken : K → Option (List ℕ)) (tells : Option ℕ) (notes : D → Notes) (ending : D → Option Ending) where
   told_first : (k : K) (ks : List K) (d : D) (ds : List D) (told : Option Ending) → ending d ≡ told → IsServed left taken tells k (notes d) (ending d)

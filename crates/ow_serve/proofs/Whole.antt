@@ -1,5 +1,5 @@
 -- The end of a service, by its peers.
-use Rattle.std.proofs.Common.{◌≡◌, ◌++◌, ◌⊎◌, ℕ, zero, Bool, List, [], ◌∷◌, Option, Some, None, Result, Ok, Err, IfOk, IfSome, IsOk, OnErr, OnOk, length, map, refl, reverse, slice_get, sym, ap, subst, ◌∙◌, inl, inr, ⊎_elim}
+use Rattle.std.proofs.Common.{◌≡◌, ◌++◌, ◌⊎◌, ℕ, zero, Bool, List, [], ◌∷◌, Option, Some, None, Result, Ok, Err, IfOk, IfSome, IsOk, OnErr, OnOk, length, map, refl, reverse, slice_get, sym, ap, arith, subst, ◌∙◌, inl, inr, ⊎_elim}
 use Rattle.std.specs.Prelude.{IsOkAnd}
 use Rattle.std.specs.Option.{option_to_list}
 use Rattle.std.proofs.lemmas.List.{reverse-append, reverse-reverse}
@@ -22,6 +22,7 @@ use Rattle.ow_hall.specs.declared.posting.Posting.TheVariants.{Booked, Denied, Q
 use Rattle.ow_hall.specs.Ledger.{BookView, Ledger, no_entries, opened, opening_moment, posted_as}
 use Rattle.ow_hall.specs.declared.refusals.StartFault.{StartFault}
 use Rattle.ow_hall.specs.declared.refusals.StartFault.TheVariants as starts
+use Rattle.ow_hall.proofs.Joined.{ok_of}
 use Rattle.ow_desk.specs.Notes.{CalledBy, Notes, ReceiptsView, noted, noted_as}
 use Rattle.ow_desk.specs.declared.placed.Placed.{Placed}
 use Rattle.ow_floor.specs.declared.answers.Drain.{Drain}
@@ -89,7 +90,8 @@ module _ {T K D : Type 0} (Own : Notes → Type 0) (left taken : K → Option (L
         → Serves Own (TalksAlone left taken tells) Work old new most ends.Closed (Some book) receipts endings
     closed_by book a l matches = (
       whole_by stops.Closed ends.Closed book.ledger a.0 l matches,
-      ⊎_elim (λ none. inl none) (λ many. inr (count_by stops.Closed ends.Closed book.ledger a.0 l ∙ many)) a.1,
+      (let few = a.1 in let same = count_by stops.Closed ends.Closed book.ledger a.0 l in omega (arith, few, same)),
+      ⊎_elim (λ none. inl none) (λ many. inr (count_by stops.Closed ends.Closed book.ledger a.0 l ∙ many)) a.2,
     )
 
     left_by : (book : BookView) (stopped : Stopped) (end : ServedEnd) → AcceptsPeers IsFor Mine old new before now most seats stopped → Out stopped end book.ledger
@@ -98,7 +100,10 @@ module _ {T K D : Type 0} (Own : Notes → Type 0) (left taken : K → Option (L
         let same = l.is_end.0 in
         closed_by book (subst (λ s. AcceptsPeers IsFor Mine old new before now most seats s) same a) (subst (λ s. Out s ends.Closed book.ledger) same l) l.is_end.1
     left_by book stopped ends.ListenFault a l =
-        whole_by stopped ends.ListenFault book.ledger (subst (λ s. AcceptsPeers IsFor Mine old new before now most seats s) l.is_end.0 a) l l.is_end.1
+        let came = subst (λ s. AcceptsPeers IsFor Mine old new before now most seats s) l.is_end.0 a in
+        let same = count_by stopped ends.ListenFault book.ledger came.0 l in
+        let few = came.1 in
+        (whole_by stopped ends.ListenFault book.ledger came.0 l l.is_end.1, omega (arith, few, same))
     left_by book stopped ends.NoWorker a l = absurd l.is_end
     left_by book stopped ends.StoreFault a l = absurd l.is_end
     left_by book stopped (ends.BadKept key) a l = absurd l.is_end
@@ -251,10 +256,6 @@ has_drained all (Err e) X both told is = let never = both is in cc
 
 -- ---- the opening
 
--- what is true of a result where it is there
-pub ok_of : {A F : Type 0} (P : A → Type 0) (r : Result A F) (x : A) → r ≡ Ok x → IfOk r P → P x
-ok_of P r x is h = subst (λ q. IfOk q P) is h
-
 -- what is all that a hall holds at its opening
 abbrev IsOpening : List Entry → ReceiptsView → Type 0
 IsOpening entries v = (e : Entry) × (entries ≡ e ∷ []) × (v.notes ≡ opening_notes e)
@@ -404,9 +405,9 @@ serves_as Own Mine Talks Work Done old new most end book receipts endings own wo
     }
 
     by_end : (e : ServedEnd) (b : Option BookView) → Serves Own Talks Work old new most e b receipts endings → Serves Mine Talks Done old new most e b receipts endings
-    by_end ends.Closed (Some b) s = (whole b.ledger s.0, s.1)
+    by_end ends.Closed (Some b) s = (whole b.ledger s.0, s.1, s.2)
     by_end ends.Closed None s = s
-    by_end ends.ListenFault (Some b) s = whole b.ledger s
+    by_end ends.ListenFault (Some b) s = (whole b.ledger s.0, s.1)
     by_end ends.ListenFault None s = s
     by_end (ends.Unmatched difference) (Some b) s = (s.0, (s.1.0, s.1.1, s.1.2, own s.1.0 s.1.3))
     by_end (ends.Unmatched difference) None s = s

@@ -1,6 +1,6 @@
 -- What a thread may come to, and which threads are begun.
-use Rattle.std.specs.Prelude.{◌≡◌, ◌++◌, ℕ, Bool, false, List, [], ◌∷◌, Option, Some, None, map}
-use Rattle.ow_traits.specs.Runner.{Giving, Tally}
+use Rattle.std.specs.Prelude.{◌≡◌, ◌++◌, ℕ, Bool, false, List, [], ◌∷◌, Option, Some, None, IsSomeAnd, map}
+use Rattle.ow_traits.specs.Runner.{Giving, RanNone, Tally}
 use Rattle.ow_desk.specs.Notes.{Notes, no_notes}
 use Rattle.ow_peer.specs.Talk.{Talks}
 use Rattle.ow_peer.specs.declared.ending.Ending.{Ending}
@@ -15,13 +15,14 @@ abbrev pub TalksFrom : {K : Type 0} → (K → Option (List ℕ)) → (K → Opt
 TalksFrom left taken tells link n m ending =
     (unread : Option (List ℕ)) × (written : Option (List ℕ)) × Talks tells (left link) unread (taken link) written n m ending
 
--- who serves a peer leaves its receipts and its ending; the others have no ending, and leave the receipts of their calls
-abbrev pub Ends : {K R : Type 0} → (K → Option (List ℕ)) → (K → Option (List ℕ)) → (R → Giving) → (R → Tally) → Outset → Work K R → Notes → Notes → Option Ending → Type 0
-Ends left taken gives tally o (Serves link) n m (Some ending) = TalksFrom left taken o.tells link n m ending
-Ends left taken gives tally o (Serves link) n m None = ⊥
-Ends left taken gives tally o (Turns runner) n m ending = (ending ≡ None) × MakesTurns (gives runner) (tally runner) o n m
-Ends left taken gives tally o Sweeps n m ending = (ending ≡ None) × MakesSweeps o.tells n m
-Ends left taken gives tally o (Reaps runner) n m ending = (ending ≡ None) × MakesReapings o n m
+-- who serves a peer leaves its receipts and its ending; the others have no ending, and leave the receipts of their calls. A worker leaves its
+-- runner, and so does the reaper, whose runner ran no code
+abbrev pub Ends : {K R : Type 0} → (K → Option (List ℕ)) → (K → Option (List ℕ)) → (R → Giving) → (R → Tally) → Outset → Work K R → Notes → Notes → Option Ending → Option R → Type 0
+Ends left taken gives tally o (Serves link) n m (Some ending) back = TalksFrom left taken o.tells link n m ending
+Ends left taken gives tally o (Serves link) n m None back = ⊥
+Ends left taken gives tally o (Turns runner) n m ending back = (ending ≡ None) × IsSomeAnd back (λ r. MakesTurns (gives runner) (tally runner) (tally r) o n m)
+Ends left taken gives tally o Sweeps n m ending back = (ending ≡ None) × MakesSweeps o.tells n m
+Ends left taken gives tally o (Reaps runner) n m ending back = (ending ≡ None) × IsSomeAnd back (λ r. RanNone (tally runner) (tally r)) × MakesReapings o n m
 
 -- a peer was served, from receipts of nothing on
 abbrev pub TalksAlone : {K : Type 0} → (K → Option (List ℕ)) → (K → Option (List ℕ)) → Option ℕ → K → Notes → Ending → Type 0

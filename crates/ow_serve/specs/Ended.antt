@@ -1,5 +1,5 @@
 -- How a service ends, and what it leaves.
-use Rattle.std.specs.Prelude.{◌≡◌, ◌⊎◌, ◌++◌, ℕ, Bool, List, [], ◌∷◌, Option, Some, None, IfSome, IsOk, length, map}
+use Rattle.std.specs.Prelude.{◌≡◌, ◌≤◌, ◌⊎◌, ◌++◌, ℕ, Bool, List, [], ◌∷◌, Option, Some, None, IfSome, IsOk, length, map}
 use Rattle.ow_tenant.specs.Table.{Table}
 use Rattle.ow_threads.specs.Tasks.{AllEnd, joined, pending}
 use Rattle.ow_floor.specs.declared.answers.Drain.{Drain}
@@ -185,12 +185,13 @@ pub record IsWhole {K : Type 0} (Own : Notes → Type 0) (Talks : K → Notes �
   pub talk : AllTalk Talks peers served endings
   pub work : Work others
 
--- by the end
+-- by the end; no more peers came than so many
 abbrev pub Serves : {K : Type 0} → (Notes → Type 0) → (K → Notes → Ending → Type 0) → (List Notes → Type 0) → Option (List K) → Option (List K) → ℕ → ServedEnd → Option BookView → List Notes → List Ending → Type 0
 Serves Own Talks Work old new most ends.Closed (Some book) receipts endings =
-    IsWhole Own Talks Work old new book.ledger receipts endings × (HasNoPeer new ⊎ (length endings ≡ most))
+    IsWhole Own Talks Work old new book.ledger receipts endings × (length endings ≤ most) × (HasNoPeer new ⊎ (length endings ≡ most))
 Serves Own Talks Work old new most ends.Closed None receipts endings = ⊥
-Serves Own Talks Work old new most ends.ListenFault (Some book) receipts endings = IsWhole Own Talks Work old new book.ledger receipts endings
+Serves Own Talks Work old new most ends.ListenFault (Some book) receipts endings =
+    IsWhole Own Talks Work old new book.ledger receipts endings × (length endings ≤ most)
 Serves Own Talks Work old new most ends.ListenFault None receipts endings = ⊥
 Serves Own Talks Work old new most (ends.Unmatched difference) (Some book) receipts endings = Differs receipts book.ledger difference × BeginsOwn Own receipts
 Serves Own Talks Work old new most (ends.Unmatched difference) None receipts endings = ⊥

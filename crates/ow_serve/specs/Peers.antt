@@ -1,5 +1,5 @@
 -- The peers that are accepted, in order, and who serves each.
-use Rattle.std.specs.Prelude.{◌≡◌, ◌⊎◌, ◌++◌, ℕ, Bool, false, List, [], ◌∷◌, Option, Some, None, length, map}
+use Rattle.std.specs.Prelude.{◌≡◌, ◌≤◌, ◌⊎◌, ◌++◌, ℕ, Bool, false, List, [], ◌∷◌, Option, Some, None, length, map}
 use Rattle.ow_threads.specs.declared.tasks.Begun.{Begun}
 use Rattle.ow_threads.specs.declared.tasks.Begun.TheVariants.{Started, Ran, Refused}
 use Rattle.ow_desk.specs.Notes.{Notes}
@@ -34,10 +34,10 @@ module _ {T K D : Type 0} (IsFor : T → K → Type 0) (Serves : K → D → Typ
     pub tasks : now ≡ before ++ map (λ t. (t, false)) started
     pub seated : Seats started peers seats
 
-  -- none is accepted any more: no peer is left, or so many came, or the listener failed
+  -- none is accepted any more: no peer is left, or so many came, or the listener failed; no more came than so many
   abbrev pub AcceptsPeers : Option (List K) → Option (List K) → List (T × Bool) → List (T × Bool) → ℕ → List (Option D) → Stopped → Type 0
-  AcceptsPeers old new before now most seats stops.Closed = Seated old new before now seats × (HasNoPeer new ⊎ (length seats ≡ most))
-  AcceptsPeers old new before now most seats stops.Fault = Seated old new before now seats
+  AcceptsPeers old new before now most seats stops.Closed = Seated old new before now seats × (length seats ≤ most) × (HasNoPeer new ⊎ (length seats ≡ most))
+  AcceptsPeers old new before now most seats stops.Fault = Seated old new before now seats × (length seats ≤ most)
   AcceptsPeers old new before now most seats stops.NoMemory = Unit {0}
 
 -- each peer has been served

@@ -77,11 +77,13 @@ pub record WorksOnce (gives : Giving) (tells : Option ℕ) (opening : ℕ) (old 
   pub later : old.tally.faults ≤ behind.tally.faults
   pub books : Leads (BooksOnce tells) (to_book turn, behind) (None, new)
 
--- a worker's turns, one after the other, with a runner that gave this at first, at these counts
-pub record MakesTurns (gives : Giving) (tally : Tally) (o : Outset) (n m : Notes) : Type 0 where
+-- a worker's turns, one after the other, with a runner that gave this at first, at these counts, and is at those now: behind the last turn it
+-- ran no code
+pub record MakesTurns (gives : Giving) (tally now : Tally) (o : Outset) (n m : Notes) : Type 0 where
   pub last : Stand
   pub works : Leads (WorksOnce gives o.tells o.opened) (stand n o.view tally) last
   pub notes : m ≡ last.notes
+  pub ran : RanNone last.tally now
 
 -- ---- the sweeper and the reaper
 
@@ -104,10 +106,14 @@ pub record MakesReapings (o : Outset) (n m : Notes) : Type 0 where
 
 -- ---- all of them
 
--- each of these runners has a worker, which made turns from receipts of nothing on
+-- a worker made turns from receipts of nothing on
+abbrev pub HasWorked : Giving → Tally → Outset → Notes → Type 0
+HasWorked gives tally o n = (now : Tally) × MakesTurns gives tally now o no_notes n
+
+-- each of these runners has a worker
 abbrev pub AllWorked : {R : Type 0} → (R → Giving) → (R → Tally) → Outset → List R → List Notes → Type 0
 AllWorked gives tally o [] [] = Unit {0}
-AllWorked gives tally o (r ∷ rs) (n ∷ ns) = MakesTurns (gives r) (tally r) o no_notes n × AllWorked gives tally o rs ns
+AllWorked gives tally o (r ∷ rs) (n ∷ ns) = HasWorked (gives r) (tally r) o n × AllWorked gives tally o rs ns
 AllWorked gives tally o rs ns = ⊥
 
 -- each runner but the last has a worker; behind these stand the sweeper, and the reaper, who has the last runner

@@ -1,6 +1,7 @@
 // The end: all that was accepted ends, and what lies on the board is stopped.
 ghost use Rattle.std.specs.Prelude.{◌≡◌, ◌<◌, ◌++◌, ◌∷◌, None, map, IfOk, IfSome, OnOk};
 ghost use Rattle.ow_tenant.specs.Table.{Table};
+ghost use Rattle.ow_traits.specs.Runner.{RanNone};
 ghost use Rattle.ow_board.specs.Board.{IsPassOf, size};
 ghost use Rattle.ow_hall.specs.Comes.{HoldsBook, drain_outcome};
 ghost use Rattle.ow_hall.specs.History.{IsLegal};
@@ -62,14 +63,15 @@ fn drain_once<H: Wait, P: Keeper + Drop, R: Runner + Drop, C: Clock + Drop, G: G
         .drain(alloc, &mut *hold(rt, &house.place.desk), at)
 }
 
-/// Stops each container that lies on the board.
+/// Stops each container that lies on the board. No code runs.
 pub(crate) fn clear<P: Keeper + Drop, R: Runner>(
     place: &Place<P, R::Container>,
     pass: &mut Pass<R::Container>,
     runner: &mut R,
 )
     requires { IsPassOf place.now.board pass.old }
-    ensures { IsPassOf place.now.board pass.new }
+    ensures pass { IsPassOf place.now.board pass.new }
+    ensures ran { RanNone (R.tally runner.old) (R.tally runner.new) }
 {
     for i in 0..place.board.slots() {
         clear_slot(place, pass, runner, i);
@@ -84,7 +86,8 @@ fn clear_slot<P: Keeper + Drop, R: Runner>(
 )
     requires pass { IsPassOf place.now.board pass.old }
     requires slot { i < size place.now.board }
-    ensures { IsPassOf place.now.board pass.new }
+    ensures pass { IsPassOf place.now.board pass.new }
+    ensures ran { RanNone (R.tally runner.old) (R.tally runner.new) }
 {
     let word = place.board.look(pass, i);
     if is_full(word) {

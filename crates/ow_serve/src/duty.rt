@@ -1,5 +1,6 @@
 // What one thread does.
-ghost use Rattle.std.specs.Prelude.{◌≡◌, Some, None};
+ghost use Rattle.std.specs.Prelude.{◌≡◌, Some, None, IsSomeAnd};
+ghost use Rattle.ow_traits.specs.Runner.{RanNone};
 ghost use Rattle.ow_board.specs.Board.{IsPassOf, view_of};
 ghost use Rattle.ow_peer.specs.declared.ending.Ending.{Ending};
 ghost use Rattle.ow_serve.specs.Duties.{Ends, TalksFrom};
@@ -75,7 +76,7 @@ where
 {
     type Done = Done<R, P>;
 
-    ghost ends = { λ t d. Ends K.left K.taken R.gives R.tally (outset (C.tells t.clock.value) t.opened (view_of t.pass)) t.work t.notes.notes d.notes.notes d.ending };
+    ghost ends = { λ t d. Ends K.left K.taken R.gives R.tally (outset (C.tells t.clock.value) t.opened (view_of t.pass)) t.work t.notes.notes d.notes.notes d.ending d.runner };
 
     fn run(self) -> Done<R, P> {
         let Duty {
@@ -127,7 +128,7 @@ fn work_with<H: Wait + Drop, R: Runner + Drop, P: Keeper + Drop, C: Clock + Drop
     runner: R,
 ) -> Done<R, P>
     ensures ending { result.ending ≡ None }
-    ensures turns { MakesTurns (R.gives runner) (R.tally runner) (outset (C.tells hands.clock.value) hands.opened (view_of hands.pass)) hands.notes.notes result.notes.notes }
+    ensures turns { IsSomeAnd result.runner (λ r. MakesTurns (R.gives runner) (R.tally runner) (R.tally r) (outset (C.tells hands.clock.value) hands.opened (view_of hands.pass)) hands.notes.notes result.notes.notes) }
 {
     let (mut hands, mut runner) = (hands, runner);
     let (alloc, opened) = (hands.alloc, hands.opened);
@@ -172,6 +173,7 @@ fn reap_with<H: Wait + Drop, R: Runner + Drop, P: Keeper + Drop, C: Clock + Drop
     runner: R,
 ) -> Done<R, P>
     ensures ending { result.ending ≡ None }
+    ensures ran { IsSomeAnd result.runner (λ r. RanNone (R.tally runner) (R.tally r)) }
     ensures reapings { MakesReapings (outset (C.tells hands.clock.value) hands.opened (view_of hands.pass)) hands.notes.notes result.notes.notes }
 {
     let (mut hands, mut runner) = (hands, runner);

@@ -46,7 +46,7 @@ pub(crate) fn end_all<
 ) -> Result<Vec<Done<R, P>>, NoMemory>
 where
     R::Container: Send + 'static,
-    ensures joined { Joined (λ t d. Ends K.left K.taken R.gives R.tally (outset (C.tells t.clock.value) t.opened (view_of t.pass)) t.work t.notes.notes d.notes.notes d.ending) (λ v. v.items) crew.old.tasks crew.new.tasks 0 result }
+    ensures joined { Joined (λ t d. Ends K.left K.taken R.gives R.tally (outset (C.tells t.clock.value) t.opened (view_of t.pass)) t.work t.notes.notes d.notes.notes d.ending d.runner) (λ v. v.items) crew.old.tasks crew.new.tasks 0 result }
     ensures faults { crew.new.faults ≡ crew.old.faults }
 {
     house.place.end();
@@ -74,7 +74,7 @@ pub(crate) fn close<
 ) -> Served<P>
 where
     R::Container: Send + 'static,
-    ensures closes { Closes (Drains (C.tells house.clock.value) house.notes.notes) (λ t d. Ends K.left K.taken R.gives R.tally (outset (C.tells t.clock.value) t.opened (view_of t.pass)) t.work t.notes.notes d.notes.notes d.ending) (λ d. d.notes.notes) (λ d. d.ending) first crew.old.tasks seats.items stopped result.end result.book (map (λ r. r.notes) result.receipts.items) result.endings.items }
+    ensures closes { Closes (Drains (C.tells house.clock.value) house.notes.notes) (λ t d. Ends K.left K.taken R.gives R.tally (outset (C.tells t.clock.value) t.opened (view_of t.pass)) t.work t.notes.notes d.notes.notes d.ending d.runner) (λ d. d.notes.notes) (λ d. d.ending) first crew.old.tasks seats.items stopped result.end result.book (map (λ r. r.notes) result.receipts.items) result.endings.items }
     ensures faults { crew.new.faults ≡ crew.old.faults }
     ensures begins { BookBegins house.notes.notes result.end result.book }
     ensures store { IfSome result.store (λ s. KeepsBook (P.rows s) result.book) }

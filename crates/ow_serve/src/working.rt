@@ -1,7 +1,7 @@
 // What workers, the sweeper and the reaper do until they are to end.
 ghost use Rattle.std.specs.Prelude.{◌≡◌, ◌≤◌, Some, None};
-ghost use Rattle.ow_traits.specs.Runner.{Idles, Steady};
-ghost use Rattle.ow_board.specs.Board.{IsPassOf, size, view_of};
+ghost use Rattle.ow_traits.specs.Runner.{Idles, RanNone, Steady};
+ghost use Rattle.ow_board.specs.Board.{IsPassOf, view_of};
 ghost use Rattle.ow_serve.specs.Working.{BooksOnce, Leads, MakesReapings, MakesSweeps, MakesTurns, WorksOnce, next_job, outset, stand, to_book};
 
 use crate::place::Place;
@@ -43,7 +43,7 @@ pub(crate) fn work_on<H: Wait, P: Keeper + Drop, R: Runner, C: Clock, G: Gate>(
 )
     requires { IsPassOf place.now.board pass.old }
     ensures pass { IsPassOf place.now.board pass.new }
-    ensures turns { MakesTurns (R.gives runner.old) (R.tally runner.old) (outset (C.tells clock.now) opened (view_of pass.old)) notes.old.notes notes.new.notes }
+    ensures turns { MakesTurns (R.gives runner.old) (R.tally runner.old) (R.tally runner.new) (outset (C.tells clock.now) opened (view_of pass.old)) notes.old.notes notes.new.notes }
 {
     for _ in rt.forever() {
         if place.is_over() {
@@ -187,6 +187,7 @@ pub(crate) fn reap_on<H: Wait, P: Keeper + Drop, R: Runner, C: Clock, G: Gate>(
 )
     requires { IsPassOf place.now.board pass.old }
     ensures pass { IsPassOf place.now.board pass.new }
+    ensures ran { RanNone (R.tally runner.old) (R.tally runner.new) }
     ensures reapings { MakesReapings (outset (C.tells clock.now) opened (view_of pass.old)) notes.old.notes notes.new.notes }
 {
     for _ in rt.forever() {

@@ -1,21 +1,12 @@
 -- What the tests that callers make tell.
-use Rattle.std.proofs.Common.{◌≡◌, ◌↔◌, ◌&&◌, Bool, true, false, List, Option, Some, None, refl, arith, IsTrue, ◌∙◌, sym, ap, get_or, ℕ, ◌<◌, subst}
+use Rattle.std.proofs.Common.{◌≡◌, ◌↔◌, Bool, true, false, List, Option, Some, None, refl, arith, IsTrue, ◌∙◌, sym, ap, get_or, ℕ, ◌<◌, subst}
 use Rattle.std.specs.Prelude.{is_some, nat_lt, not}
 use Rattle.std.proofs.lemmas.Bool.Decides.{nat_tests}
+use Rattle.std.proofs.lemmas.Bool.{and_parts, and_from}
 use Rattle.ow_slots.specs.declared.states.TheConstants.{GREATEST_GENERATION}
 use Rattle.ow_slots.specs.declared.states.Slot.{Slot}
 use Rattle.ow_slots.specs.Slots.{IsPlace, IsThere, first_with, has}
 use Rattle.ow_slots.specs.State.{IsUnrecorded, IsVacant, can_open, is_vacant, recorded_of, runs}
-
-both : (a b : Bool) → (a && b) ≡ true → (a ≡ true) × (b ≡ true)
-both true true e = (refl, refl)
-both true false e = cc
-both false b e = cc
-
-joined : (a b : Bool) → a ≡ true → b ≡ true → (a && b) ≡ true
-joined true true e f = refl
-joined true false e f = cc
-joined false b e f = cc
 
 lt_told : (a b : ℕ) → (nat_lt a b ≡ true) ↔ (a < b)
 lt_told a b = (λ e. grind (arith, nat_tests), λ lt. grind (arith, nat_tests))
@@ -24,8 +15,8 @@ lt_told a b = (λ e. grind (arith, nat_tests), λ lt. grind (arith, nat_tests))
 pub open_told : (s : Slot) (r : Bool) → r ≡ can_open s → IsTrue r ↔ IsVacant s
 open_told s r e =
     let lt = lt_told s.generation GREATEST_GENERATION in (
-      λ t. let h = both (is_vacant s.state) (nat_lt s.generation GREATEST_GENERATION) (sym e ∙ t) in (h.0, lt.0 h.1),
-      λ v. e ∙ joined (is_vacant s.state) (nat_lt s.generation GREATEST_GENERATION) v.0 (lt.1 v.1),
+      λ t. let h = and_parts (is_vacant s.state) (nat_lt s.generation GREATEST_GENERATION) (sym e ∙ t) in (h.0, lt.0 h.1),
+      λ v. e ∙ and_from (is_vacant s.state) (nat_lt s.generation GREATEST_GENERATION) v.0 (lt.1 v.1),
     )
 
 none_told : (o : Option ℕ) (r : Bool) → is_some o ≡ not r → IsTrue r ↔ (o ≡ None)

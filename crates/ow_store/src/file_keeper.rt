@@ -3,7 +3,7 @@ ghost use Rattle.std.specs.Prelude.{◌≡◌, IsTrue, None, Err, IfOk, IfErr, O
 ghost use Rattle.ow_traits.specs.Keeper.{Commits, KeepsCause, Loads};
 ghost use Rattle.ow_store.specs.Commit.{EndsCommit, SurvivesCommit};
 ghost use Rattle.ow_store.specs.Faults.{faults_after, keeper_error};
-ghost use Rattle.ow_store.specs.Load.{EndsLoad, SurvivesLoad};
+ghost use Rattle.ow_store.specs.Load.{EndsLoad};
 ghost use Rattle.ow_store.specs.Through.{Through};
 ghost use Rattle.sqlite.specs.Files.{IsOpened, file_state, over_files};
 ghost use Rattle.sqlite.specs.Opening.{is_open_error};

@@ -2,7 +2,9 @@
 use Rattle.std.proofs.Common.{◌≡◌, ◌&&◌, Bool, true, false, List, ℕ, Option, Some, None, codes, refl, sym, ap, ◌∙◌}
 use Rattle.std.specs.Str.{bytes_eq}
 use Rattle.std.proofs.lemmas.Slice.Eq.{bytes_eq-Decides}
+use Rattle.std.proofs.lemmas.Bool.{and_parts, and_from}
 use Rattle.ow_value.specs.Value.{text_cmp}
+use Rattle.ow_value.proofs.Between.{both}
 use Rattle.ow_names.specs.Name.{IsName}
 use Rattle.ow_names.specs.FullName.{full_text, IsFullName}
 use Rattle.ow_names.specs.declared.full.FullName.{FullName}
@@ -44,37 +46,20 @@ same_text : (a b : FullName) → IsFullName a → IsFullName b → bytes_eq (ful
 same_text a b ha hb e =
     (equal_names a b _ ha hb refl).0 (ap (λ t. text_cmp t (full_text b)) (are_equal (full_text a) (full_text b) e) ∙ (equal_names b b _ hb hb refl).1 refl)
 
-alike : (p q : Bool) → (p ≡ true → q ≡ true) → (q ≡ true → p ≡ true) → p ≡ q
-alike true q f g = sym (f refl)
-alike false true f g = g refl
-alike false false f g = refl
-
-both_true : (p q : Bool) → p ≡ true → q ≡ true → (p && q) ≡ true
-both_true true q e f = f
-both_true false q e f = e
-
-left_true : (p q : Bool) → (p && q) ≡ true → p ≡ true
-left_true true q e = refl
-left_true false q e = e
-
-right_true : (p q : Bool) → (p && q) ≡ true → q ≡ true
-right_true true q e = e
-right_true false q e = cc
-
 -- ---- the action
 
 echo_parts : (s p l : List ℕ) → IsName s → IsName p → IsName l
     → (bytes_eq s echo.name.namespace && (bytes_eq p utils.name.name && bytes_eq l echo.name.name))
     ≡ bytes_eq (full_text (record { namespace = s; «package» = Some p; name = l })) (full_text echo.name)
-echo_parts s p l hs hp hl = alike _ _
+echo_parts s p l hs hp hl = both _ _
     (λ e. is_equal _ _ (text_of echo.name s (Some p) l
-    (are_equal _ _ (left_true _ _ e))
-    (sym (ap (λ (a : List ℕ). Some a) (are_equal _ _ (left_true _ _ (right_true _ _ e)))))
-    (are_equal _ _ (right_true _ _ (right_true _ _ e)))))
+    (are_equal _ _ (and_parts _ _ e).0)
+    (sym (ap (λ (a : List ℕ). Some a) (are_equal _ _ (and_parts _ _ (and_parts _ _ e).1).0)))
+    (are_equal _ _ (and_parts _ _ (and_parts _ _ e).1).1)))
     (λ e.
     let same = same_text _ echo.name (record { namespace = hs; inside = hp; name = hl }) echo_full e in
-    both_true _ _ (is_equal _ _ (ap (λ (n : FullName). n.namespace) same))
-    (both_true _ _ (is_equal _ _ (inside (ap (λ (n : FullName). n.package) same))) (is_equal _ _ (ap (λ (n : FullName). n.name) same))))
+    and_from _ _ (is_equal _ _ (ap (λ (n : FullName). n.namespace) same))
+    (and_from _ _ (is_equal _ _ (inside (ap (λ (n : FullName). n.package) same))) (is_equal _ _ (ap (λ (n : FullName). n.name) same))))
   where
     inside : {a b : List ℕ} → Some a ≡ Some b → a ≡ b
     inside e = cc
@@ -88,7 +73,7 @@ is_echo n s p l r e hs g hl f hp i =
 pub no_echo : (n : FullName) (s l : List ℕ) → s ≡ n.namespace → IsName s → l ≡ n.name → IsName l → n.package ≡ None
     → false ≡ bytes_eq (full_text n) (full_text echo.name)
 no_echo n s l e hs g hl f =
-    alike _ _ (λ b. cc) (λ b. flat_is_none (ap (λ (m : FullName). m.package) (same_text _ echo.name (record { namespace = hs; inside = tt; name = hl }) echo_full b)))
+    both _ _ (λ b. cc) (λ b. flat_is_none (ap (λ (m : FullName). m.package) (same_text _ echo.name (record { namespace = hs; inside = tt; name = hl }) echo_full b)))
     ∙ ap (λ t. bytes_eq t (full_text echo.name)) (text_of n s None l e f g)
   where
     flat_is_none : {A : Type 0} {a : List ℕ} → None ≡ Some a → A
@@ -99,11 +84,11 @@ no_echo n s l e hs g hl f =
 utils_parts : (s l : List ℕ) → IsName s → IsName l
     → (bytes_eq s utils.name.namespace && bytes_eq l utils.name.name)
     ≡ bytes_eq (full_text (record { namespace = s; «package» = None; name = l })) (full_text utils.name)
-utils_parts s l hs hl = alike _ _
-    (λ e. is_equal _ _ (text_of utils.name s None l (are_equal _ _ (left_true _ _ e)) refl (are_equal _ _ (right_true _ _ e))))
+utils_parts s l hs hl = both _ _
+    (λ e. is_equal _ _ (text_of utils.name s None l (are_equal _ _ (and_parts _ _ e).0) refl (are_equal _ _ (and_parts _ _ e).1)))
     (λ e.
     let same = same_text (record { namespace = s; «package» = None; name = l }) utils.name (record { namespace = hs; inside = tt; name = hl }) utils_full e in
-    both_true _ _ (is_equal _ _ (ap (λ (n : FullName). n.namespace) same)) (is_equal _ _ (ap (λ (n : FullName). n.name) same)))
+    and_from _ _ (is_equal _ _ (ap (λ (n : FullName). n.namespace) same)) (is_equal _ _ (ap (λ (n : FullName). n.name) same)))
 
 pub is_utils : (n : FullName) (s l : List ℕ) (r : Bool) → s ≡ n.namespace → IsName s → l ≡ n.name → IsName l → n.package ≡ None
     → r ≡ (bytes_eq s utils.name.namespace && bytes_eq l utils.name.name)
@@ -114,7 +99,7 @@ is_utils n s l r e hs g hl f i =
 pub no_utils : (n : FullName) (s p l : List ℕ) → s ≡ n.namespace → IsName s → l ≡ n.name → IsName l → n.package ≡ Some p → IsName p
     → false ≡ bytes_eq (full_text n) (full_text utils.name)
 no_utils n s p l e hs g hl f hp =
-    alike _ _ (λ b. cc) (λ b. inside_is_none (ap (λ (m : FullName). m.package) (same_text _ utils.name (record { namespace = hs; inside = hp; name = hl }) utils_full b)))
+    both _ _ (λ b. cc) (λ b. inside_is_none (ap (λ (m : FullName). m.package) (same_text _ utils.name (record { namespace = hs; inside = hp; name = hl }) utils_full b)))
     ∙ ap (λ t. bytes_eq t (full_text utils.name)) (text_of n s (Some p) l e f g)
   where
     inside_is_none : {A : Type 0} {a : List ℕ} → Some a ≡ None → A

@@ -1,15 +1,14 @@
 -- Rows of one kind in one namespace stand together, from where a search finds the first to where it finds the last.
-use Rattle.std.proofs.Common.{◌≡◌, ◌≢◌, ℕ, zero, suc, ◌<◌, ◌≤◌, ◌&&◌, ◌==◌, Bool, true, min, List, [], ◌∷◌, ◌++◌, length, filter, get_or, take, drop, Ordering, Less, Equal, Greater, refl, sym, ap, ◌∙◌, subst, inl, inr, arith}
+use Rattle.std.proofs.Common.{◌≡◌, ◌≢◌, ℕ, zero, suc, ◌<◌, ◌≤◌, ◌&&◌, ◌==◌, Bool, min, List, [], ◌∷◌, ◌++◌, length, filter, get_or, take, drop, Ordering, Less, Equal, Greater, refl, sym, ap, ◌∙◌, subst, inl, inr, arith}
 use Rattle.std.specs.List.Sorted.{IsStrictlySortedBy, IsPartitionedBy}
 use Rattle.std.specs.Ordering.{nat_cmp, ordering_index, ordering_then, is_lt, is_le}
 use Rattle.std.specs.Str.{bytes_eq}
 use Rattle.std.proofs.lemmas.Bool.{cases_lt}
-use Rattle.std.proofs.lemmas.Cmp.{nat_list_cmp_total}
 use Rattle.std.proofs.lemmas.List.{append_cancel_right}
 use Rattle.std.proofs.lemmas.Slice.Eq.{bytes_eq-Decides}
 use Rattle.ow_value.specs.Value.{text_cmp}
 use Rattle.ow_value.proofs.Between.{both, drop_upto, take_upto}
-use Rattle.ow_value.proofs.KeySearch.{rises_at, key_at}
+use Rattle.ow_value.proofs.KeySearch.{key_at, ranks, lt_down, le_down}
 use Rattle.ow_names.specs.Slash.{HasNoSlash}
 use Rattle.ow_names.specs.FullName.{local_text}
 use Rattle.ow_names.specs.declared.full.FullName.{FullName}
@@ -46,12 +45,6 @@ sorted_at (b ∷ bs) i zero d h lt le = absurd (omega arith)
 sorted_at (b ∷ bs) zero (suc j) d h lt le = key_at key_of (λ a. text_cmp (key_of b) a ≡ Less) bs j d h.0 (omega arith)
 sorted_at (b ∷ bs) (suc i) (suc j) d h lt le = sorted_at bs i j d h.1 (omega arith) (omega arith)
 
--- texts in order stand in that order to a third
-ranks : (a b k : List ℕ) (o : Ordering) → text_cmp a b ≡ o → o ≢ Greater → ordering_index (text_cmp a k) ≤ ordering_index (text_cmp b k)
-ranks a b k Less e n = rises_at a b k _ e refl
-ranks a b k Equal e n = omega (arith, ap ordering_index (nat_list_cmp_total.congr a b k e))
-ranks a b k Greater e n = absurd (n refl)
-
 ranks_at : (k : List ℕ) (bs : List Row) (i j : ℕ) (d : Row) → AreKept bs → i ≤ j → j < length bs
     → ordering_index (text_cmp (region_of (get_or bs i d)) k) ≤ ordering_index (text_cmp (region_of (get_or bs j d)) k)
 ranks_at k bs i j d h le lt = elim (cases_lt i j) [
@@ -62,22 +55,6 @@ ranks_at k bs i j d h le lt = elim (cases_lt i j) [
   where
     same : (i j : ℕ) → i ≤ j → j ≤ i → i ≡ j
     same i j le ge = omega arith
-
-lt_down : (p q : Ordering) → ordering_index p ≤ ordering_index q → is_lt q ≡ true → is_lt p ≡ true
-lt_down Less q le e = refl
-lt_down Equal Less le e = absurd (omega arith)
-lt_down Equal Equal le e = cc
-lt_down Equal Greater le e = cc
-lt_down Greater Less le e = absurd (omega arith)
-lt_down Greater Equal le e = cc
-lt_down Greater Greater le e = cc
-
-le_down : (p q : Ordering) → ordering_index p ≤ ordering_index q → is_le q ≡ true → is_le p ≡ true
-le_down Less q le e = refl
-le_down Equal q le e = refl
-le_down Greater Less le e = absurd (omega arith)
-le_down Greater Equal le e = absurd (omega arith)
-le_down Greater Greater le e = cc
 
 pub parts_before : (k : List ℕ) (bs : List Row) → AreKept bs → IsPartitionedBy (λ b. is_lt (text_cmp (region_of b) k)) bs
 parts_before k bs h i j d le lt e = lt_down _ _ (ranks_at k bs i j d h le lt) e

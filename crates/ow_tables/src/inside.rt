@@ -2,7 +2,7 @@
 ghost use Rattle.std.specs.Prelude.{◌≡◌, filter, map, IfOk};
 ghost use Rattle.std.specs.List.{list_any};
 ghost use Rattle.ow_entity.specs.Written.{package_entry};
-ghost use Rattle.ow_tables.specs.Inside.{actions_in, lies_in, holds_actions, lies_under};
+ghost use Rattle.ow_tables.specs.Inside.{actions_in, holds_actions, lies_under};
 ghost use Rattle.ow_tables.specs.Region.{AreKept};
 
 use crate::listing::part;

@@ -1,14 +1,15 @@
 -- What a search by text finds, and what an edit at that place makes of the entries.
-use Rattle.std.proofs.Common.{◌≡◌, ◌≢◌, ℕ, zero, suc, ◌<◌, List, [], ◌∷◌, ◌++◌, Bool, true, false, cond, length, get_or, set, take, drop, Option, Some, None, Ordering, Less, Equal, Greater, is_eq, refl, sym, ap, ◌∙◌, subst, arith, slice_get, option_map}
+use Rattle.std.proofs.Common.{◌≡◌, ◌≢◌, ℕ, zero, suc, ◌<◌, List, [], ◌∷◌, ◌++◌, true, false, cond, length, get_or, set, take, drop, Option, Some, None, Ordering, Less, Equal, Greater, is_eq, refl, sym, ap, ◌∙◌, subst, arith, slice_get, option_map}
 use Rattle.std.specs.List.Sorted.{IsStrictlySortedBy}
 use Rattle.std.specs.Ordering.{match_ordering}
 use Rattle.std.proofs.lemmas.List.{length-set}
 use Rattle.std.proofs.lemmas.Map.Text.{is_eq-slice_cmp}
 use Rattle.std.proofs.lemmas.Slice.Eq.{bytes_eq-Decides}
+use Rattle.std.proofs.lemmas.Bool.{false_from_ne_true}
 use Rattle.ow_value.specs.Value.{text_cmp}
 use Rattle.ow_value.proofs.Entries.{lookup_at, lookup_nowhere, insert_at_equal, insert_between, rises_with}
 use Rattle.ow_value.proofs.KeySearch as Found
-use Rattle.ow_value.proofs.KeySearch.{PartsAt, equal_texts, parted}
+use Rattle.ow_value.proofs.KeySearch.{PartsAt, equal_texts, parted, is_equal}
 use Rattle.ow_tenant.specs.ByText.{ByText, IsByText, StandsAt, value_at, with_value}
 
 pub none-rise : IsStrictlySortedBy text_cmp []
@@ -50,20 +51,11 @@ module _ {W : Type 0} where
 pub is_same : (k : List ℕ) → is_eq (text_cmp k k) ≡ true
 is_same k = is_eq-slice_cmp k k ∙ (bytes_eq-Decides k k).1 refl
 
-is_equal : (o : Ordering) → is_eq o ≡ true → o ≡ Equal
-is_equal Less h = cc
-is_equal Equal h = refl
-is_equal Greater h = cc
-
 pub same_text : (k : List ℕ) → text_cmp k k ≡ Equal
 same_text k = is_equal _ (is_same k)
 
-is_no : (b : Bool) → (b ≡ true → ⊥) → b ≡ false
-is_no true h = absurd (h refl)
-is_no false h = refl
-
 pub is_another : (k other : List ℕ) → other ≢ k → is_eq (text_cmp other k) ≡ false
-is_another k other ne = is_no _ (λ e. ne (equal_texts other k (is_equal _ e)))
+is_another k other ne = false_from_ne_true _ (λ e. ne (equal_texts other k (is_equal _ e)))
 
 -- ---- look-ups after a put
 

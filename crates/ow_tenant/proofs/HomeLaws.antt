@@ -8,10 +8,11 @@ use Rattle.ow_names.specs.declared.refusal.NameRefusal.{NameRefusal}
 use Rattle.ow_names.proofs.NameLaws.{name_if_no_fault}
 use Rattle.ow_traits.specs.declared.prewarms.Prewarm.{Prewarm}
 use Rattle.ow_value.specs.Value.{text_cmp}
+use Rattle.ow_value.specs.Decimal.{number_within}
 use Rattle.ow_tenant.specs.ByText.{ByText, value_at, with_value}
 use Rattle.ow_tenant.specs.Rights.{all_rights}
-use Rattle.ow_tenant.specs.Row.{grant_row, is_empty, is_key, is_name, is_text, key_row, limits_of_fields, may_be_listed, namespace_row, number_within, prewarm_of, right_of, row_by, row_of}
-use Rattle.ow_tenant.specs.Table.{Table, csv_rows, granted, has_number, is_called, is_key_of, is_listed, most_bytes, no_rows, or_bad, rows_of, table_of, wants_same, with_line, with_row, with_rows}
+use Rattle.ow_tenant.specs.Row.{grant_row, is_empty, is_key, is_name, is_text, key_row, limits_of_fields, may_be_listed, namespace_row, prewarm_of, right_of, row_by, row_of}
+use Rattle.ow_tenant.specs.Table.{Table, csv_rows, granted, has_number, is_called, is_key_of, is_listed, most_bytes, no_rows, or_bad, rows_of, table_of, wants_same, with_line, with_row, with_rows, AreHomes}
 use Rattle.ow_tenant.specs.declared.entries.Holder.{Holder}
 use Rattle.ow_tenant.specs.declared.limits.NamespaceLimits.{NamespaceLimits}
 use Rattle.ow_tenant.specs.declared.line.Line.{Line}
@@ -111,9 +112,6 @@ module _ {W : Type 0} (P : W → Type 0) where
 
 abbrev HasHome : Holder → Type 0
 HasHome h = IsName h.home
-
-abbrev AreHomes : Table → Type 0
-AreHomes t = AllByRecursion (λ (e : List ℕ × Holder). IsName e.1.home) t.keys
 
 line_homes : (t : Table) (line : Line) → AreHomes t → IsHomeLine line → IfSome (with_line t line) AreHomes
 line_homes t (Namespace number name limits) all h =

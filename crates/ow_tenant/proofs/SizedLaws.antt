@@ -3,10 +3,10 @@ use Rattle.std.proofs.Common.{◌≡◌, ◌+◌, ◌≤◌, ◌++◌, ℕ, Bool
 use Rattle.std.specs.Prelude.{◌&&◌, ◌||◌, IfSome, codes, is_some, not, option_and_then, option_map, nat_le}
 use Rattle.std.specs.List.{list_any}
 use Rattle.std.specs.Str.{bytes_eq}
-use Rattle.std.proofs.lemmas.Bool.{leb-true}
-use Rattle.ow_value.specs.Decimal.{decimal_of}
+use Rattle.std.proofs.lemmas.Bool.{leb-true, and_parts}
+use Rattle.ow_value.specs.Decimal.{decimal_of, if_within, number_within}
 use Rattle.ow_traits.specs.declared.prewarms.Prewarm.{Prewarm}
-use Rattle.ow_tenant.specs.Row.{grant_row, if_within, is_empty, kind_of, limits_of_fields, may_be_listed, namespace_row, number_within, prewarm_of, right_of, row_by, row_of}
+use Rattle.ow_tenant.specs.Row.{grant_row, is_empty, kind_of, limits_of_fields, may_be_listed, namespace_row, prewarm_of, right_of, row_by, row_of}
 use Rattle.ow_tenant.specs.Table.{AreWantsSized, IsPoolSized, Table, granted, has_number, is_called, is_key_of, is_listed, no_rows, wants_same, or_bad, rows_of, with_line, with_row, with_rows, csv_rows}
 use Rattle.ow_tenant.specs.ByText.{value_at, with_value}
 use Rattle.ow_tenant.specs.Rights.{all_rights}
@@ -48,12 +48,8 @@ if_any (Some x) = tt
 
 -- ---- numbers
 
-both_true : (a b : Bool) → (a && b) ≡ true → (a ≡ true) × (b ≡ true)
-both_true true b is = (refl, is)
-both_true false b is = cc
-
 within_at : (least most n : ℕ) (b : Bool) → nat_le least n && nat_le n most ≡ b → IfSome (cond b (Some n) None) (λ m. (least ≤ m) × (m ≤ most))
-within_at least most n true is = let both = both_true (nat_le least n) (nat_le n most) is in (leb-true least n both.0, leb-true n most both.1)
+within_at least most n true is = let both = and_parts (nat_le least n) (nat_le n most) is in (leb-true least n both.0, leb-true n most both.1)
 within_at least most n false is = tt
 
 number_sized : (least most : ℕ) (text : List ℕ) → IfSome (number_within least most text) (λ m. (least ≤ m) × (m ≤ most))

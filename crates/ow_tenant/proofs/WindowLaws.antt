@@ -3,6 +3,7 @@ use Rattle.std.proofs.Common.{◌≡◌, ◌≢◌, ℕ, ◌+◌, ◌-◌, ◌<�
 use Rattle.std.specs.Prelude.{◌&&◌, count_by}
 use Rattle.std.specs.Str.{bytes_eq}
 use Rattle.std.proofs.lemmas.Slice.Eq.{bytes_eq-Decides}
+use Rattle.std.proofs.lemmas.Bool.{false_from_ne_true}
 use Rattle.ow_tenant.specs.ByText.{ByText, value_at, with_value}
 use Rattle.ow_tenant.specs.Notes.{Note, Notes, invoked, fired, ended, counts_at, fires, is_ended, is_invoked, is_recent, is_recent_fire, latest, minute}
 use Rattle.ow_tenant.specs.Queue.{AllUpTo, Rise, with_one}
@@ -16,12 +17,8 @@ use Rattle.ow_tenant.proofs.QueueLaws.{AllUpTo-more, counted-yes, counted-no}
 same : (n : List ℕ) → bytes_eq n n ≡ true
 same n = (bytes_eq-Decides n n).1 refl
 
-is_no : (b : Bool) → (b ≡ true → ⊥) → b ≡ false
-is_no true h = absurd (h refl)
-is_no false h = refl
-
 another : (n other : List ℕ) → other ≢ n → bytes_eq n other ≡ false
-another n other ne = is_no _ (λ e. ne (sym ((bytes_eq-Decides n other).0 e)))
+another n other ne = false_from_ne_true _ (λ e. ne (sym ((bytes_eq-Decides n other).0 e)))
 
 -- ---- a count with one more
 

@@ -3,7 +3,7 @@
 use Rattle.std.specs.Prelude.{◌&&◌, ℕ, List, [], ◌∷◌, Bool, true, false, not, length, nat_le, codes, if◌then◌else◌, Option, Some, None, option_and_then, option_map, is_none}
 use Rattle.std.specs.List.{list_all}
 use Rattle.std.specs.Str.{bytes_eq, is_utf8}
-use Rattle.ow_value.specs.Decimal.{decimal_of}
+use Rattle.ow_value.specs.Decimal.{number_within}
 use Rattle.ow_names.specs.Name.{first_fault}
 use Rattle.ow_traits.specs.declared.prewarms.Prewarm.{Prewarm}
 use Rattle.ow_traits.specs.declared.replies.Kind.{Kind}
@@ -19,14 +19,6 @@ use Rattle.ow_tenant.specs.declared.rights.Right.TheVariants.{Read, Write, Invok
 abbrev pub is_empty : List ℕ → Bool
 is_empty [] = true
 is_empty (c ∷ cs) = false
-
--- n, where it lies between these two
-abbrev pub if_within : ℕ → ℕ → ℕ → Option ℕ
-if_within least most n = if nat_le least n && nat_le n most then Some n else None
-
--- decimal digits with no 0 in front of others
-abbrev pub number_within : ℕ → ℕ → List ℕ → Option ℕ
-number_within least most text = option_and_then (if_within least most) (decimal_of text)
 
 -- the number of a limit, which may be left out
 abbrev pub limit_or : ℕ → List ℕ → Option ℕ

@@ -4,6 +4,7 @@ use Rattle.std.specs.List.{AllByRecursion, list_any}
 use Rattle.std.specs.Str.{bytes_eq}
 use Rattle.csv.specs.Reading.{default_config, records_from, strip_bom}
 use Rattle.csv.specs.declared.parser.State.TheVariants as st
+use Rattle.ow_names.specs.Name.{IsName}
 use Rattle.ow_traits.specs.declared.prewarms.Prewarm.{Prewarm}
 use Rattle.ow_traits.specs.declared.replies.Kind.{Kind}
 use Rattle.ow_traits.specs.declared.replies.Kind.TheVariants as kinds
@@ -25,6 +26,10 @@ pub record Table : Type 0 where
   pub pool : Option ℕ
   pub wants : List Prewarm
   pub programs : List (List ℕ × List ℕ)
+
+-- each key's own namespace is a name, which it is in a table that was read
+abbrev pub AreHomes : Table → Type 0
+AreHomes t = AllByRecursion (λ (e : List ℕ × Holder). IsName e.1.home) t.keys
 
 -- the memory of each container that is wanted ahead is one that an action may have
 abbrev pub AreWantsSized : List Prewarm → Type 0

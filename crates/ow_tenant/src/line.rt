@@ -1,7 +1,7 @@
 // What a row says by itself.
 use crate::limits::NamespaceLimits;
 use crate::rights::Right;
-use ow_names::{EntityName, NameRefusal};
+use ow_names::EntityName;
 use ow_traits::Prewarm;
 use ow_value::{NoMemory, Str};
 

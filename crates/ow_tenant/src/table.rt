@@ -2,7 +2,7 @@
 ghost use Rattle.std.specs.Prelude.{◌≡◌, ◌≢◌, ◌<◌, [], ◌∷◌, ◌++◌, Some, None, Err, OnOk, IfOk};
 ghost use Rattle.std.specs.List.{list_any};
 ghost use Rattle.ow_tenant.specs.Rights.{all_rights};
-ghost use Rattle.ow_tenant.specs.Table.{Table, granted, has_number, is_called, is_key_of, is_listed, no_rows, same_kind, wants_same, with_grant, with_key, with_line, with_namespace, with_pool, with_prewarm, with_program};
+ghost use Rattle.ow_tenant.specs.Table.{Table, granted, has_number, is_called, is_listed, no_rows, same_kind, wants_same, with_grant, with_key, with_line, with_namespace, with_pool, with_prewarm, with_program};
 
 use crate::by_text::ByText;
 use crate::entries::{Holder, Space};

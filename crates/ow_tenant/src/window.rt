@@ -1,6 +1,6 @@
 // What counts of one namespace.
 ghost use Rattle.std.specs.Prelude.{◌≡◌, ◌≤◌, ◌<◌, ◌+◌, ◌-◌, ◌^◌, ◌∷◌, [], ℕ, List, OnOk};
-ghost use Rattle.ow_tenant.specs.Notes.{Notes, concurrent, ended, fired, fires, invoked, latest, minute};
+ghost use Rattle.ow_tenant.specs.Notes.{Notes, ended, fired, fires, invoked, latest};
 ghost use Rattle.ow_tenant.specs.Windows.{HasRoom, Stands};
 
 use crate::queue::Queue;

@@ -1,8 +1,9 @@
 // What single fields of a row say.
-ghost use Rattle.std.specs.Prelude.{◌≡◌, ◌≢◌, Some, None, true, false, MatchResult, IsUtf8};
+ghost use Rattle.std.specs.Prelude.{◌≡◌, ◌≢◌, Some, None, true, false, MatchResult};
 ghost use Rattle.std.specs.List.{list_all};
 ghost use Rattle.std.specs.Str.{is_utf8};
-ghost use Rattle.ow_tenant.specs.Row.{is_empty, is_key, is_key_byte, is_name, is_text, kind_of, limit_or, limits_of_fields, may_be_listed, number_within, right_of};
+ghost use Rattle.ow_value.specs.Decimal.{number_within};
+ghost use Rattle.ow_tenant.specs.Row.{is_empty, is_key, is_key_byte, is_name, is_text, kind_of, limit_or, limits_of_fields, may_be_listed, right_of};
 
 use crate::limits::NamespaceLimits;
 use crate::line::RowFault;

@@ -1,21 +1,16 @@
 -- In a list that parts at a key, what has the key stands together: from where a search finds the first to where it finds the last.
 use Rattle.std.proofs.Common.{◌≡◌, ℕ, zero, suc, ◌<◌, Bool, true, false, cond, min, List, [], ◌∷◌, length, filter, get_or, take, drop, Ordering, Less, Equal, Greater, is_eq, is_lt, refl, sym, ap, ◌∙◌, subst, arith}
 use Rattle.std.specs.List.Sorted.{IsPartitionPoint}
-use Rattle.std.specs.Ordering.{is_le, ordering_reverse}
+use Rattle.std.specs.Ordering.{is_le}
 use Rattle.std.specs.Str.{bytes_eq}
 use Rattle.std.proofs.Math.Seq.{take-nil, drop-nil}
 use Rattle.ow_value.specs.Value.{text_cmp}
-use Rattle.ow_value.proofs.KeySearch.{test_of, turned}
+use Rattle.ow_value.proofs.KeySearch.{test_of, turned, reversed_eq}
 
 pub both : (p q : Bool) → (p ≡ true → q ≡ true) → (q ≡ true → p ≡ true) → p ≡ q
 both true q f g = sym (f refl)
 both false true f g = g refl
 both false false f g = refl
-
-turned_eq : (o : Ordering) → is_eq (ordering_reverse o) ≡ is_eq o
-turned_eq Less = refl
-turned_eq Equal = refl
-turned_eq Greater = refl
 
 before : (o : Ordering) → is_lt o ≡ true → is_eq o ≡ false
 before Less e = refl
@@ -41,7 +36,7 @@ module _ {A : Type 0} (key : A → List ℕ) (k : List ℕ) (test : A → Bool) 
   PartsThrough xs i = IsPartitionPoint (λ a. is_le (text_cmp (key a) k) ≡ true) (λ a. is_le (text_cmp (key a) k) ≡ false) xs i
 
   stands_by : (a : A) (o : Ordering) → text_cmp (key a) k ≡ o → test a ≡ is_eq o
-  stands_by a o e = sym (has_key a) ∙ test_of k (key a) _ (turned (key a) k o e) ∙ turned_eq o
+  stands_by a o e = sym (has_key a) ∙ test_of k (key a) _ (turned (key a) k o e) ∙ reversed_eq o
 
   -- of what has the key or a greater one, that with the key stands first
   stands_first : (xs : List A) (j : ℕ) → ((i : ℕ) (d : A) → i < length xs → is_lt (text_cmp (key (get_or xs i d)) k) ≡ false)

@@ -1,9 +1,9 @@
 -- What a search by key finds in a list, where `key` tells the key of each.
-use Rattle.std.proofs.Common.{◌≡◌, ◌≢◌, ℕ, zero, suc, ◌-◌, ◌<◌, ◌≤◌, false, List, [], ◌∷◌, length, map, get_or, Result, Ok, Err, IfOk, IfErr, Ordering, Less, Equal, Greater, is_eq, is_lt, refl, sym, ap, ◌∙◌, subst, inl, inr, arith}
+use Rattle.std.proofs.Common.{◌≡◌, ◌≢◌, ℕ, zero, suc, ◌-◌, ◌<◌, ◌≤◌, true, false, List, [], ◌∷◌, length, map, get_or, Result, Ok, Err, IfOk, IfErr, Ordering, Less, Equal, Greater, is_eq, is_lt, refl, sym, ap, ◌∙◌, subst, inl, inr, arith}
 use Rattle.std.specs.Bool.{IsTrue}
 use Rattle.std.specs.List.{AllByRecursion, HoldsAt}
 use Rattle.std.specs.List.Sorted.{IsStrictlySortedBy, IsNonDecreasingBy, IsPartitionPoint, IsSearchInRange, IsBinarySearchResult}
-use Rattle.std.specs.Ordering.{ordering_index, ordering_reverse}
+use Rattle.std.specs.Ordering.{is_le, ordering_index, ordering_reverse}
 use Rattle.std.specs.Str.{bytes_eq}
 use Rattle.std.proofs.lemmas.Bool.{cases_lt}
 use Rattle.std.proofs.lemmas.Cmp.{nat_list_cmp_total}
@@ -38,6 +38,12 @@ rises_at a b k Greater lt e = at_most (text_cmp a k)
     at_most Equal = omega arith
     at_most Greater = omega arith
 
+-- texts in order stand in that order to a third
+pub ranks : (a b k : List ℕ) (o : Ordering) → text_cmp a b ≡ o → o ≢ Greater → ordering_index (text_cmp a k) ≤ ordering_index (text_cmp b k)
+ranks a b k Less e n = rises_at a b k _ e refl
+ranks a b k Equal e n = omega (arith, ap ordering_index (nat_list_cmp_total.congr a b k e))
+ranks a b k Greater e n = absurd (n refl)
+
 not_equal : (o : Ordering) → ordering_reverse o ≢ Equal → is_eq o ≡ false
 not_equal Less h = refl
 not_equal Equal h = absurd (h refl)
@@ -47,10 +53,39 @@ not_equal Greater h = refl
 pub other : (a k : List ℕ) → text_cmp a k ≢ Equal → is_eq (text_cmp k a) ≡ false
 other a k h = not_equal _ (λ e. h (nat_list_cmp_total.antisymm a k ∙ e))
 
+-- ---- how two texts compare
+
 pub is_less : (o : Ordering) → IsTrue (is_lt o) → o ≡ Less
 is_less Less h = refl
 is_less Equal h = cc
 is_less Greater h = cc
+
+pub is_equal : (o : Ordering) → is_eq o ≡ true → o ≡ Equal
+is_equal Less h = cc
+is_equal Equal h = refl
+is_equal Greater h = cc
+
+pub reversed_eq : (o : Ordering) → is_eq (ordering_reverse o) ≡ is_eq o
+reversed_eq Less = refl
+reversed_eq Equal = refl
+reversed_eq Greater = refl
+
+-- what stands no further on than one that is below is below, and so with one that isn't above
+pub lt_down : (p q : Ordering) → ordering_index p ≤ ordering_index q → is_lt q ≡ true → is_lt p ≡ true
+lt_down Less q le e = refl
+lt_down Equal Less le e = absurd (omega arith)
+lt_down Equal Equal le e = cc
+lt_down Equal Greater le e = cc
+lt_down Greater Less le e = absurd (omega arith)
+lt_down Greater Equal le e = cc
+lt_down Greater Greater le e = cc
+
+pub le_down : (p q : Ordering) → ordering_index p ≤ ordering_index q → is_le q ≡ true → is_le p ≡ true
+le_down Less q le e = refl
+le_down Equal q le e = refl
+le_down Greater Less le e = absurd (omega arith)
+le_down Greater Equal le e = absurd (omega arith)
+le_down Greater Greater le e = cc
 
 -- ---- a list whose keys rise
 

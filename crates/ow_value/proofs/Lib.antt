@@ -1,4 +1,6 @@
 pub mod Views
+pub mod Crossing
+pub mod Equal
 pub mod Taking
 pub mod Refused
 pub mod Sizes

@@ -22,7 +22,7 @@ items_of-inj vs ws e = sym (list_of-items_of vs) ∙ ap list_of e ∙ list_of-it
 members_of-inj : (ps qs : Pairs) → members_of ps ≡ members_of qs → ps ≡ qs
 members_of-inj ps qs e = sym (pairs_in-members_of ps) ∙ ap pairs_in e ∙ pairs_in-members_of qs
 
-view-inj : (a b : Val) → view a ≡ view b → a ≡ b
+pub view-inj : (a b : Val) → view a ≡ view b → a ≡ b
 view-inj Null Null e = refl
 view-inj (Bool x) (Bool y) e = cc
 view-inj (Int x) (Int y) e = cc

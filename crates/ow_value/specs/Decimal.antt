@@ -1,5 +1,5 @@
 -- The numbers below 2 ^ 64 that decimal digits are.
-use Rattle.std.specs.Prelude.{◌==◌, ◌+◌, ◌-◌, ◌*◌, ◌^◌, ◌&&◌, ℕ, nat_lt, List, [], ◌∷◌, Option, Some, None, if◌then◌else◌, option_and_then}
+use Rattle.std.specs.Prelude.{◌==◌, ◌+◌, ◌-◌, ◌*◌, ◌^◌, ◌&&◌, ℕ, nat_le, nat_lt, List, [], ◌∷◌, Option, Some, None, if◌then◌else◌, option_and_then}
 use Rattle.std.specs.Char.{is_ascii_digit}
 
 -- a number with one more digit
@@ -21,3 +21,11 @@ abbrev pub decimal_of : List ℕ → Option ℕ
 decimal_of [] = None
 decimal_of (c ∷ []) = number_after 0 (c ∷ [])
 decimal_of (c ∷ d ∷ cs) = if c == 48 then None else number_after 0 (c ∷ d ∷ cs)
+
+-- n, where it lies between these two
+abbrev pub if_within : ℕ → ℕ → ℕ → Option ℕ
+if_within least most n = if nat_le least n && nat_le n most then Some n else None
+
+-- digits with no 0 in front of others, of a number between these two
+abbrev pub number_within : ℕ → ℕ → List ℕ → Option ℕ
+number_within least most text = option_and_then (if_within least most) (decimal_of text)

@@ -1,6 +1,6 @@
 -- A keeper over a file may go from one thread to another: each part of a database, from its smallest on.
 use denote.RattleType.{RattleType}
-use denote.Param.Send.{IsSend, IsSync, sendable}
+use denote.Param.Send.{IsSend, sendable}
 use Rattle.std.proofs.Crossing.{crosses}
 use Rattle.sqlite.below.sqlite_items.specs.contracts.items.Items as Items
 use Rattle.sqlite.below.sqlite_value.specs.contracts.value.Value as Value

@@ -2,7 +2,6 @@
 ghost use Rattle.std.specs.Prelude.{◌≡◌, ◌≢◌, ◌≤◌, ◌<◌, [], length, IfOk, Err};
 ghost use Rattle.ow_traits.specs.Streams.{Rose};
 ghost use Rattle.ow_wire.specs.Arrivals.{Fills, Receives, Splits, ended};
-ghost use Rattle.ow_http.specs.declared.http_refusal.HttpRefusal.TheVariants.{NoMemory as OutOfMemory};
 
 use ow_http::{HttpRefusal, Read, Request, Routes};
 use ow_links::Link;

@@ -6,6 +6,7 @@ use Rattle.std.proofs.lemmas.Slice.Eq.{bytes_eq-Decides}
 use Rattle.ow_words.specs.Laws.{TurnsTwo}
 use Rattle.ow_words.specs.Words.{Given, alone, command_named, command_of, day_options, day_with, each_once, given_from, is_among, is_day, is_given, is_serve, once_of, serve_options, serve_with, values_in, values_of}
 use Rattle.std.specs.Prelude.{option_and_then}
+use Rattle.std.proofs.lemmas.Bool.{and_parts}
 use Rattle.ow_words.specs.declared.command.Command.{Command}
 
 same_either_way : (xs ys : List ℕ) (b c : Bool) → bytes_eq xs ys ≡ b → bytes_eq ys xs ≡ c → b ≡ c
@@ -89,10 +90,6 @@ module _ (first second : Given) where
   each_once-turned names earlier (g ∷ before) behind =
       ap (λ r. is_among g.0 names && (not (is_given g.0 earlier) && r)) (each_once-turned names (earlier ++ g ∷ []) before behind)
 
-  right_of : (a b : Bool) → (a && b) ≡ true → b ≡ true
-  right_of true b e = e
-  right_of false b e = absurd (true≢false (sym e))
-
   left_not : (a b : Bool) → (not a && b) ≡ true → a ≡ false
   left_not true b e = absurd (true≢false (sym e))
   left_not false b e = refl
@@ -105,11 +102,11 @@ module _ (first second : Given) where
   differ : (names : List (List ℕ)) (earlier before behind : List Given) → each_once names earlier (before ++ first ∷ second ∷ behind) ≡ true → bytes_eq first.0 second.0 ≡ false
   unfolding each_once
   differ names earlier [] behind e =
-      let here = right_of (not (is_given first.0 earlier)) _ (right_of (is_among first.0 names) _ e) in
-      let new = left_not (is_given second.0 (earlier ++ first ∷ [])) _ (right_of (is_among second.0 names) _ here) in
+      let here = (and_parts (not (is_given first.0 earlier)) _ (and_parts (is_among first.0 names) _ e).1).1 in
+      let new = left_not (is_given second.0 (earlier ++ first ∷ [])) _ (and_parts (is_among second.0 names) _ here).1 in
       either_false (is_given second.0 earlier) (bytes_eq first.0 second.0) (sym (given_more second.0 earlier first) ∙ new)
   differ names earlier (g ∷ before) behind e =
-      differ names (earlier ++ g ∷ []) before behind (right_of (not (is_given g.0 earlier)) _ (right_of (is_among g.0 names) _ e))
+      differ names (earlier ++ g ∷ []) before behind (and_parts (not (is_given g.0 earlier)) _ (and_parts (is_among g.0 names) _ e).1).1
 
   -- so each name has its value in both orders
   value_turned : (name : List ℕ) (before behind : List Given) → bytes_eq first.0 second.0 ≡ false

@@ -2,9 +2,9 @@
 use Rattle.std.proofs.Common.{◌≡◌, ◌==◌, ◌&&◌, refl, ap, sym, ℕ, List, [], ◌∷◌, Bool, true, false, Some, None, Option, not, cond, is_some, nat_le, option_map, subst, true≢false}
 use Rattle.std.proofs.lemmas.Bool.{eqb-true}
 use Rattle.std.specs.Prelude.{option_and_then}
-use Rattle.ow_value.specs.Decimal.{decimal_of}
+use Rattle.ow_value.specs.Decimal.{decimal_of, if_within, number_within}
 use Rattle.ow_words.specs.Laws.{BoundsWorkers, RefusesAgain, RefusesServices, RefusesWords, TakesDays, TakesNumbers, TakesServices, TakesWords, service}
-use Rattle.ow_words.specs.Words.{connections_of, each_once, given_from, if_within, is_value, number_within, port_of, serve_by, workers_of}
+use Rattle.ow_words.specs.Words.{connections_of, each_once, given_from, is_value, port_of, serve_by, workers_of}
 
 pub takes_days : (f g : List ℕ) → is_value f ≡ true → is_value g ≡ true → TakesDays f g
 unfolding each_once given_from

@@ -1,9 +1,9 @@
 -- The command set.
-use Rattle.std.specs.Prelude.{◌≡◌, ◌==◌, ◌&&◌, ◌||◌, ℕ, Bool, true, false, List, [], ◌∷◌, ◌++◌, Option, Some, None, if◌then◌else◌, codes, find, not, nat_le, option_and_then, option_map, Result, MatchResult}
+use Rattle.std.specs.Prelude.{◌≡◌, ◌==◌, ◌&&◌, ◌||◌, ℕ, Bool, true, false, List, [], ◌∷◌, ◌++◌, Option, Some, None, if◌then◌else◌, codes, find, not, option_and_then, option_map, Result, MatchResult}
 use Rattle.std.specs.List.{list_any}
 use Rattle.std.specs.Str.{bytes_eq}
 use Rattle.clap.specs.Lexer.{long_of}
-use Rattle.ow_value.specs.Decimal.{decimal_of}
+use Rattle.ow_value.specs.Decimal.{decimal_of, number_within}
 use Rattle.ow_words.specs.declared.command.Command.{Command}
 use Rattle.ow_words.specs.declared.command.Command.TheVariants.{Day, Serve, Help, Version}
 use Rattle.ow_words.specs.declared.command.WordsRefusal.{WordsRefusal}
@@ -85,14 +85,6 @@ is_day word = bytes_eq word (codes "day")
 
 abbrev pub serve_options : List (List ℕ)
 serve_options = codes "port" ∷ codes "workers" ∷ codes "connections" ∷ codes "table" ∷ codes "store" ∷ []
-
--- n, where it lies between these two
-abbrev pub if_within : ℕ → ℕ → ℕ → Option ℕ
-if_within least most n = if nat_le least n && nat_le n most then Some n else None
-
--- decimal digits with no 0 in front of others
-abbrev pub number_within : ℕ → ℕ → List ℕ → Option ℕ
-number_within least most text = option_and_then (if_within least most) (decimal_of text)
 
 -- a service has a port, a number of 16 bits
 abbrev pub port_of : Option (List ℕ) → Option ℕ

@@ -1,7 +1,8 @@
 // What was found for single options.
-ghost use Rattle.std.specs.Prelude.{◌≡◌, ◌≤◌, IfOk, IfSome, codes, option_map};
+ghost use Rattle.std.specs.Prelude.{◌≡◌, ◌≤◌, IfOk, IfSome, codes};
+ghost use Rattle.ow_value.specs.Decimal.{number_within};
 ghost use Rattle.ow_words.specs.Parse.{values_found};
-ghost use Rattle.ow_words.specs.Words.{connections_of, number_within, port_of, workers_of};
+ghost use Rattle.ow_words.specs.Words.{connections_of, port_of, workers_of};
 
 use clap::ArgMatches;
 use ow_value::{NoMemory, Str, decimal_of};

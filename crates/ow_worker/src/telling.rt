@@ -1,6 +1,5 @@
 // What the hall is asked and told of an order.
 ghost use Rattle.std.specs.Prelude.{◌≡◌, ◌≤◌, ◌+◌, IfOk, OnOk, OnErr};
-ghost use Rattle.ow_slots.specs.State.{is_warm};
 ghost use Rattle.ow_decide.specs.declared.events.Event.TheVariants as events;
 ghost use Rattle.ow_hall.specs.Comes.{HandsBack, reply_outcome};
 ghost use Rattle.ow_desk.specs.Fitting.{Fits};

@@ -1,6 +1,6 @@
 -- What may go from one thread to another: the entries of the book. A type is shown as a field of another.
 use denote.Param.Send.{IsSend, IsSync}
-use Rattle.ow_serve.proofs.Crossing.Values.{values}
+use Rattle.ow_value.proofs.Crossing.{values}
 use Rattle.ow_traits.specs.contracts.row_list.Rows as Rows
 use Rattle.ow_hall.below.ow_http.specs.contracts.request.Request as Request
 use Rattle.ow_traits.specs.contracts.replies.RunReply as RunReply

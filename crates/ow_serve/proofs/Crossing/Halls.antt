@@ -1,7 +1,7 @@
 -- What may go from one thread to another: a hall, a desk, and receipts.
 use denote.RattleType.{RattleType}
 use denote.Param.Send.{IsSend, IsSync}
-use Rattle.ow_serve.proofs.Crossing.Values.{values}
+use Rattle.ow_value.proofs.Crossing.{values}
 use Rattle.ow_serve.proofs.Crossing.Entries.{answer_send, entry_send}
 use Rattle.ow_traits.specs.declared.keepers.Keeper as Keeper
 use Rattle.ow_tenant.specs.contracts.tenants.Tenants as Tenants

@@ -1,18 +1,15 @@
-use Rattle.std.proofs.Common.{◌≡◌, ◌||◌, Bool, true, false, not, Err, refl}
+use Rattle.std.proofs.Common.{◌≡◌, false, not, Err, refl}
 use Rattle.std.specs.List.{list_all}
 use Rattle.std.specs.Str.{is_utf8}
+use Rattle.std.proofs.Math.Bool.{or-true}
 use Rattle.ow_http.specs.declared.http_refusal.HttpRefusal.TheVariants.{BadHead}
 use Rattle.ow_http.specs.Headers.{is_text}
 use Rattle.ow_http.specs.Judged.{Asked, judged}
 use Rattle.ow_http.proofs.read.read_asked.Goals as goal
 
-or_true : (b : Bool) → (b || true) ≡ true
-or_true true = refl
-or_true false = refl
-
 no_target : (a : Asked) → is_utf8 a.target ≡ false → judged a ≡ Err BadHead
 unfolding judged
-no_target a e = rw (e, or_true (not (list_all is_text a.fields))) refl
+no_target a e = rw (e, or-true (not (list_all is_text a.fields))) refl
 
 no_text : (a : Asked) → list_all is_text a.fields ≡ false → judged a ≡ Err BadHead
 unfolding judged

@@ -1,8 +1,8 @@
 use Rattle.std.proofs.Common.{ap, ◌∙◌}
 use Rattle.ow_value.specs.Find.{find}
 use Rattle.ow_value.specs.View.{view}
+use Rattle.ow_value.proofs.Equal.{tested}
 use Rattle.ow_runners.specs.Equality.{is_value}
-use Rattle.ow_runners.proofs.Equal.{tested}
 use Rattle.ow_runners.proofs.plain_cases.has.Goals as goal
 
 pub returns-in-Some : goal.returns-in-Some

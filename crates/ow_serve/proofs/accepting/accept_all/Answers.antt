@@ -16,10 +16,17 @@ loop-init g c = record { seated = seated_none _ _ _ _ _ c.new-seats.ensures.item
 pub returns-in-Ok-Closed-clause-accepted : goal.returns-in-Ok-Closed-clause-accepted
 returns-in-Ok-Closed-clause-accepted g c =
     let over = no_more _ _ (rw c.in-Ok-Closed.field-0-is at c.in-Ok-Closed.ensures.told) in
-    (seated_still _ _ _ _ _ _ _ _ _ over.0 c.reserve.ensures.items c.loop.invariant.seated, inl over.1)
+    let count = c.loop.invariant.count in
+    let below = c.loop-test.true in
+    let same = ap length c.reserve.ensures.items in
+    (seated_still _ _ _ _ _ _ _ _ _ over.0 c.reserve.ensures.items c.loop.invariant.seated, omega (arith, count, below, same), inl over.1)
 
 pub returns-in-Err-clause-accepted : goal.returns-in-Err-clause-accepted
-returns-in-Err-clause-accepted g c = seated_still _ _ _ _ _ _ _ _ _ (failed _ _ _ c.in-Err.ensures.told) c.reserve.ensures.items c.loop.invariant.seated
+returns-in-Err-clause-accepted g c =
+    let count = c.loop.invariant.count in
+    let below = c.loop-test.true in
+    let same = ap length c.reserve.ensures.items in
+    (seated_still _ _ _ _ _ _ _ _ _ (failed _ _ _ c.in-Err.ensures.told) c.reserve.ensures.items c.loop.invariant.seated, omega (arith, count, below, same))
 
 pub loop-preserved : goal.loop-preserved
 loop-preserved g c =
@@ -31,8 +38,8 @@ loop-preserved g c =
     let begun = c.in-Ok.duty in
     let mine : (begun.work ≡ Serves c.in-Ok-Peer.link) × (begun.notes.notes ≡ no_notes) × (outset (g.C.Clock.tells begun.clock.value) begun.opened (view_of begun.pass) ≡ fresh_outset T H.opened) = (duty.0, duty.1, duty.2 ∙ ap₂ (λ a o. fresh_outset (g.C.Clock.tells a.value) o) before.clock before.opened) in
     record {
-      seated = seated_more _ _ (λ t d. Ends g.K.Link.left g.K.Link.taken g.R.Runner.gives g.R.Runner.tally (outset (g.C.Clock.tells t.clock.value) t.opened (view_of t.pass)) t.work t.notes.notes d.notes.notes d.ending)
-          (λ t k d mine e. served_by g.K.Link.left g.K.Link.taken g.R.Runner.gives g.R.Runner.tally (outset (g.C.Clock.tells t.clock.value) t.opened (view_of t.pass)) T H.opened t.work k t.notes.notes d.notes.notes d.ending mine.0 mine.1 mine.2 e)
+      seated = seated_more _ _ (λ t d. Ends g.K.Link.left g.K.Link.taken g.R.Runner.gives g.R.Runner.tally (outset (g.C.Clock.tells t.clock.value) t.opened (view_of t.pass)) t.work t.notes.notes d.notes.notes d.ending d.runner)
+          (λ t k d mine e. served_by g.K.Link.left g.K.Link.taken g.R.Runner.gives g.R.Runner.tally (outset (g.C.Clock.tells t.clock.value) t.opened (view_of t.pass)) T H.opened t.work k t.notes.notes d.notes.notes d.ending d.runner mine.0 mine.1 mine.2 e)
           _ _ _ _ _ _ _ _ _ _ c.in-Ok.duty c.in-Ok-Peer.link c.begin.result c.in-Some.seat
           (one_came _ _ c.in-Ok-Peer.link (rw c.in-Ok-Peer.field-0-is at c.in-Ok-Peer.ensures.told)) mine c.begin.ensures (sym c.seat_of.ensures ∙ c.in-Some.is) put before.seated;
       notes = c.duty.ensures.notes ∙ before.notes;

@@ -1,5 +1,6 @@
 use Rattle.std.proofs.Common.{map}
-use Rattle.ow_serve.proofs.Whole.{book_begins, ok_of}
+use Rattle.ow_hall.proofs.Joined.{ok_of}
+use Rattle.ow_serve.proofs.Whole.{book_begins}
 use Rattle.ow_serve.proofs.leaving.leave.Goals as goal
 
 pub returns-in-Ok-Ok-clause-begins : goal.returns-in-Ok-Ok-clause-begins

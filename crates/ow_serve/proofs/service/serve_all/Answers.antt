@@ -21,16 +21,16 @@ returns-in-Ok-clause-serves g c =
     let accepted = accepts_as (λ (o : Outset) t k. (t.work ≡ Serves k) × (t.notes.notes ≡ no_notes) × (outset (g.C.Clock.tells t.clock.value) t.opened (view_of t.pass) ≡ o))
     g.K.Link.left g.K.Link.taken (λ d. d.notes.notes) (λ d. d.ending) _ (fresh_outset T H.opened) _ _ _ _ _ _ _ (ap₂ (λ a o. fresh_outset (g.C.Clock.tells a.value) o) begun.0 begun.1) c.accept_all-seats.ensures.accepted in
     let closes = closes_as _ T _ H.notes.notes
-    (λ t d. Ends g.K.Link.left g.K.Link.taken g.R.Runner.gives g.R.Runner.tally (outset (g.C.Clock.tells t.clock.value) t.opened (view_of t.pass)) t.work t.notes.notes d.notes.notes d.ending)
+    (λ t d. Ends g.K.Link.left g.K.Link.taken g.R.Runner.gives g.R.Runner.tally (outset (g.C.Clock.tells t.clock.value) t.opened (view_of t.pass)) t.work t.notes.notes d.notes.notes d.ending d.runner)
     (λ d. d.notes.notes) (λ d. d.ending) c.started-first.result c.accept_all-seats.new.crew.tasks _ _ _ _ _ _ (ap (λ a. g.C.Clock.tells a.value) (behind.0 ∙ begun.0)) (c.accept_all-seats.ensures.notes ∙ c.begin_all.ensures.notes) c.close.ensures.closes in
     rw (← c.unwrap_or-most.ensures)
     (serves_by (Drains T H.notes.notes) g.K.Link.left g.K.Link.taken T (λ d. d.notes.notes) (λ d. d.ending)
     (λ t k. (t.work ≡ Serves k) × (t.notes.notes ≡ no_notes) × (outset (g.C.Clock.tells t.clock.value) t.opened (view_of t.pass) ≡ fresh_outset T H.opened))
-    (λ t d. Ends g.K.Link.left g.K.Link.taken g.R.Runner.gives g.R.Runner.tally (outset (g.C.Clock.tells t.clock.value) t.opened (view_of t.pass)) t.work t.notes.notes d.notes.notes d.ending)
-    (λ t k d mine e. served_by g.K.Link.left g.K.Link.taken g.R.Runner.gives g.R.Runner.tally (outset (g.C.Clock.tells t.clock.value) t.opened (view_of t.pass)) T H.opened t.work k t.notes.notes d.notes.notes d.ending mine.0 mine.1 mine.2 e)
+    (λ t d. Ends g.K.Link.left g.K.Link.taken g.R.Runner.gives g.R.Runner.tally (outset (g.C.Clock.tells t.clock.value) t.opened (view_of t.pass)) t.work t.notes.notes d.notes.notes d.ending d.runner)
+    (λ t k d mine e. served_by g.K.Link.left g.K.Link.taken g.R.Runner.gives g.R.Runner.tally (outset (g.C.Clock.tells t.clock.value) t.opened (view_of t.pass)) T H.opened t.work k t.notes.notes d.notes.notes d.ending d.runner mine.0 mine.1 mine.2 e)
     (AllWork g.R.Runner.gives g.R.Runner.tally (fresh_outset T H.opened) c.args.runners.items)
     _ _ _ _ _ _ _ _ _ _ _ _
-    (λ os all. all_work g.K.Link.left g.K.Link.taken g.R.Runner.gives g.R.Runner.tally (λ d. d.notes.notes) (λ d. d.ending) (fresh_outset T H.opened) (λ t. t.work) (λ t. t.notes.notes) (λ t. outset (g.C.Clock.tells t.clock.value) t.opened (view_of t.pass)) _ _ _ os c.in-Ok.ensures.begins c.requires.fresh all)
+    (λ os all. all_work g.K.Link.left g.K.Link.taken g.R.Runner.gives g.R.Runner.tally (λ d. d.notes.notes) (λ d. d.ending) (λ d. d.runner) (fresh_outset T H.opened) (λ t. t.work) (λ t. t.notes.notes) (λ t. outset (g.C.Clock.tells t.clock.value) t.opened (view_of t.pass)) _ _ _ os c.in-Ok.ensures.begins c.requires.fresh all)
     c.started-first.ensures accepted closes)
 
 pub returns-in-Ok-clause-begins : goal.returns-in-Ok-clause-begins

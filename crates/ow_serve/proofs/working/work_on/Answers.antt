@@ -19,4 +19,5 @@ returns-then-is_over-clause-turns g c = record {
   last = stand c.loop.notes.notes (view_of c.loop.pass) (g.R.Runner.tally c.loop.runner);
   works = c.loop.invariant.works;
   notes = refl;
+  ran = refl;
 }

@@ -1,5 +1,5 @@
 use Rattle.std.proofs.Common.{inl}
-use Rattle.ow_invoker.proofs.Running.{once_before, replied_on, steady_trans}
+use Rattle.ow_invoker.proofs.Running.{replied_on, runs_idles}
 use Rattle.ow_worker.proofs.Carried.{carried_turns}
 use Rattle.ow_worker.proofs.runs.perform.Goals as goal
 
@@ -8,18 +8,12 @@ returns-in-Ok-clause-performs g c = carried_turns c.settle.result (record {
   reply = c.in-Ok.reply;
   replies = replied_on (g.R.Runner.tally c.settle.new.runner) c.args.order.kind c.args.order.code c.args.order.params c.in-Ok.reply c.in-Ok.ensures.runs.steady c.settle.ensures.runner.steady.later c.in-Ok.ensures.reply;
   opened = c.tell_begun.new.notes.notes;
-  opens = inl (c.requires.started, c.tell_begun.ensures.begun, once_before (g.R.Runner.tally c.args.runner.now) (g.R.Runner.tally c.run.new.runner) (g.R.Runner.tally c.settle.new.runner) c.in-Ok.ensures.runs.ran c.settle.ensures.runner.ran);
+  opens = inl (c.requires.started, c.tell_begun.ensures.begun, (runs_idles c.in-Ok.ensures.runs c.settle.ensures.runner).ran);
   settles = c.settle.ensures.settled;
 })
 
 pub returns-in-Ok-clause-runner : goal.returns-in-Ok-clause-runner
-returns-in-Ok-clause-runner g c = record {
-  steady = steady_trans c.in-Ok.ensures.runs.steady c.settle.ensures.runner.steady;
-  ran = once_before (g.R.Runner.tally c.args.runner.now) (g.R.Runner.tally c.run.new.runner) (g.R.Runner.tally c.settle.new.runner) c.in-Ok.ensures.runs.ran c.settle.ensures.runner.ran;
-}
+returns-in-Ok-clause-runner g c = runs_idles c.in-Ok.ensures.runs c.settle.ensures.runner
 
 pub returns-in-Err-clause-runner : goal.returns-in-Err-clause-runner
-returns-in-Err-clause-runner g c = record {
-  steady = steady_trans c.in-Err.ensures.runs.steady c.stop.ensures.steady;
-  ran = once_before (g.R.Runner.tally c.args.runner.now) (g.R.Runner.tally c.run.new.runner) (g.R.Runner.tally c.stop.new.runner) c.in-Err.ensures.runs.ran c.stop.ensures.ran;
-}
+returns-in-Err-clause-runner g c = runs_idles c.in-Err.ensures.runs c.stop.ensures

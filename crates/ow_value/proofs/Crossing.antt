@@ -29,10 +29,10 @@ str_send = search (sendable, crosses) depth 50 fits 20000
 pub str_sync : IsSync Str.the_row
 str_sync = search (sendable, crosses) depth 50 fits 20000
 
-whole_send : IsSend Whole.the_row
+pub whole_send : IsSend Whole.the_row
 whole_send = search (sendable, crosses) depth 50 fits 20000
 
-whole_sync : IsSync Whole.the_row
+pub whole_sync : IsSync Whole.the_row
 whole_sync = search (sendable, crosses) depth 50 fits 20000
 
 -- A value holds lists and objects of values: the two are shown together.
