@@ -25,7 +25,7 @@ standing_at k ps = map (λ p. p.entry) (filter (λ p. p.place == k) ps)
 abbrev pub times : ℕ → List Placed → ℕ
 times k ps = count_by (λ p. p.place == k) ps
 
--- the book, the oldest entry first, has this entry at its place
+-- the book, the oldest entry first, has this entry at its place, for private clauses
 abbrev pub IsBooked : List Entry → Placed → Type 0
 IsBooked book p = slice_get book p.place ≡ Some p.entry
 
@@ -34,20 +34,20 @@ pub record IsRight (book : List Entry) (ps : List Placed) (k : ℕ) : Type 0 whe
   pub same : All (λ e. slice_get book k ≡ Some e) (standing_at k ps)
   pub stands : k < length book → 0 < times k ps
 
--- for each place of the book how many times it stands there
+-- for each place of the book how many times it stands there, for private clauses
 pub record AreTimes (book : ℕ) (ps : List Placed) (counts : List ℕ) : Type 0 where
   pub len : length counts ≡ book
   pub counted : (k : ℕ) → k < book → slice_index counts k ≡ capped (times k ps)
 
 -- ---- the least place with an entry that isn't the book's
 
--- of two entries the one at the lesser place, the first where they stand at one
+-- of two entries the one at the lesser place, the first where they stand at one, for private clauses
 abbrev pub sooner : Option Placed → Option Placed → Option Placed
 sooner None q = q
 sooner (Some p) None = Some p
 sooner (Some p) (Some q) = cond (nat_le p.place q.place) (Some p) (Some q)
 
--- an entry that isn't the book's, with none at a lesser place; none where each is the book's
+-- an entry that isn't the book's, with none at a lesser place; none where each is the book's, for private clauses
 abbrev pub IsSoonest : List Entry → List Placed → Option Placed → Type 0
 IsSoonest book ps None = All (IsBooked book) ps
 IsSoonest book ps (Some w) = Contains ps w × (IsBooked book w → ⊥) × All (λ p. p.place < w.place → IsBooked book p) ps

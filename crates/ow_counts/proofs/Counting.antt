@@ -6,7 +6,7 @@ use Rattle.std.proofs.lemmas.List.Sums.{sum_by-append}
 use Rattle.ow_records.specs.declared.ids.Id.{Id}
 use Rattle.ow_records.specs.Id.{same_id}
 use Rattle.ow_records.specs.declared.activations.Activation.{Activation}
-use Rattle.ow_floor.specs.View.{is_end_of}
+use Rattle.ow_records.specs.Records.{is_of_id}
 use Rattle.ow_floor.specs.Trace.{End, record_of}
 use Rattle.ow_floor.specs.Laws.{AreApart, IsAmong, IsApart, times}
 use Rattle.ow_floor.proofs.Alters.{same_id_refl}
@@ -64,7 +64,7 @@ ended_ids es = map (λ e. e.task.id) es
 
 -- no end has this id
 abbrev pub is_out : List End → Id → Bool
-is_out es id = is_none (find (is_end_of id) (map record_of es))
+is_out es id = is_none (find (is_of_id id) (map record_of es))
 
 out_more : (e : End) (es : List End) (id : Id) → same_id e.task.id id ≡ false → is_out (e ∷ es) id ≡ is_out es id
 out_more e es id apart = rw apart refl

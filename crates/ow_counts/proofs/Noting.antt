@@ -6,7 +6,7 @@ use Rattle.ow_records.specs.declared.ids.Id.{Id}
 use Rattle.ow_records.specs.declared.record.Record.{Record}
 use Rattle.ow_records.specs.declared.activations.Activation.{Activation}
 use Rattle.ow_floor.specs.declared.runs.Run.{Run}
-use Rattle.ow_floor.specs.View.{is_end_of}
+use Rattle.ow_records.specs.Records.{is_of_id}
 use Rattle.ow_floor.specs.Trace.{Trace, Item, End, Opened, Resumed, Accepted, Ordered, Prewarming, Removed, Begun, Answered, Lost, Gone, Ended, Swept, Drained, Reopened, accepted, accepted_after, carrier, end_of, ends, ends_after, record_of, recorded, records, records_after, standing_by}
 use Rattle.ow_floor.specs.Laws.{IsSound, times}
 use Rattle.ow_floor.proofs.Tallies.{times_once}
@@ -97,7 +97,7 @@ stands_open None r = refl
 stands_open (Some e) r = refl
 
 open_out : (T : Trace) (a : Activation) → is_open T a ≡ is_out (ends T) a.id
-open_out T a = stands_open (end_of T a.id) (carrier T a.id) ∙ ap (λ (rs : List Record). is_none (find (is_end_of a.id) rs)) (records_of T)
+open_out T a = stands_open (end_of T a.id) (carrier T a.id) ∙ ap (λ (rs : List Record). is_none (find (is_of_id a.id) rs)) (records_of T)
 
 ended_ids : (es : List End) → map (λ r. r.id) (map record_of es) ≡ map (λ e. e.task.id) es
 ended_ids [] = refl

@@ -6,7 +6,8 @@ use Rattle.std.proofs.lemmas.List.Quantifiers.{position-Some}
 use Rattle.ow_day.specs.declared.first.First.{First as Code}
 use Rattle.ow_day.specs.declared.first.First.TheVariants as firsts
 use Rattle.ow_day.specs.Limits.{most_line}
-use Rattle.ow_day.specs.Statement.{Reading, Logged, Whole, Asks, Logs, is_newline, line_of}
+use Rattle.ow_runners.specs.Program.{is_newline}
+use Rattle.ow_day.specs.Statement.{Reading, Logged, Whole, Asks, Logs, line_of}
 use Rattle.ow_day.specs.Day.{Found, LinesAre, lines_in, logged}
 use Rattle.ow_day.specs.First.{AwaitsBehind, AwaitsLines, AwaitsNone, IsLogs}
 use Rattle.ow_day.specs.Line.{lines_of, read_lines}

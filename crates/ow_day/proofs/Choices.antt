@@ -1,5 +1,5 @@
 -- What a choice between two values tells of its test, and tests of numbers.
-use Rattle.std.proofs.Common.{◌≡◌, ◌<◌, ◌==◌, ℕ, Bool, true, false, Option, Some, None, if◌then◌else◌, refl, arith}
+use Rattle.std.proofs.Common.{◌≡◌, ◌<◌, ◌==◌, ℕ, Bool, true, false, nat_lt, Option, Some, None, if◌then◌else◌, refl, arith}
 use Rattle.std.proofs.lemmas.Bool.Decides.{nat_tests}
 use Rattle.std.proofs.lemmas.Option.{none-some}
 
@@ -17,6 +17,9 @@ either false x y z e first second = second refl e
 
 pub is_apart : (m n : ℕ) → n < m → (m == n) ≡ false
 is_apart m n lt = grind (arith, nat_tests)
+
+pub over : (m n : ℕ) → nat_lt m n ≡ false → (m == n) ≡ false → n < m
+over m n lt eq = grind (arith, nat_tests)
 
 pub some_by : (n : ℕ) → (n == 0) ≡ false → 0 < n
 some_by n is = grind (arith, nat_tests)

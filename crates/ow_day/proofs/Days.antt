@@ -2,13 +2,13 @@
 use Rattle.std.proofs.Common.{◌≡◌, ◌<◌, ◌+◌, ◌-◌, ◌++◌, ◌==◌, ℕ, zero, suc, Bool, true, false, nat_lt, List, [], ◌∷◌, Option, Some, None, if◌then◌else◌, length, take, drop, position, slice_index, refl, sym, ap, ◌∙◌, arith, append_assoc, append-nil, length-append, length-take}
 use Rattle.std.specs.Option.{option_map}
 use Rattle.std.proofs.lemmas.Bool.{le-ltb, lt-ltb, ltb-true}
-use Rattle.std.proofs.lemmas.Bool.Decides.{nat_tests}
 use Rattle.std.proofs.lemmas.List.{take-append-le, drop-append-le}
 use Rattle.std.proofs.lemmas.List.Quantifiers.{position-Some}
 use Rattle.ow_day.specs.Limits.{most_line}
-use Rattle.ow_day.specs.Statement.{Statement, At, Call, Ask, Next, Begun, Answer, Logged, Exit, NoStart, Fault, Lost, Gone, Sweep, Turn, Collect, Drain, Reopen, End, Reading, Whole, Asks, Logs, is_newline, line_of}
+use Rattle.ow_runners.specs.Program.{is_newline}
+use Rattle.ow_day.specs.Statement.{Statement, At, Call, Ask, Next, Begun, Answer, Logged, Exit, NoStart, Fault, Lost, Gone, Sweep, Turn, Collect, Drain, Reopen, End, Reading, Whole, Asks, Logs, line_of}
 use Rattle.ow_day.specs.Day.{Day, Finished, TooLong, ended, with_statements, First, Found, Wrong, Cut, Lines, LinesAre, NoLines, CutLines, line_at, lines_in, logged, asked, behind_line, first_in, first_statement, going_on, day_step, day_from}
-use Rattle.ow_day.proofs.Choices.{is_apart}
+use Rattle.ow_day.proofs.Choices.{is_apart, over}
 use Rattle.ow_day.proofs.Logging.{lines_extended, lines_last, lines_longer}
 use Rattle.ow_day.proofs.Newlines.{position-append_none, position-append_some}
 
@@ -73,9 +73,6 @@ index_before : (bytes later : List ℕ) (n : ℕ) → n < length bytes → slice
 index_before [] later n lt = absurd (omega arith)
 index_before (c ∷ cs) later zero lt = refl
 index_before (c ∷ cs) later (suc n) lt = index_before cs later n (omega arith)
-
-over : (m n : ℕ) → nat_lt m n ≡ false → (m == n) ≡ false → n < m
-over m n lt eq = grind (arith, nat_tests)
 
 asked_at : (more : Bool) (count : ℕ) (bytes later : List ℕ) (a b : Bool) → nat_lt (length bytes) count ≡ a → (length bytes == count) ≡ b
     → (asked true count bytes ≡ Cut → ⊥) → asked more count (bytes ++ later) ≡ extended later (asked true count bytes)

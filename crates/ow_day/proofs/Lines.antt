@@ -8,7 +8,7 @@ use Rattle.std.proofs.lemmas.Option.{none-some, same_Some, some_pair_parts}
 use Rattle.std.proofs.lemmas.Slice.Eq.{bytes_eq-Decides}
 use Rattle.std.proofs.lemmas.Str.{IsUtf8-from_is_utf8}
 use Rattle.ow_value.specs.Decimal.{decimal_of}
-use Rattle.ow_hall.specs.History.{greatest_moment}
+use Rattle.ow_keep.specs.declared.allowed.TheConstants.{GREATEST_MOMENT}
 use Rattle.ow_records.specs.declared.ids.Id.{Id}
 use Rattle.ow_records.specs.LowerId.{id_of_lower}
 use Rattle.ow_day.specs.Limits.{most_line}
@@ -231,9 +231,9 @@ at_by : (rest : List ℕ) (o : Option ℕ) (r : Reading) → decimal_of rest ≡
 unfolding printed
 at_by rest None r is e = absurd (none-some r e)
 at_by rest (Some moment) r is e =
-    let some = if_later (nat_lt greatest_moment moment) _ r e in
+    let some = if_later (nat_lt GREATEST_MOMENT moment) _ r e in
     subst (λ s. IsWritten (codes "at " ++ rest) s) (same_Some (Whole (At moment)) r some.1)
-    (ltb-false greatest_moment moment some.0, ap (λ d. codes "at " ++ d) (sym (decimal_read rest moment is).1))
+    (ltb-false GREATEST_MOMENT moment some.0, ap (λ d. codes "at " ++ d) (sym (decimal_read rest moment is).1))
 
 at_written : (rest : List ℕ) (r : Reading) → at_of rest ≡ Some r → IsWritten (codes "at " ++ rest) r
 unfolding at_of

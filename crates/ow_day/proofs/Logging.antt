@@ -5,7 +5,7 @@ use Rattle.std.proofs.lemmas.Bool.{le-ltb, lt-ltb, ltb-true}
 use Rattle.std.proofs.lemmas.List.{drop-drop, take-append-le, drop-append-le}
 use Rattle.std.proofs.lemmas.List.Quantifiers.{position-Some}
 use Rattle.ow_day.specs.Limits.{most_line}
-use Rattle.ow_day.specs.Statement.{is_newline}
+use Rattle.ow_runners.specs.Program.{is_newline}
 use Rattle.ow_day.specs.Day.{FirstLine, LineIs, NoLine, CutLine, Lines, LinesAre, NoLines, CutLines, first_line, line_at, line_in, line_with, lines_in, lines_step, log_text, with_line}
 use Rattle.ow_day.specs.Logs.{AreRead, with_lines}
 use Rattle.ow_day.proofs.Choices.{is_apart, some_by}

@@ -7,7 +7,7 @@ use Rattle.std.proofs.lemmas.Bool.Decides.{nat_tests}
 use Rattle.std.proofs.lemmas.Fmt.{length-decimal-le}
 use Rattle.std.proofs.lemmas.List.{get_or_at}
 use Rattle.std.proofs.lemmas.Str.{is_utf8-from_IsUtf8}
-use Rattle.ow_hall.specs.History.{greatest_moment}
+use Rattle.ow_keep.specs.declared.allowed.TheConstants.{GREATEST_MOMENT}
 use Rattle.ow_day.specs.Limits.{most_line}
 use Rattle.ow_day.specs.Statement.{Statement, At, Call, Ask, Next, Begun, Answer, Logged, Exit, NoStart, Fault, Lost, Gone, Sweep, Turn, Collect, Drain, Reopen, End, Whole, Asks, Logs, answer_of, ask_of, at_of, begun_of, call_of, collect_of, container_of, exit_of, fault_of, gone_of, line_of, logged_of, lost_of, no_start_of, numbered, reply_of, utf8_text, worded}
 use Rattle.ow_day.specs.Day.{Found, asked, behind_line, first_statement, lines_in, logged}
@@ -75,9 +75,9 @@ unfolding gone_of
 gone_back slot generation small few =
     rw (numbered_back slot (decimal generation) (omega arith), decimal_of-decimal generation (omega arith), le-ltb 4294967295 slot (omega arith), le-ltb 4294967295 generation (omega arith)) refl
 
-at_back : (moment : ℕ) → moment ≤ greatest_moment → at_of (decimal moment) ≡ Some (Whole (At moment))
+at_back : (moment : ℕ) → moment ≤ GREATEST_MOMENT → at_of (decimal moment) ≡ Some (Whole (At moment))
 unfolding at_of
-at_back moment most = rw (decimal_of-decimal moment (omega arith), le-ltb greatest_moment moment most) refl
+at_back moment most = rw (decimal_of-decimal moment (omega arith), le-ltb GREATEST_MOMENT moment most) refl
 
 ask_back : (count : ℕ) → count ≤ most_line → ask_of (decimal count) ≡ Some (Asks count)
 unfolding ask_of
@@ -185,7 +185,7 @@ request_back request most =
 none_in_text : (text : List ℕ) → IsLineText text → position (λ c. c == 10) (32 ∷ text) ≡ None
 none_in_text text line = none_in_both 10 (codes " ") text refl (none_there 10 text line.newline)
 
-moment_back : (moment : ℕ) → moment ≤ greatest_moment → IsReadBack (At moment)
+moment_back : (moment : ℕ) → moment ≤ GREATEST_MOMENT → IsReadBack (At moment)
 unfolding printed
 moment_back moment most =
     let short : length (decimal moment) ≤ 15 = length-decimal-le 15 moment (omega arith) (omega arith) (omega arith) in

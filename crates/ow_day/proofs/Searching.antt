@@ -5,7 +5,8 @@ use Rattle.std.proofs.Math.Seq.{take-length}
 use Rattle.std.proofs.lemmas.List.{drop-append-le, drop-drop, take-append-le, take_rest}
 use Rattle.std.proofs.lemmas.List.Quantifiers.{position-Some}
 use Rattle.ow_day.specs.Limits.{most_line}
-use Rattle.ow_day.specs.Statement.{Logs, is_newline, line_of}
+use Rattle.ow_runners.specs.Program.{is_newline}
+use Rattle.ow_day.specs.Statement.{Logs, line_of}
 use Rattle.ow_day.specs.Day.{Cut, CutLines, LineIs, LinesAre, first_line, first_statement, lines_in, with_line}
 use Rattle.ow_day.specs.Search.{Awaits, IsSearched}
 use Rattle.ow_day.specs.declared.search.Search.{Search}

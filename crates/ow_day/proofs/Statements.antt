@@ -3,14 +3,13 @@ use Rattle.std.proofs.Common.{◌≡◌, ◌⊎◌, ℕ, zero, suc, ◌==◌, �
 use Rattle.std.specs.Fmt.{decimal}
 use Rattle.std.specs.List.{All}
 use Rattle.std.proofs.lemmas.Bool.{eqb-true}
-use Rattle.std.proofs.lemmas.Bool.Decides.{nat_tests}
 use Rattle.std.proofs.lemmas.List.{drop_more, take-append-drop}
 use Rattle.std.proofs.lemmas.List.Elements.{All-cons, All-nil}
 use Rattle.ow_day.specs.Limits.{most_line}
 use Rattle.ow_day.specs.Statement.{Statement, At, Call, Ask, Next, Begun, Answer, Logged, Exit, NoStart, Fault, Lost, Gone, Sweep, Turn, Collect, Drain, Reopen, End, Reading, Whole, Asks, Logs, line_of}
 use Rattle.ow_day.specs.Day.{Day, First, Found, Wrong, Cut, Lines, LinesAre, NoLines, CutLines, lines_in, logged, asked, at_end, behind_line, day_from, day_of, day_step, first_in, first_statement, going_on, has_more, line_at, window}
 use Rattle.ow_day.specs.Printed.{HasNo, IsLogLine, IsPrintable, IsPrintedAt, logs_head, printed, printed_logs}
-use Rattle.ow_day.proofs.Choices.{either}
+use Rattle.ow_day.proofs.Choices.{either, over}
 use Rattle.ow_day.proofs.Lines.{IsWritten, line_written}
 use Rattle.ow_day.proofs.Parting.{nowhere, split_at}
 use Rattle.ow_day.proofs.PrintedLogs.{ArePrinted, lines_printed, of_nothing}
@@ -44,9 +43,6 @@ asked_all more count bytes later s all e =
     let same = ends_found more (Ask bytes) s [] later e in
     record { request = bytes; is = same.0; size = eqb-true (length bytes) count all; ends = inr (refl, sym same.1) }
 
-within_by : (m n : ℕ) → nat_lt m n ≡ false → (m == n) ≡ false → n < m
-within_by m n lt eq = grind (arith, nat_tests)
-
 asked_some : (count : ℕ) (bytes later : List ℕ) (s : Statement) → count < length bytes → (slice_index bytes count == 10) ≡ true → Found (Ask (take count bytes)) (drop (count + 1) bytes) ≡ Found s later → IsAsked count bytes s later
 asked_some count bytes later s lt is e =
     let same = same_found (Ask (take count bytes)) s (drop (count + 1) bytes) later e in
@@ -64,7 +60,7 @@ unfolding asked
 asked_read more count bytes later s e =
     either (nat_lt (length bytes) count) _ _ _ e (λ _ e. absurd (ends_wrong more s later e)) (λ enough e.
     either (length bytes == count) _ _ _ e (λ all e. asked_all more count bytes later s all e) (λ part e.
-    either (slice_index bytes count == 10) _ _ _ e (λ is e. asked_some count bytes later s (within_by (length bytes) count enough part) is e) (λ _ e.
+    either (slice_index bytes count == 10) _ _ _ e (λ is e. asked_some count bytes later s (over (length bytes) count enough part) is e) (λ _ e.
     absurd (not_wrong s later e))))
 
 -- ---- behind a line

@@ -1,8 +1,7 @@
 -- What the words of a call of the day come to: their first refusal, or the action and its parameters.
 use Rattle.std.specs.Prelude.{ℕ, Bool, List, Option, Some, None, Result, Ok, Err, if◌then◌else◌}
 use Rattle.percent_encoding.specs.Percent.{percent_decode}
-use Rattle.ow_value.specs.Value.{V, Pairs, object}
-use Rattle.ow_value.specs.Field.{pairs_in}
+use Rattle.ow_value.specs.Value.{V, Pairs}
 use Rattle.ow_value.specs.Read.{reading}
 use Rattle.ow_value.specs.declared.reader.ValueRefusal.{ValueRefusal}
 use Rattle.ow_names.specs.Path.{of_full_text}
@@ -10,6 +9,7 @@ use Rattle.ow_names.specs.declared.full.FullName.{FullName}
 use Rattle.ow_names.specs.declared.refusal.NameRefusal.{NameRefusal}
 use Rattle.ow_entity.specs.declared.field_name.FieldName.TheVariants.{Body}
 use Rattle.ow_entity.specs.declared.refusal.EntityRefusal.TheVariants.{WrongType}
+use Rattle.ow_records.specs.FieldsIn.{as_object}
 use Rattle.ow_http.specs.declared.call_refusal.CallRefusal.TheVariants.{BadName, BadValue, BadEntity}
 use Rattle.ow_http.specs.declared.reason.Reason.{Reason}
 use Rattle.ow_http.specs.declared.reason.Reason.TheVariants as reasons
@@ -25,17 +25,13 @@ full_name name = of_full_text (percent_decode name)
 
 -- ---- TEXT
 
-abbrev pub object_in : V → Option Pairs
-object_in (object members) = Some (pairs_in members)
-object_in v = None
-
 abbrev pub or_wrong : Option Pairs → Result Pairs Reason
 or_wrong (Some params) = Ok params
 or_wrong None = Err (reasons.Call (BadEntity (WrongType Body)))
 
 -- the parameters that a value is
 abbrev pub params_in : Result V ValueRefusal → Result Pairs Reason
-params_in (Ok v) = or_wrong (object_in v)
+params_in (Ok v) = or_wrong (as_object v)
 params_in (Err e) = Err (reasons.Call (BadValue e))
 
 -- ---- the call

@@ -2,7 +2,8 @@
 use Rattle.std.specs.Prelude.{◌+◌, ◌++◌, ◌==◌, ◌&&◌, ℕ, Bool, true, false, not, nat_lt, List, [], ◌∷◌, Option, Some, None, if◌then◌else◌, length, take, drop, position, slice_index}
 use Rattle.std.proofs.Common.{zero, suc}
 use Rattle.ow_day.specs.Limits.{most_bytes, most_line}
-use Rattle.ow_day.specs.Statement.{Statement, Ask, Logged, End, Reading, Whole, Asks, Logs, is_newline, line_of, utf8_text}
+use Rattle.ow_runners.specs.Program.{is_newline}
+use Rattle.ow_day.specs.Statement.{Statement, Ask, Logged, End, Reading, Whole, Asks, Logs, line_of, utf8_text}
 
 pub data DayEnd : Type 0 where
   Finished : DayEnd

@@ -127,7 +127,7 @@ abbrev pub LeavesTable : Option (List ℕ) → Option (List ℕ) → Status → 
 LeavesTable None left status = Unit {0}
 LeavesTable (Some text) left status = (status ≡ statuses.NoMemory) ⊎ ((status ≡ statuses.ReadFault) ⊎ (left ≡ Some (drop most_read text)))
 
--- how it ends where the table isn't read
+-- how it ends where the table isn't read, for private clauses
 abbrev pub unread : TenantRefusal → Status
 unread (refusals.BadRow row) = statuses.BadTable row
 unread refusals.ReadFault = statuses.ReadFault
@@ -142,7 +142,7 @@ IsOverTable (statuses.BadTable row) = ⊥
 IsOverTable (statuses.Passed asked tenants) = ⊥
 IsOverTable other = Unit {0}
 
--- a status with which a day ends
+-- a status with which a day ends, for private clauses
 abbrev pub EndsDay : Status → Type 0
 EndsDay statuses.BadWords = ⊥
 EndsDay (statuses.Passed asked tenants) = ⊥
@@ -154,7 +154,7 @@ IsOpeningFault statuses.StoreFault = Unit {0}
 IsOpeningFault (statuses.BadKept key) = Unit {0}
 IsOpeningFault other = ⊥
 
--- how it ends where the service isn't opened
+-- how it ends where the service isn't opened, for private clauses
 abbrev pub not_opened : StartFault → Status
 not_opened (starts.BadKept key) = statuses.BadKept key
 not_opened starts.StoreFault = statuses.StoreFault
@@ -190,7 +190,7 @@ TellsCommand help version (Some asks.Version) rows before after left old new sta
 TellsCommand help version (Some (asks.Serve asked)) rows before after left old new status = PassesOn asked rows status × IsUnopened before after old new
 TellsCommand help version (Some (asks.Day named)) rows before after left old new status = TellsTable rows before after left old new status
 
--- how it ends where the words aren't read
+-- how it ends where the words aren't read, for private clauses
 abbrev pub unread_words : WordsRefusal → Status
 unread_words words.BadWords = statuses.BadWords
 unread_words words.NoMemory = statuses.NoMemory

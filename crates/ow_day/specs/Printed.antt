@@ -4,7 +4,7 @@ use Rattle.std.specs.Fmt.{decimal}
 use Rattle.std.specs.List.{All, flat_map}
 use Rattle.std.specs.Str.{IsUtf8}
 use Rattle.ow_records.specs.Id.{id_text}
-use Rattle.ow_hall.specs.History.{greatest_moment}
+use Rattle.ow_keep.specs.declared.allowed.TheConstants.{GREATEST_MOMENT}
 use Rattle.ow_day.specs.Limits.{most_line}
 use Rattle.ow_day.specs.Statement.{Statement, At, Call, Ask, Next, Begun, Answer, Logged, Exit, NoStart, Fault, Lost, Gone, Sweep, Turn, Collect, Drain, Reopen, End}
 use Rattle.ow_day.specs.Day.{Finished, Found, first_statement, day_of}
@@ -65,7 +65,7 @@ pub record IsLogLine (line : List ℕ) : Type 0 where
   pub most : length line ≤ most_line
 
 abbrev pub IsPrintable : Statement → Type 0
-IsPrintable (At moment) = moment ≤ greatest_moment
+IsPrintable (At moment) = moment ≤ GREATEST_MOMENT
 IsPrintable (Call name text) = IsWord name × IsLineText text × (length (printed (Call name text)) ≤ most_line)
 IsPrintable (Ask request) = length request ≤ most_line
 IsPrintable Next = Unit {0}

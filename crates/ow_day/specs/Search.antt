@@ -1,6 +1,6 @@
 -- For private clauses: how far the bytes that wait were searched for newlines.
 use Rattle.std.specs.Prelude.{◌≡◌, ◌≤◌, ◌-◌, ◌++◌, ℕ, Bool, true, List, None, length, take, drop, position}
-use Rattle.ow_day.specs.Statement.{is_newline}
+use Rattle.ow_runners.specs.Program.{is_newline}
 use Rattle.ow_day.specs.Day.{Cut, CutLines, first_statement, lines_in}
 use Rattle.ow_day.specs.declared.search.Search.{Search}
 

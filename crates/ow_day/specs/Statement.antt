@@ -2,7 +2,7 @@
 use Rattle.std.specs.Prelude.{◌==◌, ◌+◌, ℕ, Bool, nat_lt, List, Option, Some, None, if◌then◌else◌, length, take, drop, position, codes}
 use Rattle.std.specs.Str.{bytes_eq, is_utf8}
 use Rattle.ow_value.specs.Decimal.{decimal_of}
-use Rattle.ow_hall.specs.History.{greatest_moment}
+use Rattle.ow_keep.specs.declared.allowed.TheConstants.{GREATEST_MOMENT}
 use Rattle.ow_records.specs.declared.ids.Id.{Id}
 use Rattle.ow_records.specs.LowerId.{id_of_lower}
 use Rattle.ow_day.specs.Limits.{most_line}
@@ -33,9 +33,6 @@ pub data Reading : Type 0 where
   Whole : (statement : Statement) → Reading
   Asks : (count : ℕ) → Reading
   Logs : (run count : ℕ) (text : List ℕ) → Reading
-
-abbrev pub is_newline : ℕ → Bool
-is_newline c = c == 10
 
 abbrev pub parted_at : List ℕ → Option ℕ → Option (List ℕ × List ℕ)
 parted_at line None = None
@@ -165,7 +162,7 @@ gone_of rest = gone_in (numbered rest)
 
 abbrev pub at_moment : Option ℕ → Option Reading
 at_moment None = None
-at_moment (Some moment) = if nat_lt greatest_moment moment then None else Some (Whole (At moment))
+at_moment (Some moment) = if nat_lt GREATEST_MOMENT moment then None else Some (Whole (At moment))
 
 -- `at MOMENT`: milliseconds, up to the last of the year 9999
 unfoldable pub at_of : List ℕ → Option Reading

@@ -96,11 +96,14 @@ refused_text reason = codes "refused " ++ (decimal (number_of reason) ++ (codes 
 abbrev pub no_run_text : ℕ → List ℕ
 no_run_text run = codes "refused 29 No run " ++ (decimal run ++ codes ".\n")
 
+abbrev pub not_found_text : List ℕ
+not_found_text = codes "refused 14 The resource does not exist.\n"
+
 -- why what is told of a container isn't taken
 abbrev pub denied_text : FloorRefusal → List ℕ
 denied_text (refusals.NoRun run) = no_run_text run
 denied_text (refusals.NoSlot slot kept) = codes "refused 28 No slot " ++ (decimal slot ++ (codes " of that generation: " ++ (decimal kept ++ codes " kept.\n")))
-denied_text refusals.NotFound = codes "refused 14 The resource does not exist.\n"
+denied_text refusals.NotFound = not_found_text
 
 -- what a sweep did
 abbrev pub swept_text : Swept → List ℕ
@@ -142,7 +145,7 @@ asked_text (Waiting id until) = codes "waiting " ++ (id_text id ++ codes "\n")
 abbrev pub collected_text : HallCollected → List ℕ
 collected_text (collected.Reply answer) = reply_text answer
 collected_text collected.NotYet = codes "not yet\n"
-collected_text collected.Unknown = codes "refused 14 The resource does not exist.\n"
+collected_text collected.Unknown = not_found_text
 
 -- one line for each thing that a turn tells behind its order
 abbrev pub step_text : TurnStep → List ℕ

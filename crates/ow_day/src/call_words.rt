@@ -2,7 +2,8 @@
 ghost use Rattle.std.specs.Prelude.{◌≡◌, ◌≢◌, Ok, Err, IfOk, MatchResult};
 ghost use Rattle.ow_value.specs.Read.{reading};
 ghost use Rattle.ow_value.specs.View.{view};
-ghost use Rattle.ow_day.specs.CallWords.{called, full_name, object_in, or_wrong, params_in, with_name, with_params};
+ghost use Rattle.ow_records.specs.FieldsIn.{as_object};
+ghost use Rattle.ow_day.specs.CallWords.{called, full_name, or_wrong, params_in, with_name, with_params};
 
 use ow_entity::{EntityRefusal, FieldName};
 use ow_http::{CallRefusal, Reason, ServiceRefusal};
@@ -68,7 +69,7 @@ fn with_text(
 }
 
 fn with_value(name: FullName, value: Val) -> CallWords
-    ensures { result ≡ with_params name (or_wrong (object_in (view value))) }
+    ensures { result ≡ with_params name (or_wrong (as_object (view value))) }
 {
     match object_in(value) {
         Some(params) => CallWords::Calls { name, params },
@@ -88,7 +89,7 @@ fn refused(refusal: CallRefusal) -> CallWords
 // The parameters of an object.
 #[tactic(auto, using(crate::proofs::Objects::pairs_of_object))]
 fn object_in(value: Val) -> Option<Params>
-    ensures { result ≡ object_in (view value) }
+    ensures { result ≡ as_object (view value) }
 {
     match value {
         Val::Object(params) => Some(params),

@@ -2,7 +2,8 @@
 ghost use Rattle.std.specs.Prelude.{◌≡◌, ◌≢◌, ◌⊎◌, ℕ, List, Some, None, Err, IfOk, IfSome, IsSome, false, is_some, map, string_bytes, true};
 ghost use Rattle.ow_traits.specs.Streams.{Rose, Takes, TakesFront};
 ghost use Rattle.ow_tenant.specs.Reading.{Tells, TellsTable as TellsBytes};
-ghost use Rattle.ow_tenant.specs.Table.{AreWantsSized, IsPoolSized, Table, table_of as table_of_text};
+ghost use Rattle.ow_traits.specs.Prewarms.{AreWantsSized};
+ghost use Rattle.ow_tenant.specs.Table.{IsPoolSized, Table, table_of as table_of_text};
 ghost use Rattle.ow_hall.specs.Beginnings.{KeepsEach, KeepsLimits};
 ghost use Rattle.ow_hall.specs.History.{History, IsLegal};
 ghost use Rattle.ow_words.specs.Words.{command_of, takes_options};

@@ -1,6 +1,7 @@
 // The first statement of bytes that were read of a day.
 ghost use Rattle.std.specs.Prelude.{◌≡◌, ◌≤◌, ◌<◌, ◌&&◌, if◌then◌else◌, Some, None, length, drop, nat_lt, not, option_map, position};
-ghost use Rattle.ow_day.specs.Statement.{Logs, is_newline};
+ghost use Rattle.ow_runners.specs.Program.{is_newline};
+ghost use Rattle.ow_day.specs.Statement.{Logs};
 ghost use Rattle.ow_day.specs.Limits.{most_line};
 ghost use Rattle.ow_day.specs.Line.{reading};
 ghost use Rattle.ow_day.specs.Day.{asked, behind_line, first_statement, lines_in, logged};

@@ -3,7 +3,7 @@ ghost use Rattle.std.specs.Prelude.{◌≡◌, ◌≤◌, ◌<◌, ◌+◌, ◌-
 ghost use Rattle.ow_traits.specs.Streams.{Rose};
 ghost use Rattle.ow_day.specs.Input.{Fills, IsPast, ReadsBehind};
 ghost use Rattle.ow_day.specs.Search.{Awaits, IsCut};
-ghost use Rattle.ow_day.specs.Statement.{is_newline};
+ghost use Rattle.ow_runners.specs.Program.{is_newline};
 
 use crate::search::{Search, go_over, search_lines, search_on};
 use ow_traits::{Source, read_some};

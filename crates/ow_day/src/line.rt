@@ -4,7 +4,7 @@ ghost use Rattle.std.specs.Option.{option_map};
 ghost use Rattle.ow_day.specs.Statement.{answer_of, ask_of, at_of, begun_of, call_of, collect_of, container_of, exit_of, fault_of, gone_of, line_of, logged_of, lost_of, no_start_of, numbered, parted, reply_of, utf8_text, worded};
 ghost use Rattle.ow_day.specs.Line.{reading};
 
-use ow_hall::GREATEST_MOMENT;
+use ow_keep::GREATEST_MOMENT;
 use ow_records::Id;
 use ow_value::decimal_of;
 

@@ -1,6 +1,6 @@
 // The lines of logs that stand behind a statement.
 ghost use Rattle.std.specs.Prelude.{◌≡◌, ◌<◌, ◌≤◌, ◌++◌, [], ◌∷◌, length, drop, position, IfOk, OnOk};
-ghost use Rattle.ow_day.specs.Statement.{is_newline};
+ghost use Rattle.ow_runners.specs.Program.{is_newline};
 ghost use Rattle.ow_day.specs.Day.{first_line, line_with, log_text};
 ghost use Rattle.ow_day.specs.Line.{lines_of};
 ghost use Rattle.ow_day.specs.Logs.{EndsSo, IsLineWithin, line_said};

@@ -4,7 +4,7 @@ ghost use Rattle.std.specs.Prelude.{◌≡◌, ◌≢◌, ◌<◌, ◌≤◌, if
 ghost use Rattle.ow_hall.specs.Comes.{HoldsBook};
 ghost use Rattle.ow_hall.specs.History.{IsLegal};
 ghost use Rattle.ow_traits.specs.Streams.{HasCause, Rose, Takes, TakesFront};
-ghost use Rattle.ow_tenant.specs.Table.{AreWantsSized};
+ghost use Rattle.ow_traits.specs.Prewarms.{AreWantsSized};
 ghost use Rattle.ow_day.specs.Day.{Cut as CutFirst, first_statement};
 ghost use Rattle.ow_day.specs.Limits.{most_ready};
 ghost use Rattle.ow_day.specs.Office.{IsOpeningFault, IsOverTable, TellsDay, not_opened, store_of};

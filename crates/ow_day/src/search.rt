@@ -1,6 +1,6 @@
 // How far bytes were searched for newlines, so that none of them is searched twice.
 ghost use Rattle.std.specs.Prelude.{◌≡◌, ◌<◌, ◌≤◌, ℕ, true, List, None, length, drop, position, IfSome};
-ghost use Rattle.ow_day.specs.Statement.{is_newline};
+ghost use Rattle.ow_runners.specs.Program.{is_newline};
 ghost use Rattle.ow_day.specs.Search.{Awaits, IsCut, IsSearched};
 
 use crate::line::LONGEST_LINE;

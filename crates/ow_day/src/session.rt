@@ -4,7 +4,7 @@ ghost use Rattle.ow_decide.specs.declared.events.Event.TheVariants as events;
 ghost use Rattle.ow_hall.specs.Comes.{HoldsBook};
 ghost use Rattle.ow_hall.specs.History.{IsLegal};
 ghost use Rattle.ow_http.specs.Read.{IsRead};
-ghost use Rattle.ow_tenant.specs.Table.{AreWantsSized};
+ghost use Rattle.ow_traits.specs.Prewarms.{AreWantsSized};
 ghost use Rattle.ow_traits.specs.declared.replies.RunReply.TheVariants as replies;
 ghost use Rattle.ow_day.specs.Line.{lines_of, statement};
 ghost use Rattle.ow_day.specs.Machine.{Calls, Does, Meets, unread};

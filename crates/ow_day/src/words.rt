@@ -26,7 +26,8 @@ pub const HELP: &[u8] = b"ow_whisk: a function service after Apache OpenWhisk
 usage: ow_whisk day < FILE     carries out the statements of a day, and writes each answer
        ow_whisk day --table TABLE --store STORE < FILE
                                does so over the office table in the file TABLE, and the store in the
-                               file STORE; one of them, in any order, or as --table=TABLE
+                               file STORE. Either may be left out, they may stand in any order, and
+                               also in one word, as --table=TABLE
        ow_whisk serve --port PORT
                                answers HTTP requests that come to PORT, 0 to 65535; for 0 the system
                                chooses one. Behind it may stand, in any order: --workers W, how many
@@ -137,7 +138,8 @@ exit status, and its line on standard error, where a service writes none at 5 an
   3  read fault      the office table or the day could not be read on
   4  write fault     an answer could not be written
   5  store fault     the store could not be opened
-  6  bad table at N  row N of the office table breaks a rule; 0: it has more than 4194304 bytes
+  6  bad table at N  row N of the office table, empty lines not counted, breaks a rule; 0: it has more
+                     than 4194304 bytes
   7  no memory       memory was wanted
   8  day too long    it has more than 1073741824 bytes
   9  bad kept row K  the store has a row with the key K that is not allowed there

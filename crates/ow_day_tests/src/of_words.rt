@@ -110,8 +110,13 @@ fn words_alone(rt: HostRuntime) {
     assert!(rt; matches!(read_words(alloc, &[]), Err(WordsRefusal::BadWords)));
 }
 
+// Whether the words ask for nothing that there is.
+fn is_bad(alloc: Global, line: &str) -> bool {
+    matches!(read(alloc, line), Err(WordsRefusal::BadWords))
+}
+
 #[test]
-fn bad_words(rt: HostRuntime) {
+fn bad_words_of_days(rt: HostRuntime) {
     for line in [
         "",
         "days",
@@ -137,6 +142,14 @@ fn bad_words(rt: HostRuntime) {
         "day|--port|1",
         "day|-t|t",
         "--table|t|day",
+    ] {
+        assert!(rt; is_bad(rt.alloc(), line), "{line}");
+    }
+}
+
+#[test]
+fn bad_words_of_services(rt: HostRuntime) {
+    for line in [
         "serve",
         "Serve|--port|1",
         "serve|--port",
@@ -161,9 +174,6 @@ fn bad_words(rt: HostRuntime) {
         "serve|--help",
         "--port|1|serve",
     ] {
-        assert!(rt;
-            matches!(read(rt.alloc(), line), Err(WordsRefusal::BadWords)),
-            "{line}"
-        );
+        assert!(rt; is_bad(rt.alloc(), line), "{line}");
     }
 }

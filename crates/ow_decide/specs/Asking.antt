@@ -103,7 +103,8 @@ right_for Puts = Write
 right_for (Removes kind) = Write
 right_for Invokes = InvokeRight
 
--- who asks has that right, or what is wanted is granted by a shared package; the list of namespaces is granted to each key
+-- who asks has that right, or what is wanted is granted by a shared package; the list of namespaces is granted to each key. A read's answer
+-- rests on `Reading.read_grant`, over what may be seen, which grants the same: these cases are for private clauses
 abbrev pub grant_for : Holder → List Row → Act → Parts → Result (Unit {0}) Reason
 grant_for h rs (Reads Namespaces) p = Ok tt
 grant_for h rs act p = unless (not (may h (right_for act) (namespace_of p.route) || is_opened h.home rs p.route (opened_kind act))) not_granted

@@ -38,7 +38,7 @@ use Rattle.ow_decide.specs.Decision.{Decision, adds, tells}
 
 -- ---- what is wanted, or why it isn't there
 
--- which namespace is charged for an invocation: the caller's own where it has no right on that of the action
+-- which namespace is charged for an invocation: the caller's own where it may not invoke in that of the action
 abbrev pub charged_namespace : Holder → FullName → List ℕ
 charged_namespace h name = if has_right Invoke (rights_in name.namespace h) then name.namespace else h.home
 

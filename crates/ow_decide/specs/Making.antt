@@ -38,11 +38,13 @@ use Rattle.ow_decide.specs.Noted.{invoked_in}
 
 -- ---- what comes of a request, of the code
 
+-- for private clauses
 abbrev pub done_of : Done → Result asking.Done Reason
 done_of (codes.Refused reason) = Err reason
 done_of (codes.Shown value) = Ok (asking.Shown (view value))
 done_of (codes.Changed ready shown commit) = Ok (asking.Changed ready (view shown))
 
+-- for private clauses
 abbrev pub served_of : Served → Result asking.Done Reason
 served_of (served.Done done) = done_of done
 served_of (served.Accepts planned shows) = Ok (asking.Invoked planned.plan shows)
@@ -52,19 +54,22 @@ abbrev pub HasPlace : Option Change → ℕ → Type 0
 HasPlace None room = Unit {0}
 HasPlace (Some change) room = change.removes ≡ false → 1 ≤ room
 
+-- for private clauses
 abbrev pub change_of : Done → Option Change
 change_of (codes.Changed ready shown commit) = Some ready
 change_of done = None
 
+-- for private clauses
 abbrev pub served_change : Served → Option Change
 served_change (served.Done done) = change_of done
 served_change (served.Accepts planned shows) = None
 
+-- for private clauses
 abbrev pub plan_in : Result Planned Reason → Result Plan Reason
 plan_in (Ok planned) = Ok planned.plan
 plan_in (Err reason) = Err reason
 
--- the id of what is to be accepted is the next of its namespace
+-- the id of what is to be accepted is the next of its namespace, for private clauses
 abbrev pub IsNextOf : List Id → Served → Type 0
 IsNextOf drawn (served.Done done) = Unit {0}
 IsNextOf drawn (served.Accepts planned shows) = planned.plan.id.count ≡ last_of drawn planned.plan.id.namespace + 1
@@ -80,24 +85,26 @@ pub record IsCommitOf (commit : CommitView) (cs : List StoreChange) (b : Keeping
   pub changes : commit.changes ≡ cs
   pub stands : StandsAfter commit b rs T
 
--- of a change of the rows
+-- of a change of the rows, for private clauses
 abbrev pub CommitsDone : Done → KeepingView → Sight → Type 0
 CommitsDone (codes.Changed ready shown commit) b S = IsCommitOf commit (row_changes ready) b (changed ready S.rows) S.trace
 CommitsDone done b S = Unit {0}
 
+-- for private clauses
 abbrev pub commit_of : Done → Option CommitView
 commit_of (codes.Changed ready shown commit) = Some commit
 commit_of done = None
 
--- of what is planned to be accepted
+-- of what is planned to be accepted, for private clauses
 abbrev pub CommitsPlan : Planned → KeepingView → Sight → Type 0
 CommitsPlan planned b S = IsCommitOf planned.commit (accept_changes (unrecorded_of (activation_of S.moment planned.plan))) b S.rows (Accepted (activation_of S.moment planned.plan) ∷ S.trace)
 
+-- for private clauses
 abbrev pub CommitsServed : Served → KeepingView → Sight → Type 0
 CommitsServed (served.Done done) b S = CommitsDone done b S
 CommitsServed (served.Accepts planned shows) b S = CommitsPlan planned b S
 
--- so many bytes may be kept, and the limits allow one more invocation that is charged to a namespace
+-- so many bytes may be kept, and the limits allow one more invocation that is charged to a namespace, for private clauses
 abbrev pub admits : Sight → List ℕ → ℕ → Result (Unit {0}) Reason
 admits S namespace bytes = do
   room ← unless (is_store_full bytes) store_full

@@ -18,11 +18,6 @@ use Rattle.ow_desk.specs.declared.marks.Mark.TheVariants as marks
 use Rattle.ow_desk.specs.declared.placed.Placed.{Placed}
 use Rattle.ow_desk.specs.declared.standing.Standing.{Standing}
 
--- a list of the code, the oldest first, and for how many more there is room
-pub record ListedView (T : Type 0) : Type 0 where
-  pub items : List T
-  pub room : ℕ
-
 -- the entries with their places, the marks, and how many calls of `next` and how many events of runners weren't booked
 pub record Notes : Type 0 where
   pub entries : List Placed
@@ -48,7 +43,7 @@ denials_of (events.Lost run) = marks.Denied (denials.Lost run) ∷ []
 denials_of (events.Gone slot generation) = marks.Denied (denials.Gone slot generation) ∷ []
 denials_of event = []
 
--- the mark of a denial, where there is one
+-- the mark of a denial, where there is one, for private clauses
 abbrev pub denied_marks : Option Denial → List Mark
 denied_marks None = []
 denied_marks (Some d) = marks.Denied d ∷ []
@@ -92,7 +87,7 @@ CalledBy tells event o n m = (at : ℕ) × IfSome tells (λ t. at ≡ t) × WasC
 
 -- ---- where a book stands
 
--- behind these entries, for a call at a moment
+-- behind these entries, for a call at a moment, for private clauses
 pub record IsStanding (B : History) (at : ℕ) (s : Standing) : Type 0 where
   pub place : s.place ≡ length B
   pub moment_is : s.at ≡ moment B at

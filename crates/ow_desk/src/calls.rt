@@ -1,7 +1,8 @@
 // The calls of a hall, through receipts.
-ghost use Rattle.std.specs.Prelude.{◌≡◌, ◌+◌, ◌≤◌, IfOk};
+ghost use Rattle.std.specs.Prelude.{◌≡◌, ◌+◌, ◌≤◌, IfErr, IfOk};
 ghost use Rattle.ow_decide.specs.declared.events.Event.TheVariants as events;
-ghost use Rattle.ow_hall.specs.Comes.{HandsBack, Outcome, Replies, collect_outcome, done_outcome, drain_outcome, next_outcome, reply_outcome, swept_outcome};
+ghost use Rattle.ow_floor.specs.Calls.{HandsBack};
+ghost use Rattle.ow_hall.specs.Comes.{Outcome, Replies, collect_outcome, done_outcome, drain_outcome, next_outcome, reply_outcome, swept_outcome};
 ghost use Rattle.ow_desk.specs.Desks.{IsReceived};
 ghost use Rattle.ow_desk.specs.Fitting.{Fits};
 ghost use Rattle.ow_desk.specs.Notes.{WasCalled};
@@ -142,7 +143,7 @@ impl<P: Keeper + Drop> Receipts<P> {
     ) -> Result<Answered, AnswerRefusal>
         ensures received { IsReceived P.rows P.faults desk.old desk.new at (events.Answered run reply) (reply_outcome result) self.old.notes self.new.notes }
         ensures called { WasCalled at (events.Answered run reply) (reply_outcome result) self.old.notes self.new.notes }
-        ensures back { HandsBack run reply result }
+        ensures back { IfErr result (λ refusal. HandsBack run reply refusal) }
         ensures room { self.old.room ≤ self.new.room + 1 }
     {
         match self.perform(alloc, desk, at, Event::Answered { run, reply }) {

@@ -3,7 +3,6 @@
 //! A hall that threads share: only receipts of what was done there change it.
 mod calls;
 mod desk;
-mod listed;
 mod marks;
 mod noting;
 mod placed;
@@ -11,7 +10,6 @@ mod receipts;
 mod standing;
 
 pub use desk::{Desk, Issuer};
-pub use listed::Listed;
 pub use marks::{Denial, Mark, Marks};
 pub use placed::{Placed, PlacedEntries};
 pub use receipts::Receipts;

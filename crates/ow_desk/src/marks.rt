@@ -1,6 +1,5 @@
 // What receipts hold of calls that left no entry.
-use crate::listed::Listed;
-use ow_value::{NoMemory, PlainData};
+use ow_value::{Listed, NoMemory, PlainData};
 use std::alloc::Global;
 
 /// An event of a runner that was refused.

@@ -1,7 +1,6 @@
 // An entry of the book, with its place.
-use crate::listed::Listed;
 use ow_hall::Entry;
-use ow_value::{NoMemory, PlainData};
+use ow_value::{Listed, NoMemory, PlainData};
 use std::alloc::Global;
 
 /// An entry of the book, as a receipt of it.

@@ -1,4 +1,4 @@
--- What an accept of a socket came to.
+-- For private clauses: what an accept of a socket came to.
 use Rattle.std.specs.Prelude.{◌≡◌, ℕ}
 use Rattle.ow_links.specs.declared.listeners.Accepted.{Accepted}
 use Rattle.ow_links.specs.declared.listeners.Accepted.TheVariants.{Peer, Closed}

@@ -1,4 +1,4 @@
--- What an error of an accept concerns.
+-- For private clauses: what an error of an accept concerns.
 use Rattle.std.specs.Prelude.{ℤ, pos, Option, Some, if◌then◌else◌, ◌==◌, ◌||◌}
 use Rattle.ow_edge.specs.declared.blame.Blamed.{Blamed}
 use Rattle.ow_edge.specs.declared.blame.Blamed.TheVariants.{Connection, Want, Listener}

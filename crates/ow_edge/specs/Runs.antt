@@ -1,4 +1,4 @@
--- Where a task that a crew started stands.
+-- For private clauses: where a task that a crew started stands.
 use Rattle.std.specs.Prelude.{◌≡◌, Bool, true, false}
 use Rattle.ow_edge.specs.declared.slots.Run.{Run}
 use Rattle.ow_edge.specs.declared.slots.Run.TheVariants.{Alive, Ended, Over}

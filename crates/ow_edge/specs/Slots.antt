@@ -1,4 +1,4 @@
--- What one slot of a crew adds to the results of a join.
+-- For private clauses: what one slot of a crew adds to the results of a join.
 use Rattle.std.specs.Prelude.{◌≡◌, ◌++◌, ◌∷◌, [], List, Option, Some, None}
 
 -- the results, and behind them what the task that is due came to, if there is one

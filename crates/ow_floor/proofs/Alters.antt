@@ -9,7 +9,8 @@ use Rattle.ow_records.specs.declared.activations.Activation.{Activation}
 use Rattle.ow_floor.specs.declared.activations.Open.{Open}
 use Rattle.ow_floor.specs.declared.activations.State.{State}
 use Rattle.ow_floor.specs.declared.activations.State.TheVariants.{Waiting}
-use Rattle.ow_floor.specs.View.{with_state, update_first, remove_first}
+use Rattle.ow_slots.specs.Slots.{change_first}
+use Rattle.ow_floor.specs.View.{with_state, remove_first}
 use Rattle.ow_floor.specs.Trace.{open_of}
 use Rattle.ow_floor.specs.Laws.{IsApart, AreApart}
 
@@ -99,8 +100,8 @@ pub alter : (p : Open → Bool) (f : Id → Option State) (s : Option State) (xs
 alter p f s [] o apart found = refl
 alter p f s (a ∷ xs) o apart found = alter_here p f s a xs o (f a.id) refl apart.0 found (alter p f s xs o apart.1)
 
-pub alter_update : (p : Open → Bool) (q : State) (os : List Open) → alter_first p (Some q) os ≡ update_first p (with_state q) os
-unfolding update_first
+pub alter_update : (p : Open → Bool) (q : State) (os : List Open) → alter_first p (Some q) os ≡ change_first p (with_state q) os
+unfolding change_first
 alter_update p q [] = refl
 alter_update p q (o ∷ os) = rw (alter_update p q os) refl
 

@@ -8,7 +8,8 @@ use Rattle.ow_records.specs.declared.record.Record.{Record}
 use Rattle.ow_floor.specs.declared.lists.Blocking.{Blocking}
 use Rattle.ow_floor.specs.Collecting.{collected, collected_by}
 use Rattle.ow_floor.specs.Laws.{IsAmong, IsSound, Stands}
-use Rattle.ow_floor.specs.View.{Shown, is_end_of, newest, wait_in}
+use Rattle.ow_records.specs.Records.{is_of_id}
+use Rattle.ow_floor.specs.View.{Shown, newest, wait_in}
 use Rattle.ow_floor.specs.Trace.{Trace, Item, Opened, Resumed, Accepted, Ordered, Prewarming, Removed, Begun, Answered, Lost, Gone, Ended, Swept, Drained, Reopened, accepted, blocked_by, blocking, end_of, records, resumed, wait_of}
 use Rattle.ow_floor.proofs.Among.{all_among, among_last, among_push}
 use Rattle.ow_floor.proofs.Firsts.{all_more, find_none, none_tail}
@@ -107,11 +108,11 @@ wait_accepted_so (item ∷ T) id until found = of_item item found (wait_accepted
     of_item (Reopened at) found rest = cc
 
 -- and isn't one of those that were taken over
-not_resumed : (T : Trace) (id : Id) (until : ℕ) → IsSound T → wait_of T id ≡ Some until → find (is_end_of id) (resumed T) ≡ None
+not_resumed : (T : Trace) (id : Id) (until : ℕ) → IsSound T → wait_of T id ≡ Some until → find (is_of_id id) (resumed T) ≡ None
 not_resumed T id until sound found =
     let was = wait_accepted_so T id until found in
     let same : was.0.id ≡ id = eq_of was.0.id id was.2 in
-    find_none (is_end_of id) (resumed T)
+    find_none (is_of_id id) (resumed T)
     (all_more _ _ (resumed T)
     (λ r apart. subst (λ (x : Id). same_id r.id x ≡ false) same (all_among (λ a. (same_id r.id a.id ≡ false) × (same_id a.id r.id ≡ false)) was.0 (accepted T) was.1 apart).0)
     sound.resumed.strange)
@@ -120,7 +121,7 @@ find_behind : (p : Record → Bool) (xs ys : List Record) → find p xs ≡ None
 find_behind p [] ys none = refl
 find_behind p (x ∷ xs) ys none = let two = none_tail p x xs (p x) refl none in rw two.0 (find_behind p xs ys two.1)
 
-pub collected_told : (v : Shown) (at : ℕ) (id : Id) (wait : Option ℕ) (ended : Option Record) → wait ≡ wait_in id v.blocking → ended ≡ find (is_end_of id) (v.resumed ++ v.ended)
+pub collected_told : (v : Shown) (at : ℕ) (id : Id) (wait : Option ℕ) (ended : Option Record) → wait ≡ wait_in id v.blocking → ended ≡ find (is_of_id id) (v.resumed ++ v.ended)
     → (T : Trace) → Stands v T → collected_by at wait ended ≡ collected at id T
 collected_told v at id wait ended waits has T st =
     let w : wait ≡ wait_of T id = waits ∙ (ap (λ (u : Shown). wait_in id u.blocking) st.is ∙ wait_told T id) in
@@ -130,4 +131,4 @@ collected_told v at id wait ended waits has T st =
     by_wait None e = refl
     by_wait (Some until) e =
         ap (collected_by at (Some until))
-        (has ∙ (ap (λ (u : Shown). find (is_end_of id) (u.resumed ++ u.ended)) st.is ∙ find_behind (is_end_of id) (resumed T) (records T) (not_resumed T id until st.sound e)))
+        (has ∙ (ap (λ (u : Shown). find (is_of_id id) (u.resumed ++ u.ended)) st.is ∙ find_behind (is_of_id id) (resumed T) (records T) (not_resumed T id until st.sound e)))

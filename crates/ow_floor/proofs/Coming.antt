@@ -20,7 +20,8 @@ use Rattle.ow_floor.specs.declared.activations.Open.{Open}
 use Rattle.ow_floor.specs.declared.answers.Container.{Container}
 use Rattle.ow_records.specs.declared.record.Record.{Record}
 use Rattle.ow_floor.specs.declared.runs.Run.{Run}
-use Rattle.ow_floor.specs.View.{Shown, containers_of, is_of, is_number, is_end_of, remove_first, same_open, waits}
+use Rattle.ow_records.specs.Records.{is_of_id}
+use Rattle.ow_floor.specs.View.{Shown, containers_of, is_of, is_number, remove_first, same_open, waits}
 use Rattle.ow_floor.specs.Trace.{Trace, End, Answered, Begun, Drained, Ended, Gone, Lost, Reopened, Swept, end_of, live, live_run, open_items, overrun_of, record_of, records, shown, slots}
 use Rattle.ow_floor.specs.Growth.{grow, grown, IsEventRight, IsLive, IsRight, AreRight}
 use Rattle.ow_floor.specs.Laws.{IsSound, bearers}
@@ -124,7 +125,7 @@ end_at at ending run id (Some o) v live found event = (((o, found_id id o v.open
 
 -- ---- replies
 
-or_some : (e : Record) (id : Id) (o : Option Record) → is_end_of id e ≡ true → (x : Record) × (or_new (is_end_of id) e o ≡ Some x)
+or_some : (e : Record) (id : Id) (o : Option Record) → is_of_id id e ≡ true → (x : Record) × (or_new (is_of_id id) e o ≡ Some x)
 or_some e id None t = (e, rw t refl)
 or_some e id (Some x) t = (x, refl)
 
@@ -133,7 +134,7 @@ open_gone : (e : End) (o : Open) (T : Trace) → find (is_of e.task.id) (open_it
     → find (is_of e.task.id) (remove_first (is_of e.task.id) (open_items T)) ≡ None
 open_gone e o T found is sound =
     let some = or_some (record_of e) e.task.id (end_of T e.task.id) (same_id_refl e.task.id) in
-    let none = ended_not_open e.task.id (Ended e ∷ T) some.0 (find_push (is_end_of e.task.id) (record_of e) (records T) ∙ some.1) in
+    let none = ended_not_open e.task.id (Ended e ∷ T) some.0 (find_push (is_of_id e.task.id) (record_of e) (records T) ∙ some.1) in
     subst (λ (os : List Open). find (is_of e.task.id) os ≡ None) (open_ended e o T found is sound) none
 
 reply_open : (at run : ℕ) (reply : RunReply) (r : Run) (o : Option Open) (T : Trace) → live_run T run ≡ Some r → find (is_of r.id) (open_items T) ≡ o → IsThere IsAny (first_with (runs run) (slots T)) → IsSound T

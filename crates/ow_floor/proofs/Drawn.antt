@@ -3,7 +3,8 @@ use Rattle.std.proofs.Common.{◌≡◌, ◌==◌, ℕ, Bool, true, false, cond,
 use Rattle.std.specs.List.{find, AllByRecursion, IsDistinct}
 use Rattle.std.proofs.lemmas.Bool.Decides.{nat_tests}
 use Rattle.ow_records.specs.declared.ids.Id.{Id}
-use Rattle.ow_floor.specs.View.{count_or_zero, is_in, last_of, put_id, same_namespace, update_first}
+use Rattle.ow_slots.specs.Slots.{change_first}
+use Rattle.ow_floor.specs.View.{count_or_zero, is_in, last_of, put_id, same_namespace}
 use Rattle.ow_floor.specs.Trace.{Trace, Item, Opened, Resumed, Accepted, Ordered, Prewarming, Removed, Begun, Answered, Lost, Gone, Ended, Swept, Drained, Reopened, drawn, last}
 
 last_here : (id x : Id) (n before after : ℕ) (b c : Bool) → (x.namespace == id.namespace) ≡ false → (x.namespace == n) ≡ b → (id.namespace == n) ≡ c
@@ -40,15 +41,15 @@ last_put id [] n = count_at (id.namespace == n) id None
 last_put id (x ∷ xs) n = last_step id x xs n (x.namespace == id.namespace) refl (last_put id xs n)
 
 put_there_at : (id x : Id) (xs : List Id) (b : Bool) (d : Id) → is_in id.namespace x ≡ b → find (is_in id.namespace) (x ∷ xs) ≡ Some d
-    → (find (is_in id.namespace) xs ≡ Some d → update_first (is_in id.namespace) (λ y. id) xs ≡ put_id id xs)
-    → update_first (is_in id.namespace) (λ y. id) (x ∷ xs) ≡ put_id id (x ∷ xs)
-unfolding put_id update_first
+    → (find (is_in id.namespace) xs ≡ Some d → change_first (is_in id.namespace) (λ y. id) xs ≡ put_id id xs)
+    → change_first (is_in id.namespace) (λ y. id) (x ∷ xs) ≡ put_id id (x ∷ xs)
+unfolding put_id change_first
 put_there_at id x xs true d e found rest = rw e refl
 put_there_at id x xs false d e found rest = rw e (ap (λ ys. x ∷ ys) (rest (rw e at found)))
 
 -- where its namespace has an id already, that one is replaced
 pub put_there : (id : Id) (xs : List Id) (d : Id) → find (is_in id.namespace) xs ≡ Some d
-    → update_first (is_in id.namespace) (λ y. id) xs ≡ put_id id xs
+    → change_first (is_in id.namespace) (λ y. id) xs ≡ put_id id xs
 put_there id [] d found = cc
 put_there id (x ∷ xs) d found = put_there_at id x xs (is_in id.namespace x) d refl found (put_there id xs d)
 

@@ -7,14 +7,15 @@ use Rattle.ow_records.specs.declared.ids.Id.{Id}
 use Rattle.ow_records.specs.declared.activations.Activation.{Activation}
 use Rattle.ow_floor.specs.declared.activations.Open.{Open}
 use Rattle.ow_floor.specs.declared.lists.Spot.{Spot}
-use Rattle.ow_floor.specs.View.{is_of, update_first, remove_first, with_state}
+use Rattle.ow_slots.specs.Slots.{change_first}
+use Rattle.ow_floor.specs.View.{is_of, remove_first, with_state}
 use Rattle.ow_floor.specs.Store.{IsCell, CellOf, IsSpot, opens, there}
 use Rattle.ow_floor.specs.Places.{IsPlace, PlaceOf, has, has_id, has_open}
 use Rattle.ow_floor.proofs.Firsts.{none_tail}
 
 at_first : {X : Type 0} (p : X → Bool) (xs : List X) (k : ℕ) → k < length xs → ((d : X) → p (get_or xs k d) ≡ true)
     → ((d : X) (j : ℕ) → j < k → p (get_or xs j d) ≡ false) → IsPlace p xs k
-unfolding update_first
+unfolding change_first
 at_first p [] k lt passes before = absurd (omega arith)
 at_first p (y ∷ ys) zero lt passes before =
     let t : p y ≡ true = passes y in
@@ -43,13 +44,13 @@ place_of {X = X} p xs (Some k) e =
 -- ---- where places may be empty
 
 cell_here : {X Y : Type 0} (g : X → Y) (p : Y → Bool) (x : Option X) (xs : List (Option X)) → 0 < length (x ∷ xs) → has g p x ≡ true → IsCell g p (x ∷ xs) 0
-unfolding update_first remove_first
+unfolding change_first remove_first
 cell_here g p None xs lt passes = cc
 cell_here g p (Some y) xs lt passes =
     record { item = y; within = lt; here = λ d. refl; found = rw passes refl; changed = λ f z e. rw passes (ap (λ w. w ∷ there g xs) e); removed = rw passes refl }
 
 cell_next : {X Y : Type 0} (g : X → Y) (p : Y → Bool) (x : Option X) (xs : List (Option X)) (k : ℕ) → suc k < length (x ∷ xs) → has g p x ≡ false → IsCell g p xs k → IsCell g p (x ∷ xs) (suc k)
-unfolding update_first remove_first
+unfolding change_first remove_first
 cell_next g p None xs k lt passes rest =
     record { item = rest.item; within = lt; here = rest.here; found = rest.found; changed = rest.changed; removed = rest.removed }
 cell_next g p (Some y) xs k lt passes rest =
@@ -85,7 +86,7 @@ cell_of {X = X} g p xs (Some k) e =
 -- ---- open activations
 
 spot_here : (p : Open → Bool) (s : Spot) (t : Option Activation) (ss : List Spot) (ts : List (Option Activation)) → 0 < length (s ∷ ss) → has_open p s t ≡ true → IsSpot p (s ∷ ss) (t ∷ ts) 0
-unfolding update_first remove_first
+unfolding change_first remove_first
 spot_here p s None ss ts lt passes = cc
 spot_here p s (Some a) ss ts lt passes =
     record { item = record { task = a; state = s.state }; within = lt; task = λ d. refl; state = λ d. refl; found = rw passes refl; changed = λ q. rw passes refl; removed = rw passes refl }
@@ -93,8 +94,8 @@ spot_here p s (Some a) ss ts lt passes =
 find_past : {X : Type 0} (p : X → Bool) (x : X) (xs : List X) → p x ≡ false → find p (x ∷ xs) ≡ find p xs
 find_past p x xs e = rw e refl
 
-update_past : {X : Type 0} (p : X → Bool) (f : X → X) (x : X) (xs : List X) → p x ≡ false → update_first p f (x ∷ xs) ≡ x ∷ update_first p f xs
-unfolding update_first
+update_past : {X : Type 0} (p : X → Bool) (f : X → X) (x : X) (xs : List X) → p x ≡ false → change_first p f (x ∷ xs) ≡ x ∷ change_first p f xs
+unfolding change_first
 update_past p f x xs e = rw e refl
 
 remove_past : {X : Type 0} (p : X → Bool) (x : X) (xs : List X) → p x ≡ false → remove_first p (x ∷ xs) ≡ x ∷ remove_first p xs
@@ -103,7 +104,7 @@ remove_past p x xs e = rw e refl
 
 spot_next : (p : Open → Bool) (s : Spot) (t : Option Activation) (ss : List Spot) (ts : List (Option Activation)) (k : ℕ) → suc k < length (s ∷ ss)
     → find p (opens (s ∷ take k ss) (t ∷ take k ts)) ≡ None → (find p (opens (take k ss) (take k ts)) ≡ None → IsSpot p ss ts k) → IsSpot p (s ∷ ss) (t ∷ ts) (suc k)
-unfolding update_first remove_first
+unfolding change_first remove_first
 spot_next p s None ss ts k lt none rest =
     let r = rest none in
     record { item = r.item; within = lt; task = r.task; state = r.state; found = r.found; changed = r.changed; removed = r.removed }

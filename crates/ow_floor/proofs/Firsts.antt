@@ -1,7 +1,8 @@
 -- The first element that passes.
 use Rattle.std.proofs.Common.{◌≡◌, ◌++◌, ◌+◌, ◌≤◌, Bool, true, false, cond, List, [], ◌∷◌, Option, Some, None, refl, sym, ap, arith, subst}
 use Rattle.std.specs.List.{find, AllByRecursion}
-use Rattle.ow_floor.specs.View.{update_first, remove_first}
+use Rattle.ow_slots.specs.Slots.{change_first}
+use Rattle.ow_floor.specs.View.{remove_first}
 use Rattle.ow_floor.specs.Laws.{tally}
 
 pub none_tail : {X : Type 0} (p : X → Bool) (x : X) (xs : List X) (b : Bool) → p x ≡ b → find p (x ∷ xs) ≡ None → (b ≡ false) × (find p xs ≡ None)
@@ -9,8 +10,8 @@ none_tail p x xs true e none = let h : Some x ≡ None = rw e at none in cc
 none_tail p x xs false e none = (refl, rw e at none)
 
 -- where none passes nothing is changed
-pub update_none : {X : Type 0} (p : X → Bool) (f : X → X) (xs : List X) → find p xs ≡ None → update_first p f xs ≡ xs
-unfolding update_first
+pub update_none : {X : Type 0} (p : X → Bool) (f : X → X) (xs : List X) → find p xs ≡ None → change_first p f xs ≡ xs
+unfolding change_first
 update_none p f [] none = refl
 update_none p f (x ∷ xs) none =
     let h = none_tail p x xs (p x) refl none in
@@ -84,13 +85,13 @@ unfolding remove_first
 all_removed P p [] all = tt
 all_removed P p (x ∷ xs) all = all_cut P p x xs (p x) all.0 all.1 (all_removed P p xs all.1)
 
-all_mark : {X : Type 0} (P : X → Type 0) (p : X → Bool) (f : X → X) (x : X) (xs : List X) (b : Bool) → P x → P (f x) → AllByRecursion P xs → AllByRecursion P (update_first p f xs)
-    → AllByRecursion P (cond b (f x ∷ xs) (x ∷ update_first p f xs))
+all_mark : {X : Type 0} (P : X → Type 0) (p : X → Bool) (f : X → X) (x : X) (xs : List X) (b : Bool) → P x → P (f x) → AllByRecursion P xs → AllByRecursion P (change_first p f xs)
+    → AllByRecursion P (cond b (f x ∷ xs) (x ∷ change_first p f xs))
 all_mark P p f x xs true here new all rest = (new, all)
 all_mark P p f x xs false here new all rest = (here, rest)
 
-pub all_updated : {X : Type 0} (P : X → Type 0) (p : X → Bool) (f : X → X) (xs : List X) → ((x : X) → P x → P (f x)) → AllByRecursion P xs → AllByRecursion P (update_first p f xs)
-unfolding update_first
+pub all_updated : {X : Type 0} (P : X → Type 0) (p : X → Bool) (f : X → X) (xs : List X) → ((x : X) → P x → P (f x)) → AllByRecursion P xs → AllByRecursion P (change_first p f xs)
+unfolding change_first
 all_updated P p f [] keeps all = tt
 all_updated P p f (x ∷ xs) keeps all = all_mark P p f x xs (p x) all.0 (keeps x all.0) all.1 (all_updated P p f xs keeps all.1)
 
@@ -144,13 +145,13 @@ unfolding remove_first
 tally_fewer p q [] = omega arith
 tally_fewer p q (x ∷ xs) = fewer_at p q x xs (p x) (tally_fewer p q xs)
 
-tally_mark : {X : Type 0} (p q : X → Bool) (f : X → X) (x : X) (xs : List X) (b : Bool) → q (f x) ≡ q x → tally q (update_first p f xs) ≡ tally q xs
-    → tally q (cond b (f x ∷ xs) (x ∷ update_first p f xs)) ≡ tally q (x ∷ xs)
+tally_mark : {X : Type 0} (p q : X → Bool) (f : X → X) (x : X) (xs : List X) (b : Bool) → q (f x) ≡ q x → tally q (change_first p f xs) ≡ tally q xs
+    → tally q (cond b (f x ∷ xs) (x ∷ change_first p f xs)) ≡ tally q (x ∷ xs)
 tally_mark p q f x xs true same rest = rw same refl
 tally_mark p q f x xs false same rest = ap (λ n. cond (q x) 1 0 + n) rest
 
-pub tally_updated : {X : Type 0} (p q : X → Bool) (f : X → X) (xs : List X) → ((x : X) → q (f x) ≡ q x) → tally q (update_first p f xs) ≡ tally q xs
-unfolding update_first
+pub tally_updated : {X : Type 0} (p q : X → Bool) (f : X → X) (xs : List X) → ((x : X) → q (f x) ≡ q x) → tally q (change_first p f xs) ≡ tally q xs
+unfolding change_first
 tally_updated p q f [] same = refl
 tally_updated p q f (x ∷ xs) same = tally_mark p q f x xs (p x) (same x) (tally_updated p q f xs same)
 

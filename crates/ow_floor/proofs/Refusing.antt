@@ -1,6 +1,6 @@
 -- What is refused leaves the slots.
 use Rattle.std.proofs.Common.{◌≡◌, ℕ, zero, suc, Bool, true, false, cond, List, [], ◌∷◌, Option, Some, None, refl, sym, ap, ◌∙◌, subst}
-use Rattle.std.specs.List.{find, slice_get}
+use Rattle.std.specs.List.{slice_get}
 use Rattle.std.specs.Prelude.{OnErr, Result, Ok, Err}
 use Rattle.ow_slots.specs.declared.refusal.SlotRefusal.{SlotRefusal}
 use Rattle.ow_slots.specs.declared.refusal.SlotRefusal.TheVariants as refusals
@@ -9,21 +9,14 @@ use Rattle.ow_slots.specs.declared.states.Slot.{Slot}
 use Rattle.ow_slots.specs.Slots.{change, change_first, first_with, gone_answer, has, run_answer}
 use Rattle.ow_slots.specs.State.{after_gone, goes}
 use Rattle.ow_pool.proofs.OrderLaws.{none_changed}
-use Rattle.ow_floor.proofs.Firsts.{none_tail}
-
-change_none : (p : Slot → Bool) (f : Slot → Slot) (slots : List Slot) → find p slots ≡ None → change_first p f slots ≡ slots
-unfolding change_first
-change_none p f [] e = refl
-change_none p f (x ∷ slots) e =
-    let both = none_tail p x slots (p x) refl e in
-    rw both.0 (ap (λ xs. x ∷ xs) (change_none p f slots both.1))
+use Rattle.ow_floor.proofs.Firsts.{update_none}
 
 pub kept_first : {X : Type 0} (p : State → Bool) (f : Slot → Slot) (g : Slot → X) (run : ℕ) (slots later : List Slot) (r : Result X SlotRefusal) → r ≡ run_answer run g (first_with p slots)
     → later ≡ change_first (has p) f slots → OnErr r (later ≡ slots)
 kept_first {X = X} p f g run slots later r is made = subst (λ q. OnErr q (later ≡ slots)) (sym is) (by_found (first_with p slots) refl)
   where
     by_found : (o : Option Slot) → first_with p slots ≡ o → OnErr (run_answer run g o) (later ≡ slots)
-    by_found None e = made ∙ change_none (has p) f slots e
+    by_found None e = made ∙ update_none (has p) f slots e
     by_found (Some s) e = tt
 
 change_same : (n : ℕ) (f : Slot → Slot) (s : Slot) (slots : List Slot) → slice_get slots n ≡ Some s → f s ≡ s → change n f slots ≡ slots

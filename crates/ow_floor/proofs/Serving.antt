@@ -21,6 +21,7 @@ use Rattle.ow_lifecycle.specs.Fitting.{changed, emptied}
 use Rattle.ow_lifecycle.proofs.Pool.{all_vacant, none_held}
 use Rattle.ow_lifecycle.proofs.Running.{after_gone_same, begun_same, overrun_same, removed_same, start_free, vacant_free}
 use Rattle.ow_floor.specs.Laws.{tally}
+use Rattle.ow_floor.proofs.Firsts.{tally_updated}
 use Rattle.ow_floor.proofs.Placing.{held_removed}
 use Rattle.ow_floor.proofs.Tallies.{one_if}
 
@@ -52,15 +53,6 @@ unfolding change
 tally_same p n g [] same = refl
 tally_same p zero g (x ∷ slots) same = rw (same x) refl
 tally_same p (suc n) g (x ∷ slots) same = ap (λ k. one_if (p x) + k) (tally_same p n g slots same)
-
-pub tally_same_first : (p q : Slot → Bool) (g : Slot → Slot) (slots : List Slot) → ((s : Slot) → p (g s) ≡ p s) → tally p (change_first q g slots) ≡ tally p slots
-unfolding change_first
-tally_same_first p q g [] same = refl
-tally_same_first p q g (x ∷ slots) same = at (q x) (tally_same_first p q g slots same)
-  where
-    at : (b : Bool) → tally p (change_first q g slots) ≡ tally p slots → tally p (cond b (g x ∷ slots) (x ∷ change_first q g slots)) ≡ tally p (x ∷ slots)
-    at true rest = rw (same x) refl
-    at false rest = ap (λ k. one_if (p x) + k) rest
 
 -- fewer pass a narrower test
 pub tally_sub : (p q : Slot → Bool) (slots : List Slot) → ((x : Slot) → q x ≡ true → p x ≡ true) → tally q slots ≤ tally p slots
@@ -157,10 +149,10 @@ busies_removed m [] slots = refl
 busies_removed m (n ∷ ns) slots = busies_removed m ns _ ∙ tally_same (has (runs m)) n (with_state removed_state) slots (λ s. removed_same m s.state)
 
 pub busies_begun : (m : ℕ) (p : State → Bool) (at : ℕ) (slots : List Slot) → busies m (change_first (has p) (with_state (begun_state at)) slots) ≡ busies m slots
-busies_begun m p at slots = tally_same_first (has (runs m)) (has p) (with_state (begun_state at)) slots (λ s. begun_same m at s.state)
+busies_begun m p at slots = tally_updated (has p) (has (runs m)) (with_state (begun_state at)) slots (λ s. begun_same m at s.state)
 
 pub busies_overran : (m run at : ℕ) (slots : List Slot) → busies m (change_first (has (runs run)) (with_state (overrun_state at)) slots) ≡ busies m slots
-busies_overran m run at slots = tally_same_first (has (runs m)) (has (runs run)) (with_state (overrun_state at)) slots (λ s. overrun_same m at s.state)
+busies_overran m run at slots = tally_updated (has (runs run)) (has (runs m)) (with_state (overrun_state at)) slots (λ s. overrun_same m at s.state)
 
 pub busies_gone : (m slot generation : ℕ) (slots : List Slot) → busies m (change slot (after_gone generation) slots) ≡ busies m slots
 busies_gone m slot generation slots = tally_same (has (runs m)) slot (after_gone generation) slots (λ s. after_gone_same m generation s)

@@ -6,7 +6,8 @@ use Rattle.std.proofs.lemmas.List.{length-set}
 use Rattle.ow_records.specs.declared.ids.Id.{Id}
 use Rattle.ow_records.specs.declared.activations.Activation.{Activation}
 use Rattle.ow_slots.specs.declared.keys.Key.{Key}
-use Rattle.ow_pool.specs.Rules.{AreWantsSized, IsWithinPool}
+use Rattle.ow_traits.specs.Prewarms.{AreWantsSized}
+use Rattle.ow_pool.specs.Rules.{IsWithinPool}
 use Rattle.ow_lifecycle.specs.Life as lives
 use Rattle.ow_lifecycle.specs.Life.{Event}
 use Rattle.ow_lifecycle.specs.Fitting.{changed}

@@ -11,8 +11,9 @@ use Rattle.ow_records.specs.declared.record.Record.{Record}
 use Rattle.ow_floor.specs.declared.activations.State.TheVariants.{Waiting, Running}
 use Rattle.ow_floor.specs.declared.answers.Drain.TheVariants as drains
 use Rattle.ow_floor.specs.declared.runs.Run.{Run}
-use Rattle.ow_floor.specs.View.{Shown, waits, carries, begun, ids_of, is_of, is_number, is_end_of, with_state, remove_first}
-use Rattle.ow_floor.specs.Trace.{Trace, Item, End, Opened, Resumed, Accepted, Ordered, Prewarming, Removed, Begun, Answered, Lost, Gone, Ended, Swept, Drained, Reopened, slots, slots_after, accepted, accepted_ids, count, ends, records, recorded, resumed, record_of, last, drawn, standing, open_items, run_count, head, live, live_run, shown}
+use Rattle.ow_records.specs.Records.{is_of_id}
+use Rattle.ow_floor.specs.View.{Shown, waits, carries, begun, ids_of, is_of, is_number, with_state, remove_first, head}
+use Rattle.ow_floor.specs.Trace.{Trace, Item, End, Opened, Resumed, Accepted, Ordered, Prewarming, Removed, Begun, Answered, Lost, Gone, Ended, Swept, Drained, Reopened, slots, slots_after, accepted, accepted_ids, count, ends, records, recorded, resumed, record_of, last, drawn, standing, open_items, run_count, live, live_run, shown}
 use Rattle.ow_floor.specs.Growth.{grow, grown, open_after, IsRight, AreRight, IsFresh, AreResumable}
 use Rattle.ow_floor.specs.Laws.{AreSlotsSound, times, IsAmong, loads, bearers, tally, IsApart, AreApart, IsParted, IsSound, RunOnce, Stands, Grows}
 use Rattle.ow_floor.specs.Calls.{drain_answer, AllRecorded}
@@ -68,8 +69,8 @@ last_here a T =
 
 -- ---- what is open after each item
 
-no_end : (x : Id) (T : Trace) → x.count ≡ last T x.namespace + 1 → IsSound T → find (is_end_of x) (records T) ≡ None
-no_end x T new sound = find_none (is_end_of x) (records T) (all_more _ _ (records T) (λ e le. new_other x e.id (last T) new le) sound.ended_drawn)
+no_end : (x : Id) (T : Trace) → x.count ≡ last T x.namespace + 1 → IsSound T → find (is_of_id x) (records T) ≡ None
+no_end x T new sound = find_none (is_of_id x) (records T) (all_more _ _ (records T) (λ e le. new_other x e.id (last T) new le) sound.ended_drawn)
 
 no_run : (x : Id) (T : Trace) → x.count ≡ last T x.namespace + 1 → IsSound T → find (carries x) (live T) ≡ None
 no_run x T new sound = find_none (carries x) (live T) (all_more _ _ (live T) (λ r le. new_other x r.id (last T) new le) sound.live_drawn)
@@ -168,7 +169,7 @@ bearers_more r T next sound run =
     (λ e. let same : r.number ≡ run = grind (arith, nat_tests) in
     tally_none (is_number run) (live T) (greater (run_count T) run (live T) (omega (arith, same, next)) sound.numbered))
 
-sound_ordered : (r : Run) (key : Key) (o : Open) (T : Trace) → r.number ≡ run_count T + 1 → head T ≡ Some o → r.id ≡ o.task.id → AreSlotsSound (Ordered r key ∷ T) → IsSound T → IsSound (Ordered r key ∷ T)
+sound_ordered : (r : Run) (key : Key) (o : Open) (T : Trace) → r.number ≡ run_count T + 1 → head (shown T) ≡ Some o → r.id ≡ o.task.id → AreSlotsSound (Ordered r key ∷ T) → IsSound T → IsSound (Ordered r key ∷ T)
 sound_ordered r key o T next found is slotted sound =
     let is_open = open_ordered r key o T found is sound in
     let free : find (carries r.id) (live T) ≡ None = subst (λ (x : Id). find (carries x) (live T) ≡ None) (sym is) (head_waits o T found).1 in

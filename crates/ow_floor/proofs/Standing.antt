@@ -10,8 +10,10 @@ use Rattle.ow_floor.specs.declared.activations.State.{State}
 use Rattle.ow_floor.specs.declared.activations.State.TheVariants.{Waiting, Running}
 use Rattle.ow_floor.specs.declared.runs.Run.{Run}
 use Rattle.ow_slots.specs.declared.keys.Key.{Key}
-use Rattle.ow_floor.specs.View.{waits, is_waiting, is_of, is_number, is_end_of, carries, with_state, update_first, remove_first, begun}
-use Rattle.ow_floor.specs.Trace.{Trace, End, Ordered, Begun, Lost, Ended, Reopened, accepted, records, record_of, live, open_items, end_of, carrier, live_run, standing, standing_by, state_by, head}
+use Rattle.ow_records.specs.Records.{is_of_id}
+use Rattle.ow_slots.specs.Slots.{change_first}
+use Rattle.ow_floor.specs.View.{waits, is_waiting, is_of, is_number, carries, with_state, remove_first, begun, head}
+use Rattle.ow_floor.specs.Trace.{Trace, End, Ordered, Begun, Lost, Ended, Reopened, accepted, records, record_of, live, open_items, end_of, carrier, live_run, standing, standing_by, state_by, shown}
 use Rattle.ow_floor.specs.Laws.{loads, IsSound}
 use Rattle.ow_floor.proofs.Alters.{opens, but_at, agree, alter, alter_update, alter_remove, opens_same}
 use Rattle.ow_floor.proofs.Apart.{turned}
@@ -61,14 +63,14 @@ same_where f g id (a ∷ xs) other none h =
 
 -- ---- behind an end
 
-ended_by : (e : Record) (y : Id) (o : Option Record) (c : Option Run) (b : Bool) → is_end_of y e ≡ b → standing_by (or_new (is_end_of y) e o) c ≡ cond b None (standing_by o c)
+ended_by : (e : Record) (y : Id) (o : Option Record) (c : Option Run) (b : Bool) → is_of_id y e ≡ b → standing_by (or_new (is_of_id y) e o) c ≡ cond b None (standing_by o c)
 ended_by e y None c true t = rw t refl
 ended_by e y None c false t = rw t refl
 ended_by e y (Some z) c true t = refl
 ended_by e y (Some z) c false t = refl
 
 standing_ended : (e : End) (T : Trace) (y : Id) → standing (Ended e ∷ T) y ≡ but_at (standing T) e.task.id None y
-standing_ended e T y = rw (find_push (is_end_of y) (record_of e) (records T)) (ended_by (record_of e) y (end_of T y) (carrier T y) (is_end_of y (record_of e)) refl)
+standing_ended e T y = rw (find_push (is_of_id y) (record_of e) (records T)) (ended_by (record_of e) y (end_of T y) (carrier T y) (is_of_id y (record_of e)) refl)
 
 pub open_ended : (e : End) (o : Open) (T : Trace) → find (is_of e.task.id) (open_items T) ≡ Some o → e.task ≡ o.task → IsSound T
     → open_items (Ended e ∷ T) ≡ remove_first (is_of e.task.id) (open_items T)
@@ -101,13 +103,13 @@ waits_so : (s : State) → is_waiting s ≡ true → s ≡ Waiting
 waits_so Waiting e = refl
 waits_so (Running run) e = cc
 
-pub head_waits : (o : Open) (T : Trace) → head T ≡ Some o → (end_of T o.task.id ≡ None) × (carrier T o.task.id ≡ None)
+pub head_waits : (o : Open) (T : Trace) → head (shown T) ≡ Some o → (end_of T o.task.id ≡ None) × (carrier T o.task.id ≡ None)
 head_waits o T found =
     let h = is_found waits (standing T) (accepted T) o found in
     waits_by (end_of T o.task.id) (carrier T o.task.id) (h.0 ∙ ap Some (waits_so o.state h.1))
 
-pub open_ordered : (r : Run) (key : Key) (o : Open) (T : Trace) → head T ≡ Some o → r.id ≡ o.task.id → IsSound T
-    → open_items (Ordered r key ∷ T) ≡ update_first waits (with_state (Running r.number)) (open_items T)
+pub open_ordered : (r : Run) (key : Key) (o : Open) (T : Trace) → head (shown T) ≡ Some o → r.id ≡ o.task.id → IsSound T
+    → open_items (Ordered r key ∷ T) ≡ change_first waits (with_state (Running r.number)) (open_items T)
 open_ordered r key o T found is sound =
     let same : o.task.id ≡ r.id = sym is in
     let free = head_waits o T found in
@@ -150,7 +152,7 @@ lost_by run r T q y true t found one stands =
 lost_by run r T q y false t found one stands = other_run run r T y found t
 
 pub open_lost : (run at : ℕ) (r : Run) (o : Open) (T : Trace) → live_run T run ≡ Some r → find (is_of r.id) (open_items T) ≡ Some o → IsSound T
-    → open_items (Lost run at ∷ T) ≡ update_first (is_of r.id) (with_state Waiting) (open_items T)
+    → open_items (Lost run at ∷ T) ≡ change_first (is_of r.id) (with_state Waiting) (open_items T)
 open_lost run at r o T found here sound =
     let h = is_found (is_of r.id) (standing T) (accepted T) o here in
     let same : o.task.id ≡ r.id = eq_of o.task.id r.id h.1 in
@@ -166,9 +168,9 @@ open_kept run at T none = ap (λ rs. opens (λ y. standing_by (end_of T y) (find
 -- ---- behind a beginning
 
 begun_at : (at : ℕ) (id : Id) (p : Run → Bool) (x : Run) (xs : List Run) (b : Bool) → p x ≡ b
-    → state_by (find (carries id) (update_first p (begun at) xs)) ≡ state_by (find (carries id) xs)
-    → state_by (find (carries id) (update_first p (begun at) (x ∷ xs))) ≡ state_by (find (carries id) (x ∷ xs))
-unfolding update_first
+    → state_by (find (carries id) (change_first p (begun at) xs)) ≡ state_by (find (carries id) xs)
+    → state_by (find (carries id) (change_first p (begun at) (x ∷ xs))) ≡ state_by (find (carries id) (x ∷ xs))
+unfolding change_first
 begun_at at id p x xs true e rest = rw e (here (carries id x) refl)
   where
     here : (b : Bool) → carries id x ≡ b → state_by (find (carries id) (begun at x ∷ xs)) ≡ state_by (find (carries id) (x ∷ xs))
@@ -176,12 +178,12 @@ begun_at at id p x xs true e rest = rw e (here (carries id x) refl)
     here false f = rw f refl
 begun_at at id p x xs false e rest = rw e (here (carries id x) refl)
   where
-    here : (b : Bool) → carries id x ≡ b → state_by (find (carries id) (x ∷ update_first p (begun at) xs)) ≡ state_by (find (carries id) (x ∷ xs))
+    here : (b : Bool) → carries id x ≡ b → state_by (find (carries id) (x ∷ change_first p (begun at) xs)) ≡ state_by (find (carries id) (x ∷ xs))
     here true f = rw f refl
     here false f = rw f rest
 
-pub state_begun : (at : ℕ) (id : Id) (p : Run → Bool) (xs : List Run) → state_by (find (carries id) (update_first p (begun at) xs)) ≡ state_by (find (carries id) xs)
-unfolding update_first
+pub state_begun : (at : ℕ) (id : Id) (p : Run → Bool) (xs : List Run) → state_by (find (carries id) (change_first p (begun at) xs)) ≡ state_by (find (carries id) xs)
+unfolding change_first
 state_begun at id p [] = refl
 state_begun at id p (x ∷ xs) = begun_at at id p x xs (p x) refl (state_begun at id p xs)
 

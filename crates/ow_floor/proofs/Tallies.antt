@@ -7,7 +7,8 @@ use Rattle.ow_records.specs.Id.{same_id}
 use Rattle.ow_records.specs.declared.activations.Activation.{Activation}
 use Rattle.ow_floor.specs.declared.activations.Open.{Open}
 use Rattle.ow_floor.specs.declared.activations.State.{State}
-use Rattle.ow_floor.specs.View.{waits, runs_now, ids_of, with_state, update_first, remove_first}
+use Rattle.ow_slots.specs.Slots.{change_first}
+use Rattle.ow_floor.specs.View.{waits, runs_now, ids_of, with_state, remove_first}
 use Rattle.ow_floor.specs.Laws.{times, IsApart, AreApart}
 
 abbrev pub one_if : Bool → ℕ
@@ -19,23 +20,23 @@ times-push f id [] x = omega arith
 times-push f id (y ∷ ys) x = let h = times-push f id ys x in omega (arith, h)
 
 -- a run that starts leaves the ids
-pub ids_of-started : (p : Open → Bool) (q : State) (os : List Open) → ids_of (update_first p (with_state q) os) ≡ ids_of os
-unfolding update_first
+pub ids_of-started : (p : Open → Bool) (q : State) (os : List Open) → ids_of (change_first p (with_state q) os) ≡ ids_of os
+unfolding change_first
 ids_of-started p q [] = refl
 ids_of-started p q (o ∷ os) = at (p o) (ids_of-started p q os)
   where
-    at : (b : Bool) → ids_of (update_first p (with_state q) os) ≡ ids_of os
-        → ids_of (cond b (with_state q o ∷ os) (o ∷ update_first p (with_state q) os)) ≡ ids_of (o ∷ os)
+    at : (b : Bool) → ids_of (change_first p (with_state q) os) ≡ ids_of os
+        → ids_of (cond b (with_state q o ∷ os) (o ∷ change_first p (with_state q) os)) ≡ ids_of (o ∷ os)
     at true rest = refl
     at false rest = ap (λ xs. o.task.id ∷ xs) rest
 
-pub length-started : (p : Open → Bool) (q : State) (os : List Open) → length (update_first p (with_state q) os) ≡ length os
-unfolding update_first
+pub length-started : (p : Open → Bool) (q : State) (os : List Open) → length (change_first p (with_state q) os) ≡ length os
+unfolding change_first
 length-started p q [] = refl
 length-started p q (o ∷ os) = at (p o) (length-started p q os)
   where
-    at : (b : Bool) → length (update_first p (with_state q) os) ≡ length os
-        → length (cond b (with_state q o ∷ os) (o ∷ update_first p (with_state q) os)) ≡ length (o ∷ os)
+    at : (b : Bool) → length (change_first p (with_state q) os) ≡ length os
+        → length (cond b (with_state q o ∷ os) (o ∷ change_first p (with_state q) os)) ≡ length (o ∷ os)
     at true rest = refl
     at false rest = ap suc rest
 

@@ -44,7 +44,7 @@ use Rattle.ow_floor.specs.declared.answers.FloorRefusal.TheVariants as refusals
 use Rattle.ow_traits.specs.declared.prewarms.Prewarm.{Prewarm}
 use Rattle.ow_floor.specs.declared.answers.Drain.{Drain}
 use Rattle.ow_floor.specs.declared.answers.Drain.TheVariants.{Drained, StillOpen}
-use Rattle.ow_floor.specs.View.{Shown, waits, containers_of, generation_after, generation_in, is_number, is_of, key_of, order_for, prewarm_of, recorded_in}
+use Rattle.ow_floor.specs.View.{Shown, head, containers_of, generation_after, generation_in, is_number, is_of, key_of, order_for, prewarm_of, recorded_in}
 use Rattle.ow_floor.specs.Trace as trace
 use Rattle.ow_floor.specs.Trace.{Trace, Item, End, count, last, live, open_item, open_items, shown, slots}
 use Rattle.ow_floor.specs.Growth.{AreResumable, IsFresh, grown}
@@ -101,7 +101,7 @@ head_by (Some o) = Some (record { key = key_of o.task })
 
 -- what the rules place
 abbrev pub place_on : Shown → Place
-place_on v = place_of v.slots (head_by (find waits v.open_items)) v.wants v.pool
+place_on v = place_of v.slots (head_by (head v)) v.wants v.pool
 
 -- the run of an activation in a slot
 abbrev pub run_of : ℕ → ℕ → Start → ℕ → Activation → List Slot → Run
@@ -136,10 +136,10 @@ order_items (places.Nothing reason) o at v = []
 
 -- the order over the lists of a floor, and its items
 abbrev pub order_on : Shown → Order
-order_on v = order_by (place_on v) (find waits v.open_items) v
+order_on v = order_by (place_on v) (head v) v
 
 abbrev pub items_on : ℕ → Shown → Trace
-items_on at v = order_items (place_on v) (find waits v.open_items) at v
+items_on at v = order_items (place_on v) (head v) at v
 
 -- an activation waits, or a container is wanted ahead
 abbrev pub HasWork : Shown → Type 0

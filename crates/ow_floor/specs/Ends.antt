@@ -17,11 +17,11 @@ use Rattle.ow_floor.specs.declared.answers.Happening.TheVariants as happenings
 use Rattle.ow_floor.specs.declared.by_id.OpenPlace.{OpenPlace}
 use Rattle.ow_floor.specs.declared.lists.Berth.{Berth}
 use Rattle.ow_floor.specs.declared.runs.Run.{Run}
-use Rattle.ow_floor.specs.View.{begun, is_number, is_of, remove_first, same_open, update_first}
+use Rattle.ow_floor.specs.View.{begun, is_number, is_of, remove_first, same_open}
 use Rattle.ow_floor.specs.Trace.{Trace, record_of}
 use Rattle.ow_floor.specs.Growth.{freed, grown}
 use Rattle.ow_lifecycle.specs.Life as lives
-use Rattle.ow_slots.specs.Slots.{IsThere, first_with}
+use Rattle.ow_slots.specs.Slots.{IsThere, first_with, change_first}
 use Rattle.ow_slots.specs.State.{IsUnrecorded, runs as is_busy_with}
 use Rattle.ow_floor.specs.Calls.{abandoned_items, end_items, ended_by, happened, is_late, items_on, late_of, order_on, overrun_items, sorted_by_id}
 use Rattle.ow_floor.specs.Store.{IsGood, IsSpot, Store, ended_in, event_in, freed_in, opens, run_in, show, there}
@@ -146,7 +146,7 @@ pub record IsOrdered (at : ℕ) (old new : Store) (order : Order) : Type 0 where
 
 -- the live run of this number has begun, where there is one
 abbrev pub IsRunBegun : ℕ → ℕ → Store → Store → Type 0
-IsRunBegun at run old new = show new ≡ record (show old) { live = update_first (is_number run) (begun at) (show old).live }
+IsRunBegun at run old new = show new ≡ record (show old) { live = change_first (is_number run) (begun at) (show old).live }
 
 -- the live run of this number is no more, and what it carried waits again, where it is open
 abbrev pub IsRunLost : ℕ → Store → Store → Type 0

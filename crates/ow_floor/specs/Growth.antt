@@ -6,21 +6,21 @@ use Rattle.ow_records.specs.declared.record.Record.{Record}
 use Rattle.ow_floor.specs.declared.activations.Open.{Open}
 use Rattle.ow_floor.specs.declared.activations.State.TheVariants.{Waiting, Running}
 use Rattle.ow_floor.specs.declared.runs.Run.{Run}
-use Rattle.ow_slots.specs.Slots.{memory_held}
+use Rattle.ow_slots.specs.Slots.{memory_held, change_first}
 use Rattle.ow_lifecycle.specs.Life.{Event}
 use Rattle.ow_lifecycle.specs.Fitting.{IsFit, changed}
-use Rattle.ow_floor.specs.View.{Shown, is_number, is_of, last_of, remove_first, same_namespace, same_record, update_first, waits, with_state}
+use Rattle.ow_floor.specs.View.{Shown, is_number, is_of, last_of, remove_first, same_namespace, same_record, waits, with_state}
 use Rattle.ow_floor.specs.Trace.{Item, Trace, Opened, Resumed, Accepted, Ordered, Answered, Lost, Ended, Reopened, blocking_after, count_after, draining_after, drawn_after, event_of, live_after, moment_of, pool_after, records_after, resumed_after, run_count_after, slots_after, wants_after}
 
 -- what a lost run carries waits again
 abbrev pub freed : Option Run → List Open → List Open
 freed None os = os
-freed (Some r) os = update_first (is_of r.id) (with_state Waiting) os
+freed (Some r) os = change_first (is_of r.id) (with_state Waiting) os
 
 -- what is open, with one more item
 abbrev pub open_after : Item → List Run → List Open → List Open
 open_after (Accepted a) rs os = os ++ record { task = a; state = Waiting } ∷ []
-open_after (Ordered r key) rs os = update_first waits (with_state (Running r.number)) os
+open_after (Ordered r key) rs os = change_first waits (with_state (Running r.number)) os
 open_after (Lost run at) rs os = freed (find (is_number run) rs) os
 open_after (Ended e) rs os = remove_first (is_of e.task.id) os
 open_after item rs os = os

@@ -1,4 +1,4 @@
--- A list and slots that can be held, and the steps that undo what was done since.
+-- For private clauses: a list and slots that can be held, and the steps that undo what was done since.
 use Rattle.std.specs.Prelude.{◌-◌, ◌++◌, ℕ, Bool, List, [], ◌∷◌, Option, Some, None, if◌then◌else◌, length, take, slice_set, slice_get}
 use Rattle.ow_floor.specs.declared.kept.Step.{Step}
 use Rattle.ow_floor.specs.declared.kept.Step.TheVariants.{Added, Was, All}

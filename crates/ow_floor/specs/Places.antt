@@ -8,7 +8,7 @@ use Rattle.ow_floor.specs.declared.activations.Open.{Open}
 use Rattle.ow_floor.specs.declared.lists.Spot.{Spot}
 use Rattle.ow_slots.specs.declared.states.Slot.{Slot}
 use Rattle.ow_slots.specs.State.{recorded_of}
-use Rattle.ow_floor.specs.View.{update_first}
+use Rattle.ow_slots.specs.Slots.{change_first}
 
 -- the first that passes stands at this place
 pub record IsPlace {X : Type 0} (p : X → Bool) (xs : List X) (place : ℕ) : Type 0 where
@@ -16,7 +16,7 @@ pub record IsPlace {X : Type 0} (p : X → Bool) (xs : List X) (place : ℕ) : T
   pub within : place < length xs
   pub here : (d : X) → slice_index_or xs place d ≡ item
   pub found : find p xs ≡ Some item
-  pub updated : (f : X → X) → slice_set xs place (f item) ≡ update_first p f xs
+  pub updated : (f : X → X) → slice_set xs place (f item) ≡ change_first p f xs
 
 -- such a place, where one passes
 abbrev pub PlaceOf : {X : Type 0} → (X → Bool) → List X → Option ℕ → Type 0

@@ -15,14 +15,16 @@ use Rattle.ow_floor.specs.declared.lists.Spot.{Spot}
 use Rattle.ow_floor.specs.declared.runs.Run.{Run}
 use Rattle.ow_slots.specs.declared.keys.Key.{Key}
 use Rattle.ow_slots.specs.declared.states.Slot.{Slot}
-use Rattle.ow_pool.specs.Rules.{AreWantsSized, IsWithinPool}
+use Rattle.ow_traits.specs.Prewarms.{AreWantsSized}
+use Rattle.ow_pool.specs.Rules.{IsWithinPool}
 use Rattle.ow_lifecycle.specs.Fitting.{changed, emptied}
 use Rattle.ow_lifecycle.specs.Life.{Event}
 use Rattle.ow_lifecycle.specs.Life as lives
 use Rattle.ow_lifecycle.specs.Owed.{owed}
 use Rattle.ow_floor.specs.declared.answers.PrewarmOrder.{PrewarmOrder}
 use Rattle.ow_floor.specs.Trace.{blocked_by}
-use Rattle.ow_floor.specs.View.{Shown, put_id, remove_first, update_first, with_state}
+use Rattle.ow_slots.specs.Slots.{change_first}
+use Rattle.ow_floor.specs.View.{Shown, put_id, remove_first, with_state}
 
 -- the lists as they are kept
 pub record Store : Type 0 where
@@ -105,7 +107,7 @@ pub record IsSpot (p : Open → Bool) (ss : List Spot) (ts : List (Option Activa
   pub task : (d : Option Activation) → slice_index_or ts k d ≡ Some item.task
   pub state : (d : Spot) → (slice_index_or ss k d).state ≡ item.state
   pub found : find p (opens ss ts) ≡ Some item
-  pub changed : (s : Spot) → opens (slice_set ss k s) ts ≡ update_first p (with_state s.state) (opens ss ts)
+  pub changed : (s : Spot) → opens (slice_set ss k s) ts ≡ change_first p (with_state s.state) (opens ss ts)
   pub removed : opens ss (slice_set ts k None) ≡ remove_first p (opens ss ts)
 
 abbrev pub SpotOf : (Open → Bool) → List Spot → List (Option Activation) → Option ℕ → Type 0
@@ -118,7 +120,7 @@ pub record IsCell {X Y : Type 0} (g : X → Y) (p : Y → Bool) (xs : List (Opti
   pub within : k < length xs
   pub here : (d : Option X) → slice_index_or xs k d ≡ Some item
   pub found : find p (there g xs) ≡ Some (g item)
-  pub changed : (f : Y → Y) (x : X) → g x ≡ f (g item) → there g (slice_set xs k (Some x)) ≡ update_first p f (there g xs)
+  pub changed : (f : Y → Y) (x : X) → g x ≡ f (g item) → there g (slice_set xs k (Some x)) ≡ change_first p f (there g xs)
   pub removed : there g (slice_set xs k None) ≡ remove_first p (there g xs)
 
 abbrev pub CellOf : {X Y : Type 0} → (X → Y) → (Y → Bool) → List (Option X) → Option ℕ → Type 0

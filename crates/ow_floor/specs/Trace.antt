@@ -23,7 +23,9 @@ use Rattle.ow_slots.specs.declared.states.Slot.{Slot}
 use Rattle.ow_lifecycle.specs.Life as lives
 use Rattle.ow_lifecycle.specs.Life.{Event, Life, slots_of}
 use Rattle.ow_lifecycle.specs.Fitting.{changed}
-use Rattle.ow_floor.specs.View.{Shown, begun, carries, ids_of, is_end_of, is_number, is_of, newest, last_of, put_id, remove_first, runs_now, update_first, waits}
+use Rattle.ow_records.specs.Records.{is_of_id}
+use Rattle.ow_slots.specs.Slots.{change_first}
+use Rattle.ow_floor.specs.View.{Shown, begun, carries, ids_of, is_number, is_of, newest, last_of, put_id, remove_first, runs_now, waits}
 
 -- the end of an activation: what ended it, the run that carried it then as it was then, and the moment
 pub record End : Type 0 where
@@ -182,7 +184,7 @@ run_count (item ∷ T) = run_count_after item (run_count T)
 -- a run of an activation is live from its order until its own reply or its loss
 abbrev pub live_after : Item → List Run → List Run
 live_after (Ordered run key) rs = rs ++ run ∷ []
-live_after (Begun run at) rs = update_first (is_number run) (begun at) rs
+live_after (Begun run at) rs = change_first (is_number run) (begun at) rs
 live_after (Answered run alive at) rs = remove_first (is_number run) rs
 live_after (Lost run at) rs = remove_first (is_number run) rs
 live_after (Reopened at) rs = []
@@ -289,7 +291,7 @@ slots T = slots_of (life T) (slot_count (pool_of T))
 
 -- the record of an activation that has ended
 abbrev pub end_of : Trace → Id → Option Record
-end_of T id = find (is_end_of id) (records T)
+end_of T id = find (is_of_id id) (records T)
 
 -- the live run of this number
 abbrev pub live_run : Trace → ℕ → Option Run
@@ -336,10 +338,6 @@ running T = ids_of (filter runs_now (open_items T))
 -- the ids that are recorded since, by their ends
 abbrev pub recorded : Trace → List Id
 recorded T = map (λ e. e.id) (records T)
-
--- the first waiting activation
-abbrev pub head : Trace → Option Open
-head T = find waits (open_items T)
 
 -- what a floor is seen as that stands as the trace says
 abbrev pub shown : Trace → Shown

@@ -59,6 +59,10 @@ is_waiting state = false
 abbrev pub waits : Open → Bool
 waits o = is_waiting o.state
 
+-- the first that waits: the next run is ordered for it
+abbrev pub head : Shown → Option Open
+head v = find waits v.open_items
+
 -- whether an open activation does not wait
 abbrev pub runs_now : Open → Bool
 runs_now o = not (is_waiting o.state)
@@ -75,11 +79,7 @@ is_number run r = r.number == run
 abbrev pub carries : Id → Run → Bool
 carries id r = same_id r.id id
 
--- whether a record is that of this id
-abbrev pub is_end_of : Id → Record → Bool
-is_end_of id e = same_id e.id id
-
--- whether two open activations are one
+-- whether two open activations are one, for private clauses
 abbrev pub same_open : Open → Open → Bool
 same_open a b = same_id a.task.id b.task.id
 
@@ -120,11 +120,6 @@ count_or_zero (Some id) = id.count
 -- the last count drawn in a namespace, 0 at first
 abbrev pub last_of : List Id → ℕ → ℕ
 last_of ids namespace = count_or_zero (find (is_in namespace) ids)
-
--- the first that passes is changed
-unfoldable pub update_first : {X : Type 0} → (X → Bool) → (X → X) → List X → List X
-update_first p f [] = []
-update_first p f (x ∷ xs) = if p x then f x ∷ xs else x ∷ update_first p f xs
 
 -- the first that passes is taken out
 unfoldable pub remove_first : {X : Type 0} → (X → Bool) → List X → List X
@@ -218,7 +213,7 @@ abbrev pub newest : {X : Type 0} → Option X → Option X → Option X
 newest None old = old
 newest (Some new) old = Some new
 
--- up to which moment the request waits that made this activation, by the newest of that id
+-- up to which moment the request waits that made this activation, by the newest of that id, for private clauses
 abbrev pub wait_in : Id → List Blocking → Option ℕ
 wait_in id [] = None
 wait_in id (b ∷ bs) = newest (wait_in id bs) (if same_id b.id id then Some b.until else None)

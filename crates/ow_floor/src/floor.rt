@@ -7,7 +7,7 @@ ghost use Rattle.ow_floor.specs.View.{is_of, last_of};
 ghost use Rattle.ow_floor.specs.Trace.{Drained, Opened, Trace, all_records, drawn, is_draining, last, latest, open_items, records, shown};
 ghost use Rattle.ow_floor.specs.Growth.{AreResumable, IsFresh};
 ghost use Rattle.ow_floor.specs.Laws.{Grows, Stands};
-ghost use Rattle.ow_pool.specs.Rules.{AreWantsSized};
+ghost use Rattle.ow_traits.specs.Prewarms.{AreWantsSized};
 ghost use Rattle.ow_floor.specs.Collecting.{collected, collected_by, collection_of};
 ghost use Rattle.ow_floor.specs.Owed.{owed, owed_of};
 ghost use Rattle.ow_floor.specs.Calls.{AllRecorded, AnswersSo, GrowsBy, HandsBack, HasWork, abandon_items, abandoned_ends, accept_items, activation_of, answer_to, answered_by, answered_items, begun_answer, begun_items, busy_run, drain_answer, drain_by, gone_answer, gone_items, happened, happened_accepted, is_store_fault, leaves_alive, lost_answer, lost_items, next_items, next_order, record_abandoned, resume_items, sorted_by_id, swept_ends, swept_items, unrecorded_by, unrecorded_in};

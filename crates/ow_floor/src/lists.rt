@@ -2,7 +2,8 @@
 ghost use Rattle.std.specs.Prelude.{◌≡◌, ◌<◌, ◌≤◌, ◌^◌, ◌++◌, [], ◌∷◌, length, None, Some, true, false, option_copied, IfOk, IfSome, IsOk, OnOk, OnErr, replicate, slice_get, slice_set};
 ghost use Rattle.std.specs.List.{find};
 ghost use Rattle.ow_floor.specs.Kept.{past};
-ghost use Rattle.ow_floor.specs.View.{is_end_of, is_number, is_of, put_id, wait_in, waits};
+ghost use Rattle.ow_records.specs.Records.{is_of_id};
+ghost use Rattle.ow_floor.specs.View.{is_number, is_of, put_id, wait_in, waits};
 ghost use Rattle.ow_floor.specs.Trace.{blocked_by};
 ghost use Rattle.ow_entity.specs.declared.bounds.TheConstants.{LEAST_MEMORY};
 ghost use Rattle.ow_slots.specs.Slots.{IsThere, first_with, gone_answer, run_answer, vacant_slot};
@@ -227,7 +228,7 @@ impl Lists {
 
     /// The record of an activation that has ended.
     pub(crate) fn record_of(&self, id: Id) -> Option<&Record>
-        ensures { option_copied result ≡ find (is_end_of id) (self.now.now.resumed ++ self.now.now.ended) }
+        ensures { option_copied result ≡ find (is_of_id id) (self.now.now.resumed ++ self.now.now.ended) }
     {
         match self.records.get(&id) {
             Ok(ended) => Some(ended),

@@ -4,8 +4,8 @@ use Rattle.std.proofs.Math.Nat.{le-max_left, max-le, min-le_right}
 use Rattle.ow_traits.specs.declared.replies.RunReply.{RunReply}
 use Rattle.ow_pool.specs.declared.answers.Place.{Place}
 use Rattle.ow_pool.specs.declared.answers.Place.TheVariants as places
-use Rattle.ow_floor.specs.View.{Shown, generation_in}
-use Rattle.ow_floor.specs.Trace.{Begun, Gone, Item, Lost, Trace, head, shown, slots}
+use Rattle.ow_floor.specs.View.{Shown, generation_in, head}
+use Rattle.ow_floor.specs.Trace.{Begun, Gone, Item, Lost, Trace, shown, slots}
 use Rattle.ow_floor.specs.Calls.{answer_by, begins, busy_run, goes, items_if, loses, order_by, order_items, place_on, refused_unless, reply_items}
 use Rattle.ow_floor.specs.Laws.{Stands}
 use Rattle.ow_floor.specs.declared.activations.Open.{Open}
@@ -38,7 +38,8 @@ use Rattle.ow_decide.specs.Opening.{opened_decision, parts_taken}
 use Rattle.ow_decide.specs.Waiting.{collected_told, shows_for}
 use Rattle.ow_floor.specs.Collecting.{collected}
 use Rattle.ow_hall.specs.Posting.{posting_by}
-use Rattle.ow_hall.specs.History.{AreAnswered, History, IsLegal, after, answer, counted, decision, greatest_moment, is_idle, last_moment, least_moment, moment, opens_here, posting, seen, sight, waits_after}
+use Rattle.ow_keep.specs.declared.allowed.TheConstants.{GREATEST_MOMENT}
+use Rattle.ow_hall.specs.History.{AreAnswered, History, IsLegal, after, answer, counted, decision, is_idle, last_moment, least_moment, moment, opens_here, posting, seen, sight, waits_after}
 use Rattle.ow_hall.specs.Ledger.{Ledger, posted, posted_as}
 use Rattle.ow_decide.specs.Making.{IsSeen, changes_of, telling}
 use Rattle.ow_keep.specs.Judged.{judged}
@@ -108,7 +109,7 @@ pub unbooked : (idle : Bool) (S : Sight) (event : Event) → Unbooks idle (decid
 unbooked idle S (events.Opened rows) = opened_so idle S.moment (parts_taken S.moment S.trace (judged rows))
 unbooked idle S (events.Asked r) = ask_so idle S.moment (request_done S (parts_of r))
 unbooked idle S (events.Called name params) = call_so idle S (call_plan S name params)
-unbooked idle S events.Next = order_so idle S.moment (shown S.trace) (place_on (shown S.trace)) (head S.trace)
+unbooked idle S events.Next = order_so idle S.moment (shown S.trace) (place_on (shown S.trace)) (head (shown S.trace))
 unbooked idle S (events.Begun run) = taken_so idle (begins run S.trace) (refusals.NoRun run) (Begun run S.moment)
 unbooked idle S (events.Lost run) = taken_so idle (loses run S.trace) (refusals.NoRun run) (Lost run S.moment)
 unbooked idle S (events.Gone slot generation) = taken_so idle (goes slot generation S.trace) (refusals.NoSlot slot (generation_in slot (slots S.trace))) (Gone slot generation S.moment)
@@ -123,12 +124,12 @@ unbooked idle S events.Reopened = tt
 pub not_before : (B : History) (at : ℕ) → last_moment B ≤ moment B at
 not_before B at = le-max_left _ _
 
-newest_small : (t : Table) (B : History) → AreAnswered t B → last_moment B ≤ greatest_moment
+newest_small : (t : Table) (B : History) → AreAnswered t B → last_moment B ≤ GREATEST_MOMENT
 newest_small t [] answered = omega arith
 newest_small t (e ∷ B) answered = answered.3
 
-pub not_after : (t : Table) (B : History) (at : ℕ) → IsLegal t B → moment B at ≤ greatest_moment
-not_after t B at legal = max-le (newest_small t B legal.answered) (min-le_right at greatest_moment)
+pub not_after : (t : Table) (B : History) (at : ℕ) → IsLegal t B → moment B at ≤ GREATEST_MOMENT
+not_after t B at legal = max-le (newest_small t B legal.answered) (min-le_right at GREATEST_MOMENT)
 
 -- ---- what is posted keeps the hall
 
@@ -177,7 +178,7 @@ later_free events.Drain free = refl
 later_free events.Reopened free = refl
 
 legal_by : (p : Posting) (t : Table) (L : Ledger) (at : ℕ) (event : Event) (told_is : Told) → posting L.entries told_is ≡ p → IsLegal t L.entries
-    → last_moment L.entries ≤ at → at ≤ greatest_moment → is_opening event ≡ false → told_is ≡ answer t L.entries at event
+    → last_moment L.entries ≤ at → at ≤ GREATEST_MOMENT → is_opening event ≡ false → told_is ≡ answer t L.entries at event
     → IsLegal t (posted_as p (record { at = at; event = event; answer = told_is }) L).entries
 legal_by Booked t L at event told_is booked legal late most later same =
     record { answered = (same, booked, late, most, least_later event at later, legal.answered); opened = opens_so event L.entries _ later ∙ legal.opened }
@@ -186,7 +187,7 @@ legal_by Denied t L at event told_is booked legal late most later same = legal
 legal_by Unbooked t L at event told_is booked legal late most later same = legal
 
 -- a legal book stays legal where the answer to an event is posted
-pub posted_legal : (t : Table) (L : Ledger) (at : ℕ) (event : Event) (told_is : Told) → IsLegal t L.entries → last_moment L.entries ≤ at → at ≤ greatest_moment → is_opening event ≡ false
+pub posted_legal : (t : Table) (L : Ledger) (at : ℕ) (event : Event) (told_is : Told) → IsLegal t L.entries → last_moment L.entries ≤ at → at ≤ GREATEST_MOMENT → is_opening event ≡ false
     → told_is ≡ answer t L.entries at event → IsLegal t (posted L at event told_is).entries
 posted_legal t L at event told_is legal late most later same = legal_by (posting L.entries told_is) t L at event told_is refl legal late most later same
 
@@ -255,7 +256,7 @@ at_after t B old new mid at event step stands done floor rows waits counts kept 
 
 -- an answer that is posted
 pub answers : (t : Table) (L : Ledger) (old new : StateView) (mid : Shown) (at : ℕ) (event : Event) (step : Step) → Keeps old t L
-    → last_moment L.entries ≤ at → at ≤ greatest_moment → is_opening event ≡ false → new.floor.before ≡ None
+    → last_moment L.entries ≤ at → at ≤ GREATEST_MOMENT → is_opening event ≡ false → new.floor.before ≡ None
     → HasDone t L.entries at event old mid step
     → new.floor.now ≡ mid → new.rows ≡ all_changed (changes_of step.change) old.rows → new.waits ≡ waits_after step.waits old.waits → CountsAfter t L.entries at event new
     → KeepsCommit step.commit old.keeping new.keeping → (step.told ≡ answer t L.entries at event) × Keeps new t (posted L at event step.told)
@@ -307,7 +308,7 @@ pub takes : (t : Table) (L : Ledger) (old new : StateView) (now : Now) (event : 
     → (taken_told taken ≡ answer t L.entries now.at event) × Keeps new t (posted L now.at event (taken_told taken)) × AreIdsAfter t L now.at event
 takes t L old new now event taken at keeps count same free before makes rest counts keeping =
     let late = subst (λ (m : ℕ). last_moment L.entries ≤ m) (sym same) (not_before L.entries at) in
-    let most = subst (λ (m : ℕ). m ≤ greatest_moment) (sym same) (not_after t L.entries at keeps.legal) in
+    let most = subst (λ (m : ℕ). m ≤ GREATEST_MOMENT) (sym same) (not_after t L.entries at keeps.legal) in
     let done = quiet_done t L.entries old new.floor.now now event (telling (taken_told taken)) free refl keeps.legal.answered late keeps.stands count makes in
     let quiet = quiet_at (sight t (seen t L.entries) (counted L.entries) now.at) event old.counts new.counts free counts keeps.stands.counts in
     let both = answers t L old new new.floor.now now.at event (telling (taken_told taken)) keeps late most (later_free event free) before done refl rest.0 rest.1 quiet

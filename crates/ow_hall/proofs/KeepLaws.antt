@@ -8,12 +8,12 @@ use Rattle.ow_traits.specs.declared.change_list.Change.{Change as StoreChange}
 use Rattle.ow_pool.specs.declared.answers.Place.{Place}
 use Rattle.ow_pool.specs.declared.answers.Place.TheVariants as places
 use Rattle.ow_records.specs.declared.ids.Id.{Id}
-use Rattle.ow_floor.specs.View.{Shown}
+use Rattle.ow_floor.specs.View.{Shown, head}
 use Rattle.ow_floor.specs.declared.activations.Open.{Open}
 use Rattle.ow_floor.specs.Calls.{accept_items, begins, goes, items_if, loses, order_items, place_on}
 use Rattle.ow_floor.specs.Growth.{AreRight}
 use Rattle.ow_floor.specs.Laws.{IsSound}
-use Rattle.ow_floor.specs.Trace.{Begun, Gone, Item, Lost, Resumed, Trace, accepted, head, records, resumed, shown}
+use Rattle.ow_floor.specs.Trace.{Begun, Gone, Item, Lost, Resumed, Trace, accepted, records, resumed, shown}
 use Rattle.ow_floor.specs.declared.activations.Plan.{Plan}
 use Rattle.ow_tables.specs.Contents.{Change}
 use Rattle.ow_kept.specs.Commits.{accept_changes, commits_of, end_changes, row_changes}
@@ -206,7 +206,7 @@ order_commits at v (places.Nothing reason) o = refl
 
 -- nor does an order, what is told of one who waits, or a drain
 pub next_commits : (S : Sight) → commits (decide S events.Next) ≡ []
-next_commits S = order_commits S.moment (shown S.trace) (place_on (shown S.trace)) (head S.trace)
+next_commits S = order_commits S.moment (shown S.trace) (place_on (shown S.trace)) (head (shown S.trace))
 
 pub collected_commits : (S : Sight) (id : Id) → commits (decide S (events.Collected id)) ≡ []
 collected_commits S id = refl

@@ -37,7 +37,8 @@ use Rattle.ow_tenant.specs.Tenants.{pool_of}
 use Rattle.ow_hall.specs.declared.posting.Posting.{Posting}
 use Rattle.ow_hall.specs.declared.posting.Posting.TheVariants.{Booked}
 use Rattle.ow_hall.specs.Comes.{HoldsBook, KeptRows, kept_of}
-use Rattle.ow_hall.specs.History.{IsLegal, Seen, after, answer, counted, decision, greatest_moment, least_moment, moment, moment_in, posting, seen, told_bytes}
+use Rattle.ow_keep.specs.declared.allowed.TheConstants.{GREATEST_MOMENT}
+use Rattle.ow_hall.specs.History.{IsLegal, Seen, after, answer, counted, decision, least_moment, moment, moment_in, posting, seen, told_bytes}
 use Rattle.ow_hall.specs.Ledger.{BookView, HasRoom, Ledger, no_entries, opened, opening_moment, posted, posted_as}
 use Rattle.ow_hall.specs.Readied.{IsBeside, IsKeptBy, IsLoaded, IsOpenedOver, IsOver, IsReadied}
 use Rattle.ow_hall.specs.State.{IsAt, Keeps, StateView}
@@ -64,12 +65,12 @@ taken t rows at p order holds =
 
 -- ---- moments
 
-small_in : (rows : Rows) (r : Result (List Item) (List ℕ)) → judged rows ≡ r → moment_in r ≤ greatest_moment
+small_in : (rows : Rows) (r : Result (List Item) (List ℕ)) → judged rows ≡ r → moment_in r ≤ GREATEST_MOMENT
 small_in rows (Ok is) made = judged_small rows is made
 small_in rows (Err key) made = omega arith
 
-small_opening : (rows : Rows) (at : ℕ) → opening_moment rows at ≤ greatest_moment
-small_opening rows at = max-le (small_in rows (judged rows) refl) (max-le (omega arith) (min-le_right at greatest_moment))
+small_opening : (rows : Rows) (at : ℕ) → opening_moment rows at ≤ GREATEST_MOMENT
+small_opening rows at = max-le (small_in rows (judged rows) refl) (max-le (omega arith) (min-le_right at GREATEST_MOMENT))
 
 -- it is that of what is held
 pub first_moment : (rows : Rows) (at : ℕ) (p : Parts) → HoldsItems rows p → max (parts_moment p) (moment [] at) ≡ opening_moment rows at
@@ -97,7 +98,7 @@ opened_at t at p w v over beside keeping =
 
 -- the first entry is booked
 booked_keeps : (t : Table) (rows : Rows) (at : ℕ) (w : StateView) → w.floor.before ≡ None → posting [] (answer t [] (opening_moment rows at) (events.Opened rows)) ≡ Booked
-    → opening_moment rows at ≤ greatest_moment → IsAt w (after (decision t [] (opening_moment rows at) (events.Opened rows)) (seen t [])) → Keeps w t (opened t rows at)
+    → opening_moment rows at ≤ GREATEST_MOMENT → IsAt w (after (decision t [] (opening_moment rows at) (events.Opened rows)) (seen t [])) → Keeps w t (opened t rows at)
 booked_keeps t rows at w free booked most stands =
     let m = opening_moment rows at in
     let told = answer t [] m (events.Opened rows) in

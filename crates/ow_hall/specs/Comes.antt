@@ -166,10 +166,3 @@ Replies (Ok reply) (Answers t) = reply_in t ≡ Some reply
 Replies (Ok reply) Fails = reply ≡ store_reply
 Replies (Ok reply) Wants = ⊥
 Replies (Err e) o = o ≡ Wants
-
--- a refusal hands the run's number and the reply back
-abbrev pub HandsBack : ℕ → RunReply → Result Answered AnswerRefusal → Type 0
-HandsBack run reply (Err (NoRun number back)) = (number ≡ run) × (back ≡ reply)
-HandsBack run reply (Err (NoMemory back)) = back ≡ reply
-HandsBack run reply (Err (StoreFault back)) = back ≡ reply
-HandsBack run reply (Ok answered) = Unit {0}

@@ -1,5 +1,6 @@
 -- The book: events with their moments and answers, the newest first. Every word about it is a recursion over that list.
 use Rattle.std.specs.Prelude.{◌≡◌, ◌+◌, ◌++◌, ◌≤◌, ℕ, Bool, true, false, List, [], ◌∷◌, length, map, sum, min, max, Result, Ok, Err}
+use Rattle.ow_keep.specs.declared.allowed.TheConstants.{GREATEST_MOMENT}
 use Rattle.ow_traits.specs.declared.replies.RunReply.{RunReply}
 use Rattle.ow_traits.specs.declared.replies.RunReply.TheVariants as runs
 use Rattle.ow_entity.specs.declared.rows.Row.{Row}
@@ -58,7 +59,7 @@ abbrev pub collected_body : HallCollected → ℕ
 collected_body (collected.Reply answer) = length answer.body
 collected_body other = 0
 
--- of an answer those of its body, where it answers a request
+-- of an answer those of its body, where it answers a request, at once or as it is collected
 abbrev pub told_bytes : Told → ℕ
 told_bytes (told.Asked reply) = reply_body reply
 told_bytes (told.Collected c) = collected_body c
@@ -76,10 +77,6 @@ abbrev pub last_moment : History → ℕ
 last_moment [] = 0
 last_moment (e ∷ B) = e.at
 
--- the last moment of the year 9999
-abbrev pub greatest_moment : ℕ
-greatest_moment = 253402300799999
-
 -- the greatest moment that kept rows have
 abbrev pub moment_in : Result (List Item) (List ℕ) → ℕ
 moment_in (Ok items) = greatest_kept_moment items
@@ -92,7 +89,7 @@ least_moment event = 0
 
 -- the moment that is booked for a given one: at most the greatest, and never before the last one booked
 abbrev pub moment : History → ℕ → ℕ
-moment B at = max (last_moment B) (min at greatest_moment)
+moment B at = max (last_moment B) (min at GREATEST_MOMENT)
 
 -- ---- what came of the entries
 
@@ -145,7 +142,7 @@ posting B t = posting_by (is_idle B) t
 -- and that of an opening isn't before those of the kept rows
 abbrev pub AreAnswered : Table → History → Type 0
 AreAnswered t [] = Unit {0}
-AreAnswered t (e ∷ B) = (e.answer ≡ answer t B e.at e.event) × (posting B e.answer ≡ Booked) × (last_moment B ≤ e.at) × (e.at ≤ greatest_moment) × (least_moment e.event ≤ e.at) × AreAnswered t B
+AreAnswered t (e ∷ B) = (e.answer ≡ answer t B e.at e.event) × (posting B e.answer ≡ Booked) × (last_moment B ≤ e.at) × (e.at ≤ GREATEST_MOMENT) × (least_moment e.event ≤ e.at) × AreAnswered t B
 
 -- there is no entry
 abbrev pub is_empty : History → Bool

@@ -34,7 +34,7 @@ posted_as Quiet e L = record L { quiet = one_more L.quiet }
 posted_as Denied e L = record L { denied = one_more L.denied }
 posted_as Unbooked e L = L
 
--- how many entries it takes
+-- how many entries it takes, for private clauses
 abbrev pub cost : Posting → ℕ
 cost Booked = 1
 cost other = 0
@@ -55,7 +55,7 @@ opened t rows at = posted no_entries (opening_moment rows at) (events.Opened row
 abbrev pub faulted : Ledger → Ledger
 faulted L = record L { stored = one_more L.stored }
 
--- an entry has its bytes, room, and a count, with so many more entries behind it that count 64 each
+-- an entry has its bytes, room, and a count, with so many more entries behind it that count 64 each, for private clauses
 pub record IsReady (B : History) (room owed : ℕ) (event : Event) (t : Told) (bytes : ℕ) : Type 0 where
   pub bytes_are : bytes ≡ event_bytes event + told_bytes t
   pub within : owed + 1 ≤ room
@@ -65,11 +65,6 @@ pub record IsReady (B : History) (room owed : ℕ) (event : Event) (t : Told) (b
 pub record HasRoom (T : Trace) (L : Ledger) (room : ℕ) : Type 0 where
   pub within : owed T ≤ room
   pub fits : counted L.entries + 64 * owed T < 2 ^ 64
-
--- a list of entries of the code, the oldest first, and for how many more there is room
-pub record EntriesView : Type 0 where
-  pub items : List Entry
-  pub room : ℕ
 
 -- a book of the code: its ledger, and for how many more entries there is room
 pub record BookView : Type 0 where

@@ -11,7 +11,7 @@ abbrev pub undone : Bool → Outcome
 undone true = Fails
 undone false = Wants
 
--- it is told, or it is undone
+-- it is told, or it is undone, for private clauses
 abbrev pub outcome : Result Told Undone → Outcome
 outcome (Ok t) = Answers t
 outcome (Err u) = undone u.failed

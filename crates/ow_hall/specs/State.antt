@@ -51,79 +51,79 @@ pub record Keeps (w : StateView) (t : Table) (L : Ledger) : Type 0 where
 
 -- ---- a step
 
--- all that have ended, those of an earlier run first
+-- all that have ended, those of an earlier run first, for private clauses
 abbrev pub all_ended : Shown → List Record
 all_ended v = v.resumed ++ v.ended
 
 -- over floor, rows and waits: what is decided of what is seen is done on the floor, and made ready beside it, but for what is
--- committed of ends
+-- committed of ends, for private clauses
 abbrev pub Makes : StateView → Shown → Table → Now → (Sight → Decision) → Step → Type 0
 Makes old new t now decided step = (S : Sight) → IsSeen S t old.rows old.counts old.keeping old.floor.now now → S.waits ≡ old.waits
     → Carries step (decided S) old.keeping S × Stands new ((decided S).items ++ S.trace)
 
--- a step has what was decided
+-- a step has what was decided, for private clauses
 pub record IsStep (step : Step) (d : Decision) : Type 0 where
   pub told : step.told ≡ d.told
   pub changes : changes_of step.change ≡ d.changes
   pub waits : step.waits ≡ d.waits
   pub invoked : step.invoked ≡ invoked_in d.items
 
--- with what is committed, if anything, the size stands for these rows and this trace
+-- with what is committed, if anything, the size stands for these rows and this trace, for private clauses
 abbrev pub StandsWith : Option CommitView → KeepingView → List Row → Trace → Type 0
 StandsWith None v rs T = StandsForKept v rs T
 StandsWith (Some c) v rs T = StandsAfter c v rs T
 
--- all that a decision changes of what is kept is committed
+-- all that a decision changes of what is kept is committed, for private clauses
 pub record IsWhole (commit : Option CommitView) (d : Decision) (v : KeepingView) (S : Sight) : Type 0 where
   pub changes : changes_in commit ≡ commits d
   pub stands : StandsWith commit v (all_changed d.changes S.rows) (d.items ++ S.trace)
 
--- the same with all that is committed
+-- the same with all that is committed, for private clauses
 abbrev pub Does : StateView → Shown → Table → Now → (Sight → Decision) → Step → Type 0
 Does old new t now decided step = (S : Sight) → IsSeen S t old.rows old.counts old.keeping old.floor.now now → S.waits ≡ old.waits
     → IsStep step (decided S) × IsWhole step.commit (decided S) old.keeping S × Stands new ((decided S).items ++ S.trace)
 
--- these ends are committed, and nothing else
+-- these ends are committed, and nothing else, for private clauses
 pub record IsEnding (c : CommitView) (v : KeepingView) (ends : List Record) : Type 0 where
   pub changes : c.changes ≡ flat_map end_changes ends
   pub stands : (rs : List Row) (T items : Trace) → StandsForKept v rs T → IsSound T → AreRight items (shown T) → AreLater items → ends ≡ records items
       → StandsAfter c v rs (items ++ T)
 
--- what is committed where activations have ended with these records: the ends alone, where there are any
+-- what is committed where activations have ended with these records: the ends alone, where there are any, for private clauses
 abbrev pub CommitsEnds : KeepingView → List Record → Option CommitView → Option CommitView → Type 0
 CommitsEnds v [] before commit = commit ≡ before
 CommitsEnds v (r ∷ rs) before commit = IfSome commit (λ c. IsEnding c v (r ∷ rs)) × (is_some commit ≡ true)
 
 -- ---- the size of what is kept
 
--- it is what it was, with more room
+-- it is what it was, with more room, for private clauses
 abbrev pub StaysKept : KeepingView → KeepingView → Type 0
 StaysKept old new = (new.bytes ≡ old.bytes) × (new.opens ≡ old.opens)
 
--- what was committed, if anything, is kept
+-- what was committed, if anything, is kept, for private clauses
 abbrev pub KeepsCommit : Option CommitView → KeepingView → KeepingView → Type 0
 KeepsCommit commit old new = (rs : List Row) (T : Trace) → StandsWith commit old rs T → StandsForKept new rs T
 
 -- ---- notes
 
--- there is room for the note of an invocation that is charged to a namespace, if any
+-- there is room for the note of an invocation that is charged to a namespace, if any, for private clauses
 abbrev pub HasRoomOf : Option (List ℕ) → CountsView → Type 0
 HasRoomOf None v = Unit {0}
 HasRoomOf (Some namespace) v = HasRoomFor namespace 1 v
 
--- what stood for some notes stands for them
+-- what stood for some notes stands for them, for private clauses
 abbrev pub KeepsNotes : CountsView → CountsView → Type 0
 KeepsNotes old new = (ns : notes.Notes) → StandsFor old ns → StandsFor new ns
 
--- what stood for some notes stands for them and the note of an invocation, if any, of no earlier moment
+-- what stood for some notes stands for them and the note of an invocation, if any, of no earlier moment, for private clauses
 abbrev pub NotesInvoked : Option (List ℕ) → ℕ → CountsView → CountsView → Type 0
 NotesInvoked invoked at old new = (ns : notes.Notes) → notes.latest ns ≤ at → StandsFor old ns → StandsFor new (noted_invoked invoked at ns)
 
--- what stood for some notes stands for them and the notes of these ends, each of which may come
+-- what stood for some notes stands for them and the notes of these ends, each of which may come, for private clauses
 abbrev pub NotesEnds : List Record → CountsView → CountsView → Type 0
 NotesEnds ends old new = (ns : notes.Notes) → MayAllEnd ends ns → StandsFor old ns → StandsFor new (noted_ends ends ns)
 
--- of an invocation, and then of ends
+-- of an invocation, and then of ends, for private clauses
 abbrev pub Notes : Option (List ℕ) → ℕ → List Record → CountsView → CountsView → Type 0
 Notes invoked at ends old new = (ns : notes.Notes) → notes.latest ns ≤ at → MayAllEnd ends (noted_invoked invoked at ns) → StandsFor old ns
     → StandsFor new (noted_ends ends (noted_invoked invoked at ns))

@@ -6,18 +6,15 @@ ghost use Rattle.ow_hall.specs.Commits.{is_fault, uncommitted};
 ghost use Rattle.ow_hall.specs.Ledger.{IsReady, cost, faulted, no_entries, one_more, posted, posted_as};
 
 use crate::bytes::entry_bytes;
-use crate::entries::Entries;
-use crate::entry::Entry;
+use crate::entry::{Entries, Entry};
 use crate::posting::{Posting, posting_of};
 use ow_decide::{Event, Told, is_full};
 use ow_floor::Order;
+use ow_keep::GREATEST_MOMENT;
 use ow_traits::KeeperError;
 use ow_value::NoMemory;
 use std::alloc::Global;
 use std::marker::Model;
-
-/// The greatest moment, in milliseconds: the last of the year 9999.
-pub const GREATEST_MOMENT: u64 = 253_402_300_799_999;
 
 /// All that was asked and answered since the service was opened.
 #[derive(Drop)]

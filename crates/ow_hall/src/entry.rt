@@ -1,6 +1,6 @@
 // What the book holds.
 use ow_decide::{Event, Told};
-use ow_value::{NoMemory, PlainData};
+use ow_value::{Listed, NoMemory, PlainData};
 use std::alloc::Global;
 
 /// An event with its moment, in milliseconds, and its answer.
@@ -13,6 +13,9 @@ pub struct Entry {
     /// What was answered.
     pub answer: Told,
 }
+
+/// A list of entries, the oldest first.
+pub type Entries = Listed<Entry>;
 
 impl PlainData for Entry {
     fn same(&self, other: &Entry) -> bool {

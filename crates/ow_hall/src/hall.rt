@@ -3,7 +3,8 @@ ghost use Rattle.std.specs.Prelude.{if◌then◌else◌, ◌≡◌, ◌≤◌, [
 ghost use Rattle.ow_floor.specs.Laws.{Stands};
 ghost use Rattle.ow_floor.specs.Owed.{owed};
 ghost use Rattle.ow_floor.specs.Trace.{Trace};
-ghost use Rattle.ow_hall.specs.Comes.{Answers, Comes, HandsBack, HoldsBook, IsCalled, Outcome, Replies, collect_outcome, done_outcome, drain_outcome, next_outcome, reopened_outcome, reply_outcome, store_reply, swept_outcome};
+ghost use Rattle.ow_floor.specs.Calls.{HandsBack};
+ghost use Rattle.ow_hall.specs.Comes.{Answers, Comes, HoldsBook, IsCalled, Outcome, Replies, collect_outcome, done_outcome, drain_outcome, next_outcome, reopened_outcome, reply_outcome, store_reply, swept_outcome};
 ghost use Rattle.ow_hall.specs.Commits.{CommitsTo, changes_in};
 ghost use Rattle.ow_hall.specs.History.{IsLegal, posting};
 ghost use Rattle.ow_hall.specs.Ledger.{IsReady};
@@ -225,7 +226,7 @@ impl<P: Keeper + Drop> Hall<P> {
         reply: RunReply,
     ) -> Result<Answered, AnswerRefusal>
         ensures comes { Comes P.rows P.faults self.old self.new at (events.Answered run reply) (reply_outcome result) }
-        ensures back { HandsBack run reply result }
+        ensures back { IfErr result (λ refusal. HandsBack run reply refusal) }
     {
         match self.tell(alloc, at, Event::Answered { run, reply }) {
             Ok(told) => answered_in(told),
@@ -324,14 +325,11 @@ impl<P: Keeper + Drop> Hall<P> {
             self.state.settle(false);
             return Err(Undone { event, failed });
         };
-        match commit(alloc, &mut self.store, &step.commit) {
-            Ok(()) => {}
-            Err(error) => {
-                drop((step, copied, kept));
-                self.state.settle(false);
-                let failed = self.book.note_uncommitted(error);
-                return Err(Undone { event, failed });
-            }
+        if let Err(error) = commit(alloc, &mut self.store, &step.commit) {
+            drop((step, copied, kept));
+            self.state.settle(false);
+            let failed = self.book.note_uncommitted(error);
+            return Err(Undone { event, failed });
         }
         self.state.settle(true);
         let Step {

@@ -3,7 +3,6 @@
 //! The controller: rows and floor behind one book of all that was asked and answered.
 mod book;
 mod bytes;
-mod entries;
 mod entry;
 mod fronts;
 mod hall;
@@ -16,9 +15,8 @@ mod refusals;
 mod state;
 mod store_answer;
 
-pub use book::{Book, GREATEST_MOMENT};
-pub use entries::Entries;
-pub use entry::Entry;
+pub use book::Book;
+pub use entry::{Entries, Entry};
 pub use fronts::{answered_in, collected_in, drain_in, order_in, reply_in, reply_of, swept_in};
 pub use hall::{Hall, Undone, unanswered};
 pub use laws::{legal_books_keep_activations, legal_books_keep_limits};

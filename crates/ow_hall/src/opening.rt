@@ -1,6 +1,6 @@
 // How a service is opened over what a store keeps.
 ghost use Rattle.std.specs.Prelude.{◌≡◌, ◌≤◌, ◌++◌, [], ◌∷◌, None, max, IfOk, IfErr};
-ghost use Rattle.ow_pool.specs.Rules.{AreWantsSized};
+ghost use Rattle.ow_traits.specs.Prewarms.{AreWantsSized};
 ghost use Rattle.ow_floor.specs.Growth.{AreResumable};
 ghost use Rattle.ow_floor.specs.Laws.{Stands};
 ghost use Rattle.ow_floor.specs.Trace.{Opened as FloorOpened, Resumed};

@@ -1,6 +1,6 @@
 // How a service is opened over a store, and anew.
 ghost use Rattle.std.specs.Prelude.{IfOk, IfErr};
-ghost use Rattle.ow_pool.specs.Rules.{AreWantsSized};
+ghost use Rattle.ow_traits.specs.Prewarms.{AreWantsSized};
 ghost use Rattle.ow_hall.specs.Openings.{IsReopened, IsUnopened, Opens};
 
 use crate::hall::Hall;

@@ -17,34 +17,34 @@ goes_on [] = false
 goes_on (([], k) ∷ r) = goes_on r
 goes_on ((x ∷ t, k) ∷ r) = true
 
-abbrev slash_only : List ℕ
-slash_only = 47 ∷ []
+abbrev pub slash : List ℕ
+slash = 47 ∷ []
 
-longest-kept : {K : Type 0} (seg : List ℕ) (t : RowsOf K) → AreEnds t → longest_from seg slash_only t ≡ slash_only
+longest-kept : {K : Type 0} (seg : List ℕ) (t : RowsOf K) → AreEnds t → longest_from seg slash t ≡ slash
 longest-kept seg [] h = refl
 longest-kept seg (([], k) ∷ r) h = longest-kept seg r h
 longest-kept seg ((x ∷ t, k) ∷ r) h = rw h.0 (longest-kept seg r h.1)
 
-longest-none : {K : Type 0} (seg : List ℕ) (t : RowsOf K) → AreEnds t → cuts seg slash_only ≡ false → longest_from seg [] t ≡ []
+longest-none : {K : Type 0} (seg : List ℕ) (t : RowsOf K) → AreEnds t → cuts seg slash ≡ false → longest_from seg [] t ≡ []
 longest-none seg [] h e = refl
 longest-none seg (([], k) ∷ r) h e = longest-none seg r h e
 longest-none seg ((x ∷ t, k) ∷ r) h e = rw h.0 (rw e (longest-none seg r h.1 e))
 
-longest-some : {K : Type 0} (seg : List ℕ) (t : RowsOf K) → AreEnds t → cuts seg slash_only ≡ true → longest_from seg [] t ≡ cond (goes_on t) slash_only []
+longest-some : {K : Type 0} (seg : List ℕ) (t : RowsOf K) → AreEnds t → cuts seg slash ≡ true → longest_from seg [] t ≡ cond (goes_on t) slash []
 longest-some seg [] h e = refl
 longest-some seg (([], k) ∷ r) h e = longest-some seg r h e
 longest-some seg ((x ∷ t, k) ∷ r) h e = rw h.0 (rw e (longest-kept seg r h.1))
 
 -- the rows that go on are found by their slash
-step-suffix : {K : Type 0} (t : RowsOf K) → AreEnds t → step 47 (with_suffix slash_only t) ≡ step 47 t
+step-suffix : {K : Type 0} (t : RowsOf K) → AreEnds t → step 47 (with_suffix slash t) ≡ step 47 t
 step-suffix [] h = refl
 step-suffix (([], k) ∷ r) h = step-suffix r h
 step-suffix ((x ∷ t, k) ∷ r) h = rw h.0 (ap (λ z. (t, k) ∷ z) (step-suffix r h.1))
 
-suffix-ends : {K : Type 0} (t : RowsOf K) → AreEnds t → AreEnds (with_suffix slash_only t)
+suffix-ends : {K : Type 0} (t : RowsOf K) → AreEnds t → AreEnds (with_suffix slash t)
 suffix-ends [] h = tt
 suffix-ends (([], k) ∷ r) h = suffix-ends r h
-suffix-ends ((x ∷ t, k) ∷ r) h = let g = suffix-ends r h.1 in subst (λ y. AreEnds (with_suffix slash_only ((y ∷ t, k) ∷ r))) (sym h.0) (refl, g)
+suffix-ends ((x ∷ t, k) ∷ r) h = let g = suffix-ends r h.1 in subst (λ y. AreEnds (with_suffix slash ((y ∷ t, k) ∷ r))) (sym h.0) (refl, g)
 
 step-none : {K : Type 0} (t : RowsOf K) → goes_on t ≡ false → step 47 t ≡ []
 step-none [] e = refl
@@ -77,7 +77,7 @@ segment-free : (s : List ℕ) → IsFree s → segment s ≡ s
 segment-free [] h = refl
 segment-free (x ∷ s) h = rw (not-slash x h.0) (ap (λ z. x ∷ z) (segment-free s h.1))
 
-segment-cut : (s q : List ℕ) → IsFree s → segment (s ++ 47 ∷ q) ≡ s ++ slash_only
+segment-cut : (s q : List ℕ) → IsFree s → segment (s ++ 47 ∷ q) ≡ s ++ slash
 segment-cut [] q h = refl
 segment-cut (x ∷ s) q h = rw (not-slash x h.0) (ap (λ z. x ∷ z) (segment-cut s q h.1))
 
@@ -102,26 +102,26 @@ drop-free zero s h = h
 drop-free (suc n) [] h = tt
 drop-free (suc n) (x ∷ s) h = drop-free n s h.1
 
-ends-free : (s : List ℕ) → IsFree s → pointwise nat_eq slash_only s ≡ false
+ends-free : (s : List ℕ) → IsFree s → pointwise nat_eq slash s ≡ false
 ends-free [] h = refl
 ends-free (x ∷ s) h = let e : nat_eq 47 x ≡ false = grind (arith, nat_tests, h.0) in rw e refl
 
-cuts-free : (s : List ℕ) → IsFree s → cuts s slash_only ≡ false
+cuts-free : (s : List ℕ) → IsFree s → cuts s slash ≡ false
 cuts-free s h = rw (ends-free (drop (length s - 1) s) (drop-free (length s - 1) s h)) (by (ltb 1 (length s)))
   where
     by : (b : Bool) → (b && false) ≡ false
     by true = refl
     by false = refl
 
-cuts-last : (seg : List ℕ) → ltb 1 (length seg) ≡ true → drop (length seg - 1) seg ≡ slash_only → cuts seg slash_only ≡ true
+cuts-last : (seg : List ℕ) → ltb 1 (length seg) ≡ true → drop (length seg - 1) seg ≡ slash → cuts seg slash ≡ true
 cuts-last seg long last = rw (long, last) refl
 
-cuts-cut : (b : ℕ) (s : List ℕ) → cuts (b ∷ (s ++ slash_only)) slash_only ≡ true
+cuts-cut : (b : ℕ) (s : List ℕ) → cuts (b ∷ (s ++ slash)) slash ≡ true
 cuts-cut b s =
-    let n : length (b ∷ (s ++ slash_only)) ≡ length (b ∷ s) + 1 = length-append (b ∷ s) slash_only in
-    let m : length (b ∷ (s ++ slash_only)) - 1 ≡ length (b ∷ s) = omega arith in
-    let long : ltb 1 (length (b ∷ (s ++ slash_only))) ≡ true = grind (arith, nat_tests, n) in
-    cuts-last (b ∷ (s ++ slash_only)) long (ap (λ z. drop z (b ∷ (s ++ slash_only))) m ∙ drop-append_seam (b ∷ s) slash_only)
+    let n : length (b ∷ (s ++ slash)) ≡ length (b ∷ s) + 1 = length-append (b ∷ s) slash in
+    let m : length (b ∷ (s ++ slash)) - 1 ≡ length (b ∷ s) = omega arith in
+    let long : ltb 1 (length (b ∷ (s ++ slash))) ≡ true = grind (arith, nat_tests, n) in
+    cuts-last (b ∷ (s ++ slash)) long (ap (λ z. drop z (b ∷ (s ++ slash))) m ∙ drop-append_seam (b ∷ s) slash)
 
 step-free : {K : Type 0} (t : RowsOf K) → AreEnds t → (s : List ℕ) → IsFree s → param_step t s ≡ (length s, t)
 unfolding param_step
@@ -129,17 +129,17 @@ step-free t h s f = rw (segment-free s f, longest-none s t h (cuts-free s f), ha
 
 step-slash : {K : Type 0} (t : RowsOf K) → AreEnds t → (q : List ℕ) → param_step t (47 ∷ q) ≡ (0, [])
 unfolding param_step
-step-slash t h q = rw (longest-none slash_only t h refl) refl
+step-slash t h q = rw (longest-none slash t h refl) refl
 
 step-cut : {K : Type 0} (t : RowsOf K) → AreEnds t → (b : ℕ) (s q : List ℕ) → IsFree (b ∷ s)
-    → param_step t (b ∷ (s ++ 47 ∷ q)) ≡ cond (goes_on t) (length (b ∷ s), with_suffix slash_only t) (0, [])
+    → param_step t (b ∷ (s ++ 47 ∷ q)) ≡ cond (goes_on t) (length (b ∷ s), with_suffix slash t) (0, [])
 unfolding param_step
 step-cut {K} t h b s q f =
-    let n : length (b ∷ (s ++ slash_only)) ≡ length (b ∷ s) + 1 = length-append (b ∷ s) slash_only in
-    let m : length (b ∷ (s ++ slash_only)) - 1 ≡ length (b ∷ s) = omega arith in
-    rw (segment-cut (b ∷ s) q f, longest-some (b ∷ (s ++ slash_only)) t h (cuts-cut b s), has_slash-cut (b ∷ s) q f)
-    (elim (goes_on t) as (λ v. cond {A = ℕ × RowsOf K} (ltb 0 (length (cond {A = List ℕ} v slash_only []))) (length (b ∷ (s ++ slash_only)) - length (cond {A = List ℕ} v slash_only []), with_suffix (cond {A = List ℕ} v slash_only []) t) (cond {A = ℕ × RowsOf K} true (0, []) (length (b ∷ (s ++ 47 ∷ q)), t)) ≡ cond {A = ℕ × RowsOf K} v (length (b ∷ s), with_suffix slash_only t) (0, [])) [
-      | true ↦ ap (λ z. (z, with_suffix slash_only t)) m
+    let n : length (b ∷ (s ++ slash)) ≡ length (b ∷ s) + 1 = length-append (b ∷ s) slash in
+    let m : length (b ∷ (s ++ slash)) - 1 ≡ length (b ∷ s) = omega arith in
+    rw (segment-cut (b ∷ s) q f, longest-some (b ∷ (s ++ slash)) t h (cuts-cut b s), has_slash-cut (b ∷ s) q f)
+    (elim (goes_on t) as (λ v. cond {A = ℕ × RowsOf K} (ltb 0 (length (cond {A = List ℕ} v slash []))) (length (b ∷ (s ++ slash)) - length (cond {A = List ℕ} v slash []), with_suffix (cond {A = List ℕ} v slash []) t) (cond {A = ℕ × RowsOf K} true (0, []) (length (b ∷ (s ++ 47 ∷ q)), t)) ≡ cond {A = ℕ × RowsOf K} v (length (b ∷ s), with_suffix slash t) (0, [])) [
+      | true ↦ ap (λ z. (z, with_suffix slash t)) m
       | false ↦ refl
     ])
 
@@ -177,10 +177,10 @@ part-cut t f ends [] q h bytes =
 part-cut {K} t f ends (b ∷ s) q h bytes =
     let one : ltb 0 (length (b ∷ s)) ≡ true = grind (arith, nat_tests) in
     let behind : seek 0 t (47 ∷ q) ≡ f (segments q) = ends.at_slash q (bytes-after (b ∷ s) q bytes) in
-    let on : goes_on t ≡ true → seek (length (b ∷ s) - 1) (with_suffix slash_only t) (s ++ 47 ∷ q) ≡ f (segments q) = λ (e : goes_on t ≡ true).
-    ap (λ z. seek z (with_suffix slash_only t) (s ++ 47 ∷ q)) (omega arith) ∙ seek-drop (length s) (with_suffix slash_only t) (s ++ 47 ∷ q)
-    ∙ ap (λ z. seek 0 (with_suffix slash_only t) z) (drop-append_seam s (47 ∷ q))
-    ∙ seek-ends (with_suffix slash_only t) (suffix-ends t ends.shape) 47 q ∙ ap (λ z. seek 0 z q) (step-suffix t ends.shape)
+    let on : goes_on t ≡ true → seek (length (b ∷ s) - 1) (with_suffix slash t) (s ++ 47 ∷ q) ≡ f (segments q) = λ (e : goes_on t ≡ true).
+    ap (λ z. seek z (with_suffix slash t) (s ++ 47 ∷ q)) (omega arith) ∙ seek-drop (length s) (with_suffix slash t) (s ++ 47 ∷ q)
+    ∙ ap (λ z. seek 0 (with_suffix slash t) z) (drop-append_seam s (47 ∷ q))
+    ∙ seek-ends (with_suffix slash t) (suffix-ends t ends.shape) 47 q ∙ ap (λ z. seek 0 z q) (step-suffix t ends.shape)
     ∙ sym (seek-ends t ends.shape 47 q) ∙ behind in
     let off : goes_on t ≡ false → seek {K = K} 0 [] (s ++ 47 ∷ q) ≡ f (segments q) = λ (e : goes_on t ≡ false).
     seek-empty 0 (s ++ 47 ∷ q) ∙ sym (seek-empty 0 q) ∙ sym (ap (λ z. seek 0 z q) (step-none t e)) ∙ sym (seek-ends t ends.shape 47 q) ∙ behind in
@@ -189,9 +189,9 @@ part-cut {K} t f ends (b ∷ s) q h bytes =
     ∙ sym (ap (on_part f) (segments-cut (b ∷ s) q h) ∙ rw one refl)
   where
     by : (v : Bool) → goes_on t ≡ v
-        → (goes_on t ≡ true → seek (length (b ∷ s) - 1) (with_suffix slash_only t) (s ++ 47 ∷ q) ≡ f (segments q))
+        → (goes_on t ≡ true → seek (length (b ∷ s) - 1) (with_suffix slash t) (s ++ 47 ∷ q) ≡ f (segments q))
         → (goes_on t ≡ false → seek {K = K} 0 [] (s ++ 47 ∷ q) ≡ f (segments q))
-        → seek ((cond {A = ℕ × RowsOf K} v (length (b ∷ s), with_suffix slash_only t) (0, [])).0 - 1) ((cond {A = ℕ × RowsOf K} v (length (b ∷ s), with_suffix slash_only t) (0, [])).1) (s ++ 47 ∷ q) ≡ f (segments q)
+        → seek ((cond {A = ℕ × RowsOf K} v (length (b ∷ s), with_suffix slash t) (0, [])).0 - 1) ((cond {A = ℕ × RowsOf K} v (length (b ∷ s), with_suffix slash t) (0, [])).1) (s ++ 47 ∷ q) ≡ f (segments q)
     by true e on off = on e
     by false e on off = off e
 

@@ -15,11 +15,8 @@ use Rattle.ow_http.specs.PlaceOf.{in_kind, in_actions, in_activations, in_namesp
 use Rattle.ow_http.specs.Table.{with_route, with_lists, with_entities, with_activations, with_web_actions, office_routes, found_of}
 use Rattle.ow_http.proofs.Walk.{under}
 use Rattle.ow_http.proofs.BySegments.{AreBytes, Reads, Ends, on_word}
-use Rattle.ow_http.proofs.ByPart.{on_part}
+use Rattle.ow_http.proofs.ByPart.{on_part, slash}
 use Rattle.ow_http.proofs.Rows.{ends, here, on_rest, Reads-as, Reads-none, Reads-word, Reads-part, Reads-rest, Ends-more, Ends-both, Ends-here}
-
-abbrev slash : List ℕ
-slash = 47 ∷ []
 
 -- a part of the path
 abbrev any : List ℕ

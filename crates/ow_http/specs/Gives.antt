@@ -1,4 +1,4 @@
--- What is answered, unless memory ran out.
+-- For private clauses: what is answered, unless memory ran out.
 use Rattle.std.specs.Prelude.{◌≡◌, ◌≢◌, Result, Ok, Err}
 use Rattle.ow_http.specs.declared.http_refusal.HttpRefusal.{HttpRefusal}
 use Rattle.ow_http.specs.declared.http_refusal.HttpRefusal.TheVariants.{NoMemory}

@@ -39,7 +39,7 @@ asked_of h rest = record {
   rest = rest;
 }
 
--- the same, of the code
+-- the same, of the code, for private clauses
 abbrev pub as_asked : code.Asked → Asked
 as_asked a = record {
   method = a.method.now;

@@ -1,4 +1,4 @@
--- Which routes there are.
+-- For private clauses: which routes there are.
 use Rattle.std.specs.Prelude.{Bool, true, false, Some, None}
 use Rattle.ow_entity.specs.declared.kinds.EntityKind.TheVariants.{Action}
 use Rattle.ow_http.specs.declared.route.Route.{Route}

@@ -55,6 +55,6 @@ with_web_actions rows =
 unfoldable pub office_routes : RowsOf (RouteOf Place)
 office_routes = with_web_actions (with_activations (with_entities (with_lists [])))
 
--- what a path names, as the routes find it
+-- what a path names, as the routes find it, for lemmas
 unfoldable pub found_of : List ℕ → Option Place
 found_of path = option_map (λ r. r.value) (first office_routes path)

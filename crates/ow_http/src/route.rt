@@ -1,4 +1,6 @@
 // Paths with their parts.
+ghost use Rattle.std.specs.Prelude.{◌≡◌, ◌↔◌, IsTrue, IfOk};
+ghost use Rattle.ow_http.specs.declared.route.Route.TheVariants as route;
 
 use ow_entity::EntityKind;
 use ow_several::{copied2, copied3, copied4};
@@ -68,114 +70,196 @@ pub enum Route {
 
 impl PlainData for Route {
     fn same(&self, other: &Route) -> bool {
-        match (self, other) {
-            (Route::Namespaces, Route::Namespaces) => true,
-            (
-                Route::List { namespace, kind },
-                Route::List {
-                    namespace: home,
-                    kind: listed,
-                },
-            ) => namespace.same(home) && kind == listed,
-            (
-                Route::Entity {
-                    namespace,
-                    kind,
-                    package,
-                    name,
-                },
-                Route::Entity {
-                    namespace: home,
-                    kind: named,
-                    package: parent,
-                    name: own,
-                },
-            ) => { namespace.same(home) && kind == named && package.same(parent) && name.same(own) }
-            (Route::Activations { namespace }, Route::Activations { namespace: home }) => {
-                namespace.same(home)
-            }
-            (
-                Route::Activation {
-                    namespace,
-                    id,
-                    part,
-                },
-                Route::Activation {
-                    namespace: home,
-                    id: own,
-                    part: asked,
-                },
-            ) => namespace.same(home) && id.same(own) && part == asked,
-            (
-                Route::Web {
-                    namespace,
-                    package,
-                    name,
-                    rest,
-                },
-                Route::Web {
-                    namespace: home,
-                    package: parent,
-                    name: own,
-                    rest: more,
-                },
-            ) => namespace.same(home) && package.same(parent) && name.same(own) && rest.same(more),
-            _ => false,
+        match self {
+            Route::Namespaces => other.names_namespaces(),
+            Route::List { namespace, kind } => other.names_list(namespace, *kind),
+            Route::Entity {
+                namespace,
+                kind,
+                package,
+                name,
+            } => other.names_entity(namespace, *kind, package, name),
+            Route::Activations { namespace } => other.names_activations(namespace),
+            Route::Activation {
+                namespace,
+                id,
+                part,
+            } => other.names_activation(namespace, id, *part),
+            Route::Web {
+                namespace,
+                package,
+                name,
+                rest,
+            } => other.names_web_action(namespace, package, name, rest),
         }
     }
 
     fn copy(&self, alloc: Global) -> Result<Route, NoMemory> {
-        Ok(match self {
-            Route::Namespaces => Route::Namespaces,
-            Route::List { namespace, kind } => Route::List {
-                namespace: namespace.copy(alloc)?,
-                kind: *kind,
-            },
+        match self {
+            Route::Namespaces => Ok(Route::Namespaces),
+            Route::List { namespace, kind } => list_copy(alloc, namespace, *kind),
+            Route::Entity {
+                namespace,
+                kind,
+                package,
+                name,
+            } => entity_copy(alloc, namespace, *kind, package, name),
+            Route::Activations { namespace } => activations_copy(alloc, namespace),
+            Route::Activation {
+                namespace,
+                id,
+                part,
+            } => activation_copy(alloc, namespace, id, *part),
+            Route::Web {
+                namespace,
+                package,
+                name,
+                rest,
+            } => web_copy(alloc, namespace, package, name, rest),
+        }
+    }
+}
+
+impl Route {
+    fn names_namespaces(&self) -> bool
+        ensures { IsTrue result ↔ (self.now ≡ route.Namespaces) }
+    {
+        matches!(self, Route::Namespaces)
+    }
+
+    fn names_list(&self, home: &Bytes, listed: EntityKind) -> bool
+        ensures { IsTrue result ↔ (self.now ≡ route.List home.now listed) }
+    {
+        match self {
+            Route::List { namespace, kind } => namespace.same(home) && *kind == listed,
+            _ => false,
+        }
+    }
+
+    fn names_entity(
+        &self,
+        home: &Bytes,
+        named: EntityKind,
+        parent: &Option<Bytes>,
+        own: &Bytes,
+    ) -> bool
+        ensures { IsTrue result ↔ (self.now ≡ route.Entity home.now named parent.now own.now) }
+    {
+        match self {
             Route::Entity {
                 namespace,
                 kind,
                 package,
                 name,
             } => {
-                let (namespace, package, name) = copied3(alloc, namespace, package, name)?;
-                Route::Entity {
-                    namespace,
-                    kind: *kind,
-                    package,
-                    name,
-                }
+                namespace.same(home) && *kind == named && package.same(parent) && name.same(own)
             }
-            Route::Activations { namespace } => Route::Activations {
-                namespace: namespace.copy(alloc)?,
-            },
+            _ => false,
+        }
+    }
+
+    fn names_activations(&self, home: &Bytes) -> bool
+        ensures { IsTrue result ↔ (self.now ≡ route.Activations home.now) }
+    {
+        match self {
+            Route::Activations { namespace } => namespace.same(home),
+            _ => false,
+        }
+    }
+
+    fn names_activation(&self, home: &Bytes, own: &Bytes, asked: Part) -> bool
+        ensures { IsTrue result ↔ (self.now ≡ route.Activation home.now own.now asked) }
+    {
+        match self {
             Route::Activation {
                 namespace,
                 id,
                 part,
-            } => {
-                let (namespace, id) = copied2(alloc, namespace, id)?;
-                Route::Activation {
-                    namespace,
-                    id,
-                    part: *part,
-                }
-            }
+            } => namespace.same(home) && id.same(own) && *part == asked,
+            _ => false,
+        }
+    }
+
+    fn names_web_action(&self, home: &Bytes, parent: &Bytes, own: &Bytes, more: &Str) -> bool
+        ensures { IsTrue result ↔ (self.now ≡ route.Web home.now parent.now own.now more.now) }
+    {
+        match self {
             Route::Web {
                 namespace,
                 package,
                 name,
                 rest,
-            } => {
-                let (namespace, package, name, rest) = copied4(
-                    alloc, namespace, package, name, rest,
-                )?;
-                Route::Web {
-                    namespace,
-                    package,
-                    name,
-                    rest,
-                }
-            }
-        })
+            } => namespace.same(home) && package.same(parent) && name.same(own) && rest.same(more),
+            _ => false,
+        }
     }
+}
+
+fn list_copy(alloc: Global, namespace: &Bytes, kind: EntityKind) -> Result<Route, NoMemory>
+    ensures { IfOk result (λ r. r ≡ route.List namespace.now kind) }
+{
+    Ok(Route::List {
+        namespace: namespace.copy(alloc)?,
+        kind,
+    })
+}
+
+fn entity_copy(
+    alloc: Global,
+    namespace: &Bytes,
+    kind: EntityKind,
+    inside: &Option<Bytes>,
+    name: &Bytes,
+) -> Result<Route, NoMemory>
+    ensures { IfOk result (λ r. r ≡ route.Entity namespace.now kind inside.now name.now) }
+{
+    let (namespace, package, name) = copied3(alloc, namespace, inside, name)?;
+    Ok(Route::Entity {
+        namespace,
+        kind,
+        package,
+        name,
+    })
+}
+
+fn activations_copy(alloc: Global, namespace: &Bytes) -> Result<Route, NoMemory>
+    ensures { IfOk result (λ r. r ≡ route.Activations namespace.now) }
+{
+    Ok(Route::Activations {
+        namespace: namespace.copy(alloc)?,
+    })
+}
+
+fn activation_copy(
+    alloc: Global,
+    namespace: &Bytes,
+    id: &Bytes,
+    part: Part,
+) -> Result<Route, NoMemory>
+    ensures { IfOk result (λ r. r ≡ route.Activation namespace.now id.now part) }
+{
+    let (namespace, id) = copied2(alloc, namespace, id)?;
+    Ok(Route::Activation {
+        namespace,
+        id,
+        part,
+    })
+}
+
+fn web_copy(
+    alloc: Global,
+    namespace: &Bytes,
+    inside: &Bytes,
+    name: &Bytes,
+    rest: &Str,
+) -> Result<Route, NoMemory>
+    ensures { IfOk result (λ r. r ≡ route.Web namespace.now inside.now name.now rest.now) }
+{
+    let (namespace, package, name, rest) = copied4(alloc, namespace, inside, name, rest)?;
+    Ok(Route::Web {
+        namespace,
+        package,
+        name,
+        rest,
+    })
 }

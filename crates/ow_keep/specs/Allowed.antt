@@ -12,6 +12,8 @@ use Rattle.ow_entity.specs.declared.rows.Row.TheVariants as rows
 use Rattle.ow_records.specs.Written.{record_value}
 use Rattle.ow_records.specs.declared.ids.Id.{Id}
 use Rattle.ow_records.specs.declared.notes.Notes.{Notes}
+use Rattle.ow_records.specs.declared.record.Record.{Record}
+use Rattle.ow_records.specs.declared.unrecorded.Unrecorded.{Unrecorded}
 use Rattle.ow_traits.specs.Rows.{text_of}
 use Rattle.ow_tables.specs.Builtin.{is_builtin}
 use Rattle.ow_items.specs.Item.{count_key, done_key, item_key, item_text, open_value}
@@ -84,12 +86,20 @@ abbrev pub is_entity : EntityRow → Bool
 is_entity (rows.Action a) = is_version a.version
 is_entity (rows.Package p) = is_version p.version && (stands_alone p.name && is_binding p.name.namespace p.binding)
 
+-- what is asked of an activation that has not ended, whatever the other rows are
+abbrev pub is_fit_open : Unrecorded → Bool
+is_fit_open u = is_moment u.at && is_called u.cause u.version u.binding
+
+-- what is asked of a record so
+abbrev pub is_fit_record : Record → Bool
+is_fit_record r = is_moment r.span.end && (is_called r.cause r.version r.notes.binding && are_durations r.notes)
+
 abbrev pub is_allowed : Entries → Item → Bool
 is_allowed all Version = true
 is_allowed all (Count namespace count) = nat_le 1 count && nat_le count GREATEST_COUNT
 is_allowed all (Row r) = is_entity r && not (is_builtin r)
-is_allowed all (Open u) = (is_drawn all u.id && not (has_record all u.id)) && (is_moment u.at && is_called u.cause u.version u.binding)
-is_allowed all (Done r) = is_drawn all r.id && (is_moment r.span.end && (is_called r.cause r.version r.notes.binding && are_durations r.notes))
+is_allowed all (Open u) = (is_drawn all u.id && not (has_record all u.id)) && is_fit_open u
+is_allowed all (Done r) = is_drawn all r.id && is_fit_record r
 
 -- the item is written as this row, whose text nests no deeper than such texts are read
 abbrev pub is_row_of : Item → List ℕ × List ℕ → Bool

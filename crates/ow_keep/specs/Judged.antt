@@ -28,12 +28,12 @@ abbrev pub judged : Entries → Result (List Item) (List ℕ)
 judged [] = Ok []
 judged (r ∷ rs) = versioned (r ∷ rs) (gathered (r ∷ rs) (r ∷ rs))
 
--- the items before these
+-- the items before these, for lemmas
 abbrev pub behind : List Item → Result (List Item) (List ℕ) → Result (List Item) (List ℕ)
 behind front (Ok is) = Ok (front ++ is)
 behind front (Err key) = Err key
 
--- what a refusal tells of what is judged
+-- what a refusal tells of what is judged, for private clauses
 abbrev pub IsBad : Result (List Item) (List ℕ) → KeepRefusal → Type 0
 IsBad answer (BadKept key) = answer ≡ Err key
 IsBad answer NoMemory = Unit {0}

@@ -37,7 +37,7 @@ abbrev pub split : List Item → Parts
 split [] = no_parts
 split (i ∷ is) = with_item i (split is)
 
--- the item behind those of its kind
+-- the item behind those of its kind, for private clauses
 abbrev pub behind_parts : Parts → Item → Parts
 behind_parts p Version = record p { versioned = true }
 behind_parts p (Count namespace count) = record p { counts = p.counts ++ (record { namespace = namespace; count = count }) ∷ [] }
@@ -45,6 +45,7 @@ behind_parts p (Row r) = record p { entities = p.entities ++ r ∷ [] }
 behind_parts p (Open u) = record p { unrecorded = p.unrecorded ++ u ∷ [] }
 behind_parts p (Done r) = record p { records = p.records ++ r ∷ [] }
 
+-- for lemmas
 abbrev pub joined_parts : Parts → Parts → Parts
 joined_parts p q = record {
   versioned = p.versioned || q.versioned;

@@ -11,7 +11,8 @@ use Rattle.ow_kept.specs.Keeping.{IsDrawn}
 use Rattle.ow_kept.specs.Kept.{count_item}
 use Rattle.ow_records.specs.declared.ids.Id.{Id}
 use Rattle.ow_records.specs.Known.{IsId}
-use Rattle.ow_kept.proofs.Keys.{count_other, turned_eq}
+use Rattle.ow_value.proofs.KeySearch.{turned_eq}
+use Rattle.ow_kept.proofs.Keys.{count_other}
 use Rattle.ow_kept.proofs.Places.{put_behind, replaced}
 use Rattle.ow_kept.proofs.Sections.{count_of}
 

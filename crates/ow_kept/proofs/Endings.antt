@@ -10,7 +10,8 @@ use Rattle.ow_floor.specs.declared.runs.Run.{Run}
 use Rattle.ow_floor.specs.Growth.{AreRight, IsRight, freed, grown, open_after}
 use Rattle.ow_floor.specs.Laws.{IsSound, times}
 use Rattle.ow_floor.specs.Trace.{End, Item, Trace, Opened, Resumed, Accepted, Ordered, Prewarming, Removed, Begun, Answered, Lost, Gone, Ended, Swept, Drained, Reopened, all_records, drawn, live, open_items, record_of, records, shown}
-use Rattle.ow_floor.specs.View.{Shown, ids_of, is_number, is_of, remove_first, update_first, waits, with_state}
+use Rattle.ow_slots.specs.Slots.{change_first}
+use Rattle.ow_floor.specs.View.{Shown, ids_of, is_number, is_of, remove_first, waits, with_state}
 use Rattle.ow_floor.proofs.Apart.{turned}
 use Rattle.ow_floor.proofs.Soundness.{sound_items}
 use Rattle.ow_floor.proofs.Tallies.{eq_of, times-removed}
@@ -36,12 +37,12 @@ use Rattle.ow_records.specs.Unrecorded.{unrecorded_of}
 
 -- ---- nothing ends
 
-same_open : (p : Open → Bool) (q : State) (os : List Open) → of_open (update_first p (with_state q) os) ≡ of_open os
-unfolding update_first
+same_open : (p : Open → Bool) (q : State) (os : List Open) → of_open (change_first p (with_state q) os) ≡ of_open os
+unfolding change_first
 same_open p q [] = refl
 same_open p q (o ∷ os) = at (p o) (same_open p q os)
   where
-    at : (b : Bool) → of_open (update_first p (with_state q) os) ≡ of_open os → of_open (cond b (with_state q o ∷ os) (o ∷ update_first p (with_state q) os)) ≡ of_open (o ∷ os)
+    at : (b : Bool) → of_open (change_first p (with_state q) os) ≡ of_open os → of_open (cond b (with_state q o ∷ os) (o ∷ change_first p (with_state q) os)) ≡ of_open (o ∷ os)
     at true rest = refl
     at false rest = ap (λ us. unrecorded_of o.task ∷ us) rest
 

@@ -38,9 +38,6 @@ open_other a b ha hb differ = id_other a b ha hb differ
 pub done_other : (a b : Id) → IsId a → IsId b → same_id a b ≡ false → is_eq (text_cmp (done_key a) (done_key b)) ≡ false
 done_other a b ha hb differ = id_other a b ha hb differ
 
-pub turned_eq : (m n : ℕ) → (m == n) ≡ false → (n == m) ≡ false
-turned_eq m n h = grind (arith, nat_tests)
-
 numbers_are : (m n : ℕ) → m < 2 ^ 64 → n < 2 ^ 64 → (m == n) ≡ false → hex_16 m ≡ hex_16 n → ⊥
 numbers_are m n hm hn differ e =
     let same : Some m ≡ Some n = sym (hex_number-hex_16 m hm) ∙ ap hex_number e ∙ hex_number-hex_16 n hn in

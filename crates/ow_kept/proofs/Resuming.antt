@@ -27,7 +27,8 @@ use Rattle.ow_keep.proofs.Splits.{split_kept}
 use Rattle.ow_kept.specs.Keeping.{AreIds, IsDrawn}
 use Rattle.ow_kept.specs.Opening.{AreNotBuiltin, MayBeResumed, ResumedIdsAreKnown, abandoned, opened_trace, resumed_records}
 use Rattle.ow_kept.proofs.Ids.{all_both}
-use Rattle.ow_kept.proofs.Keys.{count_other, turned_eq}
+use Rattle.ow_value.proofs.KeySearch.{turned_eq}
+use Rattle.ow_kept.proofs.Keys.{count_other}
 use Rattle.ow_kept.proofs.Opening.{none_recorded, open_apart}
 use Rattle.ow_kept.proofs.Picking.{AreApartBy, apart_picked, counts_picked, dones_picked, each_picked, is_count, is_done, opens_picked, pick_count, pick_done, pick_open}
 use Rattle.ow_kept.proofs.Sections.{both, count_of, done_of, open_of, row_of}

@@ -20,7 +20,8 @@ use Rattle.ow_items.proofs.Lists.{absent_kind}
 use Rattle.ow_items.proofs.Parts.{or_text, text_of-append}
 use Rattle.ow_kept.specs.Keeping.{IsDrawn, bytes_at, last_bytes, old_bytes, open_bytes, row_bytes}
 use Rattle.ow_kept.specs.Kept.{is_kept}
-use Rattle.ow_kept.proofs.Keys.{count_other, open_other, turned_eq}
+use Rattle.ow_value.proofs.KeySearch.{turned_eq}
+use Rattle.ow_kept.proofs.Keys.{count_other, open_other}
 use Rattle.ow_kept.proofs.Sections.{both, count_of, done_no_count, done_no_open, done_no_row, done_of, id_no_count, id_no_done, id_no_row, open_of, row_no_count, row_no_done, row_no_open, row_of, sections, version}
 use Rattle.ow_kept.proofs.TableRows.{equal_by, is_place, kept_alike, other_by, places_are}
 use Rattle.ow_records.specs.declared.ids.Id.{Id}

@@ -9,7 +9,7 @@ use Rattle.ow_floor.specs.Trace.{Trace, drawn}
 use Rattle.ow_items.specs.Item.{item_key}
 use Rattle.ow_items.specs.declared.item.Item.{Item}
 use Rattle.ow_items.specs.declared.item.Item.TheVariants as items
-use Rattle.ow_keep.specs.Allowed.{are_durations, is_called, is_entity, is_moment, is_shallow}
+use Rattle.ow_keep.specs.Allowed.{is_entity, is_fit_open, is_fit_record, is_shallow}
 use Rattle.ow_keep.specs.Judged.{judged}
 use Rattle.ow_keep.specs.Known.{IsItem}
 use Rattle.ow_keep.specs.declared.allowed.TheConstants.{GREATEST_COUNT}
@@ -23,8 +23,8 @@ abbrev pub is_fit : Item → Bool
 is_fit items.Version = true
 is_fit (items.Count namespace count) = nat_le 1 count
 is_fit (items.Row r) = is_entity r
-is_fit (items.Open u) = nat_le 1 u.id.count && (is_moment u.at && is_called u.cause u.version u.binding)
-is_fit (items.Done r) = nat_le 1 r.id.count && (is_moment r.span.end && (is_called r.cause r.version r.notes.binding && are_durations r.notes))
+is_fit (items.Open u) = nat_le 1 u.id.count && is_fit_open u
+is_fit (items.Done r) = nat_le 1 r.id.count && is_fit_record r
 
 -- what its type tells of it holds, it nests no deeper than is read, and it is fit
 pub record IsFit (i : Item) : Type 0 where

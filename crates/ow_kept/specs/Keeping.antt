@@ -44,33 +44,34 @@ open_bytes u = record { id = u.id; bytes = row_bytes (items.Open u) }
 abbrev pub is_of : Id → OpenBytes → Bool
 is_of id o = same_id o.id id
 
--- those of the row of the last count of a namespace, which is there once one was drawn
+-- those of the row of the last count of a namespace, which is there once one was drawn, for private clauses
 abbrev pub last_bytes : ℕ → ℕ → ℕ
 last_bytes namespace last = if last == 0 then 0 else row_bytes (items.Count namespace last)
 
--- those of the row of an entity, where there is one
+-- those of the row of an entity, where there is one, for private clauses
 abbrev pub old_bytes : Option Row → ℕ
 old_bytes None = 0
 old_bytes (Some r) = row_bytes (items.Row r)
 
--- how many bytes go with the row that stood, and come with a change of the rows
+-- how many bytes go with the row that stood, and come with a change of the rows, for private clauses
 abbrev pub bytes_less : TableChange → Option Row → ℕ
 bytes_less c old = if is_builtin c.row then 0 else old_bytes old
 
+-- for private clauses
 abbrev pub bytes_more : TableChange → ℕ
 bytes_more c = if is_builtin c.row then 0 else if c.removes then 0 else row_bytes (items.Row c.row)
 
--- those of an activation that has not ended
+-- those of an activation that has not ended, for private clauses
 abbrev pub bytes_at : Id → List OpenBytes → ℕ
 bytes_at id [] = 0
 bytes_at id (o ∷ os) = if is_of id o then o.bytes else bytes_at id os
 
--- those of all that ended with these records
+-- those of all that ended with these records, for private clauses
 abbrev pub ended_bytes : List Record → List OpenBytes → ℕ
 ended_bytes [] os = 0
 ended_bytes (r ∷ rs) os = bytes_at r.id os + ended_bytes rs os
 
--- those of the rows of records
+-- those of the rows of records, for private clauses
 abbrev pub done_bytes : List Record → ℕ
 done_bytes [] = 0
 done_bytes (r ∷ rs) = row_bytes (items.Done r) + done_bytes rs

@@ -36,7 +36,7 @@ opening_changes at us = put_of items.Version ∷ flat_map end_changes (abandoned
 abbrev pub opened_trace : ℕ → Parts → ℕ → List Prewarm → Trace
 opened_trace at p pool wants = Resumed p.counts (resumed_records at p.unrecorded p.records) ∷ Opened pool wants ∷ []
 
--- how many bytes the rows of these activations have
+-- how many bytes the rows of these activations have, for private clauses
 abbrev pub opens_bytes : List Unrecorded → ℕ
 opens_bytes [] = 0
 opens_bytes (u ∷ us) = row_bytes (items.Open u) + opens_bytes us

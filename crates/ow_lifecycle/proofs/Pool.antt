@@ -12,7 +12,8 @@ use Rattle.ow_pool.specs.declared.answers.Head.{Head}
 use Rattle.ow_pool.specs.declared.answers.Place.{Place}
 use Rattle.ow_pool.specs.declared.answers.Place.TheVariants as places
 use Rattle.ow_pool.specs.Keeping.{IsCarriedOut}
-use Rattle.ow_pool.specs.Rules.{AreWantsSized, IsHeadSized, IsWithinPool, place_of}
+use Rattle.ow_traits.specs.Prewarms.{AreWantsSized}
+use Rattle.ow_pool.specs.Rules.{IsHeadSized, IsWithinPool, place_of}
 use Rattle.ow_pool.proofs.EventLaws.{events_keep}
 use Rattle.ow_pool.proofs.OrderLaws.{place_keeps}
 use Rattle.ow_lifecycle.specs.Life.{Event, Life, Ran, Prewarming, Removed, Begun, Answered, Lost, Gone, Overran, Reopened, slots_of}

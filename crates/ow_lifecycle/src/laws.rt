@@ -3,7 +3,8 @@ ghost use Rattle.std.specs.Prelude.{◌≡◌, ◌≤◌, ◌+◌, ◌∷◌, �
 ghost use Rattle.ow_traits.specs.declared.prewarms.Prewarm.{Prewarm};
 ghost use Rattle.ow_slots.specs.Slots.{vacant_slot};
 ghost use Rattle.ow_slots.specs.declared.states.Slot.{Slot};
-ghost use Rattle.ow_pool.specs.Rules.{AreWantsSized, IsWithinPool};
+ghost use Rattle.ow_traits.specs.Prewarms.{AreWantsSized};
+ghost use Rattle.ow_pool.specs.Rules.{IsWithinPool};
 ghost use Rattle.ow_lifecycle.specs.Life.{Event, Life, slots_of};
 ghost use Rattle.ow_lifecycle.specs.Fitting.{AreFit, ArePlaced, AreWithinPool, IsFit, IsPlaced, changed};
 ghost use Rattle.ow_lifecycle.specs.Laws.{RunsStand, SlotsStand};

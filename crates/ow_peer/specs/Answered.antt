@@ -36,6 +36,7 @@ module _ (tells : Option ℕ) where
   abbrev pub Unanswered : Request → Notes → Notes → Type 0
   Unanswered request n m = (m ≡ n) ⊎ ((id : Id) × Waits request id n m)
 
+  -- for private clauses
   abbrev pub AnswersTo : Request → Notes → Notes → Result Answer Want → Type 0
   AnswersTo request n m (Ok answer) = AnsweredBy request answer n m
   AnswersTo request n m (Err e) = Unanswered request n m

@@ -26,7 +26,8 @@ use Rattle.ow_pool.specs.declared.answers.Unplaced.TheVariants.{NoRoom}
 use Rattle.ow_pool.specs.declared.candidates.Candidate.{Candidate}
 use Rattle.ow_pool.specs.Candidates.{put_if, candidate_in, candidates_from, is_among, shortest, numbers_of}
 use Rattle.ow_pool.specs.Keeping.{CanAllGo, IsCarriedOut, IsFor, removed}
-use Rattle.ow_pool.specs.Rules.{AreWantsSized, IsHeadSized, IsWithinPool, fresh, is_ready, is_used_at, is_wanted, last_uses, makes_room, place_of, placed, prewarm_or_wait, prewarmed, removal, remove_or_wait, run_or, warmest}
+use Rattle.ow_traits.specs.Prewarms.{AreWantsSized}
+use Rattle.ow_pool.specs.Rules.{IsHeadSized, IsWithinPool, fresh, is_ready, is_used_at, is_wanted, last_uses, makes_room, place_of, placed, prewarm_or_wait, prewarmed, removal, remove_or_wait, run_or, warmest}
 use Rattle.ow_pool.proofs.EventLaws.{removed_size, removed_sized}
 use Rattle.ow_pool.proofs.Room.{Distinct, all_put, distinct, first_false}
 use Rattle.ow_pool.proofs.Sums.{Sized, all_change, held_change, size}

@@ -3,6 +3,7 @@ use Rattle.std.proofs.Common.{◌≡◌, ◌==◌, ◌+◌, ◌-◌, ◌≤◌, 
 use Rattle.std.specs.Prelude.{nat_le}
 use Rattle.std.specs.List.{AllByRecursion}
 use Rattle.std.proofs.lemmas.Bool.Decides.{nat_tests}
+use Rattle.ow_value.proofs.KeySearch.{turned_eq}
 use Rattle.ow_slots.specs.declared.states.State.{State}
 use Rattle.ow_slots.specs.declared.states.State.TheVariants.{Vacant, Opening, Prewarmed, Busy, Idle, Closing}
 use Rattle.ow_slots.specs.declared.states.Slot.{Slot}
@@ -19,9 +20,6 @@ apart_up a b lt = grind (arith, nat_tests)
 
 pub self_same : (a : ℕ) → (a == a) ≡ true
 self_same a = grind (arith, nat_tests)
-
-turned : (a b : ℕ) → (a == b) ≡ false → (b == a) ≡ false
-turned a b e = grind (arith, nat_tests)
 
 -- sets that are the same from n on leave the same
 outside_same : (s t : ℕ → Bool) (n : ℕ) (slots : List Slot) → ((k : ℕ) → n ≤ k → s k ≡ t k) → outside s n slots ≡ outside t n slots
@@ -125,7 +123,7 @@ distinct_put x (y ∷ ys) fresh distinct = at (is_before y x) (distinct_put x ys
   where
     at : (b : Bool) → Distinct (put x ys) → Distinct (cond b (y ∷ put x ys) (x ∷ y ∷ ys))
     at true rest =
-        let apart : (x.slot == y.slot) ≡ false = turned y.slot x.slot (first_false (y.slot == x.slot) (is_among ys x.slot) fresh).0 in
+        let apart : (x.slot == y.slot) ≡ false = turned_eq y.slot x.slot (first_false (y.slot == x.slot) (is_among ys x.slot) fresh).0 in
         (rw (among_put x ys y.slot, apart) distinct.0, rest)
     at false rest = (fresh, distinct)
 
@@ -163,7 +161,7 @@ unmet_more : (done : List Candidate) (c : Candidate) (left : List Candidate) →
 unmet_more done c [] fresh unmet = tt
 unmet_more done c (d ∷ left) fresh unmet =
     let both = first_false (d.slot == c.slot) (is_among left c.slot) fresh in
-    (rw (among_more done c d.slot, unmet.0, turned d.slot c.slot both.0) refl, unmet_more done c left both.1 unmet.1)
+    (rw (among_more done c d.slot, unmet.0, turned_eq d.slot c.slot both.0) refl, unmet_more done c left both.1 unmet.1)
 
 -- each in turn is held by what is left
 abbrev pub Holds : ℕ → List Candidate → Type 0

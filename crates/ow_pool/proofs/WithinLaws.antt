@@ -12,7 +12,8 @@ use Rattle.ow_slots.specs.declared.states.State.TheVariants.{Vacant, Opening, Pr
 use Rattle.ow_slots.specs.declared.states.Slot.{Slot}
 use Rattle.ow_slots.specs.Slots.{memory_held}
 use Rattle.ow_slots.specs.State.{IsMemory, IsSized, state_memory}
-use Rattle.ow_pool.specs.Rules.{AreWantsSized, IsWithinPool}
+use Rattle.ow_traits.specs.Prewarms.{AreWantsSized}
+use Rattle.ow_pool.specs.Rules.{IsWithinPool}
 use Rattle.ow_pool.specs.Within.{is_memory, is_sized}
 use Rattle.ow_pool.proofs.Sums.{Sized, size}
 

@@ -1,4 +1,4 @@
--- The first four of the candidates.
+-- For private clauses: the first four of the candidates.
 use Rattle.std.specs.Prelude.{◌+◌, ◌-◌, ℕ, List, [], ◌∷◌, ◌++◌, Option, Some, None, if◌then◌else◌, nat_le}
 use Rattle.ow_pool.specs.declared.candidates.Candidate.{Candidate}
 use Rattle.ow_pool.specs.declared.four.Four.{Four}

@@ -114,9 +114,6 @@ abbrev pub IsHeadSized : Option Head → Type 0
 IsHeadSized None = Unit {0}
 IsHeadSized (Some head) = IsMemory head.key.memory
 
-abbrev pub AreWantsSized : List Prewarm → Type 0
-AreWantsSized wants = AllByRecursion (λ w. IsMemory w.memory) wants
-
--- what a slot holds that isn't closing
+-- what a slot holds that isn't closing, for private clauses
 abbrev pub kept_share : Slot → ℕ
 kept_share s = if is_closing s.state then 0 else state_memory s.state

@@ -1,4 +1,4 @@
--- Tests of what placing relies on.
+-- For private clauses: tests of what placing relies on.
 use Rattle.std.specs.Prelude.{◌&&◌, ℕ, Bool, true, nat_le}
 use Rattle.ow_entity.specs.declared.bounds.TheConstants.{LEAST_MEMORY, MOST_MEMORY}
 use Rattle.ow_slots.specs.declared.states.State.{State}

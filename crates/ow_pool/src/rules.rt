@@ -6,7 +6,8 @@ ghost use Rattle.ow_slots.specs.Slots.{memory_held};
 ghost use Rattle.ow_slots.specs.State.{IsMemory, can_open, state_memory};
 ghost use Rattle.ow_pool.specs.Candidates.{is_closing};
 ghost use Rattle.ow_pool.specs.Keeping.{IsCarriedOut};
-ghost use Rattle.ow_pool.specs.Rules.{AreWantsSized, IsHeadSized, IsWithinPool, fresh, is_kept_for, is_ready, is_used_at, is_wanted, kept_share, last_in, last_uses, place_of, placed, prewarmed, prewarming, removal, warmest};
+ghost use Rattle.ow_traits.specs.Prewarms.{AreWantsSized};
+ghost use Rattle.ow_pool.specs.Rules.{IsHeadSized, IsWithinPool, fresh, is_kept_for, is_ready, is_used_at, is_wanted, kept_share, last_in, last_uses, place_of, placed, prewarmed, prewarming, removal, warmest};
 
 use crate::answers::{Head, Place, Unplaced};
 use crate::four::{first_four, freeing};

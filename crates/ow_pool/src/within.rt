@@ -3,7 +3,8 @@ ghost use Rattle.std.specs.Prelude.{◌≡◌, ◌↔◌, ◌<◌, ◌^◌, IsTr
 ghost use Rattle.std.specs.List.{list_all};
 ghost use Rattle.std.specs.Option.{option_copied};
 ghost use Rattle.ow_slots.specs.State.{IsMemory};
-ghost use Rattle.ow_pool.specs.Rules.{AreWantsSized, IsHeadSized, IsWithinPool};
+ghost use Rattle.ow_traits.specs.Prewarms.{AreWantsSized};
+ghost use Rattle.ow_pool.specs.Rules.{IsHeadSized, IsWithinPool};
 ghost use Rattle.ow_pool.specs.Within.{is_memory, is_sized};
 
 use crate::answers::Head;

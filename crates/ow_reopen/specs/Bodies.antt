@@ -1,4 +1,4 @@
--- What is known of the rows that bodies make.
+-- For lemmas: what is known of the rows that bodies make.
 use Rattle.std.specs.Prelude.{◌≡◌, ◌≤◌, IfSome, Option, Ok}
 use Rattle.ow_value.specs.Nesting.{most_nested}
 use Rattle.ow_value.specs.Value.{V, depth}

@@ -34,10 +34,11 @@ ProgramGives programs Program code params reply = PathGives (path_of programs co
 abbrev pub program_giving : Programs → Giving
 program_giving programs = record { replies = ProgramGives programs; starts = λ kind. Unit {0} }
 
--- ---- for private clauses
-
+-- the byte that ends a line
 abbrev pub is_newline : ℕ → Bool
 is_newline b = b == 10
+
+-- ---- for private clauses
 
 -- the byte at the front of the first line
 abbrev pub with_byte : ℕ → List (List ℕ) → List (List ℕ)

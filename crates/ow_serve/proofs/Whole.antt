@@ -344,9 +344,9 @@ one_entry t loaded at entries is = let one = opening_entry t loaded at entries i
 
 -- over the table, at the moment, and with the rows that the store told
 pub opens_so : (tells : Option ℕ) (told : KeptRows) (t : Table) (loaded : List (List ℕ × List ℕ)) (at : ℕ) (entries : List Entry) (n : Notes) (end : ServedEnd) (book : Option BookView)
-    → IfSome tells (λ m. at ≡ m) → entries ≡ (opened t loaded at).entries → IfSome told (λ kept. loaded ≡ kept) → (e : Entry) × (entries ≡ e ∷ []) × (n ≡ opening_notes e) → BookBegins n end book
-    → BookOpens tells told t end book
-opens_so tells told t loaded at entries n end book clock is same begun begins = by_end end book begins
+    → IfSome tells (λ m. at ≡ m) → entries ≡ (opened t loaded at).entries → IfSome told (λ kept. loaded ≡ kept) → IsOk (judged loaded) → (e : Entry) × (entries ≡ e ∷ []) × (n ≡ opening_notes e)
+    → BookBegins n end book → BookOpens tells told t end book
+opens_so tells told t loaded at entries n end book clock is same allowed begun begins = by_end end book begins
   where
     over : (L : Ledger) → ((first : Entry) → BeginsWith first n → IsFirst first L) → OpensOver tells told t L
     over L h =
@@ -354,6 +354,7 @@ opens_so tells told t loaded at entries n end book clock is same begun begins = 
         record {
           rows = loaded;
           told_are = same;
+          allowed = allowed;
           now = at;
           moment = clock;
           later = first.0;

@@ -16,7 +16,7 @@ TalksFrom left taken tells link n m ending =
     (unread : Option (List ℕ)) × (written : Option (List ℕ)) × Talks tells (left link) unread (taken link) written n m ending
 
 -- who serves a peer leaves its receipts and its ending; the others have no ending, and leave the receipts of their calls. A worker leaves its
--- runner, and so does the reaper, whose runner ran no code
+-- runner, and so does the reaper, whose runner ran no code, for private clauses
 abbrev pub Ends : {K R : Type 0} → (K → Option (List ℕ)) → (K → Option (List ℕ)) → (R → Giving) → (R → Tally) → Outset → Work K R → Notes → Notes → Option Ending → Option R → Type 0
 Ends left taken gives tally o (Serves link) n m (Some ending) back = TalksFrom left taken o.tells link n m ending
 Ends left taken gives tally o (Serves link) n m None back = ⊥
@@ -28,24 +28,25 @@ Ends left taken gives tally o (Reaps runner) n m ending back = (ending ≡ None)
 abbrev pub TalksAlone : {K : Type 0} → (K → Option (List ℕ)) → (K → Option (List ℕ)) → Option ℕ → K → Notes → Ending → Type 0
 TalksAlone left taken tells link m ending = TalksFrom left taken tells link no_notes m ending
 
+-- for private clauses
 abbrev pub IsServed : {K : Type 0} → (K → Option (List ℕ)) → (K → Option (List ℕ)) → Option ℕ → K → Notes → Option Ending → Type 0
 IsServed left taken tells link m told = (ending : Ending) × (told ≡ Some ending) × TalksAlone left taken tells link m ending
 
 -- ---- which threads are begun
 
--- each task is for what stands at its place
+-- each task is for what stands at its place, for private clauses
 abbrev pub AllFor : {T W : Type 0} → (T → W → Type 0) → List T → List W → Type 0
 AllFor IsFor [] [] = Unit {0}
 AllFor IsFor (t ∷ ts) (w ∷ ws) = IsFor t w × AllFor IsFor ts ws
 AllFor IsFor ts ws = ⊥
 
--- tasks were started for these, in order
+-- tasks were started for these, in order, for private clauses
 pub record AllStarted {T W : Type 0} (IsFor : T → W → Type 0) (works : List W) (old new : List (T × Bool)) : Type 0 where
   pub started : List T
   pub tasks : new ≡ old ++ map (λ t. (t, false)) started
   pub all_for : AllFor IsFor started works
 
--- for each runner but the last a task that makes turns, then one that sweeps, and one that reaps with the last runner
+-- for each runner but the last a task that makes turns, then one that sweeps, and one that reaps with the last runner, for private clauses
 pub record BeginsAll {T K R : Type 0} (IsFor : T → Work K R → Type 0) (runners : List R) (old new : List (T × Bool)) : Type 0 where
   pub workers : List R
   pub last : R

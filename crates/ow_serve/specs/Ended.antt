@@ -56,19 +56,19 @@ BeginsOwn Own receipts = (own : Notes) × (others : List Notes) × (receipts ≡
 
 -- ---- the opening, among them
 
--- they begin with this entry, at the first place of a book
+-- they begin with this entry, at the first place of a book, for private clauses
 abbrev pub BeginsWith : Entry → Notes → Type 0
 BeginsWith first n = (rest : List Placed) × (n.entries ≡ record { place = 0; entry = first } ∷ rest)
 
--- they begin with whatever they began with before
+-- they begin with whatever they began with before, for private clauses
 abbrev pub KeepsFirst : Notes → Notes → Type 0
 KeepsFirst n m = (first : Entry) → BeginsWith first n → BeginsWith first m
 
--- it is the oldest entry of a book
+-- it is the oldest entry of a book, for private clauses
 abbrev pub IsFirst : Entry → Ledger → Type 0
 IsFirst first book = (later : List Entry) × (book.entries ≡ later ++ first ∷ [])
 
--- where the receipts match the book, the oldest entry of that is the one with which these began
+-- where the receipts match the book, the oldest entry of that is the one with which these began, for private clauses
 abbrev pub BookBegins : Notes → ServedEnd → Option BookView → Type 0
 BookBegins n ends.Closed (Some book) = (first : Entry) → BeginsWith first n → IsFirst first book.ledger
 BookBegins n ends.ListenFault (Some book) = (first : Entry) → BeginsWith first n → IsFirst first book.ledger
@@ -76,7 +76,7 @@ BookBegins n end book = Unit {0}
 
 -- ---- what is left
 
--- by why no peer was accepted any more, and how the receipts compare with the book
+-- by why no peer was accepted any more, and how the receipts compare with the book, for private clauses
 abbrev pub IsEnd : Stopped → List Notes → Ledger → ServedEnd → Type 0
 IsEnd stopped receipts book ends.Closed = (stopped ≡ stops.Closed) × Matches receipts book
 IsEnd stopped receipts book ends.ListenFault = (stopped ≡ stops.Fault) × Matches receipts book
@@ -84,7 +84,7 @@ IsEnd stopped receipts book (ends.Unmatched difference) = Differs receipts book 
 IsEnd stopped receipts book ends.NoMemory = Unit {0}
 IsEnd stopped receipts book end = ⊥
 
--- the receipts of the service, of the peers, and of the others; the peers' endings; and the book, which is a legal one
+-- the receipts of the service, of the peers, and of the others; the peers' endings; and the book, which is a legal one, for private clauses
 pub record Leaves (Own : Notes → Type 0) (served : List Notes) (told : List (Option Ending)) (others : List Notes) (stopped : Stopped) (end : ServedEnd) (book : Ledger) (receipts : List Notes) (endings : List Ending) : Type 0 where
   pub own : Notes
   pub receipts_are : receipts ≡ own ∷ (served ++ others)
@@ -94,16 +94,17 @@ pub record Leaves (Own : Notes → Type 0) (served : List Notes) (told : List (O
   pub legal : IsLegal table book.entries
   pub is_end : IsEnd stopped receipts book end
 
--- where there is a book; there is none only where memory was wanted
+-- where there is a book; there is none only where memory was wanted, for private clauses
 abbrev pub Left : (Notes → Type 0) → List Notes → List (Option Ending) → List Notes → Stopped → ServedEnd → Option BookView → List Notes → List Ending → Type 0
 Left Own served told others stopped end (Some book) receipts endings = Leaves Own served told others stopped end book.ledger receipts endings
 Left Own served told others stopped end None receipts endings = end ≡ ends.NoMemory
 
--- the tasks numbered below `first` that aren't joined, once the later ones are
+-- the tasks numbered below `first` that aren't joined, once the later ones are, for private clauses
 abbrev pub earlier : {T : Type 0} → ℕ → List (T × Bool) → List T
 earlier first tasks = pending 0 (joined first tasks)
 
 -- what the tasks from `first` on came to fills the seats, and what the earlier ones came to stands behind it; or memory was wanted
+-- (for private clauses)
 abbrev pub Closes : {T D : Type 0} → (Notes → Type 0) → (T → D → Type 0) → (D → Notes) → (D → Option Ending) → ℕ → List (T × Bool) → List (Option D) → Stopped → ServedEnd → Option BookView → List Notes → List Ending → Type 0
 Closes Own task_ends notes ending first tasks seats stopped end book receipts endings = (end ≡ ends.NoMemory)
     ⊎ ((peers : List _) × (others : List _) × AllEnd task_ends (pending first tasks) peers × AllEnd task_ends (earlier first tasks) others
@@ -116,7 +117,7 @@ unopened (starts.BadKept key) = ends.BadKept key
 unopened starts.StoreFault = ends.StoreFault
 unopened starts.NoMemory = ends.NoMemory
 
--- an end of a service that was opened
+-- an end of a service that was opened, for private clauses
 abbrev pub IsOpenedEnd : ServedEnd → Type 0
 IsOpenedEnd ends.StoreFault = ⊥
 IsOpenedEnd (ends.BadKept key) = ⊥
@@ -138,10 +139,11 @@ IsOpenedOver told ends.NoMemory = Unit {0}
 IsOpenedOver told end = IfSome told (λ rows. IsOk (judged rows))
 
 -- a book goes on from that of the opening over this office table, at the moment of the clock, where it tells that, and over the rows that
--- the store told, where it tells them
+-- the store told, where it tells them; these are allowed
 pub record OpensOver (tells : Option ℕ) (told : KeptRows) (t : Table) (book : Ledger) : Type 0 where
   pub rows : List (List ℕ × List ℕ)
   pub told_are : IfSome told (λ kept. rows ≡ kept)
+  pub allowed : IsOk (judged rows)
   pub now : ℕ
   pub moment : IfSome tells (λ m. now ≡ m)
   pub later : List Entry

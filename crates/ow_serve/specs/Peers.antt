@@ -18,7 +18,7 @@ HasNoPeer None = Unit {0}
 HasNoPeer (Some peers) = peers ≡ []
 
 module _ {T K D : Type 0} (IsFor : T → K → Type 0) (Serves : K → D → Type 0) where
-  -- each peer has what it came to, where the service itself served it, or else a task that was started is for it
+  -- each peer has what it came to, where the service itself served it, or else a task that was started is for it, for private clauses
   abbrev pub Seats : List T → List K → List (Option D) → Type 0
   Seats ts ks [] = (ts ≡ []) × (ks ≡ [])
   Seats ts [] (seat ∷ seats) = ⊥
@@ -26,7 +26,7 @@ module _ {T K D : Type 0} (IsFor : T → K → Type 0) (Serves : K → D → Typ
   Seats [] (k ∷ ks) (None ∷ seats) = ⊥
   Seats (t ∷ ts) (k ∷ ks) (None ∷ seats) = IsFor t k × Seats ts ks seats
 
-  -- the peers that were accepted, and the tasks that were started for them
+  -- the peers that were accepted, and the tasks that were started for them, for private clauses
   pub record Seated (old new : Option (List K)) (before now : List (T × Bool)) (seats : List (Option D)) : Type 0 where
     pub peers : List K
     pub started : List T
@@ -34,33 +34,33 @@ module _ {T K D : Type 0} (IsFor : T → K → Type 0) (Serves : K → D → Typ
     pub tasks : now ≡ before ++ map (λ t. (t, false)) started
     pub seated : Seats started peers seats
 
-  -- none is accepted any more: no peer is left, or so many came, or the listener failed; no more came than so many
+  -- none is accepted any more: no peer is left, or so many came, or the listener failed; no more came than so many, for private clauses
   abbrev pub AcceptsPeers : Option (List K) → Option (List K) → List (T × Bool) → List (T × Bool) → ℕ → List (Option D) → Stopped → Type 0
   AcceptsPeers old new before now most seats stops.Closed = Seated old new before now seats × (length seats ≤ most) × (HasNoPeer new ⊎ (length seats ≡ most))
   AcceptsPeers old new before now most seats stops.Fault = Seated old new before now seats × (length seats ≤ most)
   AcceptsPeers old new before now most seats stops.NoMemory = Unit {0}
 
--- each peer has been served
+-- each peer has been served, for lemmas
 abbrev pub AllServed : {K D : Type 0} → (K → D → Type 0) → List K → List D → Type 0
 AllServed Serves [] [] = Unit {0}
 AllServed Serves [] (d ∷ ds) = ⊥
 AllServed Serves (k ∷ ks) [] = ⊥
 AllServed Serves (k ∷ ks) (d ∷ ds) = Serves k d × AllServed Serves ks ds
 
--- the seat of a peer whose task was begun
+-- the seat of a peer whose task was begun, for private clauses
 abbrev pub seat_of : {D : Type 0} → Begun D → Option (Option D)
 seat_of Started = Some None
 seat_of (Ran done) = Some (Some done)
 seat_of Refused = None
 
--- what tasks came to takes the seats that are free
+-- what tasks came to takes the seats that are free, for private clauses
 abbrev pub filled : {D : Type 0} → List (Option D) → List D → List D
 filled [] ds = []
 filled (Some d ∷ seats) ds = d ∷ filled seats ds
 filled (None ∷ seats) [] = filled seats []
 filled (None ∷ seats) (d ∷ ds) = d ∷ filled seats ds
 
--- the endings that there are
+-- the endings that there are, for private clauses
 abbrev pub endings_in : List (Option Ending) → List Ending
 endings_in [] = []
 endings_in (Some ending ∷ told) = ending ∷ endings_in told

@@ -53,7 +53,7 @@ to_book (turns.StoreFault job) = Some job
 to_book (turns.NoMemory job) = job
 to_book turn = None
 
--- the reply that is to be booked next
+-- the reply that is to be booked next, for private clauses
 abbrev pub next_job : Next → Option Job
 next_job (nexts.Book job) = Some job
 next_job next = None

@@ -5,7 +5,7 @@ ghost use Rattle.ow_serve.specs.Duties.{TalksAlone};
 ghost use Rattle.ow_serve.specs.Working.{AllWork, AllWorkBy, fresh_outset};
 ghost use Rattle.ow_serve.specs.Ended.{BookBegins, BookOpens, Drains, IsOpenedEnd, IsOpenedOver, IsUnopened, KeepsBook, LeavesStore, OpensAndDrains, Serves, unopened};
 ghost use Rattle.ow_tenant.specs.Table.{IsPoolSized};
-ghost use Rattle.ow_pool.specs.Rules.{AreWantsSized};
+ghost use Rattle.ow_traits.specs.Prewarms.{AreWantsSized};
 
 use crate::accepting::accept_all;
 use crate::beginning::begin_all;

@@ -1,6 +1,7 @@
 // A service over peers in memory, and what it came to as a text.
 ghost use Rattle.std.specs.Prelude.{◌≤◌, length, IfOk};
-ghost use Rattle.ow_tenant.specs.Table.{AreWantsSized, IsPoolSized};
+ghost use Rattle.ow_traits.specs.Prewarms.{AreWantsSized};
+ghost use Rattle.ow_tenant.specs.Table.{IsPoolSized};
 
 use crate::peers::{Heard, Peer, PeerListener, heard_text};
 use ow_edge::{Bells, RefusingLeave, SystemClock};

@@ -56,7 +56,7 @@ abbrev pub gone_answer : ℕ → ℕ → Option Slot → Result (Unit {0}) SlotR
 gone_answer slot generation None = Err (NoSlot slot 0)
 gone_answer slot generation (Some s) = slot_answer slot generation s
 
--- the first that passes stands at this place
+-- the first that passes stands at this place, for private clauses
 pub record IsPlace {X : Type 0} (p : X → Bool) (xs : List X) (place : ℕ) : Type 0 where
   pub item : X
   pub within : place < length xs
@@ -65,7 +65,7 @@ pub record IsPlace {X : Type 0} (p : X → Bool) (xs : List X) (place : ℕ) : T
   pub found : find p xs ≡ Some item
   pub changed : (f : X → X) → slice_set xs place (f item) ≡ change_first p f xs
 
--- such a place, where one passes
+-- such a place, where one passes, for private clauses
 abbrev pub PlaceOf : {X : Type 0} → (X → Bool) → List X → Option ℕ → Type 0
 PlaceOf {X = X} p xs None = (find p xs ≡ None) × ((f : X → X) → change_first p f xs ≡ xs)
 PlaceOf p xs (Some place) = IsPlace p xs place

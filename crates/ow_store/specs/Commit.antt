@@ -1,4 +1,4 @@
--- What a commit of changes makes of a database.
+-- For private clauses: what a commit of changes makes of a database.
 use Rattle.std.specs.Prelude.{◌≡◌, ℕ, true, false, IsTrue, List, [], ◌∷◌, Result, Ok, OnOk, OnErr}
 use Rattle.sqlite.specs.Store.{Ghosts}
 use Rattle.sqlite.specs.State.{Executes, HasCleanDisk, Survives}

@@ -1,4 +1,4 @@
--- How failures of the database are told and counted.
+-- For private clauses: how failures of the database are told and counted.
 use Rattle.std.specs.Prelude.{◌+◌, ◌-◌, ◌^◌, min, ℕ}
 use Rattle.sqlite.specs.declared.error.Error.{Error}
 use Rattle.sqlite.specs.declared.error.Error.TheVariants.{SqliteFailure}

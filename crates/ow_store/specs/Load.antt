@@ -1,4 +1,4 @@
--- What a load reads of a database, and what it leaves of it.
+-- For private clauses: what a load reads of a database, and what it leaves of it.
 use Rattle.std.specs.Prelude.{◌≡◌, ◌⊎◌, ℕ, false, List, [], ◌∷◌, All, Result, Ok, IfOk}
 use Rattle.sqlite_value.specs.Order.{Row, column}
 use Rattle.sqlite_value.specs.declared.value.Value.{Value}

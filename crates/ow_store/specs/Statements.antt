@@ -1,4 +1,4 @@
--- The statements on the table of kept rows, and their parameters.
+-- For private clauses: the statements on the table of kept rows, and their parameters.
 use Rattle.std.specs.Prelude.{ℕ, List, [], ◌∷◌, codes}
 use Rattle.sqlite_value.specs.Order.{Row}
 use Rattle.sqlite_value.specs.declared.value.Value.TheVariants.{Text}

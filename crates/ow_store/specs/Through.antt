@@ -1,4 +1,4 @@
--- What is done through a connection, where there is one.
+-- For private clauses: what is done through a connection, where there is one.
 use Rattle.std.specs.Prelude.{◌≡◌, Result, Ok, Err}
 
 -- an error in its place stays

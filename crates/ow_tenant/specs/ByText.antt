@@ -9,7 +9,7 @@ use Rattle.ow_value.specs.Value.{text_cmp}
 abbrev pub ByText : Type 0 → Type 0
 ByText W = List (List ℕ × W)
 
--- the texts rise, so none stands twice
+-- the texts rise, so none stands twice, for private clauses
 abbrev pub IsByText : {W : Type 0} → ByText W → Type 0
 IsByText es = IsStrictlySortedBy text_cmp (keys_of es)
 

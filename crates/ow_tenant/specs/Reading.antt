@@ -24,17 +24,17 @@ TellsTable (Some text) left (Ok t) = (table_of text ≡ Ok t) × (left ≡ Some 
 TellsTable (Some text) left (Err (BadRow row)) = (table_of text ≡ Err row) × (left ≡ Some (drop most_read text))
 TellsTable (Some text) left (Err e) = Tells (table_of text) (Err e)
 
--- these bytes of a source that tells its own were read, and it has the others left
+-- these bytes of a source that tells its own were read, and it has the others left, for private clauses
 abbrev pub HasRead : Option (List ℕ) → Option (List ℕ) → List ℕ → Type 0
 HasRead None left bytes = left ≡ None
 HasRead (Some all) left bytes = (rest : List ℕ) × (all ≡ bytes ++ rest) × (left ≡ Some rest)
 
--- a source that tells what it has left has nothing left
+-- a source that tells what it has left has nothing left, for private clauses
 abbrev pub IsAtEnd : Option (List ℕ) → Type 0
 IsAtEnd None = ⊤
 IsAtEnd (Some rest) = rest ≡ []
 
--- the bytes that were read of a source that tells its own, and what it has left
+-- the bytes that were read of a source that tells its own, and what it has left, for private clauses
 abbrev pub ReadsBytes : Option (List ℕ) → Option (List ℕ) → List ℕ → Type 0
 ReadsBytes None left bytes = left ≡ None
 ReadsBytes (Some text) left bytes = (bytes ≡ take most_read text) × (left ≡ Some (drop most_read text))

@@ -31,10 +31,6 @@ pub record Table : Type 0 where
 abbrev pub AreHomes : Table → Type 0
 AreHomes t = AllByRecursion (λ (e : List ℕ × Holder). IsName e.1.home) t.keys
 
--- the memory of each container that is wanted ahead is one that an action may have
-abbrev pub AreWantsSized : List Prewarm → Type 0
-AreWantsSized wants = AllByRecursion (λ w. (128 ≤ w.memory) × (w.memory ≤ 512)) wants
-
 -- the memory of all containers is within its bounds, where a row tells it
 abbrev pub IsPoolSized : Option ℕ → Type 0
 IsPoolSized pool = IfSome pool (λ m. (512 ≤ m) × (m ≤ 65536))

@@ -5,7 +5,8 @@ ghost use Rattle.std.specs.Option.{option_copied};
 ghost use Rattle.ow_names.specs.Name.{IsName};
 ghost use Rattle.ow_traits.specs.Streams.{Rose};
 ghost use Rattle.ow_tenant.specs.Reading.{TellsTable};
-ghost use Rattle.ow_tenant.specs.Table.{AreWantsSized, IsPoolSized, no_rows};
+ghost use Rattle.ow_traits.specs.Prewarms.{AreWantsSized};
+ghost use Rattle.ow_tenant.specs.Table.{IsPoolSized, no_rows};
 ghost use Rattle.ow_tenant.specs.Tenants.{Knows, granted_names, holder_at, holder_of, limits_of, may, name_value, number_of, pool_of};
 
 use crate::by_text::ByText;

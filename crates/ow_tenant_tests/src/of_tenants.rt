@@ -50,8 +50,18 @@ fn good_tables(rt: HostRuntime) {
     }
 }
 
+// The refusal of a table whose first bad row is this one, from 1.
+fn bad(row: u64) -> TenantRefusal {
+    TenantRefusal::BadRow { row }
+}
+
 #[test]
-fn the_first_bad_row_is_told(rt: HostRuntime) {
+fn the_first_bad_row_has_its_number(rt: HostRuntime) {
+    assert_eq!(rt; bad(1).number(), 22);
+}
+
+#[test]
+fn bad_namespaces(rt: HostRuntime) {
     let alloc = rt.alloc();
     for (row, text) in [
         (1, "key,k1,anna,guest,,"),
@@ -74,6 +84,17 @@ fn the_first_bad_row_is_told(rt: HostRuntime) {
         (1, "namespace,1,guest,,,00"),
         (2, "namespace,1,guest,,,\nnamespace,1,other,,,"),
         (2, "namespace,1,guest,,,\nnamespace,2,guest,,,"),
+    ]
+    .iter()
+    {
+        assert_eq!(rt; fault(alloc, text.as_bytes()), Err(bad(*row)));
+    }
+}
+
+#[test]
+fn bad_keys_and_grants(rt: HostRuntime) {
+    let alloc = rt.alloc();
+    for (row, text) in [
         (2, "namespace,1,guest,,,\n\n\r\nkey,,anna,guest,,"),
         (2, "namespace,1,guest,,,\nkey,a b,anna,guest,,"),
         (2, "namespace,1,guest,,,\nkey,\u{7f},anna,guest,,"),
@@ -99,6 +120,17 @@ fn the_first_bad_row_is_told(rt: HostRuntime) {
             3,
             "namespace,1,guest,,,\nkey,k1,anna,guest,,\ngrant,k1,guest,read,x,",
         ),
+    ]
+    .iter()
+    {
+        assert_eq!(rt; fault(alloc, text.as_bytes()), Err(bad(*row)));
+    }
+}
+
+#[test]
+fn bad_pools_prewarms_and_programs(rt: HostRuntime) {
+    let alloc = rt.alloc();
+    for (row, text) in [
         (1, "pool,511,,,,"),
         (1, "pool,65537,,,,"),
         (1, "pool,512,x,,,"),
@@ -116,33 +148,28 @@ fn the_first_bad_row_is_told(rt: HostRuntime) {
     ]
     .iter()
     {
-        assert_eq!(rt;
-            fault(alloc, text.as_bytes()),
-            Err(TenantRefusal::BadRow { row: *row })
-        );
+        assert_eq!(rt; fault(alloc, text.as_bytes()), Err(bad(*row)));
     }
-    assert_eq!(rt; TenantRefusal::BadRow { row: 1 }.number(), 22);
 }
 
 #[test]
 fn bytes_that_are_no_text_are_a_bad_row(rt: HostRuntime) {
     let alloc = rt.alloc();
-    let bad = Err(TenantRefusal::BadRow { row: 2 });
     assert_eq!(rt;
         fault(alloc, b"namespace,1,guest,,,\nkey,k1,\xff,guest,,\n"),
-        bad
+        Err(bad(2))
     );
     assert_eq!(rt;
         fault(alloc, b"namespace,1,guest,,,\nprogram,a,\xc3,,,\n"),
-        bad
+        Err(bad(2))
     );
     assert_eq!(rt;
         fault(alloc, b"namespace,1,guest,,,\nprogram,\xc3,a,,,\n"),
-        bad
+        Err(bad(2))
     );
     assert_eq!(rt;
         fault(alloc, b"namespace,1,guest,,,\ngrant,\xc3,guest,read,,\n"),
-        bad
+        Err(bad(2))
     );
 }
 
@@ -179,13 +206,13 @@ fn name(alloc: Global, text: &str) -> Result<Box<EntityName>, Fail> {
     }
 }
 
+// Three namespaces, and two keys with grants.
+const KEYS: &str =
+    "namespace,1,guest,,,\nnamespace,2,other,,,\nnamespace,3,third,,,\nkey,k1,anna,guest,,\nkey,k2,bert,other,,\ngrant,k1,other,read,,\ngrant,k2,guest,invoke,,\ngrant,k2,guest,write,,\n";
+
 #[test]
 fn a_key_has_its_own_namespace_and_its_grants(rt: HostRuntime) -> Result<(), Fail> {
-    let alloc = rt.alloc();
-    let tenants = read(
-        alloc,
-        b"namespace,1,guest,,,\nnamespace,2,other,,,\nnamespace,3,third,,,\nkey,k1,anna,guest,,\nkey,k2,bert,other,,\ngrant,k1,other,read,,\ngrant,k2,guest,invoke,,\ngrant,k2,guest,write,,\n",
-    )?;
+    let tenants = read(rt.alloc(), KEYS.as_bytes())?;
     for (key, namespace, rights) in [
         ("k1", "guest", (true, true, true)),
         ("k1", "other", (true, false, false)),
@@ -205,6 +232,12 @@ fn a_key_has_its_own_namespace_and_its_grants(rt: HostRuntime) -> Result<(), Fai
         );
         assert_eq!(rt; has, *rights);
     }
+    Ok(())
+}
+
+#[test]
+fn a_key_is_known_by_all_its_bytes(rt: HostRuntime) -> Result<(), Fail> {
+    let tenants = read(rt.alloc(), KEYS.as_bytes())?;
     for key in [
         None,
         Some(""),

@@ -8,7 +8,12 @@ use Rattle.ow_value.specs.contracts.val.Params as Params
 use Rattle.ow_value.specs.contracts.val.Vals as Vals
 use Rattle.ow_value.specs.contracts.shared.Shared as Shared
 use Rattle.ow_value.specs.contracts.shared.Items as Items
+use Rattle.ow_value.specs.contracts.listed.Listed as Listed
 use Rattle.ow_value.proofs.val.Params.TheLaws.TheKnot.{both_send-Params, both_sync-Params, both_send-Vals, both_sync-Vals}
+
+module _ (T : RattleType) (s : IsSend T) where
+  pub listed_send : IsSend (Listed.the_row T)
+  listed_send = search (sendable, crosses) depth 50 fits 20000
 
 module _ (T : RattleType) (s : IsSend T) (y : IsSync T) where
   pub shared_send : IsSend (Shared.the_row T)
@@ -48,4 +53,4 @@ vals_send = search (both_send-Vals, sendable, crosses, whole_send, str_send, who
 pub vals_sync : IsSync Vals.the_row
 vals_sync = search (both_sync-Vals, sendable, crosses, whole_send, str_send, whole_sync, str_sync) depth 50 fits 20000
 
-pub ruleset values = (sendable, crosses, str_send, str_sync, params_send, params_sync, vals_send, vals_sync, shared_send, shared_sync, items_send, items_sync)
+pub ruleset values = (sendable, crosses, str_send, str_sync, params_send, params_sync, vals_send, vals_sync, listed_send, shared_send, shared_sync, items_send, items_sync)

@@ -5,6 +5,7 @@
 mod decimal;
 mod fields;
 mod join;
+mod listed;
 mod lists;
 mod measure;
 mod members;
@@ -23,6 +24,7 @@ pub use decimal::{decimal_of, digits_of};
 pub use fields::Fields;
 pub use join::merge;
 pub use json::{Scratch, Writer};
+pub use listed::Listed;
 pub use lists::{Bytes, Lines, Pairs, bytes_of};
 pub use measure::{MEGABYTE, size};
 pub use memory::NoMemory;

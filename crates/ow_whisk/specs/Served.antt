@@ -1,6 +1,7 @@
--- The exit status of each way in which a service ends, and the tables that one can be opened over.
+-- For private clauses: the exit status of each way in which a service ends, and the tables that one can be opened over.
 use Rattle.std.specs.Prelude.{ℕ}
-use Rattle.ow_tenant.specs.Table.{AreWantsSized, IsPoolSized}
+use Rattle.ow_traits.specs.Prewarms.{AreWantsSized}
+use Rattle.ow_tenant.specs.Table.{IsPoolSized}
 use Rattle.ow_day.specs.declared.status.Status.{Status}
 use Rattle.ow_day.specs.declared.status.Status.TheVariants as statuses
 use Rattle.ow_serve.specs.declared.served.ServedEnd.{ServedEnd}

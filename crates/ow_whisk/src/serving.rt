@@ -1,7 +1,8 @@
 // The running service, over sockets, the system's clock, threads and programs.
 ghost use Rattle.std.specs.Prelude.{◌≡◌, ◌≤◌, ◌<◌, length, IfOk};
 ghost use Rattle.std.specs.Process.{exit_status};
-ghost use Rattle.ow_tenant.specs.Table.{AreWantsSized, IsPoolSized};
+ghost use Rattle.ow_traits.specs.Prewarms.{AreWantsSized};
+ghost use Rattle.ow_tenant.specs.Table.{IsPoolSized};
 ghost use Rattle.ow_whisk.specs.Served.{served_number};
 
 use ow_edge::{Always, Bells, SocketListener, SystemClock};

@@ -19,9 +19,6 @@ use Rattle.ow_words.proofs.Apps.{rule, shape}
 
 -- ---- the options of a command, by their names
 
-same_bytes : (xs : List ℕ) → bytes_eq xs xs ≡ true
-same_bytes xs = (bytes_eq-Decides xs xs).1 refl
-
 abbrev pub rules : List (List ℕ) → List Rule
 rules names = map rule names
 
@@ -253,7 +250,7 @@ module _ (name : List ℕ) (names : List (List ℕ)) (given : List Given) (optio
       ∙ ap₂ (after (rules names) (option option_name) word (wanting given option_name)) facts.0 facts.1
       ∙ ap (λ o. stepped (short_or_plain (rules names) (option option_name) word o (wanting given option_name))) facts.2
       ∙ ap (λ o. at (option_word o option_name word (wanting given option_name)).0 (option_word o option_name word (wanting given option_name)).1) (by_id names option_name known)
-      ∙ ap (λ b. at (holding given option_name word) (cond (nat_lt (cond b 1 0) 1) (option option_name) idle)) (same_bytes option_name)
+      ∙ ap (λ b. at (holding given option_name word) (cond (nat_lt (cond b 1 0) 1) (option option_name) idle)) ((bytes_eq-Decides option_name option_name).1 refl)
     where
       stepped : Held × Step → Walk
       stepped m = after_step (rules names) word (at (wanting given option_name) (option option_name)) m.0 m.1

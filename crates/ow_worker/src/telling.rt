@@ -1,7 +1,8 @@
 // What the hall is asked and told of an order.
-ghost use Rattle.std.specs.Prelude.{◌≡◌, ◌≤◌, ◌+◌, IfOk, OnOk, OnErr};
+ghost use Rattle.std.specs.Prelude.{◌≡◌, ◌≤◌, ◌+◌, IfErr, IfOk, OnOk, OnErr};
 ghost use Rattle.ow_decide.specs.declared.events.Event.TheVariants as events;
-ghost use Rattle.ow_hall.specs.Comes.{HandsBack, reply_outcome};
+ghost use Rattle.ow_floor.specs.Calls.{HandsBack};
+ghost use Rattle.ow_hall.specs.Comes.{reply_outcome};
 ghost use Rattle.ow_desk.specs.Fitting.{Fits};
 ghost use Rattle.ow_desk.specs.Notes.{CalledBy};
 ghost use Rattle.ow_worker.specs.Noted.{GivenUp, GoneNoted, LostNoted, NextNoted};
@@ -96,7 +97,7 @@ pub(crate) fn tell_reply<H: Wait, P: Keeper + Drop, C: Clock>(
     reply: RunReply,
 ) -> Result<Answered, AnswerRefusal>
     ensures called { CalledBy (C.tells clock.now) (events.Answered run reply) (reply_outcome result) notes.old.notes notes.new.notes }
-    ensures back { HandsBack run reply result }
+    ensures back { IfErr result (λ refusal. HandsBack run reply refusal) }
     ensures room { notes.old.room ≤ notes.new.room + 1 }
 {
     let answered = notes.answered(alloc, &mut *hold(rt, desk), clock.now(), run, reply);

@@ -21,15 +21,11 @@ use Rattle.ow_hall.specs.contracts.state.HallState as HallState
 use Rattle.ow_floor.specs.contracts.kept.Kept as Kept
 use Rattle.ow_hall.specs.contracts.hall.Hall as Hall
 use Rattle.ow_desk.specs.contracts.desk.Desk as Desk
-use Rattle.ow_desk.specs.contracts.listed.Listed as Listed
 use Rattle.ow_desk.specs.contracts.receipts.Receipts as Receipts
 
 module _ (T : RattleType) (s : IsSend T) where
   kept_send : IsSend (Kept.the_field T).row
   kept_send = search values depth 50 fits 20000
-
-  listed_send : IsSend (Listed.the_field T).row
-  listed_send = search values depth 50 fits 20000
 
 tenants_send : IsSend (Tenants.the_field).row
 tenants_send = search values depth 50 fits 20000
@@ -90,4 +86,4 @@ module _ (P : RattleType) (g : Keeper.Ghosts P.Denot) (s : IsSend P) where
   desk_send = search (values, hall_send) depth 50 fits 20000
 
   pub receipts_send : IsSend (Receipts.the_field P g).row
-  receipts_send = search (values, listed_send, entry_send) depth 50 fits 20000
+  receipts_send = search (values, entry_send) depth 50 fits 20000

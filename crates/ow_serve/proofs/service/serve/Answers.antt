@@ -26,7 +26,7 @@ returns-clause-allowed g c = over_none _ c.in-Err.refusal.why _ (c.nothing-in-Er
 pub returns-in-Ok-new-clause-opens : goal.returns-in-Ok-new-clause-opens
 returns-in-Ok-new-clause-opens g c =
     opens_so _ _ c.args.tenants c.in-Ok.ensures.opens.loaded c.now-opened.result _ c.in-Ok-new.house.notes.notes c.run.result.end c.run.result.book (rw c.deref.ensures at c.now-opened.ensures) (ap (λ l. l.entries) c.in-Ok.ensures.opens.ledger)
-    c.in-Ok.ensures.opens.told c.in-Ok-new.ensures.first c.run.ensures.begins
+    c.in-Ok.ensures.opens.told c.in-Ok.ensures.opens.allowed c.in-Ok-new.ensures.first c.run.ensures.begins
 
 pub returns-clause-opens : goal.returns-clause-opens
 returns-clause-opens g c = opens_none _ _ c.args.tenants c.in-Err.refusal.why _ _ (c.nothing-in-Err.ensures.end ∙ c.unopened.ensures)

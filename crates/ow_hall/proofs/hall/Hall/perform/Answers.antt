@@ -9,7 +9,8 @@ use Rattle.ow_hall.specs.Commits.{is_fault, uncommitted}
 use Rattle.ow_hall.specs.Performing.{undone}
 use Rattle.ow_hall.proofs.UndoneLaws.{undone_comes}
 use Rattle.ow_hall.specs.Comes.{Comes, HallView, Holds, HoldsBook, Stays, at_hall, decided}
-use Rattle.ow_hall.specs.History.{answer, counted, decision, greatest_moment, last_moment, moment, seen, sight, waits_after}
+use Rattle.ow_keep.specs.declared.allowed.TheConstants.{GREATEST_MOMENT}
+use Rattle.ow_hall.specs.History.{answer, counted, decision, last_moment, moment, seen, sight, waits_after}
 use Rattle.ow_hall.specs.Ledger.{HasRoom, Ledger, posted}
 use Rattle.ow_decide.specs.Making.{changes_of}
 use Rattle.ow_hall.specs.State.{HasRoomOf, Keeps, KeepsCommit}
@@ -66,7 +67,7 @@ invariant_of-self-2 g c =
     let at = c.moment.result in
     let now : Now = record { counted = c.counted.result; at = c.moment.result } in
     let late : last_moment L.entries ≤ at = rw c.moment.ensures (not_before L.entries c.args.at) in
-    let most : at ≤ greatest_moment = rw c.moment.ensures (not_after t L.entries c.args.at c.self.invariant.0.legal) in
+    let most : at ≤ GREATEST_MOMENT = rw c.moment.ensures (not_after t L.entries c.args.at c.self.invariant.0.legal) in
     let done = step_at t L.entries old mid.floor.now now event step c.self.invariant.0.legal.answered late c.self.invariant.0.stands c.counted.ensures c.in-Ok.ensures.ok in
     let T = (decision t L.entries at event).items ++ (seen t L.entries).trace in
     let made = ap (λ (f : FloorView). f.now) c.apply.ensures.floor ∙ c.settle-2.ensures.kept refl in
@@ -86,7 +87,7 @@ invariant_of-self-2 g c =
     c.in-Ok-prepare.ensures.ledger c.in-Ok-prepare.ensures.told c.post.ensures.room in
     let room = room_left t L at c.self.inside.book.room c.prepare.new.book.room c.post.new.self.room (owed T) c.in-Ok-prepare.bytes event step.told
     c.self.invariant.1 c.in-Ok-prepare.ensures.keeps used (c.in-Ok-prepare.ensures.ready T done.2) refl in
-    let store = committed g.P.Keeper.rows g.P.Keeper.faults step.commit (commits (decision t L.entries at event)) c.self.inside.store c.commit.new.store done.1.changes c.in-Ok-commit.ensures in
+    let store = committed g.P.Keeper.rows g.P.Keeper.faults step.commit (commits (decision t L.entries at event)) c.self.inside.store c.commit.new.store done.1.changes c.in_default-commit.ensures in
     let holds = held_posted (g.P.Keeper.rows c.self.inside.store) (g.P.Keeper.rows c.commit.new.store) t L old at event step.told c.requires.later c.self.invariant.0
     (kept (all_changed (decision t L.entries at event).changes (seen t L.entries).rows) T done.1.stands).ids both.0
     (held g.P.Keeper.rows g.P.Keeper.faults (commits (decision t L.entries at event)) c.self.inside.store c.commit.new.store store) c.self.invariant.2 in (
@@ -108,7 +109,7 @@ returns-clause-comes g c =
     c.self.invariant.0.stands c.counted.ensures c.in-Ok.ensures.ok in
     let post = c.post.ensures.ledger ∙ (ap (λ (l : Ledger). posted l at event c.in-Ok-prepare.copied) c.in-Ok-prepare.ensures.ledger
     ∙ ap (posted L at event) c.in-Ok-prepare.ensures.told) in
-    let store = committed g.P.Keeper.rows g.P.Keeper.faults c.in-Ok.step.commit (commits (decision t L.entries at event)) c.self.inside.store c.commit.new.store done.1.changes c.in-Ok-commit.ensures in
+    let store = committed g.P.Keeper.rows g.P.Keeper.faults c.in-Ok.step.commit (commits (decision t L.entries at event)) c.self.inside.store c.commit.new.store done.1.changes c.in_default-commit.ensures in
     subst (λ (h : HallView _). (told ≡ answer h.tenants h.ledger.entries (at_hall h c.args.at) event) × (c.post.new.self.ledger ≡ posted h.ledger (at_hall h c.args.at) event told) × (t ≡ h.tenants)
     × Holds g.P.Keeper.rows g.P.Keeper.faults (commits (decided h c.args.at event)) h.store c.commit.new.store)
     c.self.view_is (

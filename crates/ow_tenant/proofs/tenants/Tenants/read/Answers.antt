@@ -1,6 +1,7 @@
 use Rattle.std.proofs.Common.{arith, sym, ap, subst, ◌∙◌, Ok, Err, List, ℕ, Result}
 use Rattle.ow_tenant.specs.Reading.{Tells, TellsTable}
-use Rattle.ow_tenant.specs.Table.{AreWantsSized, IsPoolSized, Table, rows_of}
+use Rattle.ow_traits.specs.Prewarms.{AreWantsSized}
+use Rattle.ow_tenant.specs.Table.{IsPoolSized, Table, rows_of}
 use Rattle.ow_tenant.specs.declared.refusal.TenantRefusal.{TenantRefusal}
 use Rattle.ow_tenant.proofs.RowsLaws.{tells-fault, tells-long, tells-made, tells-rows}
 use Rattle.ow_tenant.proofs.SizedLaws.{rows_sized}

@@ -1,23 +1,30 @@
 // A list that grows in room that was taken before.
 ghost use Rattle.std.specs.Prelude.{◌≡◌, ◌+◌, ◌<◌, ◌≤◌, ◌++◌, ◌^◌, ◌↔◌, [], ◌∷◌, length, IsTrue, OnOk, IfOk};
 
-use ow_value::{NoMemory, PlainData, copy_slice, same_slices};
+use crate::memory::NoMemory;
+use crate::plain::PlainData;
+use crate::shared::{copy_slice, same_slices};
 use std::alloc::Global;
 use std::marker::Model;
 
-/// A list, the oldest first.
+// The most items that a list may have.
+const MOST_LISTED: usize = 0x7fff_ffff_ffff_ffff;
+
+/// A list that only grows, the oldest first. It has fewer than 2^63 items, whatever their size.
 #[derive(Drop)]
 pub struct Listed<T: Drop> {
     items: Vec<T>,
 }
 
 impl<T: Drop> Model for Listed<T> {
-    ghost use Rattle.std.specs.Prelude.{◌-◌, vec_len, vec_capacity};
-    ghost use Rattle.ow_desk.specs.Notes.{ListedView};
+    ghost use Rattle.std.specs.Prelude.{◌-◌, ◌^◌, ◌<◌, min, length, vec_len, vec_capacity};
+    ghost use Rattle.ow_value.specs.Listed.{ListedView};
 
     ghost Value = { ListedView T };
 
-    ghost view = { λ l. record { items = l.items.items; room = vec_capacity l.items - vec_len l.items } };
+    ghost view = { λ l. record { items = l.items.items; room = min (vec_capacity l.items - vec_len l.items) (2 ^ 63 - 1 - vec_len l.items) } };
+
+    ghost invariant = { λ l. length l.items.items < 2 ^ 63 };
 }
 
 impl<T: Drop> Listed<T> {
@@ -30,16 +37,18 @@ impl<T: Drop> Listed<T> {
         }
     }
 
-    /// What is listed, the oldest first. It lies in memory, so its number has a bound.
+    /// What is listed, the oldest first.
     pub fn as_slice(&self) -> &[T]
         ensures value { result.now ≡ self.now.items }
+        ensures small { length self.now.items < 2 ^ 63 }
     {
         self.items.as_slice()
     }
 
     /// How many there are.
     pub fn len(&self) -> usize
-        ensures { result ≡ length self.now.items }
+        ensures value { result ≡ length self.now.items }
+        ensures small { result < 2 ^ 63 }
     {
         self.items.len()
     }
@@ -51,18 +60,21 @@ impl<T: Drop> Listed<T> {
         self.items.is_empty()
     }
 
-    /// Makes room for so many more.
-    pub(crate) fn reserve(&mut self, count: usize) -> Result<(), NoMemory>
+    /// Makes room for so many more. A number that would pass 2^63 - 1 is answered as want of memory.
+    pub fn reserve(&mut self, count: usize) -> Result<(), NoMemory>
         ensures items { self.new.items ≡ self.old.items }
         ensures room { OnOk result (count ≤ self.new.room) }
         ensures keeps { self.old.room ≤ self.new.room }
     {
+        if count > MOST_LISTED - self.items.len() {
+            return Err(NoMemory);
+        }
         self.items.reserve(count)?;
         Ok(())
     }
 
-    /// Puts one behind the others.
-    pub(crate) fn push(&mut self, item: T)
+    /// Puts one behind the others, into room that was made before. This takes no memory.
+    pub fn push(&mut self, item: T)
         requires { 1 ≤ self.old.room }
         ensures items { self.new.items ≡ self.old.items ++ item ∷ [] }
         ensures room { self.old.room ≤ self.new.room + 1 }
