@@ -1,5 +1,5 @@
 -- The statements of a day file, and what its lines are.
-use Rattle.std.specs.Prelude.{◌==◌, ◌+◌, ℕ, Bool, nat_lt, List, Option, Some, None, if◌then◌else◌, length, take, drop, position, codes}
+use Rattle.std.specs.Prelude.{◌==◌, ◌+◌, ℕ, nat_lt, List, Option, Some, None, if◌then◌else◌, length, take, drop, position, codes}
 use Rattle.std.specs.Str.{bytes_eq, is_utf8}
 use Rattle.ow_value.specs.Decimal.{decimal_of}
 use Rattle.ow_keep.specs.declared.allowed.TheConstants.{GREATEST_MOMENT}

@@ -83,7 +83,7 @@ Below each statement stand the forms of its answer.
                                              a container is to be started ahead
                        remove SLOT:GEN ..    these containers, one to four, are to go
                        nothing empty         nothing waits
-                       nothing no room       what waits needs memory that is held
+                       nothing no room       what waits needs memory or a slot that isn't free
   turn               asks what is to be done, and does it: a run is replied to, and its container
                      is kept for later turns
                        as below next, and behind it

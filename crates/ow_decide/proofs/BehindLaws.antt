@@ -13,7 +13,8 @@ use Rattle.ow_entity.specs.declared.kinds.EntityKind.TheVariants as kinds
 use Rattle.ow_entity.specs.declared.packages.Package.{Package}
 use Rattle.ow_entity.specs.declared.rows.Row.{Row}
 use Rattle.ow_entity.specs.declared.rows.Row.TheVariants as rows
-use Rattle.ow_packages.specs.Access.{as_action, if_reached, lying_in, package_at, package_of, reached_package}
+use Rattle.ow_entity.specs.Finish.{as_action}
+use Rattle.ow_packages.specs.Access.{if_reached, lying_in, package_at, package_of, reached_package}
 use Rattle.ow_packages.specs.Effective.{Behind, behind, behind_in, behind_name, behind_package, effective, effective_of}
 use Rattle.ow_packages.specs.declared.effective_action.Effective.{Effective}
 use Rattle.ow_tables.specs.Rows.{found, is_row, standing}

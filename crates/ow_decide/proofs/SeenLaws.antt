@@ -15,7 +15,8 @@ use Rattle.ow_entity.specs.declared.rows.Row.{Row}
 use Rattle.ow_entity.specs.declared.rows.Row.TheVariants as rows
 use Rattle.ow_entity.specs.Row.{kind_of, name_of}
 use Rattle.ow_entity.specs.Written.{package_entry}
-use Rattle.ow_packages.specs.Access.{action_at, as_action, as_package, if_reached, is_shared, lying_in, package_at, package_of, reached_package}
+use Rattle.ow_entity.specs.Finish.{as_action, as_package}
+use Rattle.ow_packages.specs.Access.{action_at, if_reached, is_shared, lying_in, package_at, package_of, reached_package}
 use Rattle.ow_packages.specs.Effective.{Behind, behind_in, behind_name, behind_package, effective, effective_of}
 use Rattle.ow_packages.specs.declared.effective_action.Effective.{Effective}
 use Rattle.ow_tables.specs.Inside.{actions_behind, actions_if, actions_in, is_called, lies_in, lies_under, shown_actions}

@@ -6,7 +6,7 @@ use Rattle.ow_records.specs.Id.{id_text, same_id}
 use Rattle.ow_records.specs.Written.{record_value}
 use Rattle.ow_records.specs.declared.ids.Id.{Id}
 use Rattle.ow_records.specs.declared.record.Record.{Record}
-use Rattle.ow_floor.specs.View.{newest}
+use Rattle.std.specs.Option.{option_or}
 use Rattle.ow_floor.specs.Collecting.{Collection, Unknown, Recorded, NotYet, Elapsed}
 use Rattle.ow_http.specs.declared.answer.Answer.{Answer}
 use Rattle.ow_decide.specs.declared.replies.HallCollected.{HallCollected}
@@ -59,7 +59,7 @@ ended_answer shows r = record { status = ended_status r.response.code; headers =
 -- what is shown to the one who waits for it, the newest where there are several
 abbrev pub wait_shows : Id → List Wait → Option Shows
 wait_shows id [] = None
-wait_shows id (w ∷ ws) = newest (wait_shows id ws) (if same_id w.id id then Some w.shows else None)
+wait_shows id (w ∷ ws) = option_or (wait_shows id ws) (if same_id w.id id then Some w.shows else None)
 
 abbrev pub or_whole : Option Shows → Shows
 or_whole None = Whole

@@ -67,9 +67,9 @@ abbrev pub next_action : ActionDraft → Action → Result Action EntityRefusal
 next_action d old = if old.version == LAST_VERSION then Err LastVersion else Ok (action_over d old (old.version + 1))
 
 -- the action that a draft of an action is put over: a row of another kind is none
-abbrev pub old_action : Option Row → Option Action
-old_action (Some (rows.Action old)) = Some old
-old_action old = None
+abbrev pub as_action : Option Row → Option Action
+as_action (Some (rows.Action old)) = Some old
+as_action old = None
 
 abbrev pub action_made : ActionDraft → Option Action → Result Action EntityRefusal
 action_made d None = new_action d d.exec
@@ -105,9 +105,9 @@ abbrev pub next_package : PackageDraft → Package → Result Package EntityRefu
 next_package d old = if old.version == LAST_VERSION then Err LastVersion else Ok (package_over d old (old.version + 1))
 
 -- the package that a draft of a package is put over
-abbrev pub old_package : Option Row → Option Package
-old_package (Some (rows.Package old)) = Some old
-old_package old = None
+abbrev pub as_package : Option Row → Option Package
+as_package (Some (rows.Package old)) = Some old
+as_package old = None
 
 abbrev pub package_made : PackageDraft → Option Package → Result Package EntityRefusal
 package_made d None = Ok (new_package d)
@@ -116,8 +116,8 @@ package_made d (Some old) = next_package d old
 -- ---- rows
 
 unfoldable pub finished_row : Draft → Option Row → Result Row EntityRefusal
-finished_row (drafts.Action d) old = result_map rows.Action (action_made d (old_action old))
-finished_row (drafts.Package d) old = result_map rows.Package (package_made d (old_package old))
+finished_row (drafts.Action d) old = result_map rows.Action (action_made d (as_action old))
+finished_row (drafts.Package d) old = result_map rows.Package (package_made d (as_package old))
 
 -- the row that a body makes over no row
 unfoldable pub row_of_body : EntityKind → FullName → V → Result Row EntityRefusal

@@ -3,7 +3,7 @@ ghost use Rattle.std.specs.Prelude.{◌≡◌, ◌≢◌, unwrap_or, Some, None,
 ghost use Rattle.std.specs.Option.{option_copied};
 ghost use Rattle.ow_entity.specs.declared.rows.Row.TheVariants as rows;
 ghost use Rattle.ow_entity.specs.Chain.{result_map};
-ghost use Rattle.ow_entity.specs.Finish.{finished_row, action_made, old_action, new_action, next_action, action_over, limits_over};
+ghost use Rattle.ow_entity.specs.Finish.{finished_row, action_made, as_action, new_action, next_action, action_over, limits_over};
 
 use crate::actions::{Action, ActionDraft};
 use crate::bounds::{GivenLimits, Limits};
@@ -35,8 +35,8 @@ pub fn finish(alloc: Global, draft: Draft, old: Option<&Row>) -> Result<Row, Ent
 }
 
 fn finish_action(alloc: Global, draft: ActionDraft, old: Option<&Row>) -> Result<Row, EntityRefusal>
-    ensures { MatchResult result (λ r. result_map rows.Action (action_made draft (old_action (option_copied old.entry))) ≡ Ok r)
-        (λ e. e ≢ EntityRefusal.NoMemory → result_map rows.Action (action_made draft (old_action (option_copied old.entry))) ≡ Err e) }
+    ensures { MatchResult result (λ r. result_map rows.Action (action_made draft (as_action (option_copied old.entry))) ≡ Ok r)
+        (λ e. e ≢ EntityRefusal.NoMemory → result_map rows.Action (action_made draft (as_action (option_copied old.entry))) ≡ Err e) }
 {
     match old {
         Some(Row::Action(old)) => action_row(alloc, next_action(alloc, draft, old.get())?),

@@ -3,7 +3,7 @@ ghost use Rattle.std.specs.Prelude.{◌≡◌, ◌≢◌, Ok, Err, MatchResult};
 ghost use Rattle.std.specs.Option.{option_copied};
 ghost use Rattle.ow_entity.specs.declared.rows.Row.TheVariants as rows;
 ghost use Rattle.ow_entity.specs.Chain.{result_map};
-ghost use Rattle.ow_entity.specs.Finish.{package_made, old_package, new_package, next_package, package_over};
+ghost use Rattle.ow_entity.specs.Finish.{package_made, as_package, new_package, next_package, package_over};
 
 use crate::finishing::{FIRST_VERSION, LAST_VERSION};
 use crate::packages::{Package, PackageDraft};
@@ -19,8 +19,8 @@ pub(crate) fn finish_package(
     draft: PackageDraft,
     old: Option<&Row>,
 ) -> Result<Row, EntityRefusal>
-    ensures { MatchResult result (λ r. result_map rows.Package (package_made draft (old_package (option_copied old.entry))) ≡ Ok r)
-        (λ e. e ≢ EntityRefusal.NoMemory → result_map rows.Package (package_made draft (old_package (option_copied old.entry))) ≡ Err e) }
+    ensures { MatchResult result (λ r. result_map rows.Package (package_made draft (as_package (option_copied old.entry))) ≡ Ok r)
+        (λ e. e ≢ EntityRefusal.NoMemory → result_map rows.Package (package_made draft (as_package (option_copied old.entry))) ≡ Err e) }
 {
     match old {
         Some(Row::Package(old)) => package_row(alloc, next_package(alloc, draft, old.get())?),

@@ -9,31 +9,32 @@ use Rattle.ow_floor.specs.declared.lists.Blocking.{Blocking}
 use Rattle.ow_floor.specs.Collecting.{collected, collected_by}
 use Rattle.ow_floor.specs.Laws.{IsAmong, IsSound, Stands}
 use Rattle.ow_records.specs.Records.{is_of_id}
-use Rattle.ow_floor.specs.View.{Shown, newest, wait_in}
+use Rattle.std.specs.Option.{option_or}
+use Rattle.ow_floor.specs.View.{Shown, wait_in}
 use Rattle.ow_floor.specs.Trace.{Trace, Item, Opened, Resumed, Accepted, Ordered, Prewarming, Removed, Begun, Answered, Lost, Gone, Ended, Swept, Drained, Reopened, accepted, blocked_by, blocking, end_of, records, resumed, wait_of}
 use Rattle.ow_floor.proofs.Among.{all_among, among_last, among_push}
 use Rattle.ow_floor.proofs.Firsts.{all_more, find_none, none_tail}
 use Rattle.ow_floor.proofs.Tallies.{eq_of}
 
-newest_more : {X : Type 0} (a b c : Option X) → newest (newest a b) c ≡ newest a (newest b c)
+newest_more : {X : Type 0} (a b c : Option X) → option_or (option_or a b) c ≡ option_or a (option_or b c)
 newest_more None b c = refl
 newest_more (Some x) b c = refl
 
-wait_push : (id : Id) (bs : List Blocking) (b : Blocking) → wait_in id (bs ++ b ∷ []) ≡ newest (cond (same_id b.id id) (Some b.until) None) (wait_in id bs)
+wait_push : (id : Id) (bs : List Blocking) (b : Blocking) → wait_in id (bs ++ b ∷ []) ≡ option_or (cond (same_id b.id id) (Some b.until) None) (wait_in id bs)
 wait_push id [] b = none (cond (same_id b.id id) (Some b.until) None)
   where
-    none : (o : Option ℕ) → newest None o ≡ newest o None
+    none : (o : Option ℕ) → option_or None o ≡ option_or o None
     none None = refl
     none (Some n) = refl
 wait_push id (x ∷ bs) b =
-    ap (λ w. newest w (cond (same_id x.id id) (Some x.until) None)) (wait_push id bs b)
+    ap (λ w. option_or w (cond (same_id x.id id) (Some x.until) None)) (wait_push id bs b)
     ∙ newest_more (cond (same_id b.id id) (Some b.until) None) (wait_in id bs) (cond (same_id x.id id) (Some x.until) None)
 
-wait_none : (b : Bool) (w : Option ℕ) → w ≡ newest (cond b None None) w
+wait_none : (b : Bool) (w : Option ℕ) → w ≡ option_or (cond b None None) w
 wait_none true w = refl
 wait_none false w = refl
 
-wait_accepted : (id own : Id) (until : Option ℕ) (bs : List Blocking) → wait_in id (blocked_by own until bs) ≡ newest (cond (same_id own id) until None) (wait_in id bs)
+wait_accepted : (id own : Id) (until : Option ℕ) (bs : List Blocking) → wait_in id (blocked_by own until bs) ≡ option_or (cond (same_id own id) until None) (wait_in id bs)
 wait_accepted id own None bs = wait_none (same_id own id) (wait_in id bs)
 wait_accepted id own (Some until) bs = wait_push id bs (record { id = own; until = until })
 
@@ -45,7 +46,7 @@ wait_told (item ∷ T) id = of_item item T id (wait_told T id)
     of_item : (item : Item) (T : Trace) (id : Id) → wait_in id (blocking T) ≡ wait_of T id → wait_in id (blocking (item ∷ T)) ≡ wait_of (item ∷ T) id
     of_item (Opened pool wants) T id e = e
     of_item (Resumed counts rs) T id e = e
-    of_item (Accepted a) T id e = wait_accepted id a.id a.until (blocking T) ∙ ap (newest (cond (same_id a.id id) a.until None)) e
+    of_item (Accepted a) T id e = wait_accepted id a.id a.until (blocking T) ∙ ap (option_or (cond (same_id a.id id) a.until None)) e
     of_item (Ordered run key) T id e = e
     of_item (Prewarming order at) T id e = e
     of_item (Removed containers at) T id e = e
@@ -81,7 +82,7 @@ wait_back id bs i d b lt is none = ap (wait_in id) (drop-cons bs i d lt) ∙ rw 
 abbrev WasAccepted : Id → Trace → Type 0
 WasAccepted id T = (a : Activation) × IsAmong a (accepted T) × (same_id a.id id ≡ true)
 
-accepted_so : (a : Activation) (T : Trace) (id : Id) (until : ℕ) (b : Bool) (o : Option ℕ) → same_id a.id id ≡ b → newest (cond b o None) (wait_of T id) ≡ Some until
+accepted_so : (a : Activation) (T : Trace) (id : Id) (until : ℕ) (b : Bool) (o : Option ℕ) → same_id a.id id ≡ b → option_or (cond b o None) (wait_of T id) ≡ Some until
     → (wait_of T id ≡ Some until → WasAccepted id T) → WasAccepted id (Accepted a ∷ T)
 accepted_so a T id until true None e found rest = let old = rest found in (old.0, among_push old.0 a (accepted T) old.1, old.2)
 accepted_so a T id until true (Some n) e found rest = (a, among_last a (accepted T), e)

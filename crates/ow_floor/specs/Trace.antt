@@ -25,7 +25,8 @@ use Rattle.ow_lifecycle.specs.Life.{Event, Life, slots_of}
 use Rattle.ow_lifecycle.specs.Fitting.{changed}
 use Rattle.ow_records.specs.Records.{is_of_id}
 use Rattle.ow_slots.specs.Slots.{change_first}
-use Rattle.ow_floor.specs.View.{Shown, begun, carries, ids_of, is_number, is_of, newest, last_of, put_id, remove_first, runs_now, waits}
+use Rattle.std.specs.Option.{option_or}
+use Rattle.ow_floor.specs.View.{Shown, begun, carries, ids_of, is_number, is_of, last_of, put_id, remove_first, runs_now, waits}
 
 -- the end of an activation: what ended it, the run that carried it then as it was then, and the moment
 pub record End : Type 0 where
@@ -97,7 +98,7 @@ blocking [] = []
 blocking (item ∷ T) = blocking_after item (blocking T)
 
 abbrev pub wait_after : Item → Id → Option ℕ → Option ℕ
-wait_after (Accepted a) id wait = newest (if same_id a.id id then a.until else None) wait
+wait_after (Accepted a) id wait = option_or (if same_id a.id id then a.until else None) wait
 wait_after (Reopened at) id wait = None
 wait_after item id wait = wait
 

@@ -1,5 +1,6 @@
 -- What a floor is seen as, and the words on its lists.
 use Rattle.std.specs.Prelude.{◌==◌, ◌+◌, ℕ, Bool, true, false, List, [], ◌∷◌, Option, Some, None, if◌then◌else◌, not, map, slice_get}
+use Rattle.std.specs.Option.{option_or}
 use Rattle.std.specs.List.{find, filter}
 use Rattle.ow_traits.specs.declared.replies.Kind.{Kind}
 use Rattle.ow_entity.specs.Exec.{exec_code}
@@ -208,12 +209,7 @@ order_for run slot generation start a = record {
 
 -- ---- waits for the end
 
--- the newer of two, where there is one
-abbrev pub newest : {X : Type 0} → Option X → Option X → Option X
-newest None old = old
-newest (Some new) old = Some new
-
 -- up to which moment the request waits that made this activation, by the newest of that id, for private clauses
 abbrev pub wait_in : Id → List Blocking → Option ℕ
 wait_in id [] = None
-wait_in id (b ∷ bs) = newest (wait_in id bs) (if same_id b.id id then Some b.until else None)
+wait_in id (b ∷ bs) = option_or (wait_in id bs) (if same_id b.id id then Some b.until else None)

@@ -4,7 +4,6 @@ use Rattle.std.specs.Prelude.{◌≡◌, ◌≢◌, ◌≤◌, ℕ, List, [], �
 use Rattle.ow_traits.specs.Changes.{changed}
 use Rattle.ow_traits.specs.Streams.{Rose}
 use Rattle.ow_traits.specs.declared.change_list.Change.{Change}
-use Rattle.ow_traits.specs.declared.replies.RunReply.{RunReply}
 use Rattle.ow_value.specs.declared.memory.NoMemory.{NoMemory as Want}
 use Rattle.ow_http.specs.Refused.{refusal_of}
 use Rattle.ow_http.specs.declared.reason.Reason.{Reason}

@@ -14,7 +14,6 @@ use Rattle.ow_entity.specs.declared.kinds.EntityKind.TheVariants as kinds
 use Rattle.ow_entity.specs.declared.packages.Package.{Package}
 use Rattle.ow_entity.specs.declared.rows.Row.TheVariants as rows
 use Rattle.ow_entity.proofs.BackLaws.{reads_back}
-use Rattle.ow_records.specs.FieldsIn.{name_read}
 use Rattle.ow_records.specs.Known.{IsId, IsKnownUnrecorded}
 use Rattle.ow_records.specs.RecordIn.{record_from}
 use Rattle.ow_records.specs.Written.{record_value}
@@ -29,7 +28,8 @@ use Rattle.ow_items.specs.declared.item.Item.{Item}
 use Rattle.ow_items.specs.declared.item.Item.TheVariants.{Version, Count, Row, Open, Done}
 use Rattle.ow_keep.specs.Allowed.{is_binding, is_entity, is_version, stands_alone}
 use Rattle.ow_keep.specs.EntityIn.{entity_from, entity_with as entity_made}
-use Rattle.ow_keep.specs.ItemIn.{count_with, entity_with, item_from, value_read}
+use Rattle.std.specs.Result.{result_ok}
+use Rattle.ow_keep.specs.ItemIn.{count_with, entity_with, item_from}
 use Rattle.ow_keep.specs.Kept.{MayStand}
 use Rattle.ow_keep.specs.Known.{IsItem, IsKnownAction, IsKnownPackage}
 use Rattle.ow_keep.specs.OpenIn.{full_name_of, open_from, open_with}
@@ -40,7 +40,7 @@ use Rattle.ow_keep.proofs.Values.{action_is, open_is, package_is, record_is}
 -- ---- an activation that has not ended
 
 full_name_back : (n : FullName) → IsFullName n → full_name_of (full_text n) ≡ Some n
-full_name_back n h = ap name_read (full_back n h)
+full_name_back n h = ap result_ok (full_back n h)
 
 -- what is read where the binding and the cause are known
 abbrev open_but : Unrecorded → Option Id → Option (Option FullName) → Option (Option Id) → Option Unrecorded
@@ -69,8 +69,8 @@ entity_back p h e =
 
 -- ---- an item
 
-value_back : (v : V) (limit : ℕ) → IsValue v → nat_le (depth v) limit ≡ true → limit ≤ 127 → value_read (reading limit (compact v)) ≡ Some v
-value_back v limit h d m = ap value_read (reading-compact v limit h (leb-true (depth v) limit d) m)
+value_back : (v : V) (limit : ℕ) → IsValue v → nat_le (depth v) limit ≡ true → limit ≤ 127 → result_ok (reading limit (compact v)) ≡ Some v
+value_back v limit h d m = ap result_ok (reading-compact v limit h (leb-true (depth v) limit d) m)
 
 pub item_back : (all : Entries) (i : Item) → IsItem i → MayStand all i → item_from (item_key i) (item_text i) ≡ Some i
 unfolding item_text row_value

@@ -1,10 +1,10 @@
 -- The item that a row is. What is read here may be written otherwise.
-use Rattle.std.specs.Prelude.{ℕ, ◌==◌, List, [], ◌∷◌, drop, if◌then◌else◌, option_map, option_and_then, Option, Some, None, Result, Ok, Err}
+use Rattle.std.specs.Prelude.{ℕ, ◌==◌, List, [], ◌∷◌, drop, if◌then◌else◌, option_map, option_and_then, Option, Some, None}
+use Rattle.std.specs.Result.{result_ok}
 use Rattle.ow_value.specs.Value.{V}
 use Rattle.ow_value.specs.Decimal.{digits_of}
 use Rattle.ow_value.specs.Nesting.{most_nested, most_nested_record}
 use Rattle.ow_value.specs.Read.{reading}
-use Rattle.ow_value.specs.declared.reader.ValueRefusal.{ValueRefusal}
 use Rattle.ow_names.specs.declared.full.FullName.{FullName}
 use Rattle.ow_entity.specs.declared.kinds.EntityKind.{EntityKind}
 use Rattle.ow_entity.specs.declared.kinds.EntityKind.TheVariants as kinds
@@ -15,16 +15,12 @@ use Rattle.ow_items.specs.declared.item.Item.TheVariants.{Version, Count, Row, O
 use Rattle.ow_keep.specs.EntityIn.{entity_from}
 use Rattle.ow_keep.specs.OpenIn.{full_name_of, open_from}
 
-abbrev pub value_read : Result V ValueRefusal → Option V
-value_read (Ok v) = Some v
-value_read (Err e) = None
-
 abbrev pub value_of : List ℕ → Option V
-value_of s = value_read (reading most_nested s)
+value_of s = result_ok (reading most_nested s)
 
 -- of a record's text, which nests deeper
 abbrev pub deep_value_of : List ℕ → Option V
-deep_value_of s = value_read (reading most_nested_record s)
+deep_value_of s = result_ok (reading most_nested_record s)
 
 abbrev pub count_with : Option ℕ → Option ℕ → Option Item
 count_with namespace count = option_and_then (λ n. option_map (Count n) count) namespace

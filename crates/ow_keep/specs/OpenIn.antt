@@ -5,14 +5,15 @@ use Rattle.ow_value.specs.Field.{field}
 use Rattle.ow_names.specs.Path.{of_full_text}
 use Rattle.ow_names.specs.declared.full.FullName.{FullName}
 use Rattle.ow_entity.specs.declared.bounds.Limits.{Limits}
-use Rattle.ow_records.specs.FieldsIn.{as_text, cause_in, id_in, name_in, name_read, number_in, path_in, text_in, version_in}
+use Rattle.std.specs.Result.{result_ok}
+use Rattle.ow_records.specs.FieldsIn.{as_text, cause_in, id_in, name_in, number_in, path_in, text_in, version_in}
 use Rattle.ow_records.specs.NotesIn.{as_kind, as_limits}
 use Rattle.ow_records.specs.declared.ids.Id.{Id}
 use Rattle.ow_records.specs.declared.notes.ExecKind.{ExecKind}
 use Rattle.ow_records.specs.declared.unrecorded.Unrecorded.{Unrecorded}
 
 abbrev pub full_name_of : List ℕ → Option FullName
-full_name_of s = name_read (of_full_text s)
+full_name_of s = result_ok (of_full_text s)
 
 abbrev pub as_full_name : V → Option FullName
 as_full_name v = option_and_then full_name_of (as_text v)

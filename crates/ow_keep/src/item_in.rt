@@ -3,7 +3,8 @@ ghost use Rattle.std.specs.Prelude.{◌≡◌, option_map, IfOk};
 ghost use Rattle.ow_value.specs.View.{view};
 ghost use Rattle.ow_value.specs.Decimal.{digits_of as number_of_digits};
 ghost use Rattle.ow_records.specs.Id.{hex_number};
-ghost use Rattle.ow_keep.specs.ItemIn.{count_with, deep_value_of, done_of, entity_of, entity_with, item_from, open_of, value_of, value_read};
+ghost use Rattle.std.specs.Result.{result_ok};
+ghost use Rattle.ow_keep.specs.ItemIn.{count_with, deep_value_of, done_of, entity_of, entity_with, item_from, open_of, value_of};
 ghost use Rattle.ow_keep.specs.OpenIn.{full_name_of};
 ghost use Rattle.ow_value.specs.Read.{reading};
 ghost use Rattle.ow_value.specs.Nesting.{most_nested_record};
@@ -150,7 +151,7 @@ fn deep_value_of(alloc: Global, scratch: &mut Scratch, text: &str) -> Result<Opt
 }
 
 fn deepest_value_of(alloc: Global, text: &str) -> Result<Option<Val>, NoMemory>
-    ensures { IfOk result (λ o. option_map view o ≡ value_read (reading most_nested_record text.now)) }
+    ensures { IfOk result (λ o. option_map view o ≡ result_ok (reading most_nested_record text.now)) }
 {
     match read_deep(alloc, text.as_bytes()) {
         Ok(value) => Ok(Some(value)),

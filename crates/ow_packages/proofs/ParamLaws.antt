@@ -1,7 +1,8 @@
 -- What each name finds among the parameters of an effective action.
 use Rattle.std.proofs.Common.{◌≡◌, ◌≢◌, ℕ, List, option_map, Option, Some, None, refl, sym, ap, ◌∙◌, subst, Result, Ok, Err, MatchResult, IfOk}
 use Rattle.ow_value.specs.Value.{V, Pairs}
-use Rattle.ow_value.specs.Find.{find, or_else}
+use Rattle.std.specs.Option.{option_or}
+use Rattle.ow_value.specs.Find.{find}
 use Rattle.ow_value.proofs.Laws.{find-merge}
 use Rattle.ow_entity.specs.declared.packages.Package.{Package}
 use Rattle.ow_packages.specs.declared.effective_action.Effective.{Effective}
@@ -9,24 +10,24 @@ use Rattle.ow_packages.specs.declared.refusal.PackageRefusal.{PackageRefusal}
 use Rattle.ow_packages.specs.declared.refusal.PackageRefusal.TheVariants.{NotFound, NoMemory}
 use Rattle.ow_packages.specs.Effective.{Behind, params_of, params_over, effective_of, FindsEach, Answers}
 
-or_none : (o : Option V) → or_else o None ≡ o
+or_none : (o : Option V) → option_or o None ≡ o
 or_none None = refl
 or_none (Some v) = refl
 
-finds_over : (o : Option Package) (ps : Pairs) (q : List ℕ) → find q (params_over o ps) ≡ or_else (find q ps) (find q (params_of o))
+finds_over : (o : Option Package) (ps : Pairs) (q : List ℕ) → find q (params_over o ps) ≡ option_or (find q ps) (find q (params_of o))
 finds_over None ps q = sym (or_none (find q ps))
 finds_over (Some p) ps q = find-merge q p.params ps
 
-or_else_or : (a b c : Option V) → or_else (or_else a b) c ≡ or_else a (or_else b c)
+or_else_or : (a b c : Option V) → option_or (option_or a b) c ≡ option_or a (option_or b c)
 or_else_or None b c = refl
 or_else_or (Some v) b c = refl
 
 finds_each : (b : Behind) → FindsEach (effective_of b).params b
 finds_each b given q =
     find-merge q (effective_of b).params given
-    ∙ ap (or_else (find q given)) (
+    ∙ ap (option_or (find q given)) (
     finds_over b.inside (params_over b.binding b.action.params) q
-    ∙ ap (λ o. or_else o (find q (params_of b.inside))) (finds_over b.binding b.action.params q)
+    ∙ ap (λ o. option_or o (find q (params_of b.inside))) (finds_over b.binding b.action.params q)
     ∙ or_else_or (find q b.action.params) (find q (params_of b.binding)) (find q (params_of b.inside)))
 
 of_some : (b c : Behind) (e : Effective) → Some (effective_of b) ≡ Some e → Some b ≡ Some c → FindsEach e.params c

@@ -1,5 +1,6 @@
 -- What stands under a kind and a name, and what can be reached from a namespace.
 use Rattle.std.specs.Prelude.{◌||◌, ℕ, Bool, false, List, option_map, if◌then◌else◌, Option, Some, None}
+use Rattle.ow_entity.specs.Finish.{as_action, as_package}
 use Rattle.std.specs.Str.{bytes_eq}
 use Rattle.ow_names.specs.declared.full.FullName.{FullName}
 use Rattle.ow_entity.specs.declared.kinds.EntityKind.{EntityKind}
@@ -12,14 +13,6 @@ use Rattle.ow_entity.specs.declared.rows.Row.TheVariants as rows
 -- the entity that stands under a kind and a name, if any
 abbrev pub Standing : Type 0
 Standing = EntityKind → FullName → Option Row
-
-abbrev pub as_action : Option Row → Option Action
-as_action (Some (rows.Action a)) = Some a
-as_action row = None
-
-abbrev pub as_package : Option Row → Option Package
-as_package (Some (rows.Package p)) = Some p
-as_package row = None
 
 abbrev pub action_at : Standing → FullName → Option Action
 action_at standing name = as_action (standing kinds.Action name)

@@ -2,7 +2,8 @@
 use Rattle.std.specs.Prelude.{◌≡◌, ◌≢◌, ℕ, List, [], option_map, option_and_then, if◌then◌else◌, Option, Some, None, Result, MatchResult}
 use Rattle.std.specs.Str.{bytes_eq}
 use Rattle.ow_value.specs.Value.{Pairs}
-use Rattle.ow_value.specs.Find.{find, merge, or_else}
+use Rattle.std.specs.Option.{option_or}
+use Rattle.ow_value.specs.Find.{find, merge}
 use Rattle.ow_names.specs.declared.full.FullName.{FullName}
 use Rattle.ow_entity.specs.declared.actions.Action.{Action}
 use Rattle.ow_entity.specs.declared.packages.Package.{Package}
@@ -75,7 +76,7 @@ effective standing name from = option_map effective_of (behind standing name fro
 -- a call's value stands, else the action's, else the binding's, else the package's
 abbrev pub FindsEach : Pairs → Behind → Type 0
 FindsEach ps b = (given : Pairs) (q : List ℕ) → find q (merge ps given)
-    ≡ or_else (find q given) (or_else (find q b.action.params) (or_else (find q (params_of b.binding)) (find q (params_of b.inside))))
+    ≡ option_or (find q given) (option_or (find q b.action.params) (option_or (find q (params_of b.binding)) (find q (params_of b.inside))))
 
 -- ---- for private clauses
 

@@ -8,7 +8,8 @@ use Rattle.ow_names.specs.Slash.{is_slash}
 use Rattle.ow_names.specs.declared.full.FullName.{FullName}
 use Rattle.ow_names.specs.declared.refusal.NameRefusal.{NameRefusal}
 use Rattle.ow_names.proofs.NameLaws.{first_fault-name, no_slash}
-use Rattle.ow_records.specs.FieldsIn.{name_read, path_of}
+use Rattle.std.specs.Result.{result_ok}
+use Rattle.ow_records.specs.FieldsIn.{path_of}
 use Rattle.ow_records.specs.WrittenNotes.{path_text}
 
 abbrev local_parts : Option (List ℕ) → List ℕ → List (List ℕ)
@@ -43,4 +44,4 @@ pub full_back : (n : FullName) → IsFullName n → of_full_text (full_text n) �
 full_back n h = ap of_rooted (parts_full n h) ∙ rooted_back n n.package ∙ within_back n n.package h.inside h.namespace h.name
 
 pub path_back : (n : FullName) → IsFullName n → path_of (path_text n) ≡ Some n
-path_back n h = ap name_read (full_back n h)
+path_back n h = ap result_ok (full_back n h)

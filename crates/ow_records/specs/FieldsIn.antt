@@ -1,5 +1,6 @@
 -- What the fields of a value are, as texts, numbers, ids, names and lists. What is read here may be written otherwise.
-use Rattle.std.specs.Prelude.{◌^◌, ◌∷◌, [], ℕ, List, drop, codes, nat_lt, if◌then◌else◌, option_map, option_and_then, Option, Some, None, Result, Ok, Err}
+use Rattle.std.specs.Prelude.{◌^◌, ◌∷◌, [], ℕ, List, drop, codes, nat_lt, if◌then◌else◌, option_map, option_and_then, Option, Some, None}
+use Rattle.std.specs.Result.{result_ok}
 use Rattle.ow_value.specs.Value.{V, Pairs, whole, text, list, object, Items, no_items, item}
 use Rattle.ow_value.specs.Decimal.{digits_of}
 use Rattle.ow_value.specs.Field.{field, pairs_in}
@@ -48,13 +49,9 @@ name_of s = unless_fault (first_fault s) s
 abbrev pub as_name : V → Option (List ℕ)
 as_name v = option_and_then name_of (as_text v)
 
-abbrev pub name_read : Result FullName NameRefusal → Option FullName
-name_read (Ok name) = Some name
-name_read (Err e) = None
-
 -- the name of `namespace/name` or `namespace/package/name`
 abbrev pub path_of : List ℕ → Option FullName
-path_of s = name_read (of_full_text (47 ∷ s))
+path_of s = result_ok (of_full_text (47 ∷ s))
 
 abbrev pub as_path : V → Option FullName
 as_path v = option_and_then path_of (as_text v)

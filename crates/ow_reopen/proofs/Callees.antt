@@ -10,7 +10,8 @@ use Rattle.ow_entity.specs.declared.packages.Package.{Package}
 use Rattle.ow_entity.specs.declared.rows.Row.{Row}
 use Rattle.ow_entity.specs.declared.rows.Row.TheVariants as rows
 use Rattle.ow_keep.specs.Allowed.{is_binding, is_called, is_version, stands_alone}
-use Rattle.ow_packages.specs.Access.{action_at, as_action, as_package, if_reached, is_reached as is_open_to, lying_in, package_at, package_of, reached_package}
+use Rattle.ow_entity.specs.Finish.{as_action, as_package}
+use Rattle.ow_packages.specs.Access.{action_at, if_reached, is_reached as is_open_to, lying_in, package_at, package_of, reached_package}
 use Rattle.ow_packages.specs.Effective.{Behind, behind, behind_bare, behind_in, behind_name, behind_package, effective, effective_of}
 use Rattle.ow_packages.specs.declared.effective_action.Effective.{Effective}
 use Rattle.ow_tables.specs.Rows.{is_row, standing}

@@ -12,7 +12,7 @@ use Rattle.ow_names.specs.declared.refusal.NameRefusal.{NameRefusal}
 use Rattle.ow_names.proofs.NameLaws.{name_if_no_fault}
 use Rattle.ow_entity.specs.Body.{action_draft, draft_of, draft_unless, entity_of, first_refusal, package_draft}
 use Rattle.ow_entity.specs.Chain.{and_then, result_map}
-use Rattle.ow_entity.specs.Finish.{action_made, action_over, finished_row, new_action, old_action, old_package, package_made, package_over, row_of_body}
+use Rattle.ow_entity.specs.Finish.{action_made, action_over, finished_row, new_action, as_action, as_package, package_made, package_over, row_of_body}
 use Rattle.ow_entity.specs.Row.{draft_name, name_of}
 use Rattle.ow_entity.specs.declared.actions.Action.{Action}
 use Rattle.ow_entity.specs.declared.actions.ActionDraft.{ActionDraft}
@@ -36,7 +36,8 @@ use Rattle.ow_keep.specs.EntityIn.{entity_from, entity_with}
 use Rattle.ow_keep.specs.ItemIn.{count_with, entity_of as item_of, entity_with as item_with, item_by, item_from, value_of}
 use Rattle.ow_keep.specs.Judged.{gathered, judged, or_key, versioned}
 use Rattle.ow_keep.specs.OpenIn.{full_name_of}
-use Rattle.ow_records.specs.FieldsIn.{name_read, version_in}
+use Rattle.std.specs.Result.{result_ok}
+use Rattle.ow_records.specs.FieldsIn.{version_in}
 use Rattle.ow_records.specs.Id.{hex_number}
 use Rattle.ow_records.specs.declared.record.Record.{Record}
 use Rattle.ow_records.specs.declared.unrecorded.Unrecorded.{Unrecorded}
@@ -106,7 +107,7 @@ rooted_full [] = tt
 rooted_full ([] ∷ ps) = local_full ps
 rooted_full ((b ∷ bs) ∷ ps) = tt
 
-read_full : (r : Result FullName NameRefusal) → IfOk r IsFullName → IfSome (name_read r) IsFullName
+read_full : (r : Result FullName NameRefusal) → IfOk r IsFullName → IfSome (result_ok r) IsFullName
 read_full (Ok name) h = h
 read_full (Err e) h = tt
 
@@ -131,9 +132,9 @@ package_named d (Some old) = ok_unless (λ (p : Package). p.name ≡ d.name) _ L
 pub finished_named : (d : Draft) (old : Option Row) → IfOk (finished_row d old) (λ (r : Row). name_of r ≡ draft_name d)
 unfolding finished_row
 finished_named (drafts.Action d) old =
-    mapped (λ (a : Action). a.name ≡ d.name) (λ (r : Row). name_of r ≡ d.name) rows.Action (action_made d (old_action old)) (λ a e. e) (action_named d (old_action old))
+    mapped (λ (a : Action). a.name ≡ d.name) (λ (r : Row). name_of r ≡ d.name) rows.Action (action_made d (as_action old)) (λ a e. e) (action_named d (as_action old))
 finished_named (drafts.Package d) old =
-    mapped (λ (p : Package). p.name ≡ d.name) (λ (r : Row). name_of r ≡ d.name) rows.Package (package_made d (old_package old)) (λ p e. e) (package_named d (old_package old))
+    mapped (λ (p : Package). p.name ≡ d.name) (λ (r : Row). name_of r ≡ d.name) rows.Package (package_made d (as_package old)) (λ p e. e) (package_named d (as_package old))
 
 draft_by : (P : Draft → Type 0) (o : Option EntityRefusal) (d : Draft) → P d → IfOk (draft_unless o d) P
 draft_by P None d h = h

@@ -20,7 +20,7 @@ use Rattle.ow_names.specs.declared.refusal.NameRefusal.{NameRefusal}
 use Rattle.ow_entity.specs.Body.{action_draft, binding_field, binding_given, binding_in, bound_in, draft_of, draft_unless, entity_of, first_refusal, or_bad_name, package_draft, text_field}
 use Rattle.ow_entity.specs.Chain.{and_then, result_map}
 use Rattle.ow_entity.specs.FieldName.{field_name}
-use Rattle.ow_entity.specs.Finish.{action_made, action_over, default_action, default_package, finished_row, new_action, old_action, old_package, package_made, package_over}
+use Rattle.ow_entity.specs.Finish.{action_made, action_over, default_action, default_package, finished_row, new_action, as_action, as_package, package_made, package_over}
 use Rattle.ow_entity.specs.Pairs.{pair_of, pair_value, pair_with, pairs_field, pairs_given, pairs_listed, pairs_of_list, pairs_size, with_pairs}
 use Rattle.ow_entity.specs.PlainCode.{name_count}
 use Rattle.ow_entity.specs.Row.{name_of}
@@ -313,20 +313,20 @@ packages_good n name d (Some old) h k =
     unless (IsGoodPackage n name) _ LastVersion (package_over d old (old.version + 1))
     (package_over_good n name d old (old.version + 1) h (next_version old.version) before.params before.notes before.binding)
 
-old_action_good : (n : ℕ) (name : FullName) (o : Option Row) → IfSome o (IsGoodRow n name) → IfSome (old_action o) (IsGoodAction n)
+old_action_good : (n : ℕ) (name : FullName) (o : Option Row) → IfSome o (IsGoodRow n name) → IfSome (as_action o) (IsGoodAction n)
 old_action_good n name None h = tt
 old_action_good n name (Some (rows.Action a)) h = h
 old_action_good n name (Some (rows.Package p)) h = tt
 
-old_package_good : (n : ℕ) (name : FullName) (o : Option Row) → IfSome o (IsGoodRow n name) → IfSome (old_package o) (IsGoodPackage n name)
+old_package_good : (n : ℕ) (name : FullName) (o : Option Row) → IfSome o (IsGoodRow n name) → IfSome (as_package o) (IsGoodPackage n name)
 old_package_good n name None h = tt
 old_package_good n name (Some (rows.Action a)) h = tt
 old_package_good n name (Some (rows.Package p)) h = h
 
 rows_good : (n : ℕ) (name : FullName) (d : Draft) (old : Option Row) → IsGoodDraft n name d → IfSome old (IsGoodRow n name) → IfOk (finished_row d old) (IsGoodRow n name)
 unfolding finished_row
-rows_good n name (drafts.Action d) old h k = mapped (IsGoodAction n) (IsGoodRow n name) rows.Action (action_made d (old_action old)) (λ a g. g) (actions_good n d (old_action old) h (old_action_good n name old k))
-rows_good n name (drafts.Package d) old h k = mapped (IsGoodPackage n name) (IsGoodRow n name) rows.Package (package_made d (old_package old)) (λ p g. g) (packages_good n name d (old_package old) h (old_package_good n name old k))
+rows_good n name (drafts.Action d) old h k = mapped (IsGoodAction n) (IsGoodRow n name) rows.Action (action_made d (as_action old)) (λ a g. g) (actions_good n d (as_action old) h (old_action_good n name old k))
+rows_good n name (drafts.Package d) old h k = mapped (IsGoodPackage n name) (IsGoodRow n name) rows.Package (package_made d (as_package old)) (λ p g. g) (packages_good n name d (as_package old) h (old_package_good n name old k))
 
 -- ---- how deep rows nest
 

@@ -1,13 +1,14 @@
 -- Keys are told apart by their values.
 use Rattle.std.proofs.Common.{◌≡◌, ◌↔◌, ℕ, Bool, List, Option, Some, None, refl, ap, IsTrue}
 use Rattle.std.specs.Bool.{Decides}
+use Rattle.std.specs.Str.{bytes_eq}
 use Rattle.std.proofs.lemmas.Bool.Decides.{same_from_decides, Decides-and, Decides-eqb}
 use Rattle.std.proofs.lemmas.Slice.Eq.{bytes_eq-Decides}
 use Rattle.ow_names.specs.declared.full.FullName.{FullName}
 use Rattle.ow_entity.specs.declared.exec.Exec.{Exec}
 use Rattle.ow_entity.specs.declared.exec.Exec.TheVariants.{Plain, Program}
 use Rattle.ow_slots.specs.declared.keys.Key.{Key}
-use Rattle.ow_slots.specs.Key.{same_text, same_package, same_name, same_exec, same_key}
+use Rattle.ow_slots.specs.Key.{same_package, same_name, same_exec, same_key}
 
 -- a test of a pair of facts tells another fact that they amount to
 through : {P Q : Type 0} (b : Bool) → Decides b P → (P → Q) → (Q → P) → Decides b Q
@@ -17,7 +18,7 @@ package_told : (a b : Option (List ℕ)) → Decides (same_package a b) (a ≡ b
 package_told None None = (λ t. refl, λ e. refl)
 package_told None (Some b) = (λ t. cc, λ e. cc)
 package_told (Some a) None = (λ t. cc, λ e. cc)
-package_told (Some a) (Some b) = through (same_text a b) (bytes_eq-Decides a b) (λ e. ap Some e) (λ e. cc)
+package_told (Some a) (Some b) = through (bytes_eq a b) (bytes_eq-Decides a b) (λ e. ap Some e) (λ e. cc)
 
 abbrev name_of : List ℕ → Option (List ℕ) → List ℕ → FullName
 name_of namespace «package» name = record { namespace = namespace; «package» = «package»; name = name }
@@ -32,10 +33,10 @@ name_told a b = through (same_name a b)
     (λ e. (ap (λ (x : FullName). x.namespace) e, (ap (λ (x : FullName). x.«package») e, ap (λ (x : FullName). x.name) e)))
 
 exec_told : (a b : Exec) → Decides (same_exec a b) (a ≡ b)
-exec_told (Plain a) (Plain b) = through (same_text a b) (bytes_eq-Decides a b) (λ e. ap Plain e) (λ e. cc)
+exec_told (Plain a) (Plain b) = through (bytes_eq a b) (bytes_eq-Decides a b) (λ e. ap Plain e) (λ e. cc)
 exec_told (Plain a) (Program b) = (λ t. cc, λ e. cc)
 exec_told (Program a) (Plain b) = (λ t. cc, λ e. cc)
-exec_told (Program a) (Program b) = through (same_text a b) (bytes_eq-Decides a b) (λ e. ap Program e) (λ e. cc)
+exec_told (Program a) (Program b) = through (bytes_eq a b) (bytes_eq-Decides a b) (λ e. ap Program e) (λ e. cc)
 
 abbrev key_of : List ℕ → FullName → ℕ → Exec → ℕ → Key
 key_of namespace action version exec memory = record {

@@ -17,26 +17,23 @@ same_kind kinds.Plain kinds.Plain = true
 same_kind kinds.Program kinds.Program = true
 same_kind a b = false
 
-abbrev pub same_text : List ℕ → List ℕ → Bool
-same_text a b = bytes_eq a b
-
 abbrev pub same_package : Option (List ℕ) → Option (List ℕ) → Bool
 same_package None None = true
-same_package (Some a) (Some b) = same_text a b
+same_package (Some a) (Some b) = bytes_eq a b
 same_package a b = false
 
 abbrev pub same_name : FullName → FullName → Bool
-same_name a b = same_text a.namespace b.namespace && (same_package a.package b.package && same_text a.name b.name)
+same_name a b = bytes_eq a.namespace b.namespace && (same_package a.package b.package && bytes_eq a.name b.name)
 
 abbrev pub same_exec : Exec → Exec → Bool
-same_exec (Plain a) (Plain b) = same_text a b
-same_exec (Program a) (Program b) = same_text a b
+same_exec (Plain a) (Plain b) = bytes_eq a b
+same_exec (Program a) (Program b) = bytes_eq a b
 same_exec a b = false
 
 -- equal keys: the same namespace, action, version, code and memory
 abbrev pub same_key : Key → Key → Bool
 same_key a b =
-    same_text a.namespace b.namespace
+    bytes_eq a.namespace b.namespace
     && (same_name a.action b.action
     && ((a.version == b.version)
     && (same_exec a.exec b.exec && (a.memory == b.memory))))

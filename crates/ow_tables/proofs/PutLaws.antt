@@ -12,7 +12,8 @@ use Rattle.ow_entity.specs.declared.packages.Package.{Package}
 use Rattle.ow_entity.specs.declared.rows.Row.{Row}
 use Rattle.ow_entity.specs.declared.rows.Row.TheVariants as entities
 use Rattle.ow_entity.specs.Written.{package_entry}
-use Rattle.ow_packages.specs.Access.{as_package, if_reached, reached_package}
+use Rattle.ow_entity.specs.Finish.{as_package}
+use Rattle.ow_packages.specs.Access.{if_reached, reached_package}
 use Rattle.ow_tables.specs.Rows.{key, key_of, found, standing, with_row}
 use Rattle.ow_tables.specs.Inside.{lies_in, actions_in, actions_if}
 use Rattle.ow_tables.proofs.Found.{put_finds}

@@ -5,7 +5,8 @@ use Rattle.std.proofs.lemmas.Cmp.{nat_list_cmp_total, tied_itself}
 use Rattle.std.proofs.lemmas.Map.Text.{is_eq-slice_cmp}
 use Rattle.std.proofs.lemmas.Slice.Eq.{bytes_eq-Decides}
 use Rattle.ow_value.specs.Value.{V, Pairs, text_cmp}
-use Rattle.ow_value.specs.Find.{find, with_pair, merge, or_else}
+use Rattle.std.specs.Option.{option_or}
+use Rattle.ow_value.specs.Find.{find, with_pair, merge}
 use Rattle.ow_value.proofs.KeySearch.{equal_texts}
 
 by_order_same : (k : List ℕ) (v : V) (p : List ℕ × V) (ps rest : Pairs) (o : Ordering) → text_cmp k p.0 ≡ o → find k rest ≡ Some v → find k (match_ordering o ((k, v) ∷ p ∷ ps) ((p.0, v) ∷ ps) (p ∷ rest)) ≡ Some v
@@ -29,11 +30,11 @@ find-with_pair_other q k v (p ∷ ps) other = by_order_other q k v p ps (with_pa
 is_same : (q k : List ℕ) → is_eq (text_cmp q k) ≡ true → q ≡ k
 is_same q k e = (bytes_eq-Decides q k).0 (sym (is_eq-slice_cmp q k) ∙ e)
 
-by_test : (q : List ℕ) (p : List ℕ × V) (rest : Pairs) (x y : Option V) (b : Bool) → is_eq (text_cmp q p.0) ≡ b → find q rest ≡ or_else x y → find q (with_pair rest p.0 p.1) ≡ or_else (cond b (Some p.1) x) y
+by_test : (q : List ℕ) (p : List ℕ × V) (rest : Pairs) (x y : Option V) (b : Bool) → is_eq (text_cmp q p.0) ≡ b → find q rest ≡ option_or x y → find q (with_pair rest p.0 p.1) ≡ option_or (cond b (Some p.1) x) y
 by_test q p rest x y true e h = ap (λ j. find j (with_pair rest p.0 p.1)) (is_same q p.0 e) ∙ find-with_pair p.0 p.1 rest
 by_test q p rest x y false e h = find-with_pair_other q p.0 p.1 rest e ∙ h
 
 -- what b has, and else what a has
-pub find-merge : (q : List ℕ) (a b : Pairs) → find q (merge a b) ≡ or_else (find q b) (find q a)
+pub find-merge : (q : List ℕ) (a b : Pairs) → find q (merge a b) ≡ option_or (find q b) (find q a)
 find-merge q a [] = refl
 find-merge q a (p ∷ b) = by_test q p (merge a b) (find q b) (find q a) (is_eq (text_cmp q p.0)) refl (find-merge q a b)

@@ -1,7 +1,8 @@
 // One object over another.
 ghost use Rattle.std.specs.Prelude.{◌≡◌, ℕ, List, ◌≤◌, ◌+◌, IfOk, length, drop};
 ghost use Rattle.std.specs.declared.cmp.Ordering.TheVariants.{Less, Equal, Greater};
-ghost use Rattle.ow_value.specs.Find.{find, merge, or_else};
+ghost use Rattle.std.specs.Option.{option_or};
+ghost use Rattle.ow_value.specs.Find.{find, merge};
 ghost use Rattle.ow_value.specs.Merge.{head_order};
 ghost use Rattle.ow_value.specs.Value.{AreParams};
 ghost use Rattle.ow_value.specs.View.{pair_views};
@@ -15,7 +16,7 @@ use std::cmp::Ordering;
 /// The members of b, and those of a whose name b lacks. Where one has no members, the other is shared.
 pub fn merge(alloc: Global, a: &Params, b: &Params) -> Result<Params, NoMemory>
     ensures value { IfOk result (λ r. r ≡ merge a.now b.now) }
-    ensures finds { IfOk result (λ r. (q : List ℕ) → find q r ≡ or_else (find q b.now) (find q a.now)) }
+    ensures finds { IfOk result (λ r. (q : List ℕ) → find q r ≡ option_or (find q b.now) (find q a.now)) }
 {
     let xs = held(&a.pairs);
     let ys = held(&b.pairs);

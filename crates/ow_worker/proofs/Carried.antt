@@ -10,7 +10,7 @@ use Rattle.ow_worker.specs.declared.outcome.Turn.{Turn}
 use Rattle.ow_worker.specs.declared.outcome.Turn.TheVariants as turns
 use Rattle.ow_board.specs.View.{KeepsOthers}
 use Rattle.ow_worker.specs.Shown.{WasHad}
-use Rattle.ow_worker.specs.Turned.{Abandoned, Carried, Performs, RunTurn}
+use Rattle.ow_worker.specs.Turned.{IsGivenUp, Carried, Performs, RunTurn}
 
 -- a run that came to a booking is neither lost nor given up
 pub carried_turns : {gives : Giving} {before now : Tally} {tells : Option ℕ} {opening : ℕ} {order : RunOrder} {n m : Notes} {v w : View} (turn : Turn)
@@ -34,8 +34,8 @@ carried_within {a = a} {b = b} {c = c} {order = order} turn s t x = record {
   settles = x.settles;
 }
 
-abandoned_within : (f g : Giving) (a b c : Tally) (tells : Option ℕ) (order : RunOrder) (n m : Notes) → Idles f g a b → Abandoned tells b c order n m → Abandoned tells a c order n m
-abandoned_within f g a b c tells order n m s x = record {
+given_up_within : (f g : Giving) (a b c : Tally) (tells : Option ℕ) (order : RunOrder) (n m : Notes) → Idles f g a b → IsGivenUp tells b c order n m → IsGivenUp tells a c order n m
+given_up_within f g a b c tells order n m s x = record {
   opened = x.opened;
   opens = ⊎_elim (λ y. inl (y.0, once_behind a b c s.ran y.1)) (λ y. inr (y.0, y.1, none_behind a b c s.ran y.2)) x.opens;
   gives_up = x.gives_up;
@@ -62,7 +62,7 @@ performs_within tells opening order n m v w turns.Warmed s t x = carried_within 
 performs_within tells opening order n m v w (turns.Lost seen) s t x = x
 performs_within tells opening order n m v w turns.Idle s t x = carried_within turns.Idle s t x
 performs_within tells opening order n m v w (turns.StoreFault job) s t x = carried_within (turns.StoreFault job) s t x
-performs_within {f = f} {g = g} {a = a} {b = b} {c = c} tells opening order n m v w (turns.NoMemory None) s t x = (abandoned_within f g a b c tells order n m s x.0, x.1)
+performs_within {f = f} {g = g} {a = a} {b = b} {c = c} tells opening order n m v w (turns.NoMemory None) s t x = (given_up_within f g a b c tells order n m s x.0, x.1)
 performs_within tells opening order n m v w (turns.NoMemory (Some job)) s t x = carried_within (turns.NoMemory (Some job)) s t x
 
 -- ---- other slots

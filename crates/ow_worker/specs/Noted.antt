@@ -41,7 +41,7 @@ module _ (tells : Option ℕ) where
   FaultNoted run reply n m = CalledBy tells (events.Answered run reply) Fails n m
 
   -- a loss and a going
-  pub record GivenUp (run slot generation : ℕ) (n m : Notes) : Type 0 where
+  pub record LostAndGone (run slot generation : ℕ) (n m : Notes) : Type 0 where
     pub middle : Notes
     pub lost : LostNoted run n middle
     pub gone : GoneNoted slot generation middle m

@@ -17,7 +17,7 @@ use Rattle.ow_worker.specs.declared.outcome.Turn.TheVariants as turns
 use Rattle.ow_worker.specs.declared.outcome.Warming.{Warming}
 use Rattle.ow_worker.specs.declared.outcome.Warming.TheVariants as warmings
 use Rattle.ow_worker.specs.Shown.{WasHad, WasNotHad, WasPut, WordTaken, prewarmed}
-use Rattle.ow_worker.specs.Noted.{BegunNoted, GivenUp, LostNoted, NextNoted}
+use Rattle.ow_worker.specs.Noted.{BegunNoted, LostAndGone, LostNoted, NextNoted}
 use Rattle.ow_worker.specs.Parts.{Settled, TakenBack}
 
 -- ---- runs
@@ -30,10 +30,10 @@ module _ (tells : Option ℕ) where
 
   -- memory was wanted before there was a reply: the run is lost and its container gone; its code was run once, as what began, or the
   -- container wasn't ready, and it wasn't
-  pub record Abandoned (before now : Tally) (order : RunOrder) (n m : Notes) : Type 0 where
+  pub record IsGivenUp (before now : Tally) (order : RunOrder) (n m : Notes) : Type 0 where
     pub opened : Notes
     pub opens : (ToldBegun order n opened × RanOnce before now) ⊎ ((opened ≡ n) × (is_warm order.start ≡ false) × RanNone before now)
-    pub gives_up : GivenUp tells order.run order.slot order.generation opened m
+    pub gives_up : LostAndGone tells order.run order.slot order.generation opened m
 
   -- the container of a warm or a prewarmed start isn't had, and no code is run
   pub record NotCarried (before now : Tally) (order : RunOrder) (seen : ℕ) (n m : Notes) (start : ℕ) (w : View) : Type 0 where
@@ -66,7 +66,7 @@ module _ (gives : Giving) (before now : Tally) (tells : Option ℕ) where
     -- its container isn't had; or it is had, and the run goes on from there, or is given up with no later step on that slot
     abbrev pub RunTurn : RunOrder → Notes → Notes → View → View → Turn → Type 0
     RunTurn order n m v w (turns.Lost seen) = NotCarried tells before now order seen n m v.steps w
-    RunTurn order n m v w (turns.NoMemory None) = WasHad order v w × Abandoned tells before now order n m
+    RunTurn order n m v w (turns.NoMemory None) = WasHad order v w × IsGivenUp tells before now order n m
     RunTurn order n m v w turn = (ready : View) × WasHad order v ready × Carried order n m ready w turn
 
   -- ---- containers ahead
@@ -75,8 +75,8 @@ module _ (gives : Giving) (before now : Tally) (tells : Option ℕ) where
   -- wanted, and the pass made no step, or its slot wasn't empty
   abbrev pub WarmTurn : PrewarmOrder → Notes → Notes → View → View → Turn → Type 0
   WarmTurn order n m v w turns.Warmed = (BegunNoted tells order.run n m × gives.starts order.kind × WasPut order.slot order.generation prewarmed v.steps w)
-      ⊎ (GivenUp tells order.run order.slot order.generation n m × ((IsDown gives before now order × (w ≡ v)) ⊎ WordTaken order.slot v.steps w))
-  WarmTurn order n m v w (turns.NoMemory None) = GivenUp tells order.run order.slot order.generation n m × (w ≡ v)
+      ⊎ (LostAndGone tells order.run order.slot order.generation n m × ((IsDown gives before now order × (w ≡ v)) ⊎ WordTaken order.slot v.steps w))
+  WarmTurn order n m v w (turns.NoMemory None) = LostAndGone tells order.run order.slot order.generation n m × (w ≡ v)
   WarmTurn order n m v w turn = ⊥
 
 -- ---- removals
@@ -122,5 +122,5 @@ module _ (gives : Giving) (before now : Tally) where
     -- the run is given up, and the pass made no step; or it has a reply
     abbrev pub Performs : RunOrder → Notes → Notes → View → View → Turn → Type 0
     Performs order n m v w (turns.Lost seen) = ⊥
-    Performs order n m v w (turns.NoMemory None) = Abandoned tells before now order n m × (w ≡ v)
+    Performs order n m v w (turns.NoMemory None) = IsGivenUp tells before now order n m × (w ≡ v)
     Performs order n m v w turn = Carried gives before now tells opening order n m v w turn

@@ -5,7 +5,7 @@ ghost use Rattle.ow_floor.specs.Calls.{HandsBack};
 ghost use Rattle.ow_hall.specs.Comes.{reply_outcome};
 ghost use Rattle.ow_desk.specs.Fitting.{Fits};
 ghost use Rattle.ow_desk.specs.Notes.{CalledBy};
-ghost use Rattle.ow_worker.specs.Noted.{GivenUp, GoneNoted, LostNoted, NextNoted};
+ghost use Rattle.ow_worker.specs.Noted.{LostAndGone, GoneNoted, LostNoted, NextNoted};
 ghost use Rattle.ow_worker.specs.Turned.{ToldBegun};
 
 use ow_desk::{Desk, Receipts};
@@ -127,7 +127,7 @@ pub(crate) fn give_up<H: Wait, P: Keeper + Drop, C: Clock>(
     generation: u32,
 )
     requires { 2 ≤ notes.old.room }
-    ensures { GivenUp (C.tells clock.now) run slot generation notes.old.notes notes.new.notes }
+    ensures { LostAndGone (C.tells clock.now) run slot generation notes.old.notes notes.new.notes }
 {
     tell_lost(rt, desk, clock, notes, run);
     tell_gone(rt, desk, clock, notes, slot, generation);
