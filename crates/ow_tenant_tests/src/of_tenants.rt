@@ -56,7 +56,7 @@ fn bad(row: u64) -> TenantRefusal {
 }
 
 #[test]
-fn the_first_bad_row_has_its_number(rt: HostRuntime) {
+fn a_bad_row_is_told_by_number_22(rt: HostRuntime) {
     assert_eq!(rt; bad(1).number(), 22);
 }
 
