@@ -2,7 +2,7 @@
 use Rattle.std.specs.Prelude.{◌≡◌, ◌+◌, ◌^◌, ◌≤◌, ◌<◌, ℕ, List, [], ◌∷◌, Bool, true, false, count_by, is_none, if◌then◌else◌}
 use Rattle.std.specs.List.{AllByRecursion}
 use Rattle.ow_floor.specs.Trace.{Item, Trace, Accepted, Ended, accepted}
-use Rattle.ow_tenant.specs.ByText.{ByText}
+use Rattle.ow_value.specs.ByText.{ByText}
 use Rattle.ow_tenant.specs.Notes.{Note, Notes, invoked, ended, is_ended, is_invoked}
 use Rattle.ow_tenant.specs.Windows.{HasRoomIn, StandsAs}
 use Rattle.ow_tenant.specs.declared.window.Window.{Window}

@@ -1,6 +1,7 @@
 -- Machines that stand behind others: the book goes on whatever comes of an event.
 use Rattle.std.proofs.Common.{◌≡◌, ◌++◌, ◌∙◌, ℕ, false, List, [], ◌∷◌, None, inl, inr, refl, sym, ap, append_assoc}
-use Rattle.ow_hall.specs.Comes.{Answers, Comes, Fails, HallView, KeptRows, Outcome, Wants, at_hall}
+use Rattle.ow_traits.specs.Telling.{Telling}
+use Rattle.ow_hall.specs.Comes.{Answers, Comes, Fails, HallView, Outcome, Wants, at_hall}
 use Rattle.ow_hall.specs.History.{posting}
 use Rattle.ow_hall.specs.Ledger.{Ledger, posted, posted_as}
 use Rattle.ow_hall.specs.declared.entry.Entry.{Entry}
@@ -12,7 +13,7 @@ use Rattle.ow_decide.specs.declared.events.Told.{Told}
 use Rattle.ow_invoker.specs.Turns.{Chain, ChainTo, ChainUndone, Exchange}
 use Rattle.ow_day.specs.declared.done.Done.{Done}
 use Rattle.ow_day.specs.Statement.{Statement}
-use Rattle.ow_day.specs.Machine.{Machine, Does, IsBehind, hall_of}
+use Rattle.ow_day.specs.Machine.{Machine, Does, IsBehind, hall_of, counts_faults}
 use Rattle.ow_day.proofs.Each.{each_statement}
 
 -- ---- machines
@@ -45,33 +46,33 @@ posted_more Unbooked e L = ([], refl)
 posted_on : (L : Ledger) (at : ℕ) (event : Event) (t : Told) → (later : List Entry) × ((posted L at event t).entries ≡ later ++ L.entries)
 posted_on L at event t = posted_more (posting L.entries t) (record { at = at; event = event; answer = t }) L
 
-module _ {P : Type 0} (rows : P → KeptRows) (faults : P → ℕ) where
-  pub comes_behind : (old new : HallView P) (at : ℕ) (event : Event) (o : Outcome) → Comes rows faults old new at event o → HallBehind old new
+module _ {P : Type 0} (telling : P → Telling) where
+  pub comes_behind : (old new : HallView P) (at : ℕ) (event : Event) (o : Outcome) → Comes telling old new at event o → HallBehind old new
   comes_behind old new at event (Answers t) (told, ledger, tenants, holds) =
       let p = posted_on old.ledger (at_hall old at) event t in
       (tenants, (p.0, ap entries ledger ∙ p.1))
   comes_behind old new at event Wants (ledger, tenants, stays) = (tenants, ([], ap entries ledger))
-  comes_behind old new at event Fails (changes, ledger, tenants, stays, count, rose) = (tenants, ([], ap entries ledger))
+  comes_behind old new at event Fails (changes, ledger, tenants, stays, rose) = (tenants, ([], ap entries ledger))
 
   joins : (old middle new : HallView P) → HallBehind old middle → HallBehind middle new → HallBehind old new
   joins old middle new first second = behind_then (over old) (over middle) (over new) first second
 
-  pub chain_behind : (old new : HallView P) (at : ℕ) (xs : List Exchange) → Chain rows faults old new at xs → HallBehind old new
+  pub chain_behind : (old new : HallView P) (at : ℕ) (xs : List Exchange) → Chain telling old new at xs → HallBehind old new
   chain_behind old new at [] same = (ap (λ (h : HallView P). h.tenants) same, ([], ap (λ (h : HallView P). h.ledger.entries) same))
   chain_behind old new at (x ∷ xs) (middle, (comes, rest)) = joins old middle new (comes_behind old middle at x.event (Answers x.answer) comes) (chain_behind middle new at xs rest)
 
-  pub chain_to_behind : (old new : HallView P) (at : ℕ) (xs : List Exchange) (event : Event) (o : Outcome) → ChainTo rows faults old new at xs event o → HallBehind old new
+  pub chain_to_behind : (old new : HallView P) (at : ℕ) (xs : List Exchange) (event : Event) (o : Outcome) → ChainTo telling old new at xs event o → HallBehind old new
   chain_to_behind old new at xs event o (middle, (chain, comes)) = joins old middle new (chain_behind old middle at xs chain) (comes_behind middle new at event o comes)
 
-  pub undone_behind : (old new : HallView P) (at : ℕ) (xs : List Exchange) (event : Event) → ChainUndone rows faults old new at xs event → HallBehind old new
+  pub undone_behind : (old new : HallView P) (at : ℕ) (xs : List Exchange) (event : Event) → ChainUndone telling old new at xs event → HallBehind old new
   undone_behind old new at xs event (inl wanted) = chain_to_behind old new at xs event Wants wanted
   undone_behind old new at xs event (inr failed) = chain_to_behind old new at xs event Fails failed
 
 -- ---- statements
 
 answered : (M N : Machine) (before after : ℕ) (event : Event) (t : Told) → is_opening event ≡ false
-    → Comes {P = ℕ} (λ n. None) (λ n. n) (hall_of M before) (hall_of N after) M.given event (Answers t) → IsBehind M N
-answered M N before after event t later comes = comes_behind {P = ℕ} (λ n. None) (λ n. n) (hall_of M before) (hall_of N after) M.given event (Answers t) comes
+    → Comes {P = ℕ} counts_faults (hall_of M before) (hall_of N after) M.given event (Answers t) → IsBehind M N
+answered M N before after event t later comes = comes_behind {P = ℕ} counts_faults (hall_of M before) (hall_of N after) M.given event (Answers t) comes
 
 pub done_behind : (M N : Machine) (s : Statement) (failed : ℕ) (done : Done) → Does M s failed done N → IsBehind M N
 done_behind M N s failed done does = each_statement (λ M N. IsBehind M N) behind_same behind_then answered M N s failed done does

@@ -19,7 +19,7 @@ use Rattle.ow_day.specs.declared.call_words.CallWords.TheVariants as calls
 use Rattle.ow_day.specs.declared.done.Done.{Done}
 use Rattle.ow_day.specs.CallWords.{called as words_of}
 use Rattle.ow_day.specs.Statement.{Statement, At, Call, Ask, Next, Begun, Answer, Logged, Exit, NoStart, Fault, Lost, Gone, Sweep, Turn, Collect, Drain, Reopen, End}
-use Rattle.ow_day.specs.Machine.{Machine, Asks, Calls, Does, ExchangesAll, FailsAt, Meets, Rests, Turns, hall_of}
+use Rattle.ow_day.specs.Machine.{Machine, Asks, Calls, Does, ExchangesAll, FailsAt, Meets, Rests, Turns, hall_of, counts_faults}
 use Rattle.ow_day.proofs.Turning.{NoneOpens, offered_opens, turn_opens}
 
 -- the entries of a ledger
@@ -34,14 +34,14 @@ entries_same same = ap (λ (K : Machine). K.ledger.entries) same
 
 module _ (Is : Machine → Machine → Type 0) (stays : (M N : Machine) → N.tenants ≡ M.tenants → N.ledger.entries ≡ M.ledger.entries → Is M N) (joins : (M K N : Machine) → Is M K → Is K N → Is M N)
     (answers : (M N : Machine) (before after : ℕ) (event : Event) (t : Told) → is_opening event ≡ false
-    → Comes {P = ℕ} (λ n. None) (λ n. n) (hall_of M before) (hall_of N after) M.given event (Answers t) → Is M N) where
+    → Comes {P = ℕ} counts_faults (hall_of M before) (hall_of N after) M.given event (Answers t) → Is M N) where
   -- ---- one event
 
   comes : (M N : Machine) (before after : ℕ) (event : Event) (o : Outcome) → is_opening event ≡ false
-      → Comes {P = ℕ} (λ n. None) (λ n. n) (hall_of M before) (hall_of N after) M.given event o → Is M N
+      → Comes {P = ℕ} counts_faults (hall_of M before) (hall_of N after) M.given event o → Is M N
   comes M N before after event (Answers t) later met = answers M N before after event t later met
   comes M N before after event Wants later (ledger, tenants, stay) = stays M N tenants (ap entries ledger)
-  comes M N before after event Fails later (changes, ledger, tenants, stay, count, rose) = stays M N tenants (ap entries ledger)
+  comes M N before after event Fails later (changes, ledger, tenants, stay, rose) = stays M N tenants (ap entries ledger)
 
   met : (M N : Machine) (event : Event) (failed : ℕ) (done : Done) → is_opening event ≡ false → Meets M event failed done N → Is M N
   met M N event failed done later (o, before, after, ends, given, shelf, is) = comes M N before after event o later is
@@ -54,7 +54,7 @@ module _ (Is : Machine → Machine → Type 0) (stays : (M N : Machine) → N.te
 
   -- a fault of the store books nothing
   failed_at : (M N : Machine) (event : Event) → FailsAt M event N → Is M N
-  failed_at M N event (before, after, given, (changes, ledger, tenants, stay, count, rose)) = stays M N tenants (ap entries ledger)
+  failed_at M N event (before, after, given, (changes, ledger, tenants, stay, rose)) = stays M N tenants (ap entries ledger)
 
   turns_so : (M N : Machine) (turn : Turned) (failed : ℕ) → Turns M turn failed N → Is M N
   turns_so M N turn failed (inl (none, t)) = exchanged M N t.exchanges (turn_opens (plain_tally t.before) (plain_tally t.now) M.shelf turn.order t.exchanges N.shelf t.turn) t.met

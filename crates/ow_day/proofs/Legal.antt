@@ -11,9 +11,9 @@ use Rattle.ow_decide.specs.declared.events.Told.{Told}
 use Rattle.ow_tenant.specs.Table.{Table}
 use Rattle.ow_day.specs.declared.done.Done.{Done}
 use Rattle.ow_day.specs.Statement.{Statement}
-use Rattle.ow_day.specs.Machine.{Machine, CarriesOut, Does, hall_of, start}
+use Rattle.ow_day.specs.Machine.{Machine, CarriesOut, Does, hall_of, start, counts_faults}
 use Rattle.ow_day.specs.Day.{day_of}
-use Rattle.ow_day.specs.Office.{HasLegalBooks}
+use Rattle.ow_day.specs.Carried.{HasLegalBooks}
 use Rattle.ow_day.proofs.Each.{each_statement}
 
 abbrev HasLegalBook : Machine → Type 0
@@ -28,7 +28,7 @@ joins : (M K N : Machine) → (HasLegalBook M → HasLegalBook K) → (HasLegalB
 joins M K N first second legal = second (first legal)
 
 answers : (M N : Machine) (before after : ℕ) (event : Event) (t : Told) → is_opening event ≡ false
-    → Comes {P = ℕ} (λ n. None) (λ n. n) (hall_of M before) (hall_of N after) M.given event (Answers t) → HasLegalBook M → HasLegalBook N
+    → Comes {P = ℕ} counts_faults (hall_of M before) (hall_of N after) M.given event (Answers t) → HasLegalBook M → HasLegalBook N
 answers M N before after event t later (told_is, ledger, tenants, holds) legal =
     let L = M.ledger in
     rw (tenants, ledger) (posted_legal M.tenants L (moment L.entries M.given) event t legal (not_before L.entries M.given) (not_after M.tenants L.entries M.given legal) later told_is)

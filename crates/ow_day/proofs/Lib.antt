@@ -1,7 +1,6 @@
 pub mod Utf8
 pub mod Newlines
 pub mod Reading
-pub mod Results
 pub mod Choices
 pub mod Logging
 pub mod Searching
@@ -27,7 +26,5 @@ pub mod SoFar
 pub mod Sessions
 pub mod Runs
 pub mod Ended
-pub mod Tables
 pub mod Opened
-pub mod Asking
 pub mod Legal

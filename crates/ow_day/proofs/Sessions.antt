@@ -1,5 +1,6 @@
 -- A session between statements: how a day goes on by it.
 use Rattle.std.proofs.Common.{◌≡◌, ℕ, List, refl}
+use Rattle.ow_traits.specs.Telling.{Telling}
 use Rattle.ow_day.specs.declared.line.Statement as code
 use Rattle.ow_day.specs.declared.line.Statement.TheVariants as statements
 use Rattle.ow_day.specs.declared.session.Session.{Session}
@@ -35,17 +36,17 @@ end_is statements.Reopen e = cc
 end_is statements.End e = refl
 
 -- what comes of a statement lies behind what stood before
-pub goes_later : {P : Type 0} (faults : P → ℕ) (old new : Session P) (s : Statement) (done : Done) → GoesTo faults old new (Does (machine_of old) s) done → IsLater faults old new
-goes_later faults old new s done (failed, (does, rose)) = record { behind = done_behind (machine_of old) (machine_of new) s failed done does; count = rose.0 }
+pub goes_later : {P : Type 0} (telling : P → Telling) (old new : Session P) (s : Statement) (done : Done) → GoesTo telling old new (Does (machine_of old) s) done → IsLater telling old new
+goes_later telling old new s done (failed, (does, rose)) = record { behind = done_behind (machine_of old) (machine_of new) s failed done does; count = rose.0 }
 
 -- whatever comes of it, the session goes on
-pub carries_later : {P : Type 0} (faults : P → ℕ) (old new : Session P) (s : Statement) (before now : List ℕ) (step : Step) → CarriesOut faults old new s before now step → IsLater faults old new
-carries_later faults old new s before now steps.Done (not_end, (done, (goes, lines))) = goes_later faults old new s done goes
-carries_later faults old new s before now steps.End (end, lines, same) = rw same (same_session faults old)
-carries_later faults old new s before now steps.Bad never = absurd never
-carries_later faults old new s before now steps.Cut never = absurd never
-carries_later faults old new s before now steps.NoMemory later = later
+pub carries_later : {P : Type 0} (telling : P → Telling) (old new : Session P) (s : Statement) (before now : List ℕ) (step : Step) → CarriesOut telling old new s before now step → IsLater telling old new
+carries_later telling old new s before now steps.Done (not_end, (done, (goes, lines))) = goes_later telling old new s done goes
+carries_later telling old new s before now steps.End (end, lines, same) = rw same (same_session telling old)
+carries_later telling old new s before now steps.Bad never = absurd never
+carries_later telling old new s before now steps.Cut never = absurd never
+carries_later telling old new s before now steps.NoMemory later = later
 
 -- and where it then stays
-pub later_same : {P : Type 0} (faults : P → ℕ) (old mid new : Session P) → IsLater faults old mid → new ≡ mid → IsLater faults old new
-later_same faults old mid new later same = rw same later
+pub later_same : {P : Type 0} (telling : P → Telling) (old mid new : Session P) → IsLater telling old mid → new ≡ mid → IsLater telling old new
+later_same telling old mid new later same = rw same later

@@ -5,8 +5,6 @@ pub mod Line
 pub mod Logs
 pub mod Search
 pub mod Input
-pub mod Status
-pub mod Words
 pub mod Faults
 pub mod Texts
 pub mod CallWords
@@ -14,6 +12,6 @@ pub mod Machine
 pub mod Session
 pub mod Printed
 pub mod First
-pub mod Office
+pub mod Carried
 pub mod Reads
 pub mod Run

@@ -1,5 +1,6 @@
 -- The plain machine of a day: what comes of each statement over the book so far, what is written for it, and what is booked.
 use Rattle.std.specs.Prelude.{◌≡◌, ◌+◌, ◌⊎◌, ◌++◌, ℕ, pos, List, [], ◌∷◌, None, Result, Ok, Err}
+use Rattle.ow_traits.specs.Telling.{Telling}
 use Rattle.ow_traits.specs.declared.replies.RunReply.TheVariants as runs
 use Rattle.ow_http.specs.Read.{IsRead}
 use Rattle.ow_http.specs.Refused.{refusal_of}
@@ -51,6 +52,10 @@ IsBehind M N = (N.tenants ≡ M.tenants) × ((later : List Entry) × (N.ledger.e
 
 -- ---- what the hall meets
 
+-- a store that tells its count of faults alone
+abbrev pub counts_faults : ℕ → Telling
+counts_faults faults = record { rows = None; faults = faults; commits = None }
+
 -- its hall, over a store that tells no rows, and how many faults it has met
 abbrev pub hall_of : Machine → ℕ → HallView ℕ
 hall_of M faults = record { tenants = M.tenants; ledger = M.ledger; store = faults }
@@ -86,12 +91,12 @@ Ends event Wants failed done = ⊥
 -- the hall meets an event at the moment that the day gave last, and this comes of it. The containers lie as they did
 abbrev pub Meets : Machine → Event → ℕ → Done → Machine → Type 0
 Meets M event failed done N = (o : Outcome) × (before : ℕ) × (later : ℕ) × Ends event o failed done × (N.given ≡ M.given) × (N.shelf ≡ M.shelf)
-    × Comes (λ faults. None) (λ faults. faults) (hall_of M before) (hall_of N later) M.given event o
+    × Comes counts_faults (hall_of M before) (hall_of N later) M.given event o
 
 -- one such event, and what the hall told of it
 abbrev pub Exchanges : Machine → Exchange → Machine → Type 0
 Exchanges M x N = (before : ℕ) × (later : ℕ) × (N.given ≡ M.given)
-    × Comes (λ faults. None) (λ faults. faults) (hall_of M before) (hall_of N later) M.given x.event (Answers x.answer)
+    × Comes counts_faults (hall_of M before) (hall_of N later) M.given x.event (Answers x.answer)
 
 -- such events one after the other, and the last leaves the machine so, but for its containers
 abbrev pub ExchangesAll : Machine → List Exchange → Machine → Type 0
@@ -101,7 +106,7 @@ ExchangesAll M (x ∷ xs) N = (K : Machine) × Exchanges M x K × ExchangesAll K
 -- the store fails at one such event
 abbrev pub FailsAt : Machine → Event → Machine → Type 0
 FailsAt M event N = (before : ℕ) × (later : ℕ) × (N.given ≡ M.given)
-    × Comes (λ faults. None) (λ faults. faults) (hall_of M before) (hall_of N later) M.given event Fails
+    × Comes counts_faults (hall_of M before) (hall_of N later) M.given event Fails
 
 -- a turn of the runner of plain code, which has no faults and made so many runs before it and by its end, with the containers that lie there
 pub record TakesTurn (M : Machine) (turned : Turned) (N : Machine) : Type 0 where

@@ -1,11 +1,12 @@
 -- How much of a day is read: no more than its statements need, and the rest of one piece.
-use Rattle.std.specs.Prelude.{◌≡◌, ◌≤◌, ◌⊎◌, ◌+◌, ◌++◌, true, ℕ, List, Option, Some, IfOk, IfSome, length}
-use Rattle.ow_tenant.specs.Table.{Table, table_of}
+use Rattle.std.specs.Prelude.{◌≡◌, ◌≤◌, ◌⊎◌, ◌+◌, ◌++◌, true, ℕ, List, Option, Some, length}
+use Rattle.ow_traits.specs.Telling.{Telling}
+use Rattle.ow_tenant.specs.Table.{Table}
 use Rattle.ow_day.specs.Limits.{most_bytes, most_piece}
 use Rattle.ow_day.specs.Day.{Day, TooLong, day_from}
 use Rattle.ow_items.specs.Sorted.{Entries}
 use Rattle.ow_day.specs.Machine.{Machine}
-use Rattle.ow_day.specs.Office.{IsOpenedOver, StoreView, Wrote}
+use Rattle.ow_day.specs.Carried.{IsOpenedOver, Wrote}
 
 -- the statements that stand whole in these bytes, behind which more may follow
 abbrev pub day_so_far : List ℕ → Day
@@ -40,9 +41,5 @@ pub record IsAnswered (t : Table) (rows : Entries) (bytes : List ℕ) (left old 
   pub wrote : Wrote t rows old new (day_so_far read).statements failed last
 
 -- nothing was read of it, or all that was is answered, over a service that was opened over the store
-abbrev pub IsAnsweredOver : Table → StoreView → List ℕ → Option (List ℕ) → Option (List ℕ) → Option (List ℕ) → Type 0
+abbrev pub IsAnsweredOver : Table → Telling → List ℕ → Option (List ℕ) → Option (List ℕ) → Option (List ℕ) → Type 0
 IsAnsweredOver t store bytes left old new = ((left ≡ Some bytes) × (new ≡ old)) ⊎ ((rows : Entries) × (IsOpenedOver store rows × IsAnswered t rows bytes left old new))
-
--- the same over an office table of these rows that has no bad one, where both tell their bytes
-abbrev pub AnswersTable : Option (List ℕ) → StoreView → Option (List ℕ) → Option (List ℕ) → Option (List ℕ) → Option (List ℕ) → Type 0
-AnswersTable rows store day left old new = IfSome rows (λ text. IfOk (table_of text) (λ t. IfSome day (λ bytes. IsAnsweredOver t store bytes left old new)))

@@ -1,9 +1,10 @@
 -- A day that is under way: what was read of it, carried out and written, for private clauses.
 use Rattle.std.specs.Prelude.{◌≡◌, ◌<◌, ◌≤◌, ◌+◌, ◌-◌, ◌*◌, ◌++◌, ◌⊎◌, ℕ, true, false, List, [], Option, Some, None, length, take, if◌then◌else◌}
+use Rattle.ow_traits.specs.Telling.{Telling}
 use Rattle.ow_traits.specs.Streams.{Takes, TakesFront}
 use Rattle.ow_tenant.specs.Table.{Table}
-use Rattle.ow_day.specs.declared.status.Status.{Status}
-use Rattle.ow_day.specs.declared.status.Status.TheVariants as statuses
+use Rattle.ow_words.specs.declared.status.Status.{Status}
+use Rattle.ow_words.specs.declared.status.Status.TheVariants as statuses
 use Rattle.ow_day.specs.declared.session.Step.{Step}
 use Rattle.ow_day.specs.declared.session.Step.TheVariants as steps
 use Rattle.ow_day.specs.declared.run.Run.{Run}
@@ -14,7 +15,7 @@ use Rattle.ow_day.specs.Machine.{CarriesOut, Machine, start}
 use Rattle.ow_day.specs.Session.{IsLater, machine_of}
 use Rattle.ow_day.specs.Limits.{most_bytes, most_piece}
 use Rattle.ow_day.specs.Day.{DayEnd, Finished, Bad, Cut, day_from, day_of, first_statement, has_more, with_statements}
-use Rattle.ow_day.specs.Office.{Tells}
+use Rattle.ow_day.specs.Carried.{Tells}
 use Rattle.ow_day.specs.Reads.{IsAnswered, IsUnfinished, LeavesRest}
 
 -- what is left of a day inside its greatest length, where so much was read
@@ -47,7 +48,7 @@ abbrev pub begin : Opening → Machine
 begin o = start o.tenants o.rows
 
 -- some statements are done, and their lines written or ready: the rest of the day gives the rest of the statements
-pub record IsUnderWay {P : Type 0} (faults : P → ℕ) (o : Opening) (bytes : List ℕ) (before left taken : Option (List ℕ)) (r : Run P) : Type 0 where
+pub record IsUnderWay {P : Type 0} (telling : P → Telling) (o : Opening) (bytes : List ℕ) (before left taken : Option (List ℕ)) (r : Run P) : Type 0 where
   pub rest : List ℕ
   pub done : List Statement
   pub count : ℕ
@@ -60,29 +61,29 @@ pub record IsUnderWay {P : Type 0} (faults : P → ℕ) (o : Opening) (bytes : L
   pub enough : length (r.input.pending ++ in_window r.input.taken rest) < count
   pub took : Takes before taken written
   pub carried : CarriesOut (begin o) done (written ++ r.answers.items) failed (machine_of r.session)
-  pub rose : RoseBy failed o.met (faults r.session.hall.store)
+  pub rose : RoseBy failed o.met (telling r.session.hall.store).faults
   pub whole : day_of bytes ≡ with_statements done (day_from count (has_more bytes) r.number (r.input.pending ++ in_window r.input.taken rest))
 
 -- the day ends here: what was written and what is ready are its lines
-pub record IsAtEnd {P : Type 0} (faults : P → ℕ) (o : Opening) (bytes : List ℕ) (before taken : Option (List ℕ)) (r : Run P) (ending : DayEnd) : Type 0 where
+pub record IsAtEnd {P : Type 0} (telling : P → Telling) (o : Opening) (bytes : List ℕ) (before taken : Option (List ℕ)) (r : Run P) (ending : DayEnd) : Type 0 where
   pub written : List ℕ
   pub failed : ℕ
   pub took : Takes before taken written
   pub carried : CarriesOut (begin o) (day_of bytes).statements (written ++ r.answers.items) failed (machine_of r.session)
-  pub rose : RoseBy failed o.met (faults r.session.hall.store)
+  pub rose : RoseBy failed o.met (telling r.session.hall.store).faults
   pub ends : (day_of bytes).ending ≡ ending
 
-abbrev pub EndsSo : {P : Type 0} → (P → ℕ) → Run P → Run P → DayEnd → Type 0
-EndsSo faults old new ending = (o : Opening) (bytes : List ℕ) (before left taken : Option (List ℕ)) → IsUnderWay faults o bytes before left taken old → IsAtEnd faults o bytes before taken new ending
+abbrev pub EndsSo : {P : Type 0} → (P → Telling) → Run P → Run P → DayEnd → Type 0
+EndsSo telling old new ending = (o : Opening) (bytes : List ℕ) (before left taken : Option (List ℕ)) → IsUnderWay telling o bytes before left taken old → IsAtEnd telling o bytes before taken new ending
 
 -- the first statement was carried out or ends the day, or waits for more bytes
-abbrev pub StepsOn : {P : Type 0} → (P → ℕ) → Run P → Run P → Step → Type 0
-StepsOn faults old new steps.Done =
-    (o : Opening) (bytes : List ℕ) (before left taken : Option (List ℕ)) → IsUnderWay faults o bytes before left taken old → IsUnderWay faults o bytes before left taken new
-StepsOn faults old new steps.End = EndsSo faults old new Finished
-StepsOn faults old new steps.Bad = EndsSo faults old new (Bad new.number)
-StepsOn faults old new steps.Cut = (new ≡ old) × (old.ended ≡ false) × (first_statement true old.input.pending ≡ Cut)
-StepsOn faults old new steps.NoMemory = IsLater faults old.session new.session
+abbrev pub StepsOn : {P : Type 0} → (P → Telling) → Run P → Run P → Step → Type 0
+StepsOn telling old new steps.Done =
+    (o : Opening) (bytes : List ℕ) (before left taken : Option (List ℕ)) → IsUnderWay telling o bytes before left taken old → IsUnderWay telling o bytes before left taken new
+StepsOn telling old new steps.End = EndsSo telling old new Finished
+StepsOn telling old new steps.Bad = EndsSo telling old new (Bad new.number)
+StepsOn telling old new steps.Cut = (new ≡ old) × (old.ended ≡ false) × (first_statement true old.input.pending ≡ Cut)
+StepsOn telling old new steps.NoMemory = IsLater telling old.session new.session
 
 -- the lines were written, or a fault cut them
 abbrev pub ClosesSo : Option (List ℕ) → Option (List ℕ) → List ℕ → Status → Status → Type 0
@@ -95,27 +96,27 @@ Closes old new r steps.Bad result = ClosesSo old new r.answers.items (statuses.B
 Closes old new r step result = (result ≡ statuses.NoMemory) × (new ≡ old)
 
 -- what was written for the day by its status, and how the store's count of faults rose
-pub record IsTold {P : Type 0} (faults : P → ℕ) (o : Opening) (bytes : List ℕ) (before taken : Option (List ℕ)) (r : Run P) (status : Status) : Type 0 where
+pub record IsTold {P : Type 0} (telling : P → Telling) (o : Opening) (bytes : List ℕ) (before taken : Option (List ℕ)) (r : Run P) (status : Status) : Type 0 where
   pub failed : ℕ
   pub tells : Tells o.tenants o.rows before taken status failed (machine_of r.session) (day_of bytes)
-  pub rose : RoseBy failed o.met (faults r.session.hall.store)
+  pub rose : RoseBy failed o.met (telling r.session.hall.store).faults
 
 -- the day ended with this status: what is left of it, too, and that all that was read is answered where it could not be read on
-pub record HasEnded {P : Type 0} (faults : P → ℕ) (o : Opening) (bytes : List ℕ) (before left taken : Option (List ℕ)) (r : Run P) (status : Status) : Type 0 where
-  pub told : IsTold faults o bytes before taken r status
+pub record HasEnded {P : Type 0} (telling : P → Telling) (o : Opening) (bytes : List ℕ) (before left taken : Option (List ℕ)) (r : Run P) (status : Status) : Type 0 where
+  pub told : IsTold telling o bytes before taken r status
   pub leaves : LeavesRest bytes left
   pub answered : status ≡ statuses.ReadFault → IsAnswered o.tenants o.rows bytes left before taken
 
 -- one turn: the day goes on, or ends with this status
-abbrev pub Turns : {P : Type 0} → (P → ℕ) → Option (List ℕ) → Option (List ℕ) → Option (List ℕ) → Option (List ℕ) → Run P → Run P → Option Status → Type 0
-Turns faults left left' taken taken' old new None =
-    (o : Opening) (bytes : List ℕ) (before : Option (List ℕ)) → IsUnderWay faults o bytes before left taken old → IsUnderWay faults o bytes before left' taken' new
-Turns faults left left' taken taken' old new (Some status) =
-    (o : Opening) (bytes : List ℕ) (before : Option (List ℕ)) → IsUnderWay faults o bytes before left taken old → HasEnded faults o bytes before left' taken' new status
+abbrev pub Turns : {P : Type 0} → (P → Telling) → Option (List ℕ) → Option (List ℕ) → Option (List ℕ) → Option (List ℕ) → Run P → Run P → Option Status → Type 0
+Turns telling left left' taken taken' old new None =
+    (o : Opening) (bytes : List ℕ) (before : Option (List ℕ)) → IsUnderWay telling o bytes before left taken old → IsUnderWay telling o bytes before left' taken' new
+Turns telling left left' taken taken' old new (Some status) =
+    (o : Opening) (bytes : List ℕ) (before : Option (List ℕ)) → IsUnderWay telling o bytes before left taken old → HasEnded telling o bytes before left' taken' new status
 
 -- a turn that reads nothing
-abbrev pub WritesOn : {P : Type 0} → (P → ℕ) → Option (List ℕ) → Option (List ℕ) → Run P → Run P → Option Status → Type 0
-WritesOn faults taken taken' old new result = (left : Option (List ℕ)) → Turns faults left left taken taken' old new result
+abbrev pub WritesOn : {P : Type 0} → (P → Telling) → Option (List ℕ) → Option (List ℕ) → Run P → Run P → Option Status → Type 0
+WritesOn telling taken taken' old new result = (left : Option (List ℕ)) → Turns telling left left taken taken' old new result
 
 -- no number can pass its type: each statement has a byte of the day
 pub record IsBounded {P : Type 0} (r : Run P) : Type 0 where

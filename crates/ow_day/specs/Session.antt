@@ -1,10 +1,10 @@
 -- For private clauses: what a statement does to a session.
 use Rattle.std.specs.Prelude.{◌≡◌, ◌≤◌, ◌++◌, ℕ, List, Result, Ok, Err, IfOk, IfSome, IsOk}
+use Rattle.ow_traits.specs.Telling.{Telling}
 use Rattle.ow_value.specs.declared.memory.NoMemory.{NoMemory as Want}
 use Rattle.ow_floor.specs.declared.answers.AnswerRefusal.{AnswerRefusal}
 use Rattle.ow_floor.specs.declared.answers.AnswerRefusal.TheVariants as refusals
 use Rattle.ow_floor.specs.declared.answers.FloorRefusal.{FloorRefusal}
-use Rattle.ow_hall.specs.Comes.{KeptRows}
 use Rattle.ow_hall.specs.Openings.{HasStartCause}
 use Rattle.ow_items.specs.Sorted.{Entries}
 use Rattle.ow_keep.specs.Judged.{judged}
@@ -38,42 +38,42 @@ told_of (Err refusal) = Denied refusal
 -- ---- what comes of a statement
 
 -- this comes of it, and the store's count of faults rose by the times that it failed at it
-abbrev pub GoesTo : {P : Type 0} → (P → ℕ) → Session P → Session P → (ℕ → Done → Machine → Type 0) → Done → Type 0
-GoesTo faults old new Is done = (failed : ℕ) × (Is failed done (machine_of new) × RoseBy failed (faults old.hall.store) (faults new.hall.store))
+abbrev pub GoesTo : {P : Type 0} → (P → Telling) → Session P → Session P → (ℕ → Done → Machine → Type 0) → Done → Type 0
+GoesTo telling old new Is done = (failed : ℕ) × (Is failed done (machine_of new) × RoseBy failed (telling old.hall.store).faults (telling new.hall.store).faults)
 
 -- a session goes on from another: its machine stands behind the other's, and the store's count of faults didn't fall
-pub record IsLater {P : Type 0} (faults : P → ℕ) (old new : Session P) : Type 0 where
+pub record IsLater {P : Type 0} (telling : P → Telling) (old new : Session P) : Type 0 where
   pub behind : IsBehind (machine_of old) (machine_of new)
-  pub count : faults old.hall.store ≤ faults new.hall.store
+  pub count : (telling old.hall.store).faults ≤ (telling new.hall.store).faults
 
 -- without memory it goes on so
-abbrev pub ComesTo : {P : Type 0} → (P → ℕ) → Session P → Session P → (ℕ → Done → Machine → Type 0) → Result Done Want → Type 0
-ComesTo faults old new Is (Ok done) = GoesTo faults old new Is done
-ComesTo faults old new Is (Err e) = IsLater faults old new
+abbrev pub ComesTo : {P : Type 0} → (P → Telling) → Session P → Session P → (ℕ → Done → Machine → Type 0) → Result Done Want → Type 0
+ComesTo telling old new Is (Ok done) = GoesTo telling old new Is done
+ComesTo telling old new Is (Err e) = IsLater telling old new
 
 -- a statement was carried out, and its lines stand behind what was written before
-abbrev pub Performs : {P : Type 0} → (P → ℕ) → Session P → Session P → Statement → List ℕ → List ℕ → Type 0
-Performs faults old new s before now = (done : Done) × (GoesTo faults old new (Does (machine_of old) s) done × (now ≡ before ++ lines_of done))
+abbrev pub Performs : {P : Type 0} → (P → Telling) → Session P → Session P → Statement → List ℕ → List ℕ → Type 0
+Performs telling old new s before now = (done : Done) × (GoesTo telling old new (Does (machine_of old) s) done × (now ≡ before ++ lines_of done))
 
 -- a statement was carried out, or ends the day
-abbrev pub CarriesOut : {P : Type 0} → (P → ℕ) → Session P → Session P → Statement → List ℕ → List ℕ → Step → Type 0
-CarriesOut faults old new s before now steps.Done = (s ≡ End → ⊥) × Performs faults old new s before now
-CarriesOut faults old new s before now steps.End = (s ≡ End) × (now ≡ before) × (new ≡ old)
-CarriesOut faults old new s before now steps.NoMemory = IsLater faults old new
-CarriesOut faults old new s before now other = ⊥
+abbrev pub CarriesOut : {P : Type 0} → (P → Telling) → Session P → Session P → Statement → List ℕ → List ℕ → Step → Type 0
+CarriesOut telling old new s before now steps.Done = (s ≡ End → ⊥) × Performs telling old new s before now
+CarriesOut telling old new s before now steps.End = (s ≡ End) × (now ≡ before) × (new ≡ old)
+CarriesOut telling old new s before now steps.NoMemory = IsLater telling old new
+CarriesOut telling old new s before now other = ⊥
 
 -- ---- openings
 
 -- a session was begun over a store and an office table: over the rows that the store tells, where it does, which are allowed
-pub record Begins {P : Type 0} (rows : P → KeptRows) (faults : P → ℕ) (store : P) (t : Table) (s : Session P) : Type 0 where
+pub record Begins {P : Type 0} (telling : P → Telling) (store : P) (t : Table) (s : Session P) : Type 0 where
   pub loaded : Entries
-  pub told : IfSome (rows store) (λ kept. loaded ≡ kept)
+  pub told : IfSome (telling store).rows (λ kept. loaded ≡ kept)
   pub allowed : IsOk (judged loaded)
   pub machine : machine_of s ≡ start t loaded
-  pub later : faults store ≤ faults s.hall.store
+  pub later : (telling store).faults ≤ (telling s.hall.store).faults
 
 -- why it wasn't, and the store that is handed back
-pub record IsHandedBack {P : Type 0} (rows : P → KeptRows) (faults : P → ℕ) (store : P) (u : Unopened P) : Type 0 where
-  pub cause : HasStartCause rows faults store u.store u.why
-  pub rows_stay : rows u.store ≡ rows store
-  pub later : faults store ≤ faults u.store
+pub record IsHandedBack {P : Type 0} (telling : P → Telling) (store : P) (u : Unopened P) : Type 0 where
+  pub cause : HasStartCause telling store u.store u.why
+  pub rows_stay : (telling u.store).rows ≡ (telling store).rows
+  pub later : (telling store).faults ≤ (telling u.store).faults

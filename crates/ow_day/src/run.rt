@@ -7,7 +7,7 @@ ghost use Rattle.ow_traits.specs.Streams.{HasCause, Rose, Takes, TakesFront};
 ghost use Rattle.ow_traits.specs.Prewarms.{AreWantsSized};
 ghost use Rattle.ow_day.specs.Day.{Cut as CutFirst, first_statement};
 ghost use Rattle.ow_day.specs.Limits.{most_ready};
-ghost use Rattle.ow_day.specs.Office.{IsOpeningFault, IsOverTable, TellsDay, not_opened, store_of};
+ghost use Rattle.ow_day.specs.Carried.{IsOpeningFault, IsOverTable, TellsDay, not_opened};
 ghost use Rattle.ow_day.specs.Reads.{IsAnsweredOver, LeavesRest};
 ghost use Rattle.ow_day.specs.Session.{IsLater};
 ghost use Rattle.ow_day.specs.Run.{Closes, IsBounded, IsOfDay, StepsOn, Turns, WritesOn, work};
@@ -15,10 +15,10 @@ ghost use Rattle.ow_day.specs.Run.{Closes, IsBounded, IsOfDay, StepsOn, Turns, W
 use crate::first::{First, first_statement};
 use crate::input::{FillError, Filled, Input};
 use crate::session::{Session, Step, Unopened};
-use crate::status::Status;
 use ow_hall::StartFault;
 use ow_tenant::Tenants;
 use ow_traits::{Failed, Keeper, Sink, Source, write_all};
+use ow_words::Status;
 use std::alloc::Global;
 
 /// Where so many bytes of answers are ready, they are written.
@@ -57,10 +57,10 @@ impl<P: Keeper + Drop> Run<P> {
     // Carries out the first statement of what waits.
     fn step(&mut self, alloc: Global) -> Step
         requires { IsBounded self.old }
-        ensures steps { StepsOn P.faults self.old self.new result }
+        ensures steps { StepsOn P.telling self.old self.new result }
         ensures bounded { result ≡ Step.Done → IsBounded self.new }
         ensures falls { result ≡ Step.Done → work self.new < work self.old }
-        ensures later { IsLater P.faults self.old.session self.new.session }
+        ensures later { IsLater P.telling self.old.session self.new.session }
     {
         if self.input.len() == 0 {
             return self.without_bytes();
@@ -120,7 +120,7 @@ impl<P: Keeper + Drop> Run<P> {
         requires bounded { IsBounded self.old }
         requires unended { self.old.ended ≡ false }
         requires cut { first_statement true self.old.input.pending ≡ CutFirst }
-        ensures told { Turns P.faults (S.left day.old) (S.left day.new) (O.taken out.old) (O.taken out.new) self.old self.new result }
+        ensures told { Turns P.telling (S.left day.old) (S.left day.new) (O.taken out.old) (O.taken out.new) self.old self.new result }
         ensures bounded { IfNone result (IsBounded self.new) }
         ensures falls { IfNone result (work self.new < work self.old) }
         ensures ready { IfNone result (length self.new.answers.items < most_ready) }
@@ -149,7 +149,7 @@ impl<P: Keeper + Drop> Run<P> {
     // Writes the answers, where enough of them are ready.
     fn write_ready<O: Sink>(&mut self, out: &mut O) -> Option<Status>
         requires { IsBounded self.old }
-        ensures told { WritesOn P.faults (O.taken out.old) (O.taken out.new) self.old self.new result }
+        ensures told { WritesOn P.telling (O.taken out.old) (O.taken out.new) self.old self.new result }
         ensures bounded { IsBounded self.new }
         ensures work { work self.new ≡ work self.old }
         ensures ready { IfNone result (length self.new.answers.items < most_ready) }
@@ -175,12 +175,12 @@ impl<P: Keeper + Drop> Run<P> {
         out: &mut O,
     ) -> Option<Status>
         requires { IsBounded self.old }
-        ensures told { Turns P.faults (S.left day.old) (S.left day.new) (O.taken out.old) (O.taken out.new) self.old self.new result }
+        ensures told { Turns P.telling (S.left day.old) (S.left day.new) (O.taken out.old) (O.taken out.new) self.old self.new result }
         ensures bounded { IfNone result (IsBounded self.new) }
         ensures falls { IfNone result (work self.new < work self.old) }
         ensures ready { IfNone result (length self.new.answers.items < most_ready) }
         ensures own { IfSome result IsOfDay }
-        ensures later { IsLater P.faults self.old.session self.new.session }
+        ensures later { IsLater P.telling self.old.session self.new.session }
         ensures read { result ≡ Some Status.ReadFault → Rose (S.faults day.old) (S.faults day.new) }
         ensures write { result ≡ Some Status.WriteFault → Rose (O.faults out.old) (O.faults out.new) }
         ensures day_later { S.faults day.old ≤ S.faults day.new }
@@ -197,7 +197,7 @@ impl<P: Keeper + Drop> Run<P> {
     fn finish(self) -> P
         ensures store { result ≡ self.session.hall.store }
         ensures legal { IsLegal self.session.hall.tenants self.session.hall.ledger.entries }
-        ensures kept { HoldsBook (P.rows self.session.hall.store) self.session.hall.tenants self.session.hall.ledger }
+        ensures kept { HoldsBook (P.telling self.session.hall.store).rows self.session.hall.tenants self.session.hall.ledger }
     {
         let Run { session, .. } = self;
         session.finish()
@@ -214,9 +214,9 @@ pub fn run_day<S: Source, O: Sink, P: Keeper + Drop>(
     out: &mut O,
 ) -> (Status, P)
     requires { AreWantsSized tenants.wants }
-    ensures told { TellsDay tenants (store_of P.rows P.faults store) (store_of P.rows P.faults result.1) (S.left day.old) (O.taken out.old) (O.taken out.new) result.0 }
+    ensures told { TellsDay tenants (P.telling store) (P.telling result.1) (S.left day.old) (O.taken out.old) (O.taken out.new) result.0 }
     ensures reads { IfSome (S.left day.old) (λ bytes. LeavesRest bytes (S.left day.new)) }
-    ensures answered { result.0 ≡ Status.ReadFault → IfSome (S.left day.old) (λ bytes. IsAnsweredOver tenants (store_of P.rows P.faults store) bytes (S.left day.new) (O.taken out.old) (O.taken out.new)) }
+    ensures answered { result.0 ≡ Status.ReadFault → IfSome (S.left day.old) (λ bytes. IsAnsweredOver tenants (P.telling store) bytes (S.left day.new) (O.taken out.old) (O.taken out.new)) }
     ensures own { IsOverTable result.0 }
     ensures read { result.0 ≡ Status.ReadFault → Rose (S.faults day.old) (S.faults day.new) }
     ensures write { result.0 ≡ Status.WriteFault → Rose (O.faults out.old) (O.faults out.new) }

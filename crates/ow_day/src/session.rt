@@ -69,8 +69,8 @@ impl<P: Keeper + Drop> Session<P> {
     /// A service that was just opened over a store and an office table, at moment 0.
     pub fn new(alloc: Global, tenants: Tenants, store: P) -> Result<Self, Unopened<P>>
         requires { AreWantsSized tenants.wants }
-        ensures begins { IfOk result (λ s. Begins P.rows P.faults store tenants s) }
-        ensures unopened { IfErr result (λ u. IsHandedBack P.rows P.faults store u) }
+        ensures begins { IfOk result (λ s. Begins P.telling store tenants s) }
+        ensures unopened { IfErr result (λ u. IsHandedBack P.telling store u) }
     {
         let Ok((routes, shelf)) = tools(alloc) else {
             return Err(Unopened {
@@ -95,7 +95,7 @@ impl<P: Keeper + Drop> Session<P> {
     pub fn finish(self) -> P
         ensures store { result ≡ self.hall.store }
         ensures legal { IsLegal self.hall.tenants self.hall.ledger.entries }
-        ensures kept { HoldsBook (P.rows self.hall.store) self.hall.tenants self.hall.ledger }
+        ensures kept { HoldsBook (P.telling self.hall.store).rows self.hall.tenants self.hall.ledger }
     {
         let Session { hall, .. } = self;
         let (store, _) = hall.finish();
@@ -104,7 +104,7 @@ impl<P: Keeper + Drop> Session<P> {
 
     /// Carries out a statement, unless it ends the day, and puts its lines behind the answers.
     pub fn carry_out(&mut self, alloc: Global, said: Statement<'_>, answers: &mut Vec<u8>) -> Step
-        ensures { CarriesOut P.faults self.old self.new (statement said.entry) answers.old.items answers.new.items result }
+        ensures { CarriesOut P.telling self.old self.new (statement said.entry) answers.old.items answers.new.items result }
     {
         if let Statement::End = said {
             return Step::End;
@@ -122,7 +122,7 @@ impl<P: Keeper + Drop> Session<P> {
 
     // What comes of a statement.
     fn perform(&mut self, alloc: Global, said: Statement<'_>) -> Result<Done, NoMemory>
-        ensures { ComesTo P.faults self.old self.new (Does (machine_of self.old) (statement said.entry)) result }
+        ensures { ComesTo P.telling self.old self.new (Does (machine_of self.old) (statement said.entry)) result }
     {
         match said {
             Statement::At(moment) => Ok(self.set_moment(moment)),
@@ -149,14 +149,14 @@ impl<P: Keeper + Drop> Session<P> {
     }
 
     fn set_moment(&mut self, moment: u64) -> Done
-        ensures { GoesTo P.faults self.old self.new (Does (machine_of self.old) (At moment)) result }
+        ensures { GoesTo P.telling self.old self.new (Does (machine_of self.old) (At moment)) result }
     {
         self.given = moment;
         Done::Silent
     }
 
     fn call(&mut self, alloc: Global, name: &str, text: &str) -> Result<Done, NoMemory>
-        ensures { ComesTo P.faults self.old self.new (Does (machine_of self.old) (Call name.now text.now)) result }
+        ensures { ComesTo P.telling self.old self.new (Does (machine_of self.old) (Call name.now text.now)) result }
     {
         let full = self.hall.book().is_full(0);
         let words = call_words(alloc, &mut self.scratch, full, name, text)?;
@@ -164,7 +164,7 @@ impl<P: Keeper + Drop> Session<P> {
     }
 
     fn call_with(&mut self, alloc: Global, words: CallWords) -> Result<Done, NoMemory>
-        ensures { ComesTo P.faults self.old self.new (Calls (machine_of self.old) words) result }
+        ensures { ComesTo P.telling self.old self.new (Calls (machine_of self.old) words) result }
     {
         match words {
             CallWords::Refused(reason) => Ok(Done::Refused(reason)),
@@ -173,14 +173,14 @@ impl<P: Keeper + Drop> Session<P> {
     }
 
     fn invoke(&mut self, alloc: Global, name: &FullName, params: Params) -> Result<Done, NoMemory>
-        ensures { ComesTo P.faults self.old self.new (Meets (machine_of self.old) (events.Called name.now params)) result }
+        ensures { ComesTo P.telling self.old self.new (Meets (machine_of self.old) (events.Called name.now params)) result }
     {
         let called = self.hall.call(alloc, self.given, name, params)?;
         Ok(Done::Called(called))
     }
 
     fn ask(&mut self, alloc: Global, bytes: &[u8]) -> Result<Done, NoMemory>
-        ensures { ComesTo P.faults self.old self.new (Does (machine_of self.old) (Ask bytes.now)) result }
+        ensures { ComesTo P.telling self.old self.new (Does (machine_of self.old) (Ask bytes.now)) result }
     {
         match read(alloc, &self.routes, bytes)? {
             Ok(request) => self.request(alloc, &request),
@@ -189,21 +189,21 @@ impl<P: Keeper + Drop> Session<P> {
     }
 
     fn request(&mut self, alloc: Global, request: &Request) -> Result<Done, NoMemory>
-        ensures { ComesTo P.faults self.old self.new (Meets (machine_of self.old) (events.Asked request.now)) result }
+        ensures { ComesTo P.telling self.old self.new (Meets (machine_of self.old) (events.Asked request.now)) result }
     {
         let reply = self.hall.ask(alloc, self.given, request)?;
         Ok(Done::Asked(reply))
     }
 
     fn next(&mut self, alloc: Global) -> Result<Done, NoMemory>
-        ensures { ComesTo P.faults self.old self.new (Meets (machine_of self.old) events.Next) result }
+        ensures { ComesTo P.telling self.old self.new (Meets (machine_of self.old) events.Next) result }
     {
         let order = self.hall.next(alloc, self.given)?;
         Ok(Done::Ordered(order))
     }
 
     fn answer(&mut self, alloc: Global, run: u64, text: &str) -> Result<Done, NoMemory>
-        ensures { ComesTo P.faults self.old self.new (Does (machine_of self.old) (Answer run text.now)) result }
+        ensures { ComesTo P.telling self.old self.new (Does (machine_of self.old) (Answer run text.now)) result }
     {
         let text = Str::of(alloc, text)?;
         let logs = Lines::new();
@@ -218,7 +218,7 @@ impl<P: Keeper + Drop> Session<P> {
         count: u64,
         logs: &[u8],
     ) -> Result<Done, NoMemory>
-        ensures { ComesTo P.faults self.old self.new (Does (machine_of self.old) (Logged run text.now (lines_of count logs.now))) result }
+        ensures { ComesTo P.telling self.old self.new (Does (machine_of self.old) (Logged run text.now (lines_of count logs.now))) result }
     {
         let text = Str::of(alloc, text)?;
         let logs = lines_of(alloc, count, logs)?;
@@ -226,21 +226,21 @@ impl<P: Keeper + Drop> Session<P> {
     }
 
     fn exit(&mut self, alloc: Global, run: u64, code: u8) -> Result<Done, NoMemory>
-        ensures { ComesTo P.faults self.old self.new (Does (machine_of self.old) (Exit run code)) result }
+        ensures { ComesTo P.telling self.old self.new (Does (machine_of self.old) (Exit run code)) result }
     {
         let ended = exited(code);
         self.reply(alloc, run, ended)
     }
 
     fn no_start(&mut self, alloc: Global, run: u64, text: &str) -> Result<Done, NoMemory>
-        ensures { ComesTo P.faults self.old self.new (Does (machine_of self.old) (NoStart run text.now)) result }
+        ensures { ComesTo P.telling self.old self.new (Does (machine_of self.old) (NoStart run text.now)) result }
     {
         let text = Str::of(alloc, text)?;
         self.reply(alloc, run, RunReply::NoStart { text })
     }
 
     fn reply(&mut self, alloc: Global, run: u64, reply: RunReply) -> Result<Done, NoMemory>
-        ensures { ComesTo P.faults self.old self.new (Meets (machine_of self.old) (events.Answered run reply)) result }
+        ensures { ComesTo P.telling self.old self.new (Meets (machine_of self.old) (events.Answered run reply)) result }
     {
         match self.hall.answered(alloc, self.given, run, reply) {
             Ok(answered) => Ok(Done::Answered(answered)),
@@ -249,25 +249,25 @@ impl<P: Keeper + Drop> Session<P> {
     }
 
     fn begun(&mut self, run: u64) -> Done
-        ensures { GoesTo P.faults self.old self.new (Meets (machine_of self.old) (events.Begun run)) result }
+        ensures { GoesTo P.telling self.old self.new (Meets (machine_of self.old) (events.Begun run)) result }
     {
         told_of(self.hall.begun(self.given, run))
     }
 
     fn lost(&mut self, run: u64) -> Done
-        ensures { GoesTo P.faults self.old self.new (Meets (machine_of self.old) (events.Lost run)) result }
+        ensures { GoesTo P.telling self.old self.new (Meets (machine_of self.old) (events.Lost run)) result }
     {
         told_of(self.hall.lost(self.given, run))
     }
 
     fn gone(&mut self, slot: u32, generation: u32) -> Done
-        ensures { GoesTo P.faults self.old self.new (Meets (machine_of self.old) (events.Gone slot generation)) result }
+        ensures { GoesTo P.telling self.old self.new (Meets (machine_of self.old) (events.Gone slot generation)) result }
     {
         told_of(self.hall.gone(self.given, slot, generation))
     }
 
     fn sweep(&mut self, alloc: Global) -> Result<Done, NoMemory>
-        ensures { ComesTo P.faults self.old self.new (Meets (machine_of self.old) events.Sweep) result }
+        ensures { ComesTo P.telling self.old self.new (Meets (machine_of self.old) events.Sweep) result }
     {
         match self.hall.sweep(alloc, self.given) {
             Ok(swept) => Ok(Done::Swept(swept)),
@@ -277,14 +277,14 @@ impl<P: Keeper + Drop> Session<P> {
     }
 
     fn collect(&mut self, alloc: Global, id: Id) -> Result<Done, NoMemory>
-        ensures { ComesTo P.faults self.old self.new (Meets (machine_of self.old) (events.Collected id)) result }
+        ensures { ComesTo P.telling self.old self.new (Meets (machine_of self.old) (events.Collected id)) result }
     {
         let collected = self.hall.collect(alloc, self.given, &id)?;
         Ok(Done::Collected(collected))
     }
 
     fn turn(&mut self, alloc: Global) -> Result<Done, NoMemory>
-        ensures { ComesTo P.faults self.old self.new (Does (machine_of self.old) Turn) result }
+        ensures { ComesTo P.telling self.old self.new (Does (machine_of self.old) Turn) result }
     {
         let turned = day_turn(
             alloc,
@@ -297,14 +297,14 @@ impl<P: Keeper + Drop> Session<P> {
     }
 
     fn drain(&mut self, alloc: Global) -> Result<Done, NoMemory>
-        ensures { ComesTo P.faults self.old self.new (Meets (machine_of self.old) events.Drain) result }
+        ensures { ComesTo P.telling self.old self.new (Meets (machine_of self.old) events.Drain) result }
     {
         let drain = self.hall.drain(alloc, self.given)?;
         Ok(Done::Drained(drain))
     }
 
     fn reopen(&mut self, alloc: Global) -> Result<Done, NoMemory>
-        ensures { ComesTo P.faults self.old self.new (Meets (machine_of self.old) events.Reopened) result }
+        ensures { ComesTo P.telling self.old self.new (Meets (machine_of self.old) events.Reopened) result }
     {
         match self.hall.reopen_in_place(alloc, self.given) {
             Ok(happened) => Ok(Done::Reopened(happened)),

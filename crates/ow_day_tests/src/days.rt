@@ -1,6 +1,7 @@
 // Days and words, with what the office answers and writes for them.
-use ow_day::{Status, office};
+use ow_office::office;
 use ow_traits::{MemoryKeeper, MemorySink, MemorySource};
+use ow_words::Status;
 use std::alloc::Global;
 use std::test::Fail;
 

@@ -1,9 +1,9 @@
 // How the office ends for words, tables, days and faults.
 use crate::days::{Given, OVER_TABLE, TABLE, Told, office_over};
-use ow_day::{HELP, Status};
+use ow_office::HELP;
 use ow_tenant::Tenants;
 use ow_value::Str;
-use ow_words::ServeWords;
+use ow_words::{ServeWords, Status};
 use std::alloc::{AllocError, Global};
 use std::test::Fail;
 

@@ -1,6 +1,6 @@
 // Days over stores: what one leaves stands in the next, and what comes of a store that fails.
 use crate::days::{held, source_of, words_of};
-use ow_day::office;
+use ow_office::office;
 use ow_traits::{MemoryKeeper, MemorySink, MemorySource, Rows};
 use ow_value::Str;
 use std::alloc::Global;

@@ -76,7 +76,7 @@ done_carries d t change commit at b S told same committed commits =
     by_case (codes.Refused reason) told commits = record { told = told; changes = refl; waits = refl; invoked = refl; commit = (refl, tt) }
     by_case (codes.Shown value) told commits = record { told = told; changes = refl; waits = refl; invoked = refl; commit = (refl, tt) }
     by_case (codes.Changed ready shown commit) told commits =
-        record { told = told; changes = refl; waits = refl; invoked = refl; commit = record { changes = commits.changes ∙ sym (one_change ready); stands = commits.stands } }
+        record { told = told; changes = refl; waits = refl; invoked = refl; commit = (refl, record { changes = commits.changes ∙ sym (one_change ready); stands = commits.stands }) }
 
 -- what is committed of what is planned, at the moment that is seen
 pub plan_committed : (p : Planned) (b : KeepingView) (S : Sight) (at : ℕ) → S.moment ≡ at → CommitsPlan p b S

@@ -22,7 +22,7 @@ use Rattle.ow_decide.specs.declared.events.Told.{Told}
 use Rattle.ow_decide.specs.declared.events.Told.TheVariants as told
 use Rattle.ow_decide.specs.declared.step.Now.{Now}
 use Rattle.ow_decide.specs.declared.waits.Waits.TheVariants.{Clear}
-use Rattle.ow_decide.proofs.AcceptLaws.{later_abandon, later_answered, later_next, later_swept}
+use Rattle.ow_decide.proofs.ChainLaws.{are_later, of_abandon, of_answered, of_next, of_swept}
 use Rattle.ow_decide.proofs.NotedLaws.{later_invoked}
 
 -- what is told, where items are added that accept nothing
@@ -36,24 +36,25 @@ at_moment old new items t rs k b now grows S seen = subst (λ (at : ℕ). Stands
 
 -- what is taken by the floor's words is told, and happens
 pub taken_makes : (t : Table) (rs : List Row) (k : CountsView) (b : KeepingView) (old new : Shown) (now : Now) (answer : Trace → Result (Unit {0}) FloorRefusal) (items : ℕ → Trace → Trace)
-    (taken : Result (Unit {0}) FloorRefusal) → ((at : ℕ) (T : Trace) → AreLater (items at T)) → ((T : Trace) → Stands old T → taken ≡ answer T) → Grows old new (items now.at)
+    (taken : Result (Unit {0}) FloorRefusal) → ((S : Sight) → AreLater (items S.moment S.trace)) → ((T : Trace) → Stands old T → taken ≡ answer T) → Grows old new (items now.at)
     → (S : Sight) → IsSeen S t rs k b old now
     → Carries (telling (taken_told taken)) (adds (taken_told (answer S.trace)) (items S.moment S.trace)) b S × Stands new (items S.moment S.trace ++ S.trace)
 taken_makes t rs k b old new now answer items taken later is grows S seen =
-    (adds_carried _ _ (items S.moment S.trace) b S (ap taken_told (is S.trace seen.stands)) (later S.moment S.trace), at_moment old new items t rs k b now grows S seen)
+    (adds_carried _ _ (items S.moment S.trace) b S (ap taken_told (is S.trace seen.stands)) (later S), at_moment old new items t rs k b now grows S seen)
 
 -- what is to be run next is told, and ordered
 pub next_makes : (t : Table) (rs : List Row) (k : CountsView) (b : KeepingView) (old new : Shown) (now : Now) (order : Order)
     → ((T : Trace) → Stands old T → order ≡ next_order T) → Grows old new (λ T. next_items now.at T) → (S : Sight) → IsSeen S t rs k b old now
     → Carries (telling (told.Next order)) (adds (told.Next (next_order S.trace)) (next_items S.moment S.trace)) b S × Stands new (next_items S.moment S.trace ++ S.trace)
 next_makes t rs k b old new now order is grows S seen =
-    (adds_carried _ _ (next_items S.moment S.trace) b S (ap told.Next (is S.trace seen.stands)) (later_next S.moment S.trace), at_moment old new (λ at T. next_items at T) t rs k b now grows S seen)
+    (adds_carried _ _ (next_items S.moment S.trace) b S (ap told.Next (is S.trace seen.stands)) (are_later S (next_items S.moment S.trace) (of_next S)), at_moment old new (λ at T. next_items at T) t rs k b now grows S seen)
 
 -- what is told where all that is open is abandoned
 pub reopened_carried : (h : List Happening) (at : ℕ) (b : KeepingView) (S : Sight) → h ≡ happened (abandoned_ends at S.trace)
     → Carries (record { told = told.Reopened h; change = None; waits = Clear; invoked = None; commit = None }) (reopened_decision at S.trace) b S
 reopened_carried h at b S is =
-    record { told = ap told.Reopened is; changes = refl; waits = refl; invoked = sym (later_invoked (abandon_items at S.trace) (later_abandon at S.trace)); commit = (refl, later_abandon at S.trace) }
+    let later = are_later (record S { moment = at }) (abandon_items at S.trace) (of_abandon (record S { moment = at })) in
+    record { told = ap told.Reopened is; changes = refl; waits = refl; invoked = sym (later_invoked (abandon_items at S.trace) later); commit = (refl, later) }
 
 pub reopened_makes : (t : Table) (rs : List Row) (k : CountsView) (b : KeepingView) (old new : Shown) (now : Now) (h : List Happening)
     → ((T : Trace) → Stands old T → h ≡ happened (abandoned_ends now.at T)) → Grows old new (λ T. abandon_items now.at T) → (S : Sight) → IsSeen S t rs k b old now
@@ -73,7 +74,7 @@ pub answered_makes : (t : Table) (rs : List Row) (k : CountsView) (b : KeepingVi
 answered_makes t rs k b old new now run reply o is grows S seen = (
   adds_carried _ _ (answered_items S.moment run reply S.trace) b S
       (subst (λ (at : ℕ). reply_told run reply o ≡ reply_told run reply (answer_to at run reply S.trace)) (sym seen.moment) (ap (reply_told run reply) (is S.trace seen.stands)))
-      (later_answered S.moment run reply S.trace),
+      (are_later S (answered_items S.moment run reply S.trace) (of_answered S run reply)),
   at_moment old new (λ at T. answered_items at run reply T) t rs k b now grows S seen,
 )
 
@@ -88,6 +89,6 @@ pub swept_makes : (t : Table) (rs : List Row) (k : CountsView) (b : KeepingView)
 swept_makes t rs k b old new now s is grows S seen = (
   adds_carried _ _ (swept_items S.moment S.trace) b S
       (subst (λ (at : ℕ). told.Swept s ≡ told.Swept (swept_told at S.trace)) (sym seen.moment) (ap told.Swept (swept_same s _ _ (is S.trace seen.stands).0 (is S.trace seen.stands).1)))
-      (later_swept S.moment S.trace),
+      (are_later S (swept_items S.moment S.trace) (of_swept S)),
   at_moment old new (λ at T. swept_items at T) t rs k b now grows S seen,
 )

@@ -5,16 +5,16 @@ use Rattle.ow_http.specs.Parts.{Parts}
 use Rattle.ow_http.specs.Steps.{◌>>=◌}
 use Rattle.ow_http.specs.declared.reason.Reason.{Reason}
 use Rattle.ow_tenant.specs.declared.entries.Holder.{Holder}
-use Rattle.ow_decide.specs.declared.acts.Act.{Act}
-use Rattle.ow_decide.specs.declared.acts.Act.TheVariants.{Reads}
-use Rattle.ow_decide.specs.declared.acts.Reading.{Reading}
-use Rattle.ow_decide.specs.Asking.{Done, ReadsChangeNothing, act_done, act_of, ask_decision, shown_done}
-use Rattle.ow_decide.specs.Reading.{read_done}
-use Rattle.ow_decide.specs.Reasons.{no_route}
-use Rattle.ow_decide.specs.Sight.{Sight, room_for}
-use Rattle.ow_decide.specs.Steps.{or_else}
-use Rattle.ow_decide.specs.Tenants.{asker}
-use Rattle.ow_decide.specs.View.{view_of}
+use Rattle.ow_reads.specs.declared.acts.Act.{Act}
+use Rattle.ow_reads.specs.declared.acts.Act.TheVariants.{Reads}
+use Rattle.ow_reads.specs.declared.acts.Reading.{Reading}
+use Rattle.ow_decide.specs.Asking.{Done, ReadsChangeNothing, act_done, ask_decision, shown_done}
+use Rattle.ow_reads.specs.Acts.{act_of}
+use Rattle.ow_reads.specs.Reading.{read_done}
+use Rattle.ow_reads.specs.Reasons.{no_route}
+use Rattle.ow_decide.specs.Sight.{Sight, room_for, view_of}
+use Rattle.ow_reads.specs.Steps.{or_else}
+use Rattle.ow_reads.specs.Tenants.{asker}
 
 -- what comes of a request leaves all as it was
 abbrev Leaves : ℕ → Result Done Reason → Type 0

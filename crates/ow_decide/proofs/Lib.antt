@@ -3,15 +3,11 @@ pub mod Results
 pub mod OpenLaws
 pub mod SoundLaws
 pub mod AcceptLaws
+pub mod ChainLaws
 pub mod NotedLaws
 pub mod LimitLaws
 pub mod KeptLaws
-mod Filters
-mod SeenLaws
-mod BehindLaws
-mod ReadLaws
 mod OnceLaws
-mod RecordLaws
 mod ViewLaws
 mod WaitLaws
 mod FloorLaws
@@ -19,5 +15,4 @@ mod CallLaws
 mod PlanLaws
 mod PutLaws
 mod LeaveLaws
-pub mod NamedLaws
 pub mod RowLaws

@@ -1,12 +1,13 @@
 -- What is noted of what is decided, and how it stands to what was noted before.
-use Rattle.std.proofs.Common.{◌≡◌, ◌+◌, ◌≤◌, ◌<◌, ◌++◌, ℕ, Bool, true, false, cond, List, [], ◌∷◌, Option, Some, None, append_assoc, refl, sym, ap, ◌∙◌, arith, subst}
+use Rattle.std.proofs.Common.{◌≡◌, ◌⊎◌, Result, Ok, Err, inl, inr, ◌+◌, ◌≤◌, ◌<◌, ◌++◌, ℕ, Bool, true, false, cond, List, [], ◌∷◌, Option, Some, None, append_assoc, refl, sym, ap, ◌∙◌, arith, subst}
 use Rattle.std.specs.Prelude.{count_by, is_none}
 use Rattle.std.specs.List.{AllByRecursion}
 use Rattle.std.proofs.lemmas.List.{append-nil}
 use Rattle.ow_records.specs.declared.activations.Activation.{Activation}
 use Rattle.ow_records.specs.declared.record.Record.{Record}
-use Rattle.ow_floor.specs.Trace.{Accepted, Begun, Ended, Gone, Item, Lost, Trace, accepted, accepted_after, record_of, records, records_after}
-use Rattle.ow_floor.specs.Calls.{activation_of, begins, goes, items_if, loses}
+use Rattle.ow_floor.specs.Trace.{Accepted, Begun, Ended, Gone, Item, Lost, Trace, accepted, record_of, records, records_after}
+use Rattle.ow_floor.specs.Calls.{abandon_items, accept_items, answered_items, begins, begun_items, goes, gone_items, items_if, loses, lost_items, next_items, swept_items}
+use Rattle.ow_floor.specs.declared.activations.Plan.{Plan}
 use Rattle.ow_floor.specs.Laws.{IsSound}
 use Rattle.ow_tenant.specs.Notes.{Note, Notes, ended, invoked, is_ended, is_invoked}
 use Rattle.ow_tenant.specs.Queue.{with_one}
@@ -17,10 +18,18 @@ use Rattle.ow_decide.specs.declared.events.Event.{Event}
 use Rattle.ow_decide.specs.declared.events.Event.TheVariants as events
 use Rattle.ow_decide.specs.Sight.{Sight}
 use Rattle.ow_decide.specs.Noted.{MayAllEnd, invoked_by, invoked_in, noted_end, noted_ends, noted_invoked}
-use Rattle.ow_decide.specs.Decisions.{decide, wants_memory}
+use Rattle.ow_decide.specs.Asking.{Changed, Done, Invoked, Shown, ask_decision, request_done}
+use Rattle.ow_decide.specs.Calling.{call_decision, call_plan}
+use Rattle.ow_decide.specs.Chain.{AreSteps, IsStep}
+use Rattle.ow_decide.specs.Decisions.{decide, is_opening, wants_memory}
+use Rattle.ow_decide.specs.Opening.{opened_decision, parts_taken}
+use Rattle.ow_http.specs.Request.{parts_of}
+use Rattle.ow_http.specs.declared.reason.Reason.{Reason}
+use Rattle.ow_keep.specs.Judged.{judged}
+use Rattle.ow_keep.specs.Split.{Parts}
 use Rattle.ow_kept.specs.Keeping.{AreLater, IsLater}
-use Rattle.ow_decide.proofs.AcceptLaws.{by_decision}
-use Rattle.ow_decide.proofs.SeenLaws.{same_bytes}
+use Rattle.ow_decide.proofs.ChainLaws.{are_later, by_decision, of_abandon, of_answered, of_begun, of_gone, of_lost, of_next, of_swept}
+use Rattle.ow_reads.proofs.SeenLaws.{same_bytes}
 use Rattle.ow_decide.proofs.SoundLaws.{decided_sound}
 
 -- ---- records
@@ -43,13 +52,12 @@ ends_push (x ∷ rs) r ns = ends_push rs r (noted_end x ns)
 -- an item that is no acceptance
 record IsPlain (item : Item) : Type 0 where
   invoked : invoked_by item ≡ None
-  accepted : (xs : List Activation) → accepted_after item xs ≡ xs
   notes : (rs : List Record) (ns : Notes) → noted_after item (noted_ends rs ns) ≡ noted_ends (records_after item rs) ns
 
 is_plain : (item : Item) → IsLater item → IsPlain item
 is_plain (Accepted a) later = absurd later
-is_plain (Ended e) later = record { invoked = refl; accepted = λ xs. refl; notes = λ rs ns. sym (ends_push rs (record_of e) ns) }
-is_plain item later = record { invoked = refl; accepted = λ xs. refl; notes = λ rs ns. refl }
+is_plain (Ended e) later = record { invoked = refl; notes = λ rs ns. sym (ends_push rs (record_of e) ns) }
+is_plain item later = record { invoked = refl; notes = λ rs ns. refl }
 
 pub later_invoked : (items : Trace) → AreLater items → invoked_in items ≡ None
 later_invoked [] later = refl
@@ -59,11 +67,35 @@ later_noted : (items T : Trace) → AreLater items → notes_of (items ++ T) ≡
 later_noted [] T later = refl
 later_noted (item ∷ items) T later = ap (noted_after item) (later_noted items T later.1) ∙ (is_plain item later.0).notes (records items) (notes_of T)
 
-pub later_accepted : (items T : Trace) → AreLater items → accepted (items ++ T) ≡ accepted T
-later_accepted [] T later = refl
-later_accepted (item ∷ items) T later = (is_plain item later.0).accepted (accepted (items ++ T)) ∙ later_accepted items T later.1
-
 -- ---- what is noted
+
+-- what is accepted is accepted alone
+abbrev IsAlone : ℕ → Trace → Type 0
+IsAlone at items = AreLater items ⊎ ((plan : Plan) × (items ≡ accept_items at plan))
+
+asked_alone : (at : ℕ) (d : Result Done Reason) → IsAlone at (ask_decision at d).items
+asked_alone at (Ok (Shown value)) = inl tt
+asked_alone at (Ok (Changed change value)) = inl tt
+asked_alone at (Ok (Invoked plan shows)) = inr (plan, refl)
+asked_alone at (Err reason) = inl tt
+
+called_alone : (S : Sight) (p : Result Plan Reason) → IsAlone S.moment (call_decision S p).items
+called_alone S (Ok plan) = inr (plan, refl)
+called_alone S (Err reason) = inl tt
+
+decided_alone : (S : Sight) (event : Event) → is_opening event ≡ false → IsAlone S.moment (decide S event).items
+decided_alone S (events.Opened rows) other = cc
+decided_alone S (events.Asked r) other = asked_alone S.moment (request_done S (parts_of r))
+decided_alone S (events.Called name params) other = called_alone S (call_plan S name params)
+decided_alone S events.Next other = inl (are_later S (next_items S.moment S.trace) (of_next S))
+decided_alone S (events.Answered run reply) other = inl (are_later S (answered_items S.moment run reply S.trace) (of_answered S run reply))
+decided_alone S (events.Begun run) other = inl (are_later S (begun_items S.moment run S.trace) (of_begun S run))
+decided_alone S (events.Lost run) other = inl (are_later S (lost_items S.moment run S.trace) (of_lost S run))
+decided_alone S (events.Gone slot generation) other = inl (are_later S (gone_items S.moment slot generation S.trace) (of_gone S slot generation))
+decided_alone S events.Sweep other = inl (are_later S (swept_items S.moment S.trace) (of_swept S))
+decided_alone S (events.Collected id) other = inl tt
+decided_alone S events.Drain other = inl (tt, tt)
+decided_alone S events.Reopened other = inl (are_later S (abandon_items S.moment S.trace) (of_abandon S))
 
 abbrev AreNoted : ℕ → Trace → Trace → Type 0
 AreNoted at T items = notes_of (items ++ T) ≡ noted_ends (records items) (noted_invoked (invoked_in items) at (notes_of T))
@@ -75,10 +107,18 @@ one_noted : (b : Bool) (n : List ℕ) (at : ℕ) (ns : Notes) → noted_if b (in
 one_noted true n at ns = refl
 one_noted false n at ns = refl
 
+alone_noted : (at : ℕ) (T items : Trace) → IsAlone at items → AreNoted at T items
+alone_noted at T items (inl later) = later_notes at T items later
+alone_noted at T items (inr one) = subst (AreNoted at T) (sym one.1) (one_noted (is_none one.0.cause) one.0.namespace at (notes_of T))
+
+opened_noted : (at : ℕ) (T : Trace) (parts : Option Parts) → AreNoted at T (opened_decision at parts).items
+opened_noted at T None = refl
+opened_noted at T (Some parts) = refl
+
 -- the invocation is noted, or the ends are, the first one first
 pub decided_noted : (S : Sight) (event : Event) → notes_of ((decide S event).items ++ S.trace) ≡ noted_ends (records (decide S event).items) (noted_invoked (invoked_in (decide S event).items) S.moment (notes_of S.trace))
-decided_noted S event =
-    by_decision S (AreNoted S.moment S.trace) (later_notes S.moment S.trace) (λ plan ok. one_noted (is_none plan.cause) plan.namespace S.moment (notes_of S.trace)) (λ counts rs. refl) event
+decided_noted S (events.Opened rows) = opened_noted S.moment S.trace (parts_taken S.moment S.trace (judged rows))
+decided_noted S event = alone_noted S.moment S.trace (decide S event).items (decided_alone S event refl)
 
 if_quiet : (b : Bool) (item : Item) (T : Trace) → notes_of (item ∷ T) ≡ notes_of T → notes_of (items_if b item ++ T) ≡ notes_of T
 if_quiet true item T same = same
@@ -158,12 +198,14 @@ all_push : (P : Activation → Type 0) (a : Activation) (xs : List Activation) �
 all_push P a [] all here = (here, tt)
 all_push P a (x ∷ xs) all here = (all.0, all_push P a xs all.1 here)
 
-up_to_now : (now : ℕ) (a : Activation) (T : Trace) → a.at ≤ now → AreUpTo now T → AreUpTo now (Accepted a ∷ T)
-up_to_now now a T here up = all_push (λ x. x.at ≤ now) a (accepted T) up here
+up_to_step : (S : Sight) (item : Item) (T : Trace) → IsStep S item T → AreUpTo S.moment T → AreUpTo S.moment (item ∷ T)
+up_to_step S (Accepted a) T step up = let now : a.at ≡ S.moment = step.at in all_push (λ x. x.at ≤ S.moment) a (accepted T) up (omega (arith, now))
+up_to_step S item T step up = up
+
+steps_up_to : (S : Sight) (items : Trace) → AreSteps S items → AreUpTo S.moment S.trace → AreUpTo S.moment (items ++ S.trace)
+steps_up_to S [] steps up = up
+steps_up_to S (item ∷ items) steps up = up_to_step S item (items ++ S.trace) steps.0 (steps_up_to S items steps.1 up)
 
 -- nothing is accepted behind the moment
 pub decided_up_to : (S : Sight) (event : Event) → AreUpTo S.moment S.trace → AreUpTo S.moment ((decide S event).items ++ S.trace)
-decided_up_to S event up =
-    by_decision S (λ (items : Trace). AreUpTo S.moment (items ++ S.trace))
-    (λ items later. subst (λ (xs : List Activation). AllByRecursion (λ a. a.at ≤ S.moment) xs) (sym (later_accepted items S.trace later)) up)
-    (λ plan ok. up_to_now S.moment (activation_of S.moment plan) S.trace (omega arith) up) (λ counts rs. up) event
+decided_up_to S event up = by_decision S (λ (items : Trace). AreUpTo S.moment (items ++ S.trace)) (λ items steps. steps_up_to S items steps up) (λ counts rs. up) event

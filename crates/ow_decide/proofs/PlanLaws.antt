@@ -17,7 +17,7 @@ use Rattle.ow_decide.specs.Calling.{admitted_plan, merged_plan, next_id, plan_fo
 use Rattle.ow_decide.specs.Making.{admits}
 use Rattle.ow_decide.specs.Reasons.{draining, store_full}
 use Rattle.ow_decide.specs.Sight.{Sight, is_store_full, within_limits}
-use Rattle.ow_decide.specs.Steps.{unless}
+use Rattle.ow_reads.specs.Steps.{unless}
 
 then_then : {X Y Z : Type 0} (r : Result X Reason) (f : X → Result Y Reason) (g : Y → Result Z Reason) → ((r >>= f) >>= g) ≡ (r >>= (λ (x : X). f x >>= g))
 then_then (Ok x) f g = refl

@@ -11,9 +11,9 @@ use Rattle.ow_tables.specs.Rows.{with_row}
 use Rattle.ow_traits.specs.Changes.{changed}
 use Rattle.ow_decide.specs.Asking.{Changed, Done, put_of, row_done}
 use Rattle.ow_decide.specs.Reasons.{store_full}
-use Rattle.ow_decide.specs.Shown.{shown_row}
+use Rattle.ow_reads.specs.Shown.{shown_row}
 use Rattle.ow_decide.specs.Sight.{Sight, is_store_full}
-use Rattle.ow_decide.specs.Steps.{unless}
+use Rattle.ow_reads.specs.Steps.{unless}
 
 -- what is done of a row, by what is known of the room of the store
 abbrev by_room : Sight → Change → Bool → Result Done Reason

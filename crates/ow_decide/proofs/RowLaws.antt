@@ -18,17 +18,17 @@ use Rattle.ow_kept.specs.Commits.{row_changes}
 use Rattle.ow_tables.specs.Refusal.{old_row, put_refusal, remove_refusal}
 use Rattle.ow_tables.specs.Rows.{changed, with_row, without}
 use Rattle.ow_tenant.specs.declared.entries.Holder.{Holder}
-use Rattle.ow_decide.specs.Asking.{Changed, Done, Invoked, Shown, act_done, act_for, ask_decision, change_done, grant_for, granted_call, or_table_reason, put_done, put_of, request_done, row_for, row_of, shown_done, unless_refused}
+use Rattle.ow_decide.specs.Asking.{Changed, Done, Invoked, Shown, act_done, act_for, ask_decision, change_done, or_table_reason, put_done, put_of, request_done, row_for, row_of, shown_done, unless_refused}
+use Rattle.ow_reads.specs.Acts.{grant_for, granted_call}
 use Rattle.ow_decide.specs.Calling.{charged_namespace, invocation_plan}
 use Rattle.ow_decide.specs.Decision.{all_changed}
-use Rattle.ow_decide.specs.Reading.{name_in, or_call_reason, read_done}
-use Rattle.ow_decide.specs.Reasons.{no_route}
-use Rattle.ow_decide.specs.Sight.{Sight, room_for, store_room}
-use Rattle.ow_decide.specs.Steps.{or_else}
-use Rattle.ow_decide.specs.Tenants.{asker}
-use Rattle.ow_decide.specs.View.{view_of}
-use Rattle.ow_decide.specs.declared.acts.Act.{Act}
-use Rattle.ow_decide.specs.declared.acts.Act.TheVariants.{Invokes, Puts, Reads, Removes}
+use Rattle.ow_reads.specs.Reading.{name_in, or_call_reason, read_done}
+use Rattle.ow_reads.specs.Reasons.{no_route}
+use Rattle.ow_decide.specs.Sight.{Sight, room_for, store_room, view_of}
+use Rattle.ow_reads.specs.Steps.{or_else}
+use Rattle.ow_reads.specs.Tenants.{asker}
+use Rattle.ow_reads.specs.declared.acts.Act.{Act}
+use Rattle.ow_reads.specs.declared.acts.Act.TheVariants.{Invokes, Puts, Reads, Removes}
 use Rattle.ow_decide.proofs.Results.{then_from, then_ok}
 
 called_good : (G : Call → Type 0) (r : Result Call CallRefusal) → IfOk r G → IfOk (or_call_reason r) G

@@ -11,20 +11,22 @@ use Rattle.ow_http.specs.declared.call.Call.{Call}
 use Rattle.ow_http.specs.declared.call_refusal.CallRefusal.{CallRefusal}
 use Rattle.ow_http.specs.declared.reason.Reason.{Reason}
 use Rattle.ow_http.specs.declared.route.Part.{Part}
-use Rattle.ow_decide.specs.declared.acts.Act.{Act}
-use Rattle.ow_decide.specs.declared.acts.Act.TheVariants.{Reads}
-use Rattle.ow_decide.specs.declared.acts.Reading.{Reading}
-use Rattle.ow_decide.specs.declared.acts.Reading.TheVariants.{Namespaces, Rows, Row as OneRow, Activations, Activation}
-use Rattle.ow_decide.specs.Asking.{act_done, act_of, ask_decision, at_once, request_done, shown_done}
-use Rattle.ow_decide.specs.Reading.{answer_of, id_of, is_opened, name_in, or_call_reason, part_value, read_answer, read_call, read_done, read_grant, read_kind, read_namespace, read_value, recorded, row_read}
-use Rattle.ow_decide.specs.Shown.{shown_row}
-use Rattle.ow_decide.specs.Reasons.{book_full, no_route, not_found, not_granted, tells_full, unknown_key}
+use Rattle.ow_reads.specs.declared.acts.Act.{Act}
+use Rattle.ow_reads.specs.declared.acts.Act.TheVariants.{Reads}
+use Rattle.ow_reads.specs.declared.acts.Reading.{Reading}
+use Rattle.ow_reads.specs.declared.acts.Reading.TheVariants.{Namespaces, Rows, Row as OneRow, Activations, Activation}
+use Rattle.ow_decide.specs.Asking.{act_done, ask_decision, at_once, request_done, shown_done}
+use Rattle.ow_reads.specs.Acts.{act_of}
+use Rattle.ow_reads.specs.Reading.{answer_of, id_of, is_opened, name_in, or_call_reason, part_value, read_answer, read_call, read_done, read_grant, read_kind, read_namespace, read_value, recorded, row_read}
+use Rattle.ow_reads.specs.Shown.{shown_row}
+use Rattle.ow_decide.specs.Reasons.{book_full, tells_full}
+use Rattle.ow_reads.specs.Reasons.{no_route, not_found, not_granted, unknown_key}
 use Rattle.ow_tenant.specs.Tenants.{holder_of}
 use Rattle.ow_tenant.specs.declared.entries.Holder.{Holder}
-use Rattle.ow_decide.specs.Sight.{Sight, is_full, room_for}
-use Rattle.ow_decide.specs.Steps.{or_else, unless}
-use Rattle.ow_decide.specs.Tenants.{asker}
-use Rattle.ow_decide.specs.View.{View, may_read, view_of}
+use Rattle.ow_decide.specs.Sight.{Sight, is_full, room_for, view_of}
+use Rattle.ow_reads.specs.Steps.{or_else, unless}
+use Rattle.ow_reads.specs.Tenants.{asker}
+use Rattle.ow_reads.specs.View.{View, may_read}
 
 -- it isn't that the book is full
 abbrev IsOther : Reason → Type 0

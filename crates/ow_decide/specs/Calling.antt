@@ -30,9 +30,10 @@ use Rattle.ow_tenant.specs.Tenants.{number_of, rights_in}
 use Rattle.ow_tenant.specs.declared.entries.Holder.{Holder}
 use Rattle.ow_tenant.specs.declared.rights.Right.TheVariants.{Invoke}
 use Rattle.ow_decide.specs.declared.call_steps.Callee.{Callee}
-use Rattle.ow_decide.specs.Tenants.{office}
-use Rattle.ow_decide.specs.Steps.{or_else}
-use Rattle.ow_decide.specs.Reasons.{not_found, too_large}
+use Rattle.ow_reads.specs.Tenants.{office}
+use Rattle.ow_reads.specs.Steps.{or_else}
+use Rattle.ow_reads.specs.Reasons.{not_found}
+use Rattle.ow_decide.specs.Reasons.{too_large}
 use Rattle.ow_decide.specs.Sight.{Sight, room_for, store_room, takes_calls, within_limits}
 use Rattle.ow_decide.specs.Decision.{Decision, adds, tells}
 

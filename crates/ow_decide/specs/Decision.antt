@@ -1,11 +1,11 @@
 -- What is done at an event: what is told, which items are added on the floor, how the rows change, and who waits then.
-use Rattle.std.specs.Prelude.{◌++◌, List, [], ◌∷◌, map}
+use Rattle.std.specs.Prelude.{◌++◌, List, [], ◌∷◌}
 use Rattle.std.specs.List.{flat_map}
 use Rattle.ow_entity.specs.declared.rows.Row.{Row}
 use Rattle.ow_records.specs.Unrecorded.{unrecorded_of}
 use Rattle.ow_traits.specs.declared.change_list.Change.{Change as StoreChange}
-use Rattle.ow_floor.specs.Trace.{Trace, accepted}
-use Rattle.ow_kept.specs.Commits.{accept_changes, commits_of, row_changes}
+use Rattle.ow_floor.specs.Trace.{Accepted, Ended, Item, Trace, record_of}
+use Rattle.ow_kept.specs.Commits.{accept_changes, end_changes, row_changes}
 use Rattle.ow_tables.specs.Contents.{Change}
 use Rattle.ow_tables.specs.Rows.{changed}
 use Rattle.ow_decide.specs.declared.events.Told.{Told}
@@ -34,10 +34,17 @@ all_changed (c ∷ cs) rs = all_changed cs (changed c rs)
 
 -- ---- what is committed to the store
 
--- what it changes of what is kept: what is accepted, the rows, and what ends
-abbrev pub commits : Decision → List StoreChange
-commits d = commits_of d.items d.changes
+-- what an item changes of what is kept
+abbrev pub item_changes : Item → List StoreChange
+item_changes (Accepted a) = accept_changes (unrecorded_of a)
+item_changes (Ended e) = end_changes (record_of e)
+item_changes item = []
 
--- the same but for what ends
-abbrev pub commits_but_ends : Decision → List StoreChange
-commits_but_ends d = flat_map accept_changes (map unrecorded_of (accepted d.items)) ++ flat_map row_changes d.changes
+-- what items change of it, the earliest first
+abbrev pub items_changes : Trace → List StoreChange
+items_changes [] = []
+items_changes (item ∷ items) = items_changes items ++ item_changes item
+
+-- what a decision changes of it: the rows, and then what its items change
+abbrev pub commits : Decision → List StoreChange
+commits d = flat_map row_changes d.changes ++ items_changes d.items

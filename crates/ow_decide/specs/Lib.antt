@@ -1,14 +1,9 @@
-pub mod Tenants
-pub mod Shown
 pub mod Sight
-pub mod Steps
 pub mod Reasons
-pub mod View
-pub mod Reading
-pub mod Named
 pub mod Calling
 pub mod Waiting
 pub mod Decision
+pub mod Chain
 pub mod Noted
 pub mod Asking
 pub mod Opening

@@ -24,16 +24,17 @@ use Rattle.ow_decide.specs.declared.events.Told.{Told}
 use Rattle.ow_decide.specs.declared.step.Now.{Now}
 use Rattle.ow_decide.specs.declared.step.Step.{Step}
 use Rattle.ow_tenant.specs.Table.{Table}
-use Rattle.ow_floor.specs.Trace.{Trace}
+use Rattle.ow_floor.specs.Trace.{Trace, records}
 use Rattle.ow_counts.specs.View.{AreUpTo, CountsView, StandsFor, notes_of}
 use Rattle.ow_decide.specs.declared.waits.Wait.{Wait}
 use Rattle.ow_decide.specs.declared.waits.Waits.TheVariants.{Keep}
 use Rattle.ow_decide.specs.Asking as asking
 use Rattle.ow_http.specs.Steps.{◌>>=◌}
+use Rattle.ow_http.specs.Steps.{◌>>=◌}
 use Rattle.ow_decide.specs.Reasons.{store_full}
-use Rattle.ow_decide.specs.Steps.{unless}
+use Rattle.ow_reads.specs.Steps.{unless}
 use Rattle.ow_decide.specs.Sight.{Sight, is_store_full, within_limits}
-use Rattle.ow_decide.specs.Decision.{Decision, all_changed, commits_but_ends}
+use Rattle.ow_decide.specs.Decision.{Decision, all_changed, commits}
 use Rattle.ow_decide.specs.Noted.{invoked_in}
 
 -- ---- what comes of a request, of the code
@@ -127,10 +128,11 @@ pub record IsSeen (S : Sight) (t : Table) (rs : List Row) (k : CountsView) (b : 
   pub counted : S.counted ≡ now.counted
   pub moment : S.moment ≡ now.at
 
--- what is to be committed of what is decided, but for what ends: where there is no commit, no row is changed, and no activation accepted
+-- what is to be committed of what is decided, but for what ends: where there is no commit, no row is changed, and no activation accepted;
+-- where there is one, nothing ends
 abbrev pub IsCommit : Option CommitView → Decision → KeepingView → Sight → Type 0
 IsCommit None d b S = (d.changes ≡ []) × AreLater d.items
-IsCommit (Some commit) d b S = IsCommitOf commit (commits_but_ends d) b (all_changed d.changes S.rows) (d.items ++ S.trace)
+IsCommit (Some commit) d b S = (records d.items ≡ []) × IsCommitOf commit (commits d) b (all_changed d.changes S.rows) (d.items ++ S.trace)
 
 -- something is told, and nothing else is made ready
 abbrev pub telling : Told → Step

@@ -8,26 +8,14 @@ use Rattle.ow_tenant.specs.declared.refusal.WindowRefusal.TheVariants as windows
 use Rattle.ow_counts.specs.declared.refusal.LimitRefusal.{LimitRefusal}
 use Rattle.ow_counts.specs.declared.refusal.LimitRefusal.TheVariants as limits
 use Rattle.ow_http.specs.declared.call_refusal.CallRefusal.TheVariants as calls
-use Rattle.ow_http.specs.declared.http_refusal.HttpRefusal.TheVariants as https
 use Rattle.ow_http.specs.declared.reason.Reason.{Reason}
-use Rattle.ow_http.specs.declared.reason.Reason.TheVariants.{Http, Call, Service}
+use Rattle.ow_http.specs.declared.reason.Reason.TheVariants.{Call, Service}
 use Rattle.ow_http.specs.declared.service_refusal.ServiceRefusal.TheVariants as services
+use Rattle.ow_reads.specs.Reasons.{not_found}
 
 -- the parameters of a call have too many bytes
 abbrev pub too_large : Reason
 too_large = Call (calls.BadEntity TooLarge)
-
--- there is no such entity
-abbrev pub not_found : Reason
-not_found = Service services.NotFound
-
--- the namespace isn't granted
-abbrev pub not_granted : Reason
-not_granted = Service services.NotGranted
-
--- the table doesn't have the key
-abbrev pub unknown_key : Reason
-unknown_key = Service services.UnknownKey
 
 -- the floor drains
 abbrev pub draining : Reason
@@ -40,10 +28,6 @@ store_full = Service services.KeptFull
 -- the book is full
 abbrev pub book_full : Reason
 book_full = Service services.BookFull
-
--- there is no such route
-abbrev pub no_route : Reason
-no_route = Http https.NoRoute
 
 -- that the book is full
 abbrev pub tells_full : Reason → Bool

@@ -3,17 +3,19 @@ use Rattle.std.specs.Prelude.{◌+◌, ℕ, Bool, nat_lt, List, Result, Ok, Err}
 use Rattle.ow_entity.specs.declared.rows.Row.{Row}
 use Rattle.ow_traits.specs.Changes.{changed}
 use Rattle.ow_traits.specs.declared.change_list.Change.{Change}
-use Rattle.ow_floor.specs.Trace.{Trace, is_draining}
+use Rattle.ow_floor.specs.Trace.{Trace, all_records, is_draining}
 use Rattle.ow_items.specs.Bytes.{bytes_of}
 use Rattle.ow_kept.specs.Kept.{kept}
 use Rattle.ow_http.specs.declared.reason.Reason.{Reason}
+use Rattle.ow_reads.specs.View.{View, view_over}
 use Rattle.ow_tenant.specs.Table.{Table}
 use Rattle.ow_tenant.specs.Tenants.{limits_of}
+use Rattle.ow_tenant.specs.declared.entries.Holder.{Holder}
 use Rattle.ow_counts.specs.Counts.{admitted}
 use Rattle.ow_counts.specs.declared.refusal.LimitRefusal.{LimitRefusal}
 use Rattle.ow_decide.specs.declared.waits.Wait.{Wait}
 use Rattle.ow_decide.specs.Reasons.{book_full, draining, limit_reason, store_full}
-use Rattle.ow_decide.specs.Steps.{unless}
+use Rattle.ow_reads.specs.Steps.{unless}
 
 -- the office table, the rows, what happened on the floor, who waits for an end, how many bytes the book counts, and the moment
 pub record Sight : Type 0 where
@@ -51,3 +53,7 @@ or_limit (Err e) = Err (limit_reason e)
 -- the limits allow one more invocation that is charged to a namespace
 abbrev pub within_limits : Sight → List ℕ → Result (Unit {0}) Reason
 within_limits S namespace = or_limit (admitted S.trace namespace (limits_of namespace S.tenants) S.moment)
+
+-- what the holder of a key sees of the rows, and of the records of what happened
+abbrev pub view_of : Sight → Holder → View
+view_of S h = view_over S.rows (all_records S.trace) h

@@ -10,7 +10,6 @@ ghost use Rattle.ow_decide.specs.Sight.{Sight, within_limits};
 ghost use Rattle.ow_decide.specs.Making.{admits};
 ghost use Rattle.ow_decide.specs.Making.{AreCounted, Carries, CommitsPlan, IsSeen, Makes, plan_in};
 
-use crate::askers::office;
 use crate::commits::{accepting, is_store_full};
 use crate::done::charged;
 use crate::events::Told;
@@ -26,6 +25,7 @@ use ow_http::{CallRefusal, Reason, ServiceRefusal};
 use ow_kept::{Commit, Keeping};
 use ow_names::{EntityName, FullName};
 use ow_packages::{Effective, PackageRefusal, check_override, effective};
+use ow_reads::office;
 use ow_records::Id;
 use ow_tables::Tables;
 use ow_tenant::{Holder, Right, Tenants};

@@ -5,7 +5,7 @@ ghost use Rattle.ow_floor.specs.Calls.{accept_items};
 ghost use Rattle.ow_floor.specs.Laws.{Grows};
 ghost use Rattle.ow_floor.specs.View.{last_of};
 ghost use Rattle.ow_decide.specs.Asking.{Invoked, ask_decision, refusal_told};
-ghost use Rattle.ow_decide.specs.Reading.{good};
+ghost use Rattle.ow_reads.specs.Reading.{good};
 ghost use Rattle.ow_kept.specs.Keeping.{KeepingView};
 ghost use Rattle.ow_decide.specs.Sight.{Sight};
 ghost use Rattle.ow_decide.specs.Making.{Carries, CommitsDone, CommitsPlan, change_of, commit_of, done_of};

@@ -9,6 +9,7 @@ ghost use Rattle.ow_tenant.specs.Tenants.{limits_of};
 ghost use Rattle.ow_counts.specs.View.{AreUpTo, notes_of};
 ghost use Rattle.ow_counts.specs.Within.{AreWithin};
 ghost use Rattle.ow_decide.specs.Asking.{IsOfView, ReadsChangeNothing};
+ghost use Rattle.ow_decide.specs.Chain.{AreSteps};
 ghost use Rattle.ow_decide.specs.Decision.{all_changed, commits};
 ghost use Rattle.ow_decide.specs.Decisions.{decide, is_opening, wants_memory};
 ghost use Rattle.ow_decide.specs.Noted.{MayAllEnd, invoked_in, noted_ends, noted_invoked};
@@ -23,6 +24,11 @@ pub fn reads_are_answered_of_the_view()
 /// A read changes nothing that anybody may see: the rows and what happened stay as they were.
 pub fn reads_change_nothing()
     ensures { ReadsChangeNothing }
+{}
+
+/// What is decided is a chain of items, but for an opening: each is of the moment, and may be decided and happen after those before it.
+pub fn decisions_are_chains()
+    ensures { (S : Sight) (event : Event) → is_opening event ≡ false → AreSteps S (decide S event).items }
 {}
 
 /// Behind what is decided at an event a sound trace is sound.

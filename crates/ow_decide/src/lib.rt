@@ -1,30 +1,27 @@
 #![tactic(auto)]
 
 //! What is done at each event: by what is seen of the office table, the rows and the floor, and by what comes.
-mod acts;
 mod ask_steps;
-mod askers;
 mod call_steps;
 mod collect_steps;
 mod commits;
 mod done;
 mod events;
 mod floor_steps;
-mod grants;
 mod laws;
-mod reads;
+mod read_steps;
 mod reasons;
 mod replies;
 mod room;
-mod shown;
 mod step;
 mod waits;
 
 pub use events::{Event, Told};
 pub use floor_steps::{take, taken_told};
 pub use laws::{
-    decisions_commit_what_is_kept, decisions_keep_limits, decisions_keep_traces_sound,
-    notes_follow_decisions, reads_are_answered_of_the_view, reads_change_nothing,
+    decisions_are_chains, decisions_commit_what_is_kept, decisions_keep_limits,
+    decisions_keep_traces_sound, notes_follow_decisions, reads_are_answered_of_the_view,
+    reads_change_nothing,
 };
 pub use reasons::tells_full;
 pub use replies::{Called, HallCollected, Reply};

@@ -31,7 +31,7 @@ impl<P: Keeper + Drop> Receipts<P> {
         at: u64,
         request: &Request,
     ) -> Result<Reply, NoMemory>
-        ensures received { (o : Outcome) × Replies result o × IsReceived P.rows P.faults desk.old desk.new at (events.Asked request.now) o self.old.notes self.new.notes }
+        ensures received { (o : Outcome) × Replies result o × IsReceived P.telling desk.old desk.new at (events.Asked request.now) o self.old.notes self.new.notes }
         ensures called { (o : Outcome) × Replies result o × WasCalled at (events.Asked request.now) o self.old.notes self.new.notes }
     {
         let failed = desk.hall.store_reply(alloc)?;
@@ -59,7 +59,7 @@ impl<P: Keeper + Drop> Receipts<P> {
         at: u64,
         id: &Id,
     ) -> Result<HallCollected, NoMemory>
-        ensures received { IsReceived P.rows P.faults desk.old desk.new at (events.Collected id.now) (collect_outcome result) self.old.notes self.new.notes }
+        ensures received { IsReceived P.telling desk.old desk.new at (events.Collected id.now) (collect_outcome result) self.old.notes self.new.notes }
         ensures called { WasCalled at (events.Collected id.now) (collect_outcome result) self.old.notes self.new.notes }
     {
         match self.perform(alloc, desk, at, Event::Collected(*id)) {
@@ -73,7 +73,7 @@ impl<P: Keeper + Drop> Receipts<P> {
 
     /// What is to be done next, as `Hall::next` answers it. Slots and generations are those that a board of 512 slots takes.
     pub fn next(&mut self, alloc: Global, desk: &mut Desk<P>, at: u64) -> Result<Order, NoMemory>
-        ensures received { IsReceived P.rows P.faults desk.old desk.new at events.Next (next_outcome result) self.old.notes self.new.notes }
+        ensures received { IsReceived P.telling desk.old desk.new at events.Next (next_outcome result) self.old.notes self.new.notes }
         ensures called { WasCalled at events.Next (next_outcome result) self.old.notes self.new.notes }
         ensures fits { IfOk result Fits }
         ensures room { self.old.room ≤ self.new.room + 1 }
@@ -90,7 +90,7 @@ impl<P: Keeper + Drop> Receipts<P> {
     /// The container of the run is up, as `Hall::begun` takes it. This takes no memory.
     pub fn begun(&mut self, desk: &mut Desk<P>, at: u64, run: u64) -> Result<(), FloorRefusal>
         requires { 1 ≤ self.old.room }
-        ensures received { IsReceived P.rows P.faults desk.old desk.new at (events.Begun run) (done_outcome result) self.old.notes self.new.notes }
+        ensures received { IsReceived P.telling desk.old desk.new at (events.Begun run) (done_outcome result) self.old.notes self.new.notes }
         ensures called { WasCalled at (events.Begun run) (done_outcome result) self.old.notes self.new.notes }
         ensures room { self.old.room ≤ self.new.room + 1 }
     {
@@ -103,7 +103,7 @@ impl<P: Keeper + Drop> Receipts<P> {
     /// The run is lost, as `Hall::lost` takes it. This takes no memory.
     pub fn lost(&mut self, desk: &mut Desk<P>, at: u64, run: u64) -> Result<(), FloorRefusal>
         requires { 1 ≤ self.old.room }
-        ensures received { IsReceived P.rows P.faults desk.old desk.new at (events.Lost run) (done_outcome result) self.old.notes self.new.notes }
+        ensures received { IsReceived P.telling desk.old desk.new at (events.Lost run) (done_outcome result) self.old.notes self.new.notes }
         ensures called { WasCalled at (events.Lost run) (done_outcome result) self.old.notes self.new.notes }
         ensures room { self.old.room ≤ self.new.room + 1 }
     {
@@ -122,7 +122,7 @@ impl<P: Keeper + Drop> Receipts<P> {
         generation: u32,
     ) -> Result<(), FloorRefusal>
         requires { 1 ≤ self.old.room }
-        ensures received { IsReceived P.rows P.faults desk.old desk.new at (events.Gone slot generation) (done_outcome result) self.old.notes self.new.notes }
+        ensures received { IsReceived P.telling desk.old desk.new at (events.Gone slot generation) (done_outcome result) self.old.notes self.new.notes }
         ensures called { WasCalled at (events.Gone slot generation) (done_outcome result) self.old.notes self.new.notes }
         ensures room { self.old.room ≤ self.new.room + 1 }
     {
@@ -141,7 +141,7 @@ impl<P: Keeper + Drop> Receipts<P> {
         run: u64,
         reply: RunReply,
     ) -> Result<Answered, AnswerRefusal>
-        ensures received { IsReceived P.rows P.faults desk.old desk.new at (events.Answered run reply) (reply_outcome result) self.old.notes self.new.notes }
+        ensures received { IsReceived P.telling desk.old desk.new at (events.Answered run reply) (reply_outcome result) self.old.notes self.new.notes }
         ensures called { WasCalled at (events.Answered run reply) (reply_outcome result) self.old.notes self.new.notes }
         ensures back { IfErr result (λ refusal. HandsBack run reply refusal) }
         ensures room { self.old.room ≤ self.new.room + 1 }
@@ -159,7 +159,7 @@ impl<P: Keeper + Drop> Receipts<P> {
         desk: &mut Desk<P>,
         at: u64,
     ) -> Result<Swept, SweepRefusal>
-        ensures received { IsReceived P.rows P.faults desk.old desk.new at events.Sweep (swept_outcome result) self.old.notes self.new.notes }
+        ensures received { IsReceived P.telling desk.old desk.new at events.Sweep (swept_outcome result) self.old.notes self.new.notes }
         ensures called { WasCalled at events.Sweep (swept_outcome result) self.old.notes self.new.notes }
     {
         match self.perform(alloc, desk, at, Event::Sweep) {
@@ -178,7 +178,7 @@ impl<P: Keeper + Drop> Receipts<P> {
 
     /// Takes no more invocations from now on, as `Hall::drain` does.
     pub fn drain(&mut self, alloc: Global, desk: &mut Desk<P>, at: u64) -> Result<Drain, NoMemory>
-        ensures received { IsReceived P.rows P.faults desk.old desk.new at events.Drain (drain_outcome result) self.old.notes self.new.notes }
+        ensures received { IsReceived P.telling desk.old desk.new at events.Drain (drain_outcome result) self.old.notes self.new.notes }
         ensures called { WasCalled at events.Drain (drain_outcome result) self.old.notes self.new.notes }
     {
         match self.perform(alloc, desk, at, Event::Drain) {

@@ -38,7 +38,7 @@ impl<P: Keeper + Drop> Model for Desk<P> {
 
     ghost view = { λ d. record { hall = d.hall; since = d.since; before = d.before } };
 
-    ghost invariant = { λ d. IsWithinFaults (P.faults d.hall.store) d.since d.hall.ledger.stored d.before × IsPoolSized d.hall.tenants.pool };
+    ghost invariant = { λ d. IsWithinFaults (P.telling d.hall.store).faults d.since d.hall.ledger.stored d.before × IsPoolSized d.hall.tenants.pool };
 }
 
 impl<P: Keeper + Drop> Desk<P> {
@@ -46,7 +46,7 @@ impl<P: Keeper + Drop> Desk<P> {
     pub fn of(hall: Hall<P>) -> (Desk<P>, Issuer<P>)
         requires { IsPoolSized hall.tenants.pool }
         ensures hall { result.0.hall ≡ hall }
-        ensures since { result.0.since ≡ P.faults hall.store }
+        ensures since { result.0.since ≡ (P.telling hall.store).faults }
         ensures before { result.0.before ≡ hall.ledger.stored }
     {
         let since = hall.faults();
@@ -69,8 +69,8 @@ impl<P: Keeper + Drop> Desk<P> {
         ensures activations { KeepsEach self.now.hall.tenants self.now.hall.ledger.entries }
         ensures limits { KeepsLimits self.now.hall.tenants self.now.hall.ledger.entries }
         ensures slots { StandInSlots (seen self.now.hall.tenants self.now.hall.ledger.entries).trace }
-        ensures kept { HoldsBook (P.rows self.now.hall.store) self.now.hall.tenants self.now.hall.ledger }
-        ensures stored { IsWithinFaults (P.faults self.now.hall.store) self.now.since self.now.hall.ledger.stored self.now.before }
+        ensures kept { HoldsBook (P.telling self.now.hall.store).rows self.now.hall.tenants self.now.hall.ledger }
+        ensures stored { IsWithinFaults (P.telling self.now.hall.store).faults self.now.since self.now.hall.ledger.stored self.now.before }
     {
         self.hall.book();
         &self.hall

@@ -31,7 +31,7 @@ impl<P: Keeper + Drop> Receipts<P> {
     ) -> Result<Told, Undone>
         requires later { is_opening event ≡ false }
         requires memory { wants_memory event ≡ true }
-        ensures received { IsReceived P.rows P.faults desk.old desk.new at event (outcome result) self.old.notes self.new.notes }
+        ensures received { IsReceived P.telling desk.old desk.new at event (outcome result) self.old.notes self.new.notes }
         ensures back { IfErr result (λ undone. undone.event ≡ event) }
         ensures pool { OnOk result (IsPoolSized desk.old.hall.tenants.pool) }
         ensures room { self.old.room ≤ self.new.room + 1 }

@@ -1,35 +1,37 @@
 -- What is committed makes what is kept of the book.
-use Rattle.std.proofs.Common.{◌≡◌, ◌≢◌, ◌∙◌, ◌≤◌, ◌⊎◌, ◌++◌, ◌==◌, ℕ, length, Bool, true, false, List, [], ◌∷◌, map, is_some, IfSome, Option, Some, None, refl, sym, ap, subst, append-nil, arith, ⊎_elim}
+use Rattle.std.proofs.Common.{◌≡◌, ◌≢◌, ◌∙◌, ◌≤◌, ◌++◌, ◌==◌, ℕ, length, Bool, true, false, List, [], ◌∷◌, is_some, IfSome, Option, Some, None, refl, sym, ap, subst, append-nil, arith, ◌⊎◌, map, inl, inr, ⊎_elim, Result, Ok, Err}
 use Rattle.std.specs.List.{flat_map}
+use Rattle.ow_traits.specs.Telling.{Telling, with_attempt}
+use Rattle.ow_traits.specs.Keeper.{Commits, KeepsCause, attempt_of}
+use Rattle.ow_traits.specs.declared.keepers.KeeperError.{KeeperError}
 use Rattle.ow_entity.specs.declared.rows.Row.{Row}
 use Rattle.ow_records.specs.declared.record.Record.{Record}
-use Rattle.ow_records.specs.Unrecorded.{unrecorded_of}
 use Rattle.ow_traits.specs.declared.change_list.Change.{Change as StoreChange}
 use Rattle.ow_pool.specs.declared.answers.Place.{Place}
 use Rattle.ow_pool.specs.declared.answers.Place.TheVariants as places
 use Rattle.ow_records.specs.declared.ids.Id.{Id}
 use Rattle.ow_floor.specs.View.{Shown, head}
 use Rattle.ow_floor.specs.declared.activations.Open.{Open}
-use Rattle.ow_floor.specs.Calls.{accept_items, begins, goes, items_if, loses, order_items, place_on}
+use Rattle.ow_floor.specs.Calls.{begins, goes, items_if, loses, order_items, place_on}
 use Rattle.ow_floor.specs.Growth.{AreRight}
 use Rattle.ow_floor.specs.Laws.{IsSound}
-use Rattle.ow_floor.specs.Trace.{Begun, Gone, Item, Lost, Resumed, Trace, accepted, records, resumed, shown}
-use Rattle.ow_floor.specs.declared.activations.Plan.{Plan}
+use Rattle.ow_floor.specs.Trace.{Accepted, Begun, Ended, Gone, Item, Lost, Resumed, Trace, record_of, records, resumed, shown}
 use Rattle.ow_tables.specs.Contents.{Change}
-use Rattle.ow_kept.specs.Commits.{accept_changes, commits_of, end_changes, row_changes}
+use Rattle.ow_kept.specs.Commits.{end_changes, row_changes}
 use Rattle.ow_kept.specs.Keeping.{AreLater, CommitView, IsLater, KeepingView, StandsAfter, StandsForKept, keeping_after, with_opened, without_ended}
-use Rattle.ow_kept.proofs.Quiet.{later_accepted, quiet_stands, stands_same}
+use Rattle.ow_kept.proofs.Quiet.{quiet_stands, stands_same}
 use Rattle.ow_decide.specs.declared.events.Event.{Event}
 use Rattle.ow_decide.specs.declared.events.Event.TheVariants as events
-use Rattle.ow_decide.specs.Decision.{Decision, all_changed, commits}
+use Rattle.ow_decide.specs.Chain.{AreSteps, IsStep}
+use Rattle.ow_decide.specs.Decision.{Decision, all_changed, commits, item_changes, items_changes}
 use Rattle.ow_decide.specs.Decisions.{decide, is_opening, wants_memory}
 use Rattle.ow_decide.specs.Making.{IsCommit}
 use Rattle.ow_decide.specs.Sight.{Sight}
-use Rattle.ow_decide.proofs.KeptLaws.{IsForm, decided_form}
+use Rattle.ow_decide.proofs.ChainLaws.{decided_steps}
 use Rattle.ow_decide.proofs.SoundLaws.{decided_right}
 use Rattle.ow_tenant.specs.Table.{Table}
-use Rattle.ow_hall.specs.Comes.{Holds, KeptRows, Stays, kept_after}
-use Rattle.ow_hall.specs.Commits.{changes_in}
+use Rattle.ow_hall.specs.Comes.{Holds, KeptRows, Refuses, Stays, kept_after}
+use Rattle.ow_hall.specs.Commits.{CommitsTo, changes_in}
 use Rattle.ow_hall.specs.History.{counted, decision, seen, sight}
 use Rattle.ow_hall.specs.Ledger.{Ledger}
 use Rattle.ow_hall.specs.State.{CommitsEnds, IsEnding, IsWhole, KeepsCommit, StandsWith, StaysKept}
@@ -40,75 +42,65 @@ use Rattle.ow_hall.specs.State.{CommitsEnds, IsEnding, IsWhole, KeepsCommit, Sta
 abbrev pub StayResumed : Trace → Trace → Type 0
 StayResumed items T = resumed (items ++ T) ≡ resumed T
 
-stay_at : (item : Item) (T : Trace) → IsLater item → StayResumed (item ∷ []) T
-stay_at (Resumed counts rs) T later = absurd later
-stay_at item T later = refl
+stay_step : (S : Sight) (item : Item) (T : Trace) → IsStep S item T → StayResumed (item ∷ []) T
+stay_step S (Resumed counts rs) T step = absurd step.is
+stay_step S item T step = refl
 
-later_stay : (items T : Trace) → AreLater items → StayResumed items T
-later_stay [] T later = refl
-later_stay (item ∷ items) T later = stay_at item (items ++ T) later.0 ∙ later_stay items T later.1
-
-accept_stay : (at : ℕ) (plan : Plan) (items T : Trace) → items ≡ accept_items at plan → StayResumed items T
-accept_stay at plan items T is = subst (λ (xs : Trace). StayResumed xs T) (sym is) refl
-
-none_stay : (items T : Trace) → items ≡ [] → StayResumed items T
-none_stay items T is = subst (λ (xs : Trace). StayResumed xs T) (sym is) refl
+steps_stay : (S : Sight) (items : Trace) → AreSteps S items → StayResumed items S.trace
+steps_stay S [] steps = refl
+steps_stay S (item ∷ items) steps = stay_step S item (items ++ S.trace) steps.0 ∙ steps_stay S items steps.1
 
 pub stay_resumed : (S : Sight) (event : Event) → is_opening event ≡ false → StayResumed (decide S event).items S.trace
-stay_resumed S event later =
-    let items = (decide S event).items in
-    ⊎_elim (λ x. later_stay items S.trace x.0) (λ y. ⊎_elim (λ x. accept_stay S.moment x.0 items S.trace x.1) (λ x. none_stay items S.trace x.0) y) (decided_form S event later)
+stay_resumed S event later = steps_stay S (decide S event).items (decided_steps S event later)
 
 -- ---- a step commits all that changes
 
-no_ends : (items : Trace) (changes : List Change) → records items ≡ []
-    → commits_of items changes ≡ flat_map accept_changes (map unrecorded_of (accepted items)) ++ flat_map row_changes changes
-no_ends items changes none =
-    let A = flat_map accept_changes (map unrecorded_of (accepted items)) in
-    ap (λ (rs : List Record). A ++ (flat_map row_changes changes ++ flat_map end_changes rs)) none ∙ ap (λ (cs : List StoreChange). A ++ cs) (append-nil (flat_map row_changes changes))
+ends_then : (rs : List Record) (r : Record) → flat_map end_changes (rs ++ r ∷ []) ≡ flat_map end_changes rs ++ end_changes r
+ends_then [] r = refl
+ends_then (x ∷ rs) r = ap (λ cs. end_changes x ++ cs) (ends_then rs r)
 
-only_ends : (items : Trace) (changes : List Change) → AreLater items → changes ≡ [] → commits_of items changes ≡ flat_map end_changes (records items)
-only_ends items changes later none =
-    ap (λ (cs : List Change). flat_map accept_changes (map unrecorded_of (accepted items)) ++ (flat_map row_changes cs ++ flat_map end_changes (records items))) none
-    ∙ ap (λ bs. flat_map accept_changes (map unrecorded_of bs) ++ flat_map end_changes (records items)) (later_accepted items later)
+end_step : (item : Item) (items : Trace) → IsLater item → flat_map end_changes (records (item ∷ items)) ≡ flat_map end_changes (records items) ++ item_changes item
+end_step (Accepted a) items later = absurd later
+end_step (Ended e) items later = ends_then (records items) (record_of e)
+end_step item items later = sym (append-nil (flat_map end_changes (records items)))
+
+-- of items that accept nothing the ends are committed
+only_ends : (items : Trace) → AreLater items → items_changes items ≡ flat_map end_changes (records items)
+only_ends [] later = refl
+only_ends (item ∷ items) later = ap (λ (cs : List StoreChange). cs ++ item_changes item) (only_ends items later.1) ∙ sym (end_step item items later.0)
+
+alone_commits : (d : Decision) → (d.changes ≡ []) × AreLater d.items → commits d ≡ flat_map end_changes (records d.items)
+alone_commits d alone = ap (λ (cs : List Change). flat_map row_changes cs ++ items_changes d.items) alone.0 ∙ only_ends d.items alone.1
+
+whole_none : (d : Decision) (b : KeepingView) (S : Sight) → IsSound S.trace → StandsForKept b S.rows S.trace → AreRight d.items (shown S.trace) → (d.changes ≡ []) × AreLater d.items
+    → records d.items ≡ [] → IsWhole None d b S
+whole_none d b S sound stands right alone none = record {
+  changes = sym (alone_commits d alone ∙ ap (flat_map end_changes) none);
+  stands = subst (λ (cs : List Change). StandsForKept b (all_changed cs S.rows) (d.items ++ S.trace)) (sym alone.0) (quiet_stands b S.rows S.trace d.items stands sound right alone.1 none);
+}
 
 -- where nothing ends, it is what was committed before
 whole_quiet : (d : Decision) (b : KeepingView) (S : Sight) (commit : Option CommitView) → IsSound S.trace → StandsForKept b S.rows S.trace → AreRight d.items (shown S.trace)
     → IsCommit commit d b S → records d.items ≡ [] → IsWhole commit d b S
-whole_quiet d b S None sound stands right is none = record {
-  changes = sym (only_ends d.items d.changes is.1 is.0 ∙ ap (flat_map end_changes) none);
-  stands = subst (λ (cs : List Change). StandsForKept b (all_changed cs S.rows) (d.items ++ S.trace)) (sym is.0) (quiet_stands b S.rows S.trace d.items stands sound right is.1 none);
-}
-whole_quiet d b S (Some c) sound stands right is none = record { changes = is.changes ∙ sym (no_ends d.items d.changes none); stands = is.stands }
-
--- where activations end, nothing was accepted and no row changed
-abbrev EndsAlone : Decision → Type 0
-EndsAlone d = AreLater d.items × (d.changes ≡ [])
-
-ends_alone : (at : ℕ) (d : Decision) (r : Record) (rs : List Record) → IsForm at d → r ∷ rs ≡ records d.items → EndsAlone d
-ends_alone at d r rs form is = ⊎_elim
-    (λ x. x)
-    (λ y. ⊎_elim
-    (λ x. let none : r ∷ rs ≡ [] = is ∙ ap records x.1 in cc)
-    (λ x. let none : r ∷ rs ≡ [] = is ∙ ap records x.0 in cc)
-    y)
-    form
+whole_quiet d b S None sound stands right is none = whole_none d b S sound stands right is none
+whole_quiet d b S (Some c) sound stands right is none = record { changes = is.1.changes; stands = is.1.stands }
 
 whole_ends : (d : Decision) (b : KeepingView) (S : Sight) (r : Record) (rs : List Record) (commit : Option CommitView) → IsSound S.trace → StandsForKept b S.rows S.trace
-    → AreRight d.items (shown S.trace) → EndsAlone d → r ∷ rs ≡ records d.items → IfSome commit (λ c. IsEnding c b (r ∷ rs)) → is_some commit ≡ true → IsWhole commit d b S
+    → AreRight d.items (shown S.trace) → (d.changes ≡ []) × AreLater d.items → r ∷ rs ≡ records d.items → IfSome commit (λ c. IsEnding c b (r ∷ rs)) → is_some commit ≡ true → IsWhole commit d b S
 whole_ends d b S r rs None sound stands right alone is ending some = cc
 whole_ends d b S r rs (Some c) sound stands right alone is ending some = record {
-  changes = ending.changes ∙ (ap (flat_map end_changes) is ∙ sym (only_ends d.items d.changes alone.0 alone.1));
-  stands = subst (λ (cs : List Change). StandsAfter c b (all_changed cs S.rows) (d.items ++ S.trace)) (sym alone.1)
-      (ending.stands S.rows S.trace d.items stands sound right alone.0 is);
+  changes = ending.changes ∙ (ap (flat_map end_changes) is ∙ sym (alone_commits d alone));
+  stands = subst (λ (cs : List Change). StandsAfter c b (all_changed cs S.rows) (d.items ++ S.trace)) (sym alone.0)
+      (ending.stands S.rows S.trace d.items stands sound right alone.1 is);
 }
 
-whole_by : (at : ℕ) (d : Decision) (b : KeepingView) (S : Sight) (ends : List Record) (before after : Option CommitView) → IsSound S.trace → StandsForKept b S.rows S.trace
-    → AreRight d.items (shown S.trace) → IsForm at d → IsCommit before d b S → ends ≡ records d.items → CommitsEnds b ends before after → IsWhole after d b S
-whole_by at d b S [] before after sound stands right form commit is ends =
+-- where activations end, nothing was to be committed before
+whole_by : (d : Decision) (b : KeepingView) (S : Sight) (ends : List Record) (before after : Option CommitView) → IsSound S.trace → StandsForKept b S.rows S.trace
+    → AreRight d.items (shown S.trace) → IsCommit before d b S → ends ≡ records d.items → CommitsEnds b ends before after → IsWhole after d b S
+whole_by d b S [] before after sound stands right commit is ends =
     subst (λ (c : Option CommitView). IsWhole c d b S) (sym ends) (whole_quiet d b S before sound stands right commit (sym is))
-whole_by at d b S (r ∷ rs) before after sound stands right form commit is ends =
-    whole_ends d b S r rs after sound stands right (ends_alone at d r rs form is) is ends.0 ends.1
+whole_by d b S (r ∷ rs) None after sound stands right commit is ends = whole_ends d b S r rs after sound stands right commit is ends.0 ends.1
+whole_by d b S (r ∷ rs) (Some c) after sound stands right commit is ends = let none : r ∷ rs ≡ [] = is ∙ commit.0 in cc
 
 -- what is committed of ends that there are
 pub ends_committed : (v : KeepingView) (ends : List Record) (before : Option CommitView) (c : CommitView) → false ≡ (length ends == 0) → IsEnding c v ends → CommitsEnds v ends before (Some c)
@@ -116,11 +108,11 @@ ends_committed v [] before c some ending = cc
 ends_committed v (r ∷ rs) before c some ending = (ending, refl)
 
 -- with its ends a step commits all
-pub whole : (S : Sight) (event : Event) (b : KeepingView) (ends : List Record) (before after : Option CommitView) → is_opening event ≡ false → IsSound S.trace
+pub whole : (S : Sight) (event : Event) (b : KeepingView) (ends : List Record) (before after : Option CommitView) → IsSound S.trace
     → StandsForKept b S.rows S.trace → IsCommit before (decide S event) b S → ends ≡ records (decide S event).items → CommitsEnds b ends before after
     → IsWhole after (decide S event) b S
-whole S event b ends before after later sound stands commit is committed =
-    whole_by S.moment (decide S event) b S ends before after sound stands (decided_right S event sound) (decided_form S event later) commit is committed
+whole S event b ends before after sound stands commit is committed =
+    whole_by (decide S event) b S ends before after sound stands (decided_right S event sound) commit is committed
 
 -- a beginning, a loss or a going has no ends
 if_ends : (b : Bool) (item : Item) → records (item ∷ []) ≡ [] → records (items_if b item) ≡ []
@@ -153,29 +145,47 @@ none_after : (told : KeptRows) → told ≡ kept_after [] told
 none_after None = refl
 none_after (Some rows) = refl
 
+-- a commit of a keeper, for its rows
+pub made_rows : (old new : KeptRows) (cs : List StoreChange) (done : Unit {0}) → Commits old new cs (Ok done) → new ≡ kept_after cs old
+made_rows None new cs done commits = commits
+made_rows (Some rows) new cs done commits = commits
+
+failed_rows : (old new : KeptRows) (cs : List StoreChange) (e : KeeperError) → Commits {T = Unit {0}} old new cs (Err e) → new ≡ old
+failed_rows None new cs e commits = commits
+failed_rows (Some rows) new cs e commits = commits
+
+-- a commit of some changes
+pub commits_to : {P : Type 0} (telling : P → Telling) (changes : List StoreChange) (old new : P) (result : Result (Unit {0}) KeeperError) → changes ≢ []
+    → Commits (telling old).rows (telling new).rows changes result → (telling new).commits ≡ with_attempt (attempt_of changes result) (telling old).commits
+    → KeepsCause (telling old).faults (telling new).faults result → CommitsTo telling changes old new result
+commits_to telling [] old new result some told asked cause = absurd (some refl)
+commits_to telling (c ∷ cs) old new (Ok done) some told asked cause =
+    record { rows = made_rows (telling old).rows (telling new).rows (c ∷ cs) done told; commits = asked; later = cause.later }
+commits_to telling (c ∷ cs) old new (Err e) some told asked cause =
+    (some, record { rows = failed_rows (telling old).rows (telling new).rows (c ∷ cs) e told; commits = asked; later = cause.later }, cause)
+
 -- with the changes of a commit its rows are these
-pub held : {P : Type 0} (rows : P → KeptRows) (faults : P → ℕ) (changes : List StoreChange) (old new : P) → Holds rows faults changes old new → rows new ≡ kept_after changes (rows old)
-held rows faults [] old new same = ap rows same ∙ none_after (rows old)
-held rows faults (c ∷ cs) old new same = same.0
+pub held : {P : Type 0} (telling : P → Telling) (changes : List StoreChange) (old new : P) → Holds telling changes old new → (telling new).rows ≡ kept_after changes (telling old).rows
+held telling [] old new same = ap (λ s. (telling s).rows) same ∙ none_after (telling old).rows
+held telling (c ∷ cs) old new same = same.rows
 
 -- where no change is to be made the store stays in any case
-pub stays_so : {P : Type 0} (rows : P → KeptRows) (faults : P → ℕ) (changes : List StoreChange) (old new : P) → rows new ≡ rows old → faults old ≤ faults new → changes ≢ []
-    → Stays rows faults changes old new
-stays_so rows faults [] old new same later some = absurd (some refl)
-stays_so rows faults (c ∷ cs) old new same later some = (same, later)
+pub stays_so : {P : Type 0} (telling : P → Telling) (changes : List StoreChange) (old new : P) → Refuses telling changes old new → changes ≢ [] → Stays telling changes old new
+stays_so telling [] old new refuses some = absurd (some refl)
+stays_so telling (c ∷ cs) old new refuses some = inr refuses
 
-pub stays_same : {P : Type 0} (rows : P → KeptRows) (faults : P → ℕ) (changes : List StoreChange) (store : P) → Stays rows faults changes store store
-stays_same rows faults [] store = refl
-stays_same rows faults (c ∷ cs) store = (refl, omega arith)
+pub stays_same : {P : Type 0} (telling : P → Telling) (changes : List StoreChange) (store : P) → Stays telling changes store store
+stays_same telling [] store = refl
+stays_same telling (c ∷ cs) store = inl refl
 
-pub holds_none : {P : Type 0} (rows : P → KeptRows) (faults : P → ℕ) (changes : List StoreChange) (store : P) → changes ≡ [] → Holds rows faults changes store store
-holds_none rows faults changes store none = subst (λ (cs : List StoreChange). Holds rows faults cs store store) (sym none) refl
+pub holds_none : {P : Type 0} (telling : P → Telling) (changes : List StoreChange) (store : P) → changes ≡ [] → Holds telling changes store store
+holds_none telling changes store none = subst (λ (cs : List StoreChange). Holds telling cs store store) (sym none) refl
 
 -- where nothing happens and no row changes, nothing is committed
 pub leaves_commits : (d : Decision) → d.items ≡ [] → d.changes ≡ [] → commits d ≡ []
-leaves_commits d items changes = ap (λ (cs : List Change). commits_of d.items cs) changes ∙ ap (λ (xs : Trace). commits_of xs []) items
+leaves_commits d items changes = ap (λ (cs : List Change). flat_map row_changes cs ++ items_changes d.items) changes ∙ ap items_changes items
 
-if_commits : (b : Bool) (item : Item) → commits_of (item ∷ []) [] ≡ [] → commits_of (items_if b item) [] ≡ []
+if_commits : (b : Bool) (item : Item) → items_changes (item ∷ []) ≡ [] → items_changes (items_if b item) ≡ []
 if_commits true item none = none
 if_commits false item none = refl
 
@@ -197,7 +207,7 @@ free_none S events.Reopened free = cc
 pub free_commits : (t : Table) (L : Ledger) (at : ℕ) (event : Event) → wants_memory event ≡ false → commits (decision t L.entries at event) ≡ []
 free_commits t L at event free = free_none (sight t (seen t L.entries) (counted L.entries) at) event free
 
-order_commits : (at : ℕ) (v : Shown) (p : Place) (o : Option Open) → commits_of (order_items p o at v) [] ≡ []
+order_commits : (at : ℕ) (v : Shown) (p : Place) (o : Option Open) → items_changes (order_items p o at v) ≡ []
 order_commits at v (places.Run slot start) None = refl
 order_commits at v (places.Run slot start) (Some o) = refl
 order_commits at v (places.Prewarm slot kind memory) o = refl
@@ -218,9 +228,9 @@ pub kept_none : (told : KeptRows) (changes : List StoreChange) → changes ≡ [
 kept_none told changes none = none_after told ∙ ap (λ (cs : List StoreChange). kept_after cs told) (sym none)
 
 -- what was to be committed is what a decision commits
-pub committed : {P : Type 0} (rows : P → KeptRows) (faults : P → ℕ) (commit : Option CommitView) (changes : List StoreChange) (old new : P) → changes_in commit ≡ changes
-    → Holds rows faults (changes_in commit) old new → Holds rows faults changes old new
-committed rows faults commit changes old new same holds = subst (λ (cs : List StoreChange). Holds rows faults cs old new) same holds
+pub committed : {P : Type 0} (telling : P → Telling) (commit : Option CommitView) (changes : List StoreChange) (old new : P) → changes_in commit ≡ changes
+    → Holds telling (changes_in commit) old new → Holds telling changes old new
+committed telling commit changes old new same holds = subst (λ (cs : List StoreChange). Holds telling cs old new) same holds
 
 -- more room is no matter
 after_same : (c : CommitView) (v w : KeepingView) (rs : List Row) (T : Trace) → w.opens ≡ v.opens → StandsAfter c v rs T → StandsAfter c w rs T

@@ -7,3 +7,4 @@ pub mod Joined
 mod NoteLaws
 mod RoomLaws
 pub mod UndoneLaws
+pub mod StopLaws

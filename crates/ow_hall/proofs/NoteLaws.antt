@@ -136,7 +136,7 @@ step_done S event old new b before all step after later was kept count is made s
     ∙ (ap (λ (n : ℕ). drop n (all_ended new)) (min-eq_left few ∙ count) ∙ ended_behind d.items S.trace old new stay was made.1) in
     let carried = made.0 in (
       record { told = same.0 ∙ carried.told; changes = ap changes_of same.1 ∙ carried.changes; waits = same.2 ∙ carried.waits; invoked = same.3 ∙ carried.invoked },
-      whole S event b (drop (min before (length all)) all) step.commit after.commit later was.sound kept carried.commit ends commits,
+      whole S event b (drop (min before (length all)) all) step.commit after.commit was.sound kept carried.commit ends commits,
       made.1,
     )
 

@@ -1,6 +1,7 @@
 -- What an opening leaves keeps the hall.
-use Rattle.std.proofs.Common.{◌≡◌, ◌∙◌, ◌≤◌, ◌+◌, ℕ, List, [], ◌∷◌, map, max, Option, None, Some, Result, Ok, Err, IfSome, IsOk, refl, sym, ap, subst, arith}
+use Rattle.std.proofs.Common.{◌≡◌, ◌∙◌, ◌≤◌, ◌+◌, ℕ, List, [], ◌∷◌, map, max, Option, None, Some, Result, Ok, Err, IfSome, IsOk, refl, sym, ap, subst, arith, inl, inr, ◌⊎◌}
 use Rattle.std.proofs.Math.Nat.{le-max_left, max-le, min-le_right}
+use Rattle.ow_traits.specs.Telling.{Attempt, Telling, made, unmade, with_attempt}
 use Rattle.ow_entity.specs.declared.rows.Row.{Row}
 use Rattle.ow_traits.specs.Changes.{changed}
 use Rattle.ow_traits.specs.Keeper.{Commits}
@@ -36,7 +37,9 @@ use Rattle.ow_tenant.specs.Table.{Table}
 use Rattle.ow_tenant.specs.Tenants.{pool_of}
 use Rattle.ow_hall.specs.declared.posting.Posting.{Posting}
 use Rattle.ow_hall.specs.declared.posting.Posting.TheVariants.{Booked}
-use Rattle.ow_hall.specs.Comes.{HoldsBook, KeptRows, kept_of}
+use Rattle.ow_hall.proofs.KeepLaws.{made_rows}
+use Rattle.ow_hall.specs.Openings.{IsAskedOnce}
+use Rattle.ow_hall.specs.Comes.{HoldsBook, KeptRows, kept_of, kept_after}
 use Rattle.ow_keep.specs.declared.allowed.TheConstants.{GREATEST_MOMENT}
 use Rattle.ow_hall.specs.History.{IsLegal, Seen, after, answer, counted, decision, least_moment, moment, moment_in, posting, seen, told_bytes}
 use Rattle.ow_hall.specs.Ledger.{BookView, HasRoom, Ledger, no_entries, opened, opening_moment, posted, posted_as}
@@ -184,18 +187,26 @@ made_of (Some kept) loaded new rows cs told same made =
     let some = subst (λ (k : KeptRows). Commits {T = Unit {0}} k new cs (Ok tt)) same made in
     subst (λ (k : KeptRows). IfSome k (λ kept. kept ≡ changed cs rows)) (sym some) (ap (changed cs) (sym told))
 
+-- a store that isn't opened over was asked for no commit, or for one that failed
+pub asked_none : (before after : Option (List Attempt)) → after ≡ before → IsAskedOnce before after
+asked_none before after same = inl same
+
+pub asked_one : (changes : List Change) (before mid after : Option (List Attempt)) → mid ≡ before → after ≡ with_attempt (unmade changes) mid → IsAskedOnce before after
+asked_one changes before mid after same is = inr (changes, is ∙ ap (with_attempt (unmade changes)) same)
+
 -- what stands is what was opened
-pub opening_stands : {P : Type 0} (told_by : P → KeptRows) (faults : P → ℕ) (old mid new : P) (t : Table) (rows : Rows) (at : ℕ) (r : Ready) (o : Opened) → IsLoaded told_by faults old mid rows
-    → IsReadied t rows at r → Commits {T = Unit {0}} (told_by mid) (told_by new) r.commit.changes (Ok tt) → faults mid ≤ faults new → IsKeptBy r o → IsOpenedOver told_by faults old new t at o
-opening_stands told_by faults old mid new t rows at r o loaded ready made later keeps =
+pub opening_stands : {P : Type 0} (telling : P → Telling) (old mid new : P) (t : Table) (rows : Rows) (at : ℕ) (r : Ready) (o : Opened) → IsLoaded telling old mid rows
+    → IsReadied t rows at r → Commits {T = Unit {0}} (telling mid).rows (telling new).rows r.commit.changes (Ok tt) → (telling new).commits ≡ with_attempt (made r.commit.changes) (telling mid).commits
+    → (telling mid).faults ≤ (telling new).faults → IsKeptBy r o → IsOpenedOver telling old new t at o
+opening_stands telling old mid new t rows at r o loaded ready commits asked later keeps =
     let m = opening_moment rows at in
     let p = ready.parts in
     let T = opened_trace m p (pool_of t) t.wants in
     let held = judged-kept rows ready.holds.items ready.holds.kept ready.holds.known in
     let keeping = keeps.keeping (resumed p.entities builtin) T (ready.stands r.opened.state.keeping ready.over.opens) in
     let ledger = ap (λ (b : BookView). b.ledger) keeps.book ∙ ready.ledger in
-    let told = made_of (told_by old) (told_by mid) (told_by new) rows r.commit.changes loaded.told loaded.same made in
-    let holds = opened_holds (told_by new) t rows at p ready.order ready.holds (subst (λ (cs : List Change). IfSome (told_by new) (λ x. x ≡ changed cs rows)) ready.changes told) in
+    let told = made_of (telling old).rows (telling mid).rows (telling new).rows rows r.commit.changes loaded.told loaded.same commits in
+    let holds = opened_holds (telling new).rows t rows at p ready.order ready.holds (subst (λ (cs : List Change). IfSome (telling new).rows (λ x. x ≡ changed cs rows)) ready.changes told) in
     record {
       loaded = rows;
       told = loaded.told;
@@ -203,6 +214,12 @@ opening_stands told_by faults old mid new t rows at r o loaded ready made later 
       ledger = ledger;
       keeps = subst (λ (l : Ledger). Keeps o.state t l) (sym ledger) (opened_keeps t rows at p r.opened.state o.state ready.order ready.holds ready.over keeps.beside keeping);
       room = subst (λ (l : Ledger). HasRoom (seen t l.entries).trace l o.book.room) (sym ledger) (opened_room t rows at o.book.room p ready.order ready.holds);
-      holds = subst (λ (l : Ledger). HoldsBook (told_by new) t l) (sym ledger) holds;
+      holds = subst (λ (l : Ledger). HoldsBook (telling new).rows t l) (sym ledger) holds;
       later = omega (arith, loaded.later, later);
+      changes = r.commit.changes;
+      makes = record {
+        rows = made_rows (telling mid).rows (telling new).rows r.commit.changes tt commits ∙ ap (kept_after r.commit.changes) loaded.same;
+        commits = asked ∙ ap (with_attempt (made r.commit.changes)) loaded.commits;
+        later = omega (arith, loaded.later, later);
+      };
     }

@@ -1,5 +1,7 @@
 -- What a commit that failed leaves.
-use Rattle.std.proofs.Common.{◌≡◌, ◌∙◌, ℕ, Bool, true, false, [], Option, Err, refl}
+use Rattle.std.proofs.Common.{◌≡◌, ◌∙◌, ℕ, Bool, true, false, List, [], Option, Err, refl, subst}
+use Rattle.ow_traits.specs.Telling.{Telling}
+use Rattle.ow_traits.specs.declared.change_list.Change.{Change}
 use Rattle.ow_traits.specs.declared.keepers.KeeperError.{KeeperError}
 use Rattle.ow_traits.specs.declared.keepers.KeeperError.TheVariants.{Failed, NoMemory}
 use Rattle.ow_floor.specs.Trace.{Trace}
@@ -7,7 +9,7 @@ use Rattle.ow_kept.specs.Keeping.{CommitView}
 use Rattle.ow_decide.specs.Decision.{commits}
 use Rattle.ow_decide.specs.declared.events.Event.{Event}
 use Rattle.ow_tenant.specs.Table.{Table}
-use Rattle.ow_hall.specs.Comes.{Comes, HallView, HoldsBook, KeptRows, Wants, decided}
+use Rattle.ow_hall.specs.Comes.{Comes, HallView, HoldsBook, KeptRows, Refuses, Wants, decided}
 use Rattle.ow_hall.specs.Commits.{CommitsTo, changes_in, is_fault, uncommitted}
 use Rattle.ow_hall.specs.Ledger.{HasRoom, Ledger}
 use Rattle.ow_hall.specs.Performing.{undone}
@@ -17,13 +19,16 @@ use Rattle.ow_hall.proofs.KeepLaws.{stays_so}
 -- ---- a commit that failed
 
 -- what comes of it
-pub undone_comes : {P : Type 0} (rows : P → KeptRows) (faults : P → ℕ) (old new : HallView P) (at : ℕ) (event : Event) (commit : Option CommitView) (e : KeeperError)
-    → changes_in commit ≡ commits (decided old at event) → CommitsTo rows faults (changes_in commit) old.store new.store (Err e) → new.ledger ≡ uncommitted e old.ledger → new.tenants ≡ old.tenants
-    → Comes rows faults old new at event (undone (is_fault e))
-undone_comes rows faults old new at event commit Failed is none ledger tenants =
-    (λ empty. none.0 (is ∙ empty), ledger, tenants, none.1, none.2.later, none.2.rose refl)
-undone_comes rows faults old new at event commit NoMemory is none ledger tenants =
-    (ledger, tenants, stays_so rows faults (commits (decided old at event)) old.store new.store none.1 none.2.later (λ empty. none.0 (is ∙ empty)))
+pub undone_comes : {P : Type 0} (telling : P → Telling) (old new : HallView P) (at : ℕ) (event : Event) (commit : Option CommitView) (e : KeeperError)
+    → changes_in commit ≡ commits (decided old at event) → CommitsTo telling (changes_in commit) old.store new.store (Err e) → new.ledger ≡ uncommitted e old.ledger → new.tenants ≡ old.tenants
+    → Comes telling old new at event (undone (is_fault e))
+undone_comes telling old new at event commit Failed is none ledger tenants =
+    (λ empty. none.0 (is ∙ empty), ledger, tenants, subst (λ (cs : List Change). Refuses telling cs old.store new.store) is none.1, none.2.rose refl)
+undone_comes telling old new at event commit NoMemory is none ledger tenants = (
+  ledger,
+  tenants,
+  stays_so telling (commits (decided old at event)) old.store new.store (subst (λ (cs : List Change). Refuses telling cs old.store new.store) is none.1) (λ empty. none.0 (is ∙ empty)),
+)
 
 -- the book is what it was, but for the tally
 pub undone_keeps : (e : KeeperError) (w : StateView) (t : Table) (L : Ledger) → Keeps w t L → Keeps w t (uncommitted e L)
@@ -43,7 +48,7 @@ undone_holds Failed told t L holds = holds
 undone_holds NoMemory told t L holds = holds
 
 -- where nothing is to be committed, memory was wanted
-pub only_wants : {P : Type 0} (rows : P → KeptRows) (faults : P → ℕ) (old new : HallView P) (at : ℕ) (event : Event) (failed : Bool) → commits (decided old at event) ≡ []
-    → Comes rows faults old new at event (undone failed) → Comes rows faults old new at event Wants
-only_wants rows faults old new at event true none comes = absurd (comes.0 none)
-only_wants rows faults old new at event false none comes = comes
+pub only_wants : {P : Type 0} (telling : P → Telling) (old new : HallView P) (at : ℕ) (event : Event) (failed : Bool) → commits (decided old at event) ≡ []
+    → Comes telling old new at event (undone failed) → Comes telling old new at event Wants
+only_wants telling old new at event true none comes = absurd (comes.0 none)
+only_wants telling old new at event false none comes = comes

@@ -1,6 +1,7 @@
 -- What one call of the hall comes to: one relation of what the hall was, the moment, the event, what comes of it, and what the
 -- hall is now.
-use Rattle.std.specs.Prelude.{◌≡◌, ◌≢◌, ◌≤◌, ℕ, List, [], ◌∷◌, Option, Some, None, Result, Ok, Err}
+use Rattle.std.specs.Prelude.{◌≡◌, ◌≢◌, ◌≤◌, ◌⊎◌, ℕ, List, [], ◌∷◌, Option, Some, None, Result, Ok, Err}
+use Rattle.ow_traits.specs.Telling.{Telling, made, unmade, with_attempt}
 use Rattle.ow_traits.specs.Changes.{changed}
 use Rattle.ow_traits.specs.Streams.{Rose}
 use Rattle.ow_traits.specs.declared.change_list.Change.{Change}
@@ -69,15 +70,28 @@ abbrev pub kept_after : List Change → KeptRows → KeptRows
 kept_after changes None = None
 kept_after changes (Some rows) = Some (changed changes rows)
 
--- the store holds what it held, with these changes; where there is none it isn't asked
-abbrev pub Holds : {P : Type 0} → (P → KeptRows) → (P → ℕ) → List Change → P → P → Type 0
-Holds rows faults [] old new = new ≡ old
-Holds rows faults (c ∷ cs) old new = (rows new ≡ kept_after (c ∷ cs) (rows old)) × (faults old ≤ faults new)
+-- a store is asked to commit once, and commits. It holds what it held, with these changes
+pub record Makes {P : Type 0} (telling : P → Telling) (changes : List Change) (old new : P) : Type 0 where
+  pub rows : (telling new).rows ≡ kept_after changes (telling old).rows
+  pub commits : (telling new).commits ≡ with_attempt (made changes) (telling old).commits
+  pub later : (telling old).faults ≤ (telling new).faults
 
--- no change was made: where there is none to make the store isn't asked, else its rows stay
-abbrev pub Stays : {P : Type 0} → (P → KeptRows) → (P → ℕ) → List Change → P → P → Type 0
-Stays rows faults [] old new = new ≡ old
-Stays rows faults (c ∷ cs) old new = (rows new ≡ rows old) × (faults old ≤ faults new)
+-- it is asked once, and doesn't commit. Its rows stay
+pub record Refuses {P : Type 0} (telling : P → Telling) (changes : List Change) (old new : P) : Type 0 where
+  pub rows : (telling new).rows ≡ (telling old).rows
+  pub commits : (telling new).commits ≡ with_attempt (unmade changes) (telling old).commits
+  pub later : (telling old).faults ≤ (telling new).faults
+
+-- these changes are committed by one commit; where there is none the store isn't asked
+abbrev pub Holds : {P : Type 0} → (P → Telling) → List Change → P → P → Type 0
+Holds telling [] old new = new ≡ old
+Holds telling (c ∷ cs) old new = Makes telling (c ∷ cs) old new
+
+-- memory is wanted, and no change is made: the store isn't asked, or it is once, and finds no memory. Where there is no change to be
+-- made it isn't asked
+abbrev pub Stays : {P : Type 0} → (P → Telling) → List Change → P → P → Type 0
+Stays telling [] old new = new ≡ old
+Stays telling (c ∷ cs) old new = (new ≡ old) ⊎ Refuses telling (c ∷ cs) old new
 
 -- ---- the relation
 
@@ -89,14 +103,14 @@ abbrev pub decided : {P : Type 0} → HallView P → ℕ → Event → Decision
 decided h at event = decision h.tenants h.ledger.entries (at_hall h at) event
 
 -- the answer is the one answer, and it is posted, and kept by the store. Where memory is wanted nothing has changed. The store
--- fails only where a change was to be kept, and then nothing has changed but the tally
-abbrev pub Comes : {P : Type 0} → (P → KeptRows) → (P → ℕ) → HallView P → HallView P → ℕ → Event → Outcome → Type 0
-Comes rows faults old new at event (Answers t) = (t ≡ answer old.tenants old.ledger.entries (at_hall old at) event)
+-- fails only where a change was to be kept, at one commit, and then nothing has changed but the tally
+abbrev pub Comes : {P : Type 0} → (P → Telling) → HallView P → HallView P → ℕ → Event → Outcome → Type 0
+Comes telling old new at event (Answers t) = (t ≡ answer old.tenants old.ledger.entries (at_hall old at) event)
     × (new.ledger ≡ posted old.ledger (at_hall old at) event t) × (new.tenants ≡ old.tenants)
-    × Holds rows faults (commits (decided old at event)) old.store new.store
-Comes rows faults old new at event Wants = (new.ledger ≡ old.ledger) × (new.tenants ≡ old.tenants) × Stays rows faults (commits (decided old at event)) old.store new.store
-Comes rows faults old new at event Fails = (commits (decided old at event) ≢ []) × (new.ledger ≡ faulted old.ledger) × (new.tenants ≡ old.tenants)
-    × (rows new.store ≡ rows old.store) × (faults old.store ≤ faults new.store) × Rose (faults old.store) (faults new.store)
+    × Holds telling (commits (decided old at event)) old.store new.store
+Comes telling old new at event Wants = (new.ledger ≡ old.ledger) × (new.tenants ≡ old.tenants) × Stays telling (commits (decided old at event)) old.store new.store
+Comes telling old new at event Fails = (commits (decided old at event) ≢ []) × (new.ledger ≡ faulted old.ledger) × (new.tenants ≡ old.tenants)
+    × Refuses telling (commits (decided old at event)) old.store new.store × Rose (telling old.store).faults (telling new.store).faults
 
 -- ---- what the calls tell of it
 

@@ -1,11 +1,12 @@
 -- What is committed to the store, for private clauses.
 use Rattle.std.specs.Prelude.{◌≡◌, ◌≢◌, Bool, true, false, List, [], ℕ, Option, Some, None, Result, Ok, Err}
+use Rattle.ow_traits.specs.Telling.{Telling}
 use Rattle.ow_traits.specs.Keeper.{KeepsCause}
 use Rattle.ow_traits.specs.declared.change_list.Change.{Change}
 use Rattle.ow_traits.specs.declared.keepers.KeeperError.{KeeperError}
 use Rattle.ow_traits.specs.declared.keepers.KeeperError.TheVariants.{Failed, NoMemory}
 use Rattle.ow_kept.specs.Keeping.{CommitView}
-use Rattle.ow_hall.specs.Comes.{Holds, KeptRows}
+use Rattle.ow_hall.specs.Comes.{Holds, Refuses}
 use Rattle.ow_hall.specs.Ledger.{Ledger, faulted}
 
 abbrev pub changes_in : Option CommitView → List Change
@@ -16,9 +17,9 @@ abbrev pub refused : KeeperError → Result (Unit {0}) KeeperError
 refused e = Err e
 
 -- the store holds what it held, with these changes; or it is as it was, which comes only where there are some
-abbrev pub CommitsTo : {P : Type 0} → (P → KeptRows) → (P → ℕ) → List Change → P → P → Result (Unit {0}) KeeperError → Type 0
-CommitsTo rows faults changes old new (Ok done) = Holds rows faults changes old new
-CommitsTo rows faults changes old new (Err e) = (changes ≢ []) × (rows new ≡ rows old) × KeepsCause (faults old) (faults new) (refused e)
+abbrev pub CommitsTo : {P : Type 0} → (P → Telling) → List Change → P → P → Result (Unit {0}) KeeperError → Type 0
+CommitsTo telling changes old new (Ok done) = Holds telling changes old new
+CommitsTo telling changes old new (Err e) = (changes ≢ []) × Refuses telling changes old new × KeepsCause (telling old).faults (telling new).faults (refused e)
 
 -- a commit failed by a fault of the store, which is tallied, or for want of memory
 abbrev pub is_fault : KeeperError → Bool

@@ -6,5 +6,6 @@ pub mod Commits
 pub mod Openings
 pub mod Performing
 pub mod State
+pub mod Stops
 pub mod Beginnings
 pub mod Readied

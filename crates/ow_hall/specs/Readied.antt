@@ -1,9 +1,11 @@
 -- What is made ready of an opening, and what it leaves, for private clauses.
 use Rattle.std.specs.Prelude.{◌≡◌, ◌≤◌, ℕ, List, [], None, Some, IfSome, IsOk}
+use Rattle.ow_traits.specs.Telling.{Telling}
 use Rattle.ow_traits.specs.Rows.{AreRows}
 use Rattle.ow_tables.specs.Builtin.{builtin}
 use Rattle.ow_tables.specs.Rows.{resumed}
 use Rattle.ow_floor.specs.Laws.{Stands}
+use Rattle.ow_traits.specs.declared.change_list.Change.{Change}
 use Rattle.ow_traits.specs.declared.keepers.KeeperError.{KeeperError}
 use Rattle.ow_traits.specs.declared.keepers.KeeperError.TheVariants.{Failed, NoMemory}
 use Rattle.ow_keep.specs.Judged.{judged}
@@ -14,10 +16,10 @@ use Rattle.ow_kept.specs.Opening.{opened_trace, opening_changes}
 use Rattle.ow_tenant.specs.Table.{Table}
 use Rattle.ow_tenant.specs.Tenants.{pool_of}
 use Rattle.ow_counts.specs.View.{StandsFor}
-use Rattle.ow_hall.specs.Comes.{HoldsBook, KeptRows}
+use Rattle.ow_hall.specs.Comes.{HoldsBook, Makes}
 use Rattle.ow_hall.specs.History.{seen}
 use Rattle.ow_hall.specs.Ledger.{HasRoom, opened, opening_moment}
-use Rattle.ow_hall.specs.Openings.{HasStartCause}
+use Rattle.ow_hall.specs.Openings.{HasStartCause, IsAskedOnce}
 use Rattle.ow_hall.specs.State.{Keeps, KeepsCommit, StateView}
 use Rattle.ow_hall.specs.declared.opening.Opened.{Opened}
 use Rattle.ow_hall.specs.declared.opening.Ready.{Ready}
@@ -52,21 +54,24 @@ pub record IsReadied (t : Table) (rows : List (List ℕ × List ℕ)) (at : ℕ)
   pub stands : (v : KeepingView) → v.opens ≡ [] → StandsAfter r.commit v (resumed parts.entities builtin) (opened_trace (opening_moment rows at) parts (pool_of t) t.wants)
 
 -- rows were loaded from a store, which holds them still
-pub record IsLoaded {P : Type 0} (rows : P → KeptRows) (faults : P → ℕ) (old new : P) (loaded : List (List ℕ × List ℕ)) : Type 0 where
-  pub told : IfSome (rows old) (λ kept. loaded ≡ kept)
-  pub same : rows new ≡ rows old
-  pub later : faults old ≤ faults new
+pub record IsLoaded {P : Type 0} (telling : P → Telling) (old new : P) (loaded : List (List ℕ × List ℕ)) : Type 0 where
+  pub told : IfSome (telling old).rows (λ kept. loaded ≡ kept)
+  pub same : (telling new).rows ≡ (telling old).rows
+  pub commits : (telling new).commits ≡ (telling old).commits
+  pub later : (telling old).faults ≤ (telling new).faults
 
 -- it was committed to a store
-pub record IsOpenedOver {P : Type 0} (rows : P → KeptRows) (faults : P → ℕ) (old new : P) (t : Table) (at : ℕ) (o : Opened) : Type 0 where
+pub record IsOpenedOver {P : Type 0} (telling : P → Telling) (old new : P) (t : Table) (at : ℕ) (o : Opened) : Type 0 where
   pub loaded : List (List ℕ × List ℕ)
-  pub told : IfSome (rows old) (λ kept. loaded ≡ kept)
+  pub told : IfSome (telling old).rows (λ kept. loaded ≡ kept)
   pub allowed : IsOk (judged loaded)
   pub ledger : o.book.ledger ≡ opened t loaded at
   pub keeps : Keeps o.state t o.book.ledger
   pub room : HasRoom (seen t o.book.ledger.entries).trace o.book.ledger o.book.room
-  pub holds : HoldsBook (rows new) t o.book.ledger
-  pub later : faults old ≤ faults new
+  pub holds : HoldsBook (telling new).rows t o.book.ledger
+  pub later : (telling old).faults ≤ (telling new).faults
+  pub changes : List Change
+  pub makes : Makes telling changes old new
 
 -- the commit was made
 pub record IsKeptBy (r : Ready) (o : Opened) : Type 0 where
@@ -75,10 +80,11 @@ pub record IsKeptBy (r : Ready) (o : Opened) : Type 0 where
   pub book : o.book ≡ r.opened.book
 
 -- it was not, and the store holds what it held
-pub record IsRefused {P : Type 0} (rows : P → KeptRows) (faults : P → ℕ) (old new : P) (fault : StartFault) : Type 0 where
-  pub cause : HasStartCause rows faults old new fault
-  pub rows_stay : rows new ≡ rows old
-  pub later : faults old ≤ faults new
+pub record IsRefused {P : Type 0} (telling : P → Telling) (old new : P) (fault : StartFault) : Type 0 where
+  pub cause : HasStartCause telling old new fault
+  pub rows_stay : (telling new).rows ≡ (telling old).rows
+  pub later : (telling old).faults ≤ (telling new).faults
+  pub commits : IsAskedOnce (telling old).commits (telling new).commits
 
 -- a fault of the store, and want of memory
 abbrev pub fault_of : KeeperError → StartFault

@@ -61,7 +61,7 @@ impl<P: Keeper + Drop> Model for Hall<P> {
 
     ghost invariant = { λ h. Keeps h.state h.tenants h.book.ledger
         × HasRoom (seen h.tenants h.book.ledger.entries).trace h.book.ledger h.book.room
-        × HoldsBook (P.rows h.store) h.tenants h.book.ledger };
+        × HoldsBook (P.telling h.store).rows h.tenants h.book.ledger };
 }
 
 /// An event that came to nothing, since the store failed or memory was wanted.
@@ -89,7 +89,7 @@ impl<P: Keeper + Drop> Hall<P> {
     pub fn book(&self) -> &Book
         ensures ledger { result.now.ledger ≡ self.now.ledger }
         ensures legal { IsLegal self.now.tenants self.now.ledger.entries }
-        ensures kept { HoldsBook (P.rows self.now.store) self.now.tenants self.now.ledger }
+        ensures kept { HoldsBook (P.telling self.now.store).rows self.now.tenants self.now.ledger }
     {
         &self.book
     }
@@ -99,7 +99,7 @@ impl<P: Keeper + Drop> Hall<P> {
         ensures store { result.0 ≡ self.store }
         ensures ledger { result.1.ledger ≡ self.ledger }
         ensures legal { IsLegal self.tenants self.ledger.entries }
-        ensures kept { HoldsBook (P.rows self.store) self.tenants self.ledger }
+        ensures kept { HoldsBook (P.telling self.store).rows self.tenants self.ledger }
     {
         let Hall {
             tenants,
@@ -114,7 +114,7 @@ impl<P: Keeper + Drop> Hall<P> {
 
     /// Answers a request.
     pub fn ask(&mut self, alloc: Global, at: u64, request: &Request) -> Result<Reply, NoMemory>
-        ensures { (o : Outcome) × Replies result o × Comes P.rows P.faults self.old self.new at (events.Asked request.now) o }
+        ensures { (o : Outcome) × Replies result o × Comes P.telling self.old self.new at (events.Asked request.now) o }
     {
         let request = Shared::new(alloc, request.copy(alloc)?)?;
         let (request, failed) = kept_beside(request, self.failed.reply(alloc))?;
@@ -141,7 +141,7 @@ impl<P: Keeper + Drop> Hall<P> {
         name: &FullName,
         params: Params,
     ) -> Result<Called, NoMemory>
-        ensures { (o : Outcome) × IsCalled result o × Comes P.rows P.faults self.old self.new at (events.Called name.now params) o }
+        ensures { (o : Outcome) × IsCalled result o × Comes P.telling self.old self.new at (events.Called name.now params) o }
     {
         let Ok(name) = name.copy(alloc) else {
             drop(params);
@@ -161,7 +161,7 @@ impl<P: Keeper + Drop> Hall<P> {
 
     /// What is to be done next. It takes room in the book for what a runner may tell of it later.
     pub fn next(&mut self, alloc: Global, at: u64) -> Result<Order, NoMemory>
-        ensures { Comes P.rows P.faults self.old self.new at events.Next (next_outcome result) }
+        ensures { Comes P.telling self.old self.new at events.Next (next_outcome result) }
     {
         match self.tell(alloc, at, Event::Next) {
             Ok(told) => Ok(order_in(told)),
@@ -175,7 +175,7 @@ impl<P: Keeper + Drop> Hall<P> {
     /// The container of the run is up, and its action initialised. Refused where no slot awaits the run: refusal 29. This takes no
     /// memory.
     pub fn begun(&mut self, at: u64, run: u64) -> Result<(), FloorRefusal>
-        ensures { Comes P.rows P.faults self.old self.new at (events.Begun run) (done_outcome result) }
+        ensures { Comes P.telling self.old self.new at (events.Begun run) (done_outcome result) }
     {
         self.take(at, Event::Begun { run })
     }
@@ -183,7 +183,7 @@ impl<P: Keeper + Drop> Hall<P> {
     /// The run is lost: what it carries waits again at its place by acceptance, unless it has ended. Refused where no slot has the
     /// run: refusal 29. This takes no memory.
     pub fn lost(&mut self, at: u64, run: u64) -> Result<(), FloorRefusal>
-        ensures { Comes P.rows P.faults self.old self.new at (events.Lost run) (done_outcome result) }
+        ensures { Comes P.telling self.old self.new at (events.Lost run) (done_outcome result) }
     {
         self.take(at, Event::Lost { run })
     }
@@ -191,14 +191,14 @@ impl<P: Keeper + Drop> Hall<P> {
     /// The container of the slot is gone. Refused where the slot has no container of this generation that could be gone: refusal
     /// 28. This takes no memory.
     pub fn gone(&mut self, at: u64, slot: u32, generation: u32) -> Result<(), FloorRefusal>
-        ensures { Comes P.rows P.faults self.old self.new at (events.Gone slot generation) (done_outcome result) }
+        ensures { Comes P.telling self.old self.new at (events.Gone slot generation) (done_outcome result) }
     {
         self.take(at, Event::Gone { slot, generation })
     }
 
     /// Records the ends of what all late runs carry, by the runs' numbers. It is booked also where no run is late.
     pub fn sweep(&mut self, alloc: Global, at: u64) -> Result<Swept, SweepRefusal>
-        ensures { Comes P.rows P.faults self.old self.new at events.Sweep (swept_outcome result) }
+        ensures { Comes P.telling self.old self.new at events.Sweep (swept_outcome result) }
     {
         match self.tell(alloc, at, Event::Sweep) {
             Ok(told) => Ok(swept_in(told)),
@@ -209,7 +209,7 @@ impl<P: Keeper + Drop> Hall<P> {
     /// Opens the service anew: each activation that has not ended is recorded as abandoned, by id, all containers are gone, nobody waits,
     /// and calls are taken again. It tells what was recorded. Where the store fails or memory is wanted it goes on as it was.
     pub fn reopen_in_place(&mut self, alloc: Global, at: u64) -> Result<Happened, SweepRefusal>
-        ensures { Comes P.rows P.faults self.old self.new at events.Reopened (reopened_outcome result) }
+        ensures { Comes P.telling self.old self.new at events.Reopened (reopened_outcome result) }
     {
         match self.tell(alloc, at, Event::Reopened) {
             Ok(told) => Ok(reopened_in(told)),
@@ -225,7 +225,7 @@ impl<P: Keeper + Drop> Hall<P> {
         run: u64,
         reply: RunReply,
     ) -> Result<Answered, AnswerRefusal>
-        ensures comes { Comes P.rows P.faults self.old self.new at (events.Answered run reply) (reply_outcome result) }
+        ensures comes { Comes P.telling self.old self.new at (events.Answered run reply) (reply_outcome result) }
         ensures back { IfErr result (λ refusal. HandsBack run reply refusal) }
     {
         match self.tell(alloc, at, Event::Answered { run, reply }) {
@@ -237,7 +237,7 @@ impl<P: Keeper + Drop> Hall<P> {
     /// What became of an activation that a blocking request accepted: the answer to that request, once it has ended or the moment
     /// is there up to which the request waits. Where there is no answer yet it isn't booked.
     pub fn collect(&mut self, alloc: Global, at: u64, id: &Id) -> Result<HallCollected, NoMemory>
-        ensures { Comes P.rows P.faults self.old self.new at (events.Collected id.now) (collect_outcome result) }
+        ensures { Comes P.telling self.old self.new at (events.Collected id.now) (collect_outcome result) }
     {
         match self.tell(alloc, at, Event::Collected(*id)) {
             Ok(told) => Ok(collected_in(told)),
@@ -250,7 +250,7 @@ impl<P: Keeper + Drop> Hall<P> {
 
     /// Takes no more invocations from now on. It tells whether all that was accepted has ended.
     pub fn drain(&mut self, alloc: Global, at: u64) -> Result<Drain, NoMemory>
-        ensures { Comes P.rows P.faults self.old self.new at events.Drain (drain_outcome result) }
+        ensures { Comes P.telling self.old self.new at events.Drain (drain_outcome result) }
     {
         match self.tell(alloc, at, Event::Drain) {
             Ok(told) => Ok(drain_in(told)),
@@ -266,7 +266,7 @@ impl<P: Keeper + Drop> Hall<P> {
     // What comes of a beginning, a loss or a going. The room for its entry was taken before.
     fn take(&mut self, at: u64, event: Event) -> Result<(), FloorRefusal>
         requires { wants_memory event ≡ false }
-        ensures { Comes P.rows P.faults self.old self.new at event (done_outcome result) }
+        ensures { Comes P.telling self.old self.new at event (done_outcome result) }
     {
         let now = Now {
             counted: self.book.counted(),
@@ -281,7 +281,7 @@ impl<P: Keeper + Drop> Hall<P> {
     fn tell(&mut self, alloc: Global, at: u64, event: Event) -> Result<Told, Undone>
         requires later { is_opening event ≡ false }
         requires memory { wants_memory event ≡ true }
-        ensures comes { Comes P.rows P.faults self.old self.new at event (outcome result) }
+        ensures comes { Comes P.telling self.old self.new at event (outcome result) }
         ensures back { IfErr result (λ undone. undone.event ≡ event) }
     {
         match self.perform(alloc, at, event) {
@@ -301,7 +301,7 @@ impl<P: Keeper + Drop> Hall<P> {
     pub fn perform(&mut self, alloc: Global, at: u64, event: Event) -> Result<(Told, Told), Undone>
         requires later { is_opening event ≡ false }
         requires memory { wants_memory event ≡ true }
-        ensures comes { Comes P.rows P.faults self.old self.new at event (outcome_twice result) }
+        ensures comes { Comes P.telling self.old self.new at event (outcome_twice result) }
         ensures same { IfOk result (λ r. r.1 ≡ r.0) }
         ensures back { IfErr result (λ undone. undone.event ≡ event) }
     {
@@ -355,19 +355,20 @@ impl<P: Keeper + Drop> Hall<P> {
 
     /// How many calls of the store have failed.
     pub fn faults(&self) -> u64
-        ensures { result ≡ P.faults self.now.store }
+        ensures { result ≡ (P.telling self.now.store).faults }
     {
         self.store.faults()
     }
 }
 
-// Commits what is to be committed, if anything. Where nothing changes of what is kept, the store isn't asked.
+// Commits what is to be committed, if anything, by one commit. Where nothing changes of what is kept, the store isn't asked.
+#[tactic(auto, using(crate::proofs::KeepLaws::commits_to))]
 fn commit<P: Keeper>(
     alloc: Global,
     store: &mut P,
     commit: &Option<Commit>,
 ) -> Result<(), KeeperError>
-    ensures { CommitsTo P.rows P.faults (changes_in commit.now) store.old store.new result }
+    ensures { CommitsTo P.telling (changes_in commit.now) store.old store.new result }
 {
     let Some(commit) = commit else {
         return Ok(());

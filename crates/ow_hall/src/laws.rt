@@ -1,7 +1,13 @@
 // What is true of each book. The functions do nothing: their contracts are the laws.
+ghost use Rattle.std.specs.Prelude.{ℕ};
+ghost use Rattle.ow_decide.specs.declared.events.Event.{Event};
 ghost use Rattle.ow_tenant.specs.Table.{Table};
 ghost use Rattle.ow_hall.specs.Beginnings.{KeepsEach, KeepsLimits};
+ghost use Rattle.ow_hall.specs.Comes.{Comes, HallView, Outcome};
 ghost use Rattle.ow_hall.specs.History.{History, IsLegal};
+ghost use Rattle.ow_hall.specs.Stops.{StopsWell};
+
+use ow_traits::Keeper;
 
 /// By a legal book and each of its beginnings every accepted activation is exactly one of waiting, running and recorded, once, and
 /// has one live run at most; what has ended was accepted, as it was planned; where all have ended, each is recorded, once; and the
@@ -14,4 +20,9 @@ pub fn legal_books_keep_activations()
 /// was accepted, the counts before it were below the allowed numbers, and fewer than 1,000 of all namespaces had not ended.
 pub fn legal_books_keep_limits()
     ensures { (t : Table) (B : History) → IsLegal t B → KeepsLimits t B }
+{}
+
+/// A stop at any moment of a call leaves the rows of before the call or those of after it, whatever comes of the call.
+pub fn stops_leave_whole_calls<P: Keeper>()
+    ensures { (old new : HallView P) (at : ℕ) (event : Event) (o : Outcome) → Comes P.telling old new at event o → StopsWell P.telling old.store new.store }
 {}

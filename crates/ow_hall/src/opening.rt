@@ -51,6 +51,7 @@ pub(crate) struct Ready {
 }
 
 /// Opens over what the store keeps, and commits the opening.
+#[tactic(auto, using(crate::proofs::OpenLaws::asked_none, crate::proofs::OpenLaws::asked_one))]
 pub(crate) fn open_over<P: Keeper>(
     alloc: Global,
     store: &mut P,
@@ -58,8 +59,8 @@ pub(crate) fn open_over<P: Keeper>(
     at: u64,
 ) -> Result<Opened, StartFault>
     requires { AreWantsSized tenants.now.wants }
-    ensures opened { IfOk result (λ o. IsOpenedOver P.rows P.faults store.old store.new tenants.now at o) }
-    ensures refused { IfErr result (λ fault. IsRefused P.rows P.faults store.old store.new fault) }
+    ensures opened { IfOk result (λ o. IsOpenedOver P.telling store.old store.new tenants.now at o) }
+    ensures refused { IfErr result (λ fault. IsRefused P.telling store.old store.new fault) }
 {
     let rows = load(alloc, store)?;
     let ready = match make_ready(alloc, tenants, rows, at) {
@@ -75,9 +76,10 @@ pub(crate) fn open_over<P: Keeper>(
     }
 }
 
+#[tactic(auto, using(crate::proofs::OpenLaws::asked_none))]
 fn load<P: Keeper>(alloc: Global, store: &mut P) -> Result<Rows, StartFault>
-    ensures loaded { IfOk result (λ rows. IsLoaded P.rows P.faults store.old store.new rows) }
-    ensures refused { IfErr result (λ fault. IsRefused P.rows P.faults store.old store.new fault) }
+    ensures loaded { IfOk result (λ rows. IsLoaded P.telling store.old store.new rows) }
+    ensures refused { IfErr result (λ fault. IsRefused P.telling store.old store.new fault) }
 {
     match store.load(alloc) {
         Ok(rows) => Ok(rows),

@@ -13,7 +13,7 @@ use std::alloc::Global;
 impl<P: Keeper + Drop> Hall<P> {
     /// Opens the service over a store and an office table, as `Tenants::read` gives one: its pool and limits stay as they are. What the
     /// store keeps stands then: the rows of entities, the last counts and the records. What had not ended is recorded as abandoned.
-    /// It makes one commit, as is to be seen in the code. A refusal hands store and table back.
+    /// It makes one commit. A refusal hands store and table back.
     pub fn start(
         alloc: Global,
         store: P,
@@ -21,8 +21,8 @@ impl<P: Keeper + Drop> Hall<P> {
         at: u64,
     ) -> Result<Hall<P>, StartRefusal<P>>
         requires { AreWantsSized tenants.wants }
-        ensures opens { IfOk result (λ h. Opens P.rows P.faults store tenants at h) }
-        ensures unopened { IfErr result (λ refusal. IsUnopened P.rows P.faults store tenants refusal) }
+        ensures opens { IfOk result (λ h. Opens P.telling store tenants at h) }
+        ensures unopened { IfErr result (λ refusal. IsUnopened P.telling store tenants refusal) }
     {
         let mut store = store;
         match open_over(alloc, &mut store, &tenants, at) {
@@ -50,7 +50,7 @@ impl<P: Keeper + Drop> Hall<P> {
     /// Opens the service anew: each activation that has not ended is recorded as abandoned, all containers are gone, nobody waits, and
     /// calls are taken again. A refusal hands the service back as it was.
     pub fn reopen(self, alloc: Global, at: u64) -> Result<Hall<P>, Reopened<P>>
-        ensures { IsReopened P.rows P.faults self at result }
+        ensures { IsReopened P.telling self at result }
     {
         let mut hall = self;
         match hall.reopen_in_place(alloc, at) {

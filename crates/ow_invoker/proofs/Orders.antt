@@ -1,5 +1,6 @@
 -- Orders, carried out.
 use Rattle.std.proofs.Common.{◌≡◌, ℕ, List, [], ◌∷◌, ◌++◌, Option, Ok, Err, IfOk, Result, refl, sym, ap, inl, inr, ⊎_elim, append-nil, subst, ◌∙◌}
+use Rattle.ow_traits.specs.Telling.{Telling}
 use Rattle.ow_traits.specs.Runner.{Giving, RanNone, RefusesStart, Tally}
 use Rattle.ow_traits.specs.declared.replies.RunReply.{RunReply}
 use Rattle.ow_value.specs.declared.memory.NoMemory.{NoMemory as Want}
@@ -12,7 +13,7 @@ use Rattle.ow_decide.specs.declared.events.Told.{Told}
 use Rattle.ow_decide.specs.declared.events.Told.TheVariants as told
 use Rattle.ow_decide.specs.Decision.{commits}
 use Rattle.ow_decide.specs.declared.events.Event.{Event}
-use Rattle.ow_hall.specs.Comes.{Answers, Comes, Fails, HallView, KeptRows, Outcome, Wants, decided}
+use Rattle.ow_hall.specs.Comes.{Answers, Comes, Fails, HallView, Outcome, Wants, decided}
 use Rattle.ow_invoker.specs.Parts.{Carries, Lists, Tells, TellsAll, TellsOf, TwoSteps, both, in_order, listed}
 use Rattle.ow_invoker.specs.Shelf.{IsLaid, without}
 use Rattle.ow_invoker.specs.Turns.{AreBoth, Chain, ChainTo, Exchange, Follows, Offers, Removes, Turns, exchange, gone_of, steps_in, steps_of}
@@ -29,19 +30,19 @@ removes_more (d ∷ cs) c shelf [] x left is h = absurd h
 removes_more (d ∷ cs) c shelf (y ∷ xs) x left is h = (h.0, removes_more cs c (without d.slot d.generation shelf) xs x left is h.1)
 
 -- an order came before
-behind_order : {P : Type 0} (rows : P → KeptRows) (faults : P → ℕ) (old : HallView P) (at : ℕ) (middle new : HallView P) (order : Order) (xs : List Exchange) (event : Event) (o : Outcome)
-    → Comes rows faults old middle at events.Next (Answers (told.Next order)) → ChainTo rows faults middle new at xs event o
-    → ChainTo rows faults old new at (exchange events.Next (told.Next order) ∷ xs) event o
-behind_order rows faults old at middle new order xs event o first (last, (chain, comes)) = (last, ((middle, (first, chain)), comes))
+behind_order : {P : Type 0} (telling : P → Telling) (old : HallView P) (at : ℕ) (middle new : HallView P) (order : Order) (xs : List Exchange) (event : Event) (o : Outcome)
+    → Comes telling old middle at events.Next (Answers (told.Next order)) → ChainTo telling middle new at xs event o
+    → ChainTo telling old new at (exchange events.Next (told.Next order) ∷ xs) event o
+behind_order telling old at middle new order xs event o first (last, (chain, comes)) = (last, ((middle, (first, chain)), comes))
 
-module _ {P B : Type 0} (rows : P → KeptRows) (faults : P → ℕ) (old : HallView P) (at : ℕ) where
+module _ {P B : Type 0} (telling : P → Telling) (old : HallView P) (at : ℕ) where
   -- the containers so far are removed, and this is told of them
   abbrev pub Removed : HallView P → List (Laid B) → List (Laid B) → List Container → List TurnStep → Type 0
-  Removed new shelf left cs steps = (xs : List Exchange) × (Removes cs shelf xs left × TellsAll rows faults old new at xs steps)
+  Removed new shelf left cs steps = (xs : List Exchange) × (Removes cs shelf xs left × TellsAll telling old new at xs steps)
 
   -- and one more
   pub removed_more : (middle new : HallView P) (shelf left last : List (Laid B)) (cs : List Container) (c : Container) (steps more : List TurnStep) (step : Option TurnStep)
-      → Removed middle shelf left cs steps → Tells rows faults middle new at (gone_of c) step → last ≡ without c.slot c.generation left → more ≡ steps ++ listed step
+      → Removed middle shelf left cs steps → Tells telling middle new at (gone_of c) step → last ≡ without c.slot c.generation left → more ≡ steps ++ listed step
       → Removed new shelf last (cs ++ c ∷ []) more
   removed_more middle new shelf left last cs c steps more step h k is told =
       let x = exchange (gone_of c) k.0 in (
@@ -49,7 +50,7 @@ module _ {P B : Type 0} (rows : P → KeptRows) (faults : P → ℕ) (old : Hall
         (
           subst (λ s. Removes (cs ++ c ∷ []) shelf (h.0 ++ x ∷ []) s) (sym is) (removes_more cs c shelf h.0 x left refl h.1.0),
           (
-            chain_more rows faults old middle new at h.0 (x ∷ []) h.1.1.0 (new, (k.1.0, refl)),
+            chain_more telling old middle new at h.0 (x ∷ []) h.1.1.0 (new, (k.1.0, refl)),
             told ∙ ap (λ s. s ++ listed step) h.1.1.1 ∙ ap (λ s. steps_in h.0 ++ s) (k.1.1 ∙ sym (append-nil (steps_of (gone_of c) k.0))) ∙ sym (steps_more h.0 (x ∷ [])),
           ),
         ),
@@ -59,32 +60,32 @@ module _ {P B : Type 0} (rows : P → KeptRows) (faults : P → ℕ) (old : Hall
     -- all of them, and the steps are put together, or memory is wanted for it
     pub removed : (new : HallView P) (shelf left : List (Laid B)) (cs : List Container) (steps : List TurnStep) (result : Result (List TurnStep) Want) → RanNone before now
         → Removed new shelf left cs steps → IfOk result (λ list. list ≡ steps)
-        → Carries rows faults gives before now old new at shelf left (orders.Remove cs) result
+        → Carries telling gives before now old new at shelf left (orders.Remove cs) result
     removed new shelf left cs steps (Ok list) none h made = inl (h.0, ((h.1.0, none), (h.1.1.0, made ∙ h.1.1.1)))
     removed new shelf left cs steps (Err e) none h made = inl (h.0, (inr (h.1.0, none), h.1.1.0))
 
     -- a container was laid down, and its prewarming has begun
     pub warmed : (new : HallView P) (shelf left : List (Laid B)) (order : PrewarmOrder) (answer : Told) → gives.starts order.kind × IsLaid order.slot order.generation shelf left → RanNone before now
-        → Comes rows faults old new at (events.Begun order.run) (Answers answer)
-        → Carries rows faults gives before now old new at shelf left (orders.Prewarm order) (Ok [])
+        → Comes telling old new at (events.Begun order.run) (Answers answer)
+        → Carries telling gives before now old new at shelf left (orders.Prewarm order) (Ok [])
     warmed new shelf left order answer laid none comes = inl (
       exchange (events.Begun order.run) answer ∷ [],
       ((inl (laid.0, ((answer, refl), laid.1)), none), ((new, (comes, refl)), refl)),
     )
 
     pub unwarmed : (new : HallView P) (shelf left : List (Laid B)) (order : PrewarmOrder) (steps : TwoSteps) → (reply : RunReply) × RefusesStart gives before now order.kind reply → left ≡ shelf → RanNone before now
-        → (xs : List Exchange) × (AreBoth (events.Lost order.run) (events.Gone order.slot order.generation) xs × Chain rows faults old new at xs × (both steps ≡ steps_in xs))
-        → Carries rows faults gives before now old new at shelf left (orders.Prewarm order) (Ok (both steps))
+        → (xs : List Exchange) × (AreBoth (events.Lost order.run) (events.Gone order.slot order.generation) xs × Chain telling old new at xs × (both steps ≡ steps_in xs))
+        → Carries telling gives before now old new at shelf left (orders.Prewarm order) (Ok (both steps))
     unwarmed new shelf left order steps down same none k = inl (k.0, ((inr (down, (k.1.0, same)), none), (k.1.1, k.1.2)))
 
     pub unheld : (new : HallView P) (shelf left : List (Laid B)) (order : PrewarmOrder) (e : Want) (steps : TwoSteps) → left ≡ shelf → RanNone before now
-        → (xs : List Exchange) × (AreBoth (events.Lost order.run) (events.Gone order.slot order.generation) xs × Chain rows faults old new at xs × (both steps ≡ steps_in xs))
-        → Carries rows faults gives before now old new at shelf left (orders.Prewarm order) (Err e)
+        → (xs : List Exchange) × (AreBoth (events.Lost order.run) (events.Gone order.slot order.generation) xs × Chain telling old new at xs × (both steps ≡ steps_in xs))
+        → Carries telling gives before now old new at shelf left (orders.Prewarm order) (Err e)
     unheld new shelf left order e steps same none k = inl (k.0, (inl ((k.1.0, same), none), k.1.1))
 
     -- the steps are put into a list
     pub in_list : (new : HallView P) (shelf left : List (Laid B)) (order : Order) (steps : Result TwoSteps Want) (result : Result (List TurnStep) Want)
-        → Carries rows faults gives before now old new at shelf left order (in_order steps) → Lists steps result → Carries rows faults gives before now old new at shelf left order result
+        → Carries telling gives before now old new at shelf left order (in_order steps) → Lists steps result → Carries telling gives before now old new at shelf left order result
     in_list new shelf left order (Ok steps) (Ok list) (inl h) k = inl (h.0, (h.1.0, (h.1.1.0, k ∙ h.1.1.1)))
     in_list new shelf left order (Ok steps) (Ok list) (inr h) k = inr (h.0, (h.1.0, (h.1.1.0, h.1.1.1, k ∙ h.1.1.2)))
     in_list new shelf left order (Ok steps) (Err e) (inl h) k = inl (h.0, (inr h.1.0, h.1.1.0))
@@ -93,13 +94,13 @@ module _ {P B : Type 0} (rows : P → KeptRows) (faults : P → ℕ) (old : Hall
     in_list new shelf left order (Err f) (Err e) h k = h
 
     -- behind the order
-    pub turned : (middle new : HallView P) (shelf left : List (Laid B)) (order : Order) → Comes rows faults old middle at events.Next (Answers (told.Next order))
-        → (result : Result Turned Want) → TellsOf rows faults gives before now middle new at shelf left order result → Turns rows faults gives before now old new at shelf left result
+    pub turned : (middle new : HallView P) (shelf left : List (Laid B)) (order : Order) → Comes telling old middle at events.Next (Answers (told.Next order))
+        → (result : Result Turned Want) → TellsOf telling gives before now middle new at shelf left order result → Turns telling gives before now old new at shelf left result
     turned middle new shelf left order first (Ok t) (same, inl h) = inl (
       exchange events.Next (told.Next t.order) ∷ h.0,
       (
         (refl, subst (λ o. Follows gives before now shelf o h.0 left) (sym same) h.1.0),
-        (middle, (subst (λ o. Comes rows faults old middle at events.Next (Answers (told.Next o))) (sym same) first, h.1.1.0)),
+        (middle, (subst (λ o. Comes telling old middle at events.Next (Answers (told.Next o))) (sym same) first, h.1.1.0)),
         h.1.1.1,
       ),
     )
@@ -109,7 +110,7 @@ module _ {P B : Type 0} (rows : P → KeptRows) (faults : P → ℕ) (old : Hall
         h.1.0,
         (
           (refl, subst (λ o. Offers gives before now shelf o h.0 h.1.0 left) (sym same) h.1.1.0),
-          behind_order rows faults old at middle new t.order h.0 h.1.0 Fails (subst (λ o. Comes rows faults old middle at events.Next (Answers (told.Next o))) (sym same) first) h.1.1.1,
+          behind_order telling old at middle new t.order h.0 h.1.0 Fails (subst (λ o. Comes telling old middle at events.Next (Answers (told.Next o))) (sym same) first) h.1.1.1,
           h.1.1.2,
         ),
       ),
@@ -120,11 +121,11 @@ module _ {P B : Type 0} (rows : P → KeptRows) (faults : P → ℕ) (old : Hall
       order,
       (
         exchange events.Next (told.Next order) ∷ h.0,
-        (h.1.0, ((refl, h.1.1.0), ⊎_elim (λ w. inl (behind_order rows faults old at middle new order h.0 h.1.0 Wants first w)) (λ f. inr (behind_order rows faults old at middle new order h.0 h.1.0 Fails first f)) h.1.1.1)),
+        (h.1.0, ((refl, h.1.1.0), ⊎_elim (λ w. inl (behind_order telling old at middle new order h.0 h.1.0 Wants first w)) (λ f. inr (behind_order telling old at middle new order h.0 h.1.0 Fails first f)) h.1.1.1)),
       ),
     )
 
     -- there was no order for want of memory
-    pub unordered : (new : HallView P) (shelf left : List (Laid B)) (e : Want) → left ≡ shelf → RanNone before now → commits (decided old at events.Next) ≡ [] → Comes rows faults old new at events.Next Wants
-        → Turns rows faults gives before now old new at shelf left (Err e)
-    unordered new shelf left e same ran none w = inl ([], ((same, ran), wants_same rows faults old new at events.Next none w))
+    pub unordered : (new : HallView P) (shelf left : List (Laid B)) (e : Want) → left ≡ shelf → RanNone before now → commits (decided old at events.Next) ≡ [] → Comes telling old new at events.Next Wants
+        → Turns telling gives before now old new at shelf left (Err e)
+    unordered new shelf left e same ran none w = inl ([], ((same, ran), wants_same telling old new at events.Next none w))

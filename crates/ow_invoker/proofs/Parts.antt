@@ -1,5 +1,6 @@
 -- A run, from the parts that it has.
 use Rattle.std.proofs.Common.{◌≡◌, ◌⊎◌, ℕ, Bool, true, false, List, [], ◌∷◌, ◌++◌, Option, None, Ok, Err, Result, refl, sym, ap, inl, inr, ⊎_elim, append-nil, subst, ◌∙◌}
+use Rattle.ow_traits.specs.Telling.{Telling}
 use Rattle.ow_slots.specs.State.{is_warm}
 use Rattle.ow_traits.specs.Runner.{Giving, Idles, RanNone, RanOnce, RefusesCode, Replies, Steady, Tally, is_answer}
 use Rattle.ow_traits.specs.declared.replies.RunReply.{RunReply}
@@ -8,7 +9,7 @@ use Rattle.ow_floor.specs.declared.answers.Order.TheVariants as orders
 use Rattle.ow_floor.specs.declared.answers.RunOrder.{RunOrder}
 use Rattle.ow_decide.specs.declared.events.Event.TheVariants as events
 use Rattle.ow_decide.specs.declared.events.Told.{Told}
-use Rattle.ow_hall.specs.Comes.{Answers, Comes, HallView, KeptRows}
+use Rattle.ow_hall.specs.Comes.{Answers, Comes, HallView}
 use Rattle.ow_invoker.specs.Parts.{Books, Carries, EndsBy, Performs, Settles, Tells, TellsAll, TwoSteps, both, in_order, listed, reply_of}
 use Rattle.ow_invoker.specs.Readiness.{Initialised, UpStarts}
 use Rattle.ow_invoker.specs.Shelf.{IsLaid, without}
@@ -82,34 +83,34 @@ module _ {B : Type 0} where
     lies = k.lies;
   }
 
-module _ {P B : Type 0} (rows : P → KeptRows) (faults : P → ℕ) where
+module _ {P B : Type 0} (telling : P → Telling) where
   -- behind a reply that is no answer
-  pub ended : (old new : HallView P) (at : ℕ) (order : RunOrder) (laid : List (Laid B)) (answers late : Bool) (step : Option TurnStep) → answers ≡ false → Tells rows faults old new at (gone order) step
-      → (xs : List Exchange) × (EndsBy answers late order laid xs laid × TellsAll rows faults old new at xs (listed step))
+  pub ended : (old new : HallView P) (at : ℕ) (order : RunOrder) (laid : List (Laid B)) (answers late : Bool) (step : Option TurnStep) → answers ≡ false → Tells telling old new at (gone order) step
+      → (xs : List Exchange) × (EndsBy answers late order laid xs laid × TellsAll telling old new at xs (listed step))
   ended old new at order laid answers late step isnt h =
-      let t = alone_told rows faults old new at (gone order) step h in
+      let t = alone_told telling old new at (gone order) step h in
       (t.0, (subst (λ b. EndsBy b late order laid t.0 laid) (sym isnt) (t.1.0, refl), t.1.1))
 
   -- behind an answer that came late
   pub taken_back : (old new : HallView P) (at : ℕ) (order : RunOrder) (laid left : List (Laid B)) (answers late : Bool) (step : Option TurnStep) → answers ≡ true → late ≡ true
-      → left ≡ without order.slot order.generation laid → Tells rows faults old new at (gone order) step
-      → (xs : List Exchange) × (EndsBy answers late order laid xs left × TellsAll rows faults old new at xs (listed step))
+      → left ≡ without order.slot order.generation laid → Tells telling old new at (gone order) step
+      → (xs : List Exchange) × (EndsBy answers late order laid xs left × TellsAll telling old new at xs (listed step))
   taken_back old new at order laid left answers late step does comes_late is h =
-      let t = alone_told rows faults old new at (gone order) step h in
+      let t = alone_told telling old new at (gone order) step h in
       (t.0, (subst (λ b. EndsBy b late order laid t.0 left) (sym does) (subst (λ l. EndsBy true l order laid t.0 left) (sym comes_late) (t.1.0, is)), t.1.1))
 
   -- behind one in time
   pub stayed : (old : HallView P) (at : ℕ) (order : RunOrder) (laid : List (Laid B)) (answers late : Bool) → answers ≡ true → late ≡ false
-      → (xs : List Exchange) × (EndsBy answers late order laid xs laid × TellsAll rows faults old old at xs [])
+      → (xs : List Exchange) × (EndsBy answers late order laid xs laid × TellsAll telling old old at xs [])
   stayed old at order laid answers late does in_time =
       ([], (subst (λ b. EndsBy b late order laid [] laid) (sym does) (subst (λ l. EndsBy true l order laid [] laid) (sym in_time) (refl, refl)), (refl, refl)))
 
   -- a reply was booked, and what is told of its end follows
   pub booked : (old middle new : HallView P) (at : ℕ) (order : RunOrder) (reply : RunReply) (answers : Bool) (laid left : List (Laid B)) (first : Option TurnStep) (answer : Told) (second : Option TurnStep)
       → answers ≡ is_answer reply
-      → Comes rows faults old middle at (events.Answered order.run reply) (Answers answer) → listed first ≡ steps_of (events.Answered order.run reply) answer
-      → (xs : List Exchange) × (EndsBy answers (is_late answer) order laid xs left × TellsAll rows faults middle new at xs (listed second))
-      → Books rows faults old new at order reply laid left (Ok (first, second))
+      → Comes telling old middle at (events.Answered order.run reply) (Answers answer) → listed first ≡ steps_of (events.Answered order.run reply) answer
+      → (xs : List Exchange) × (EndsBy answers (is_late answer) order laid xs left × TellsAll telling middle new at xs (listed second))
+      → Books telling old new at order reply laid left (Ok (first, second))
   booked old middle new at order reply answers laid left first answer second same comes told h = inl (
     exchange (events.Answered order.run reply) answer ∷ h.0,
     (
@@ -119,7 +120,7 @@ module _ {P B : Type 0} (rows : P → KeptRows) (faults : P → ℕ) where
   )
 
   pub settled : (old new : HallView P) (at : ℕ) (order : RunOrder) (reply : RunReply) (shelf laid left : List (Laid B)) (result : Result TwoSteps Want)
-      → LiesBy (is_answer reply) order shelf laid → Books rows faults old new at order reply laid left result → Settles rows faults old new at order reply shelf left result
+      → LiesBy (is_answer reply) order shelf laid → Books telling old new at order reply laid left result → Settles telling old new at order reply shelf left result
   settled old new at order reply shelf laid left (Ok steps) h (inl k) = inl (
     k.0,
     (
@@ -139,8 +140,8 @@ module _ {P B : Type 0} (rows : P → KeptRows) (faults : P → ℕ) where
     -- the run began, and its reply is settled
     pub performed : (old middle new : HallView P) (at : ℕ) (order : RunOrder) (reply : RunReply) (shelf left : List (Laid B)) (result : Result TwoSteps Want)
         → IsStarted gives order → Replies gives before now order.kind order.code order.params reply → RanOnce before now
-        → (xs : List Exchange) × (OpensBy (is_warm order.start) order xs × Chain rows faults old middle at xs)
-        → Settles rows faults middle new at order reply shelf left result → Performs rows faults gives before now old new at order shelf left result
+        → (xs : List Exchange) × (OpensBy (is_warm order.start) order xs × Chain telling old middle at xs)
+        → Settles telling middle new at order reply shelf left result → Performs telling gives before now old new at order shelf left result
     performed old middle new at order reply shelf left (Ok steps) started replies once b (inl k) = inl (
       b.0 ++ k.0,
       (
@@ -153,7 +154,7 @@ module _ {P B : Type 0} (rows : P → KeptRows) (faults : P → ℕ) where
           settled = k.1.0;
           is = refl;
         },
-        (chain_more rows faults old middle new at b.0 k.0 b.1.1 k.1.1.0, told_behind (is_warm order.start) order b.0 k.0 (both steps) b.1.0 k.1.1.1),
+        (chain_more telling old middle new at b.0 k.0 b.1.1 k.1.1.0, told_behind (is_warm order.start) order b.0 k.0 (both steps) b.1.0 k.1.1.1),
       ),
     )
     performed old middle new at order reply shelf left (Ok steps) started replies once b (inr k) = inr (
@@ -178,7 +179,7 @@ module _ {P B : Type 0} (rows : P → KeptRows) (faults : P → ℕ) where
           opens = opens_so gives before now order reply (is_warm order.start) b.0 refl started once b.1.0;
           left_is = k.1;
         }),
-        subst (λ v. Chain rows faults old v at b.0) (sym k.0) b.1.1,
+        subst (λ v. Chain telling old v at b.0) (sym k.0) b.1.1,
       ),
     )
     performed old middle new at order reply shelf left (Err e) started replies once b (inr k) = inr (
@@ -194,14 +195,14 @@ module _ {P B : Type 0} (rows : P → KeptRows) (faults : P → ℕ) where
 
     -- there was no reply for want of memory
     pub given_up : (old middle new : HallView P) (at : ℕ) (order : RunOrder) (shelf : List (Laid B)) (e : Want) (steps : TwoSteps) → RanOnce before now
-        → (xs : List Exchange) × (OpensBy (is_warm order.start) order xs × Chain rows faults old middle at xs)
-        → (xs : List Exchange) × (AreBoth (lost order) (gone order) xs × Chain rows faults middle new at xs × (both steps ≡ steps_in xs))
-        → Performs rows faults gives before now old new at order shelf shelf (Err e)
+        → (xs : List Exchange) × (OpensBy (is_warm order.start) order xs × Chain telling old middle at xs)
+        → (xs : List Exchange) × (AreBoth (lost order) (gone order) xs × Chain telling middle new at xs × (both steps ≡ steps_in xs))
+        → Performs telling gives before now old new at order shelf shelf (Err e)
     given_up old middle new at order shelf e steps once b k = inl (
       b.0 ++ k.0,
       (
         inl (record { opening = b.0; opens = inl (b.1.0, once); ending = k.0; ends = k.1.0; is = refl; left_is = refl }),
-        chain_more rows faults old middle new at b.0 k.0 b.1.1 k.1.1,
+        chain_more telling old middle new at b.0 k.0 b.1.1 k.1.1,
       ),
     )
 
@@ -220,16 +221,16 @@ module _ {P B : Type 0} (rows : P → KeptRows) (faults : P → ℕ) where
       had_offered xs reply h = subst (λ b. RunOffers b gives before now order shelf xs (reply_of order reply) left) (sym had)
           (reply, (refl, subst (λ s. IsOffered gives before now order reply s xs left) took h))
 
-      pub carried : (result : Result TwoSteps Want) → Performs rows faults gives before now old new at order there left result
-          → Carries rows faults gives before now old new at shelf left (orders.Run order) (in_order result)
+      pub carried : (result : Result TwoSteps Want) → Performs telling gives before now old new at order there left result
+          → Carries telling gives before now old new at shelf left (orders.Run order) (in_order result)
       carried (Ok steps) (inl h) = inl (h.0, (had_carried h.0 h.1.0, h.1.1))
       carried (Ok steps) (inr h) = inr (h.0.0, (reply_of order h.0.1.0, (had_offered h.0.0 h.0.1.0 h.0.1.1.0, h.0.1.1.1, h.1)))
       carried (Err e) (inl h) = inl (h.0, (inl (had_stopped h.0 h.1.0), h.1.1))
       carried (Err e) (inr h) = inr (h.0, (reply_of order h.1.0, (had_offered h.0 h.1.0 h.1.1.0, inl h.1.1.1)))
 
       -- it replied before any parameters
-      pub early : (reply : RunReply) (result : Result TwoSteps Want) → RefusesCode gives before now order.kind order.code reply → RanNone before now → Settles rows faults old new at order reply there left result
-          → Carries rows faults gives before now old new at shelf left (orders.Run order) (in_order result)
+      pub early : (reply : RunReply) (result : Result TwoSteps Want) → RefusesCode gives before now order.kind order.code reply → RanNone before now → Settles telling old new at order reply there left result
+          → Carries telling gives before now old new at shelf left (orders.Run order) (in_order result)
       early reply (Ok steps) refused none (inl k) = inl (
         k.0,
         (
@@ -258,8 +259,8 @@ module _ {P B : Type 0} (rows : P → KeptRows) (faults : P → ℕ) where
 
       -- memory was wanted for it
       pub unready : (e : Want) (steps : TwoSteps) → left ≡ there → is_warm order.start ≡ false → RanNone before now
-          → (xs : List Exchange) × (AreBoth (lost order) (gone order) xs × Chain rows faults old new at xs × (both steps ≡ steps_in xs))
-          → Carries rows faults gives before now old new at shelf left (orders.Run order) (Err e)
+          → (xs : List Exchange) × (AreBoth (lost order) (gone order) xs × Chain telling old new at xs × (both steps ≡ steps_in xs))
+          → Carries telling gives before now old new at shelf left (orders.Run order) (Err e)
       unready e steps same cold none k = inl (
         k.0,
         (inl (had_stopped k.0 (inl (record { opening = []; opens = inr (refl, cold, none); ending = k.0; ends = k.1.0; is = refl; left_is = same }))), k.1.1),
@@ -267,16 +268,16 @@ module _ {P B : Type 0} (rows : P → KeptRows) (faults : P → ℕ) where
 
     -- it doesn't lie there
     pub missed : (old new : HallView P) (at : ℕ) (order : RunOrder) (shelf left : List (Laid B)) (step : Option TurnStep) → is_missing order shelf ≡ true → left ≡ shelf → RanNone before now
-        → Tells rows faults old new at (lost order) step → Carries rows faults gives before now old new at shelf left (orders.Run order) (Ok (both (step, None)))
+        → Tells telling old new at (lost order) step → Carries telling gives before now old new at shelf left (orders.Run order) (Ok (both (step, None)))
     missed old new at order shelf left step missing same none h =
-        let t = alone_told rows faults old new at (lost order) step h in inl (
+        let t = alone_told telling old new at (lost order) step h in inl (
           t.0,
           (subst (λ b. RunFollows b gives before now order shelf t.0 left) (sym missing) (t.1.0, same, none), (t.1.1.0, append-nil (listed step) ∙ t.1.1.1)),
         )
 
   -- the calls before count too
   pub performs_from : (f g h : Giving) (a b c : Tally) (old new : HallView P) (at : ℕ) (order : RunOrder) (shelf left : List (Laid B)) (result : Result TwoSteps Want) → Idles f g a b → Steady g h b c
-      → Performs rows faults g b c old new at order shelf left result → Performs rows faults f a c old new at order shelf left result
+      → Performs telling g b c old new at order shelf left result → Performs telling f a c old new at order shelf left result
   performs_from f g h a b c old new at order shelf left (Ok steps) s t (inl k) = inl (k.0, (carried_from f g h a b c order shelf k.0 left s t k.1.0, k.1.1))
   performs_from f g h a b c old new at order shelf left (Ok steps) s t (inr k) =
       inr ((k.0.0, (k.0.1.0, (offered_from f g h a b c order k.0.1.0 shelf k.0.0 left s t k.0.1.1.0, k.0.1.1.1))), k.1)

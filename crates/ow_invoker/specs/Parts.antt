@@ -1,5 +1,6 @@
 -- The parts of a turn, for private clauses.
 use Rattle.std.specs.Prelude.{◌≡◌, ◌⊎◌, ◌++◌, ℕ, Bool, true, false, List, [], ◌∷◌, Option, Some, None, Result, Ok, Err}
+use Rattle.ow_traits.specs.Telling.{Telling}
 use Rattle.ow_traits.specs.Runner.{Giving, RefusesCode, RefusesStart, Tally, is_answer}
 use Rattle.ow_traits.specs.declared.replies.RunReply.{RunReply}
 use Rattle.ow_value.specs.declared.memory.NoMemory.{NoMemory as Want}
@@ -10,7 +11,7 @@ use Rattle.ow_floor.specs.declared.answers.RunOrder.{RunOrder}
 use Rattle.ow_decide.specs.declared.events.Event.{Event}
 use Rattle.ow_decide.specs.declared.events.Event.TheVariants as events
 use Rattle.ow_decide.specs.declared.events.Told.{Told}
-use Rattle.ow_hall.specs.Comes.{Answers, Comes, Fails, HallView, KeptRows, Outcome, Wants}
+use Rattle.ow_hall.specs.Comes.{Answers, Comes, Fails, HallView, Outcome, Wants}
 use Rattle.ow_invoker.specs.Shelf.{IsLaid, without}
 use Rattle.ow_invoker.specs.Turns.{Chain, ChainTo, ChainUndone, Exchange, Follows, IsAlone, IsCarriedOut, IsGivenUp, IsOffered, IsSettled, IsStarted, IsUnlaid, LiesBy, Offers, Stops, exchange, gone, is_late, is_missing, shelf_at, steps_in, steps_of}
 use Rattle.ow_invoker.specs.declared.readying.Readiness.{Readiness}
@@ -49,12 +50,12 @@ Lists (Err e) (Err f) = Unit {0}
 -- ---- one event
 
 -- the hall takes an event or refuses it, and this is told of it
-abbrev pub Tells : {P : Type 0} → (P → KeptRows) → (P → ℕ) → HallView P → HallView P → ℕ → Event → Option TurnStep → Type 0
-Tells rows faults old new at event step = (answer : Told) × (Comes rows faults old new at event (Answers answer) × (listed step ≡ steps_of event answer))
+abbrev pub Tells : {P : Type 0} → (P → Telling) → HallView P → HallView P → ℕ → Event → Option TurnStep → Type 0
+Tells telling old new at event step = (answer : Told) × (Comes telling old new at event (Answers answer) × (listed step ≡ steps_of event answer))
 
 -- these events, and what is told of them
-abbrev pub TellsAll : {P : Type 0} → (P → KeptRows) → (P → ℕ) → HallView P → HallView P → ℕ → List Exchange → List TurnStep → Type 0
-TellsAll rows faults old new at xs steps = Chain rows faults old new at xs × (steps ≡ steps_in xs)
+abbrev pub TellsAll : {P : Type 0} → (P → Telling) → HallView P → HallView P → ℕ → List Exchange → List TurnStep → Type 0
+TellsAll telling old new at xs steps = Chain telling old new at xs × (steps ≡ steps_in xs)
 
 -- ---- runs
 
@@ -80,36 +81,36 @@ abbrev pub reply_of : RunOrder → RunReply → Event
 reply_of order reply = events.Answered order.run reply
 
 -- or the store fails, and that alone is told
-abbrev pub FailsBy : {P : Type 0} → (P → KeptRows) → (P → ℕ) → HallView P → HallView P → ℕ → Event → TwoSteps → Type 0
-FailsBy rows faults old new at event steps = Comes rows faults old new at event Fails × (both steps ≡ StoreFault ∷ [])
+abbrev pub FailsBy : {P : Type 0} → (P → Telling) → HallView P → HallView P → ℕ → Event → TwoSteps → Type 0
+FailsBy telling old new at event steps = Comes telling old new at event Fails × (both steps ≡ StoreFault ∷ [])
 
-abbrev pub Books : {P B : Type 0} → (P → KeptRows) → (P → ℕ) → HallView P → HallView P → ℕ → RunOrder → RunReply → List (Laid B) → List (Laid B) → Result TwoSteps Want → Type 0
-Books rows faults old new at order reply laid left (Ok steps) =
-    ((xs : List Exchange) × (IsBooked order reply laid xs left × TellsAll rows faults old new at xs (both steps)))
-    ⊎ ((left ≡ laid) × FailsBy rows faults old new at (reply_of order reply) steps)
-Books rows faults old new at order reply laid left (Err e) = (left ≡ laid) × Comes rows faults old new at (reply_of order reply) Wants
+abbrev pub Books : {P B : Type 0} → (P → Telling) → HallView P → HallView P → ℕ → RunOrder → RunReply → List (Laid B) → List (Laid B) → Result TwoSteps Want → Type 0
+Books telling old new at order reply laid left (Ok steps) =
+    ((xs : List Exchange) × (IsBooked order reply laid xs left × TellsAll telling old new at xs (both steps)))
+    ⊎ ((left ≡ laid) × FailsBy telling old new at (reply_of order reply) steps)
+Books telling old new at order reply laid left (Err e) = (left ≡ laid) × Comes telling old new at (reply_of order reply) Wants
 
 -- and the container laid down before, or there is no room for it
-abbrev pub Settles : {P B : Type 0} → (P → KeptRows) → (P → ℕ) → HallView P → HallView P → ℕ → RunOrder → RunReply → List (Laid B) → List (Laid B) → Result TwoSteps Want → Type 0
-Settles rows faults old new at order reply shelf left (Ok steps) =
-    ((xs : List Exchange) × (IsSettled order reply shelf xs left × TellsAll rows faults old new at xs (both steps)))
-    ⊎ (LiesBy (is_answer reply) order shelf left × FailsBy rows faults old new at (reply_of order reply) steps)
-Settles rows faults old new at order reply shelf left (Err e) =
-    ((new ≡ old) × (left ≡ shelf)) ⊎ (LiesBy (is_answer reply) order shelf left × Comes rows faults old new at (reply_of order reply) Wants)
+abbrev pub Settles : {P B : Type 0} → (P → Telling) → HallView P → HallView P → ℕ → RunOrder → RunReply → List (Laid B) → List (Laid B) → Result TwoSteps Want → Type 0
+Settles telling old new at order reply shelf left (Ok steps) =
+    ((xs : List Exchange) × (IsSettled order reply shelf xs left × TellsAll telling old new at xs (both steps)))
+    ⊎ (LiesBy (is_answer reply) order shelf left × FailsBy telling old new at (reply_of order reply) steps)
+Settles telling old new at order reply shelf left (Err e) =
+    ((new ≡ old) × (left ≡ shelf)) ⊎ (LiesBy (is_answer reply) order shelf left × Comes telling old new at (reply_of order reply) Wants)
 
 -- a run takes place in its container, up to the booking of its reply, of which this comes
-abbrev pub OffersTo : {P B : Type 0} → (P → KeptRows) → (P → ℕ) → Giving → Tally → Tally → HallView P → HallView P → ℕ → RunOrder → List (Laid B) → List (Laid B) → Outcome → Type 0
-OffersTo rows faults gives before now old new at order shelf left outcome = (xs : List Exchange)
-    × ((reply : RunReply) × (IsOffered gives before now order reply shelf xs left × ChainTo rows faults old new at xs (reply_of order reply) outcome))
+abbrev pub OffersTo : {P B : Type 0} → (P → Telling) → Giving → Tally → Tally → HallView P → HallView P → ℕ → RunOrder → List (Laid B) → List (Laid B) → Outcome → Type 0
+OffersTo telling gives before now old new at order shelf left outcome = (xs : List Exchange)
+    × ((reply : RunReply) × (IsOffered gives before now order reply shelf xs left × ChainTo telling old new at xs (reply_of order reply) outcome))
 
 -- or to its end
-abbrev pub Performs : {P B : Type 0} → (P → KeptRows) → (P → ℕ) → Giving → Tally → Tally → HallView P → HallView P → ℕ → RunOrder → List (Laid B) → List (Laid B) → Result TwoSteps Want → Type 0
-Performs rows faults gives before now old new at order shelf left (Ok steps) =
-    ((xs : List Exchange) × (IsCarriedOut gives before now order shelf xs left × TellsAll rows faults old new at xs (both steps)))
-    ⊎ (OffersTo rows faults gives before now old new at order shelf left Fails × (both steps ≡ StoreFault ∷ []))
-Performs rows faults gives before now old new at order shelf left (Err e) =
-    ((xs : List Exchange) × ((IsGivenUp before now order shelf xs left ⊎ IsUnlaid gives before now order shelf xs left) × Chain rows faults old new at xs))
-    ⊎ OffersTo rows faults gives before now old new at order shelf left Wants
+abbrev pub Performs : {P B : Type 0} → (P → Telling) → Giving → Tally → Tally → HallView P → HallView P → ℕ → RunOrder → List (Laid B) → List (Laid B) → Result TwoSteps Want → Type 0
+Performs telling gives before now old new at order shelf left (Ok steps) =
+    ((xs : List Exchange) × (IsCarriedOut gives before now order shelf xs left × TellsAll telling old new at xs (both steps)))
+    ⊎ (OffersTo telling gives before now old new at order shelf left Fails × (both steps ≡ StoreFault ∷ []))
+Performs telling gives before now old new at order shelf left (Err e) =
+    ((xs : List Exchange) × ((IsGivenUp before now order shelf xs left ⊎ IsUnlaid gives before now order shelf xs left) × Chain telling old new at xs))
+    ⊎ OffersTo telling gives before now old new at order shelf left Wants
 
 -- ---- getting a container up and initialised
 
@@ -130,32 +131,32 @@ Warms gives before now order shelf left Down = ((reply : RunReply) × RefusesSta
 Warms gives before now order shelf left Unheld = left ≡ shelf
 
 -- an order is carried out
-abbrev pub CarriesOn : {P B : Type 0} → (P → KeptRows) → (P → ℕ) → Giving → Tally → Tally → HallView P → HallView P → ℕ → List (Laid B) → List (Laid B) → Order → List TurnStep → Type 0
-CarriesOn rows faults gives before now old new at shelf left order steps =
-    (xs : List Exchange) × (Follows gives before now shelf order xs left × TellsAll rows faults old new at xs steps)
+abbrev pub CarriesOn : {P B : Type 0} → (P → Telling) → Giving → Tally → Tally → HallView P → HallView P → ℕ → List (Laid B) → List (Laid B) → Order → List TurnStep → Type 0
+CarriesOn telling gives before now old new at shelf left order steps =
+    (xs : List Exchange) × (Follows gives before now shelf order xs left × TellsAll telling old new at xs steps)
 
 -- or up to its runner's reply, at which the store fails
-abbrev pub FailsOn : {P B : Type 0} → (P → KeptRows) → (P → ℕ) → Giving → Tally → Tally → HallView P → HallView P → ℕ → List (Laid B) → List (Laid B) → Order → List TurnStep → Type 0
-FailsOn rows faults gives before now old new at shelf left order steps =
-    (xs : List Exchange) × ((event : Event) × (Offers gives before now shelf order xs event left × ChainTo rows faults old new at xs event Fails × (steps ≡ StoreFault ∷ [])))
+abbrev pub FailsOn : {P B : Type 0} → (P → Telling) → Giving → Tally → Tally → HallView P → HallView P → ℕ → List (Laid B) → List (Laid B) → Order → List TurnStep → Type 0
+FailsOn telling gives before now old new at shelf left order steps =
+    (xs : List Exchange) × ((event : Event) × (Offers gives before now shelf order xs event left × ChainTo telling old new at xs event Fails × (steps ≡ StoreFault ∷ [])))
 
 -- memory is wanted for it
-abbrev pub StopsOn : {P B : Type 0} → (P → KeptRows) → (P → ℕ) → Giving → Tally → Tally → HallView P → HallView P → ℕ → List (Laid B) → List (Laid B) → Order → Type 0
-StopsOn rows faults gives before now old new at shelf left order =
-    (xs : List Exchange) × ((Stops gives before now shelf order xs left ⊎ Follows gives before now shelf order xs left) × Chain rows faults old new at xs)
+abbrev pub StopsOn : {P B : Type 0} → (P → Telling) → Giving → Tally → Tally → HallView P → HallView P → ℕ → List (Laid B) → List (Laid B) → Order → Type 0
+StopsOn telling gives before now old new at shelf left order =
+    (xs : List Exchange) × ((Stops gives before now shelf order xs left ⊎ Follows gives before now shelf order xs left) × Chain telling old new at xs)
 
 -- or for its runner's reply
-abbrev pub StopsLate : {P B : Type 0} → (P → KeptRows) → (P → ℕ) → Giving → Tally → Tally → HallView P → HallView P → ℕ → List (Laid B) → List (Laid B) → Order → Type 0
-StopsLate rows faults gives before now old new at shelf left order =
-    (xs : List Exchange) × ((event : Event) × (Offers gives before now shelf order xs event left × ChainUndone rows faults old new at xs event))
+abbrev pub StopsLate : {P B : Type 0} → (P → Telling) → Giving → Tally → Tally → HallView P → HallView P → ℕ → List (Laid B) → List (Laid B) → Order → Type 0
+StopsLate telling gives before now old new at shelf left order =
+    (xs : List Exchange) × ((event : Event) × (Offers gives before now shelf order xs event left × ChainUndone telling old new at xs event))
 
-abbrev pub Carries : {P B : Type 0} → (P → KeptRows) → (P → ℕ) → Giving → Tally → Tally → HallView P → HallView P → ℕ → List (Laid B) → List (Laid B) → Order → Result (List TurnStep) Want → Type 0
-Carries rows faults gives before now old new at shelf left order (Ok steps) =
-    CarriesOn rows faults gives before now old new at shelf left order steps ⊎ FailsOn rows faults gives before now old new at shelf left order steps
-Carries rows faults gives before now old new at shelf left order (Err e) =
-    StopsOn rows faults gives before now old new at shelf left order ⊎ StopsLate rows faults gives before now old new at shelf left order
+abbrev pub Carries : {P B : Type 0} → (P → Telling) → Giving → Tally → Tally → HallView P → HallView P → ℕ → List (Laid B) → List (Laid B) → Order → Result (List TurnStep) Want → Type 0
+Carries telling gives before now old new at shelf left order (Ok steps) =
+    CarriesOn telling gives before now old new at shelf left order steps ⊎ FailsOn telling gives before now old new at shelf left order steps
+Carries telling gives before now old new at shelf left order (Err e) =
+    StopsOn telling gives before now old new at shelf left order ⊎ StopsLate telling gives before now old new at shelf left order
 
 -- and told
-abbrev pub TellsOf : {P B : Type 0} → (P → KeptRows) → (P → ℕ) → Giving → Tally → Tally → HallView P → HallView P → ℕ → List (Laid B) → List (Laid B) → Order → Result Turned Want → Type 0
-TellsOf rows faults gives before now old new at shelf left order (Ok turned) = (turned.order ≡ order) × Carries rows faults gives before now old new at shelf left order (Ok turned.steps)
-TellsOf rows faults gives before now old new at shelf left order (Err e) = Carries rows faults gives before now old new at shelf left order (Err e)
+abbrev pub TellsOf : {P B : Type 0} → (P → Telling) → Giving → Tally → Tally → HallView P → HallView P → ℕ → List (Laid B) → List (Laid B) → Order → Result Turned Want → Type 0
+TellsOf telling gives before now old new at shelf left order (Ok turned) = (turned.order ≡ order) × Carries telling gives before now old new at shelf left order (Ok turned.steps)
+TellsOf telling gives before now old new at shelf left order (Err e) = Carries telling gives before now old new at shelf left order (Err e)

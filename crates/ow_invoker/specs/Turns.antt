@@ -1,5 +1,6 @@
 -- What one turn comes to: a chain of calls of the hall, what the turn tells of them, and what lies on the shelf afterwards.
 use Rattle.std.specs.Prelude.{◌≡◌, ◌⊎◌, ◌&&◌, ◌++◌, ℕ, Bool, true, false, not, List, [], ◌∷◌, Result, Ok, Err, if◌then◌else◌}
+use Rattle.ow_traits.specs.Telling.{Telling}
 use Rattle.ow_traits.specs.Runner.{Giving, RanNone, RanOnce, RefusesCode, RefusesStart, Replies, Tally, is_answer}
 use Rattle.ow_traits.specs.declared.replies.Kind.{Kind}
 use Rattle.ow_traits.specs.declared.replies.RunReply.{RunReply}
@@ -17,7 +18,7 @@ use Rattle.ow_decide.specs.declared.events.Event.{Event}
 use Rattle.ow_decide.specs.declared.events.Event.TheVariants as events
 use Rattle.ow_decide.specs.declared.events.Told.{Told}
 use Rattle.ow_decide.specs.declared.events.Told.TheVariants as told
-use Rattle.ow_hall.specs.Comes.{Answers, Comes, Fails, HallView, KeptRows, Outcome, Wants}
+use Rattle.ow_hall.specs.Comes.{Answers, Comes, Fails, HallView, Outcome, Wants}
 use Rattle.ow_invoker.specs.Shelf.{IsLaid, lies, without}
 use Rattle.ow_invoker.specs.declared.shelf.Laid.{Laid}
 use Rattle.ow_invoker.specs.declared.turn.TurnStep.{TurnStep}
@@ -35,17 +36,17 @@ abbrev pub exchange : Event → Told → Exchange
 exchange e t = record { event = e; answer = t }
 
 -- events that the hall answered at one moment, the first first; behind none it is what it was
-abbrev pub Chain : {P : Type 0} → (P → KeptRows) → (P → ℕ) → HallView P → HallView P → ℕ → List Exchange → Type 0
-Chain rows faults old new at [] = new ≡ old
-Chain {P} rows faults old new at (x ∷ xs) = (middle : HallView P) × (Comes rows faults old middle at x.event (Answers x.answer) × Chain rows faults middle new at xs)
+abbrev pub Chain : {P : Type 0} → (P → Telling) → HallView P → HallView P → ℕ → List Exchange → Type 0
+Chain telling old new at [] = new ≡ old
+Chain {P} telling old new at (x ∷ xs) = (middle : HallView P) × (Comes telling old middle at x.event (Answers x.answer) × Chain telling middle new at xs)
 
 -- behind such events comes one more, of which this comes
-abbrev pub ChainTo : {P : Type 0} → (P → KeptRows) → (P → ℕ) → HallView P → HallView P → ℕ → List Exchange → Event → Outcome → Type 0
-ChainTo {P} rows faults old new at xs event outcome = (middle : HallView P) × (Chain rows faults old middle at xs × Comes rows faults middle new at event outcome)
+abbrev pub ChainTo : {P : Type 0} → (P → Telling) → HallView P → HallView P → ℕ → List Exchange → Event → Outcome → Type 0
+ChainTo {P} telling old new at xs event outcome = (middle : HallView P) × (Chain telling old middle at xs × Comes telling middle new at event outcome)
 
 -- of which nothing comes: memory is wanted, or the store fails
-abbrev pub ChainUndone : {P : Type 0} → (P → KeptRows) → (P → ℕ) → HallView P → HallView P → ℕ → List Exchange → Event → Type 0
-ChainUndone rows faults old new at xs event = ChainTo rows faults old new at xs event Wants ⊎ ChainTo rows faults old new at xs event Fails
+abbrev pub ChainUndone : {P : Type 0} → (P → Telling) → HallView P → HallView P → ℕ → List Exchange → Event → Type 0
+ChainUndone telling old new at xs event = ChainTo telling old new at xs event Wants ⊎ ChainTo telling old new at xs event Fails
 
 -- ---- what a turn tells
 
@@ -255,27 +256,27 @@ OffersTurn gives before now shelf order [] event left = ⊥
 OffersTurn gives before now shelf order (x ∷ xs) event left = (x ≡ exchange events.Next (told.Next order)) × Offers gives before now shelf order xs event left
 
 -- the turn is made, and told
-abbrev pub IsMade : {P B : Type 0} → (P → KeptRows) → (P → ℕ) → Giving → Tally → Tally → HallView P → HallView P → ℕ → List (Laid B) → List (Laid B) → Turned → Type 0
-IsMade rows faults gives before now old new at shelf left turned =
-    (xs : List Exchange) × (IsTurn gives before now shelf turned.order xs left × Chain rows faults old new at xs × (turned.steps ≡ steps_in xs))
+abbrev pub IsMade : {P B : Type 0} → (P → Telling) → Giving → Tally → Tally → HallView P → HallView P → ℕ → List (Laid B) → List (Laid B) → Turned → Type 0
+IsMade telling gives before now old new at shelf left turned =
+    (xs : List Exchange) × (IsTurn gives before now shelf turned.order xs left × Chain telling old new at xs × (turned.steps ≡ steps_in xs))
 
 -- the store fails at the runner's reply: that is told behind the order, and nothing else; the run stays live
-abbrev pub HasFailed : {P B : Type 0} → (P → KeptRows) → (P → ℕ) → Giving → Tally → Tally → HallView P → HallView P → ℕ → List (Laid B) → List (Laid B) → Turned → Type 0
-HasFailed rows faults gives before now old new at shelf left turned =
-    (xs : List Exchange) × ((event : Event) × (OffersTurn gives before now shelf turned.order xs event left × ChainTo rows faults old new at xs event Fails × (turned.steps ≡ StoreFault ∷ [])))
+abbrev pub HasFailed : {P B : Type 0} → (P → Telling) → Giving → Tally → Tally → HallView P → HallView P → ℕ → List (Laid B) → List (Laid B) → Turned → Type 0
+HasFailed telling gives before now old new at shelf left turned =
+    (xs : List Exchange) × ((event : Event) × (OffersTurn gives before now shelf turned.order xs event left × ChainTo telling old new at xs event Fails × (turned.steps ≡ StoreFault ∷ [])))
 
 -- memory is wanted: what was booked stands
-abbrev pub HasStopped : {P B : Type 0} → (P → KeptRows) → (P → ℕ) → Giving → Tally → Tally → HallView P → HallView P → ℕ → List (Laid B) → List (Laid B) → Type 0
-HasStopped rows faults gives before now old new at shelf left = (xs : List Exchange) × (BeginsTurn gives before now shelf xs left × Chain rows faults old new at xs)
+abbrev pub HasStopped : {P B : Type 0} → (P → Telling) → Giving → Tally → Tally → HallView P → HallView P → ℕ → List (Laid B) → List (Laid B) → Type 0
+HasStopped telling gives before now old new at shelf left = (xs : List Exchange) × (BeginsTurn gives before now shelf xs left × Chain telling old new at xs)
 
 -- or is wanted for the reply, or behind a fault of the store at it
-abbrev pub HasStoppedLate : {P B : Type 0} → (P → KeptRows) → (P → ℕ) → Giving → Tally → Tally → HallView P → HallView P → ℕ → List (Laid B) → List (Laid B) → Type 0
-HasStoppedLate rows faults gives before now old new at shelf left =
-    (order : Order) × ((xs : List Exchange) × ((event : Event) × (OffersTurn gives before now shelf order xs event left × ChainUndone rows faults old new at xs event)))
+abbrev pub HasStoppedLate : {P B : Type 0} → (P → Telling) → Giving → Tally → Tally → HallView P → HallView P → ℕ → List (Laid B) → List (Laid B) → Type 0
+HasStoppedLate telling gives before now old new at shelf left =
+    (order : Order) × ((xs : List Exchange) × ((event : Event) × (OffersTurn gives before now shelf order xs event left × ChainUndone telling old new at xs event)))
 
 -- what comes of a turn
-abbrev pub Turns : {P B : Type 0} → (P → KeptRows) → (P → ℕ) → Giving → Tally → Tally → HallView P → HallView P → ℕ → List (Laid B) → List (Laid B) → Result Turned Want → Type 0
-Turns rows faults gives before now old new at shelf left (Ok turned) =
-    IsMade rows faults gives before now old new at shelf left turned ⊎ HasFailed rows faults gives before now old new at shelf left turned
-Turns rows faults gives before now old new at shelf left (Err e) =
-    HasStopped rows faults gives before now old new at shelf left ⊎ HasStoppedLate rows faults gives before now old new at shelf left
+abbrev pub Turns : {P B : Type 0} → (P → Telling) → Giving → Tally → Tally → HallView P → HallView P → ℕ → List (Laid B) → List (Laid B) → Result Turned Want → Type 0
+Turns telling gives before now old new at shelf left (Ok turned) =
+    IsMade telling gives before now old new at shelf left turned ⊎ HasFailed telling gives before now old new at shelf left turned
+Turns telling gives before now old new at shelf left (Err e) =
+    HasStopped telling gives before now old new at shelf left ⊎ HasStoppedLate telling gives before now old new at shelf left

@@ -22,7 +22,7 @@ pub(crate) fn remove<P: Keeper + Drop, R: Runner>(
     at: u64,
     containers: &Items<Container>,
 ) -> Result<TurnSteps, NoMemory>
-    ensures turns { Carries P.rows P.faults (R.gives runner.old) (R.tally runner.old) (R.tally runner.new) hall.old hall.new at shelf.old shelf.new (orders.Remove containers.now) result }
+    ensures turns { Carries P.telling (R.gives runner.old) (R.tally runner.old) (R.tally runner.new) hall.old hall.new at shelf.old shelf.new (orders.Remove containers.now) result }
     ensures runner { Idles (R.gives runner.old) (R.gives runner.new) (R.tally runner.old) (R.tally runner.new) }
 {
     let Ok(mut steps) = Vec::with_capacity(alloc, containers.len()) else {

@@ -22,7 +22,7 @@ pub(crate) type TwoSteps = (Option<TurnStep>, Option<TurnStep>);
 
 /// The run is lost.
 pub(crate) fn lose<P: Keeper + Drop>(hall: &mut Hall<P>, at: u64, run: u64) -> Option<TurnStep>
-    ensures { Tells P.rows P.faults hall.old hall.new at (events.Lost run) result }
+    ensures { Tells P.telling hall.old hall.new at (events.Lost run) result }
 {
     match hall.lost(at, run) {
         Ok(()) => Some(TurnStep::Lost { run }),
@@ -37,7 +37,7 @@ pub(crate) fn report_gone<P: Keeper + Drop>(
     slot: u32,
     generation: u32,
 ) -> Option<TurnStep>
-    ensures { Tells P.rows P.faults hall.old hall.new at (events.Gone slot generation) result }
+    ensures { Tells P.telling hall.old hall.new at (events.Gone slot generation) result }
 {
     match hall.gone(at, slot, generation) {
         Ok(()) => Some(TurnStep::Gone { slot, generation }),
@@ -54,7 +54,7 @@ pub(crate) fn give_up<P: Keeper + Drop>(
     generation: u32,
 ) -> TwoSteps
     ensures { (xs : List Exchange) × (AreBoth (events.Lost run) (events.Gone slot generation) xs
-        × Chain P.rows P.faults hall.old hall.new at xs × (both result ≡ steps_in xs)) }
+        × Chain P.telling hall.old hall.new at xs × (both result ≡ steps_in xs)) }
 {
     let lost = lose(hall, at, run);
     let gone = report_gone(hall, at, slot, generation);
@@ -70,7 +70,7 @@ pub(crate) fn clear<P: Keeper + Drop, R: Runner>(
     slot: u32,
     generation: u32,
 ) -> Option<TurnStep>
-    ensures tells { Tells P.rows P.faults hall.old hall.new at (events.Gone slot generation) result }
+    ensures tells { Tells P.telling hall.old hall.new at (events.Gone slot generation) result }
     ensures shelf { shelf.new ≡ without slot generation shelf.old }
     ensures runner { Idles (R.gives runner.old) (R.gives runner.new) (R.tally runner.old) (R.tally runner.new) }
 {
@@ -83,7 +83,7 @@ pub(crate) fn clear<P: Keeper + Drop, R: Runner>(
 /// The container of a start that isn't warm is up and initialised.
 pub(crate) fn begin<P: Keeper + Drop>(hall: &mut Hall<P>, at: u64, order: &RunOrder)
     ensures { (xs : List Exchange) × (OpensBy (is_warm order.now.start) order.now xs
-        × Chain P.rows P.faults hall.old hall.new at xs) }
+        × Chain P.telling hall.old hall.new at xs) }
 {
     if is_warm(order.start) {
         return;

@@ -25,7 +25,7 @@ pub(crate) fn run<P: Keeper + Drop, R: Runner>(
     at: u64,
     order: &RunOrder,
 ) -> Result<TwoSteps, NoMemory>
-    ensures turns { Carries P.rows P.faults (R.gives runner.old) (R.tally runner.old) (R.tally runner.new) hall.old hall.new at shelf.old shelf.new (orders.Run order.now) (in_order result) }
+    ensures turns { Carries P.telling (R.gives runner.old) (R.tally runner.old) (R.tally runner.new) hall.old hall.new at shelf.old shelf.new (orders.Run order.now) (in_order result) }
     ensures runner { Steady (R.gives runner.old) (R.gives runner.new) (R.tally runner.old) (R.tally runner.new) }
 {
     match make_ready(alloc, shelf, runner, order) {
@@ -50,7 +50,7 @@ fn perform<P: Keeper + Drop, R: Runner>(
     mut living: Living<R::Container>,
 ) -> Result<TwoSteps, NoMemory>
     requires { IsStarted (R.gives runner.old) order.now }
-    ensures performs { Performs P.rows P.faults (R.gives runner.old) (R.tally runner.old) (R.tally runner.new) hall.old hall.new at order.now shelf.old shelf.new result }
+    ensures performs { Performs P.telling (R.gives runner.old) (R.tally runner.old) (R.tally runner.new) hall.old hall.new at order.now shelf.old shelf.new result }
     ensures runner { Runs (R.gives runner.old) (R.gives runner.new) (R.tally runner.old) (R.tally runner.new) }
 {
     begin(hall, at, order);
@@ -76,7 +76,7 @@ fn settle<P: Keeper + Drop, R: Runner>(
     held: Option<Living<R::Container>>,
 ) -> Result<TwoSteps, NoMemory>
     requires { held ≡ None → is_answer reply ≡ false }
-    ensures settles { Settles P.rows P.faults hall.old hall.new at order.now reply shelf.old shelf.new result }
+    ensures settles { Settles P.telling hall.old hall.new at order.now reply shelf.old shelf.new result }
     ensures runner { Idles (R.gives runner.old) (R.gives runner.new) (R.tally runner.old) (R.tally runner.new) }
 {
     match lay_down(shelf, runner, order, &reply, held) {
@@ -123,7 +123,7 @@ fn book<P: Keeper + Drop, R: Runner>(
     order: &RunOrder,
     reply: RunReply,
 ) -> Result<TwoSteps, NoMemory>
-    ensures books { Books P.rows P.faults hall.old hall.new at order.now reply shelf.old shelf.new result }
+    ensures books { Books P.telling hall.old hall.new at order.now reply shelf.old shelf.new result }
     ensures runner { Idles (R.gives runner.old) (R.gives runner.new) (R.tally runner.old) (R.tally runner.new) }
 {
     let answers = reply.is_answer();
@@ -152,7 +152,7 @@ fn end<P: Keeper + Drop, R: Runner>(
     late: bool,
 ) -> Option<TurnStep>
     ensures ends { (xs : List Exchange) × (EndsBy answers late order.now shelf.old xs shelf.new
-        × TellsAll P.rows P.faults hall.old hall.new at xs (listed result)) }
+        × TellsAll P.telling hall.old hall.new at xs (listed result)) }
     ensures runner { Idles (R.gives runner.old) (R.gives runner.new) (R.tally runner.old) (R.tally runner.new) }
 {
     if answers {

@@ -49,7 +49,7 @@ pub fn day_turn<P: Keeper + Drop, R: Runner>(
     runner: &mut R,
     at: u64,
 ) -> Result<Turned, NoMemory>
-    ensures turns { Turns P.rows P.faults (R.gives runner.old) (R.tally runner.old) (R.tally runner.new) hall.old hall.new at shelf.old shelf.new result }
+    ensures turns { Turns P.telling (R.gives runner.old) (R.tally runner.old) (R.tally runner.new) hall.old hall.new at shelf.old shelf.new result }
     ensures runner { Steady (R.gives runner.old) (R.gives runner.new) (R.tally runner.old) (R.tally runner.new) }
 {
     let Ok(()) = shelf.make_room() else {
@@ -70,7 +70,7 @@ fn follow<P: Keeper + Drop, R: Runner>(
     at: u64,
     order: Order,
 ) -> Result<Turned, NoMemory>
-    ensures turns { TellsOf P.rows P.faults (R.gives runner.old) (R.tally runner.old) (R.tally runner.new) hall.old hall.new at shelf.old shelf.new order result }
+    ensures turns { TellsOf P.telling (R.gives runner.old) (R.tally runner.old) (R.tally runner.new) hall.old hall.new at shelf.old shelf.new order result }
     ensures runner { Steady (R.gives runner.old) (R.gives runner.new) (R.tally runner.old) (R.tally runner.new) }
 {
     match carry(alloc, hall, shelf, runner, at, &order) {
@@ -87,7 +87,7 @@ fn carry<P: Keeper + Drop, R: Runner>(
     at: u64,
     order: &Order,
 ) -> Result<TurnSteps, NoMemory>
-    ensures turns { Carries P.rows P.faults (R.gives runner.old) (R.tally runner.old) (R.tally runner.new) hall.old hall.new at shelf.old shelf.new order.now result }
+    ensures turns { Carries P.telling (R.gives runner.old) (R.tally runner.old) (R.tally runner.new) hall.old hall.new at shelf.old shelf.new order.now result }
     ensures runner { Steady (R.gives runner.old) (R.gives runner.new) (R.tally runner.old) (R.tally runner.new) }
 {
     match order {

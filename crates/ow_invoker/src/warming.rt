@@ -32,7 +32,7 @@ pub(crate) fn prewarm<P: Keeper + Drop, R: Runner>(
     at: u64,
     order: &PrewarmOrder,
 ) -> Result<TwoSteps, NoMemory>
-    ensures turns { Carries P.rows P.faults (R.gives runner.old) (R.tally runner.old) (R.tally runner.new) hall.old hall.new at shelf.old shelf.new (orders.Prewarm order.now) (in_order result) }
+    ensures turns { Carries P.telling (R.gives runner.old) (R.tally runner.old) (R.tally runner.new) hall.old hall.new at shelf.old shelf.new (orders.Prewarm order.now) (in_order result) }
     ensures runner { Idles (R.gives runner.old) (R.gives runner.new) (R.tally runner.old) (R.tally runner.new) }
 {
     match warm(alloc, shelf, runner, order) {

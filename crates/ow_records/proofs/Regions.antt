@@ -48,7 +48,7 @@ regions_rise [] h = tt
 regions_rise (x ∷ xs) h =
     (all_weaker _ _ xs (λ y n. below_or_same _ (text_cmp (id_key x) (id_key y)) (λ g. n (region_then x.namespace y.namespace _ _ ∙ g))) h.0, regions_rise xs h.1)
 
-itself : (a : List ℕ) → text_cmp a a ≡ Equal
+pub itself : (a : List ℕ) → text_cmp a a ≡ Equal
 itself a = by_order _ (nat_list_cmp_total.antisymm a a)
   where
     by_order : (o : Ordering) → o ≡ ordering_reverse o → o ≡ Equal

@@ -271,7 +271,7 @@ and_true true = refl
 and_true false = refl
 
 -- an activation is told by the numbers of its id
-id_told : (id : Id) (r : Record) → is_of_id id r ≡ has_key id_key (id_numbers id) r
+pub id_told : (id : Id) (r : Record) → is_of_id id r ≡ has_key id_key (id_numbers id) r
 id_told id r =
     ap (λ t. (r.id.namespace == id.namespace) && t) (and_true (r.id.count == id.count))
     ∙ test_of (id_key r) (id_numbers id) _ refl

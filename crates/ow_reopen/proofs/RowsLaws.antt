@@ -57,7 +57,7 @@ use Rattle.ow_tables.specs.Builtin.{builtin, is_builtin}
 use Rattle.ow_tables.specs.Refusal.{old_row}
 use Rattle.ow_tables.specs.Rows.{is_row, key, key_of, with_row, without}
 use Rattle.ow_tables.proofs.BuiltinLaws.{echo_full, utils_full}
-use Rattle.ow_tenant.specs.ByText.{ByText, value_at}
+use Rattle.ow_value.specs.ByText.{ByText, value_at}
 use Rattle.ow_tenant.specs.Table.{Table, AreHomes}
 use Rattle.ow_tenant.specs.Tenants.{holder_of}
 use Rattle.ow_tenant.specs.declared.entries.Holder.{Holder}
@@ -68,8 +68,8 @@ use Rattle.ow_decide.specs.Decision.{all_changed}
 use Rattle.ow_decide.specs.Decisions.{decide}
 use Rattle.ow_decide.specs.Opening.{are_resumable, is_fresh, opened_decision, parts_taken, taken_if}
 use Rattle.ow_decide.specs.Sight.{Sight}
-use Rattle.ow_decide.specs.Steps.{or_else}
-use Rattle.ow_decide.specs.Tenants.{asker}
+use Rattle.ow_reads.specs.Steps.{or_else}
+use Rattle.ow_reads.specs.Tenants.{asker}
 use Rattle.ow_decide.specs.declared.events.Event.{Event}
 use Rattle.ow_decide.specs.declared.events.Event.TheVariants as events
 use Rattle.ow_decide.proofs.RowLaws.{request_rows}

@@ -1,31 +1,19 @@
 -- What happened stays within the greatest moment behind what is decided, and what is taken over may be read again.
-use Rattle.std.proofs.Common.{◌≡◌, ◌≤◌, ◌+◌, ◌&&◌, ℕ, Bool, true, false, cond, List, [], ◌∷◌, max, nat_le, not, option_and_then, Option, Some, None, Result, Ok, Err, IfOk, IfSome, refl, sym, ap, ◌∙◌, subst, arith}
-use Rattle.std.specs.Prelude.{is_none}
-use Rattle.std.specs.List.{find, AllByRecursion}
+use Rattle.std.proofs.Common.{◌≡◌, ◌≤◌, ◌+◌, ◌++◌, ◌&&◌, ℕ, Bool, true, false, List, [], ◌∷◌, max, nat_le, not, option_and_then, Option, Some, None, Result, Ok, Err, IfSome, refl, sym, ap, ◌∙◌, subst, arith}
+use Rattle.std.specs.List.{AllByRecursion}
 use Rattle.std.proofs.Math.Nat.{max-le}
 use Rattle.std.proofs.lemmas.Bool.{and_from, and_parts, le-leb, leb-true}
 use Rattle.ow_value.specs.Decimal.{digits_of}
 use Rattle.ow_records.specs.declared.ids.Id.{Id}
-use Rattle.ow_records.specs.declared.outcomes.Ending.{Ending}
-use Rattle.ow_records.specs.declared.outcomes.Ending.TheVariants.{Abandoned, Replied, Overran}
 use Rattle.ow_records.specs.declared.record.Record.{Record}
 use Rattle.ow_records.specs.declared.unrecorded.Unrecorded.{Unrecorded}
 use Rattle.ow_records.specs.Unrecorded.{abandoned_record}
 use Rattle.ow_traits.specs.Rows.{text_of}
-use Rattle.ow_traits.specs.declared.replies.RunReply.{RunReply}
-use Rattle.ow_slots.specs.declared.states.Slot.{Slot}
-use Rattle.ow_slots.specs.Slots.{first_with}
-use Rattle.ow_slots.specs.State.{recorded_of, runs}
-use Rattle.ow_pool.specs.declared.answers.Place.{Place}
-use Rattle.ow_pool.specs.declared.answers.Place.TheVariants as places
 use Rattle.ow_floor.specs.declared.activations.Open.{Open}
-use Rattle.ow_floor.specs.declared.activations.Plan.{Plan}
 use Rattle.ow_floor.specs.declared.runs.Run.{Run}
-use Rattle.ow_floor.specs.View.{Shown as FloorShown, begun, is_number, is_of, waits}
-use Rattle.ow_floor.specs.Trace.{Answered, Begun, Gone, Item, Lost, Ordered, Reopened, Resumed, Trace, last, live, live_after, open_items, shown, slots}
-use Rattle.ow_floor.specs.Growth.{grown}
-use Rattle.ow_floor.specs.Calls.{abandon_items, abandoned_items, accept_items, answered_items, begins, begun_items, busy_run, end_items, goes, gone_items, is_late, items_if, late_items, late_of, loses, lost_items, next_items, order_items, overrun_items, place_on, reply_items, run_by, sorted_by_id, swept_items}
-use Rattle.ow_floor.proofs.Firsts.{all_found, all_push, all_removed, all_updated}
+use Rattle.ow_floor.specs.View.{begun, is_number}
+use Rattle.ow_floor.specs.Trace.{Accepted, Answered, Begun, Ended, Item, Lost, Ordered, Reopened, Resumed, Trace, last, live, live_after}
+use Rattle.ow_floor.proofs.Firsts.{all_push, all_removed, all_updated}
 use Rattle.ow_items.specs.Item.{count_key}
 use Rattle.ow_items.specs.Sorted.{Entries}
 use Rattle.ow_items.specs.declared.item.Item.{Item as KeptItem}
@@ -41,17 +29,18 @@ use Rattle.ow_kept.specs.Opening.{abandoned, resumed_records}
 use Rattle.ow_kept.specs.Shallow.{AbandonedAreShallow}
 use Rattle.ow_kept.proofs.Ids.{all_both}
 use Rattle.ow_kept.proofs.Picking.{counts_picked, dones_picked, each_picked, opens_picked, pick_count, pick_done, pick_open}
-use Rattle.ow_http.specs.Request.{parts_of}
-use Rattle.ow_http.specs.declared.reason.Reason.{Reason}
 use Rattle.ow_decide.specs.declared.events.Event.{Event}
 use Rattle.ow_decide.specs.declared.events.Event.TheVariants as events
 use Rattle.ow_decide.specs.Sight.{Sight}
-use Rattle.ow_decide.specs.Calling.{call_decision, call_plan}
-use Rattle.ow_decide.specs.Asking.{Done, Shown, Changed, Invoked, ask_decision, request_done}
+use Rattle.ow_decide.specs.Asking.{Done}
 use Rattle.ow_decide.specs.Opening.{are_resumable, is_fresh, opened_decision, parts_taken, taken_if}
 use Rattle.ow_decide.specs.Decisions.{decide}
-use Rattle.ow_decide.proofs.AcceptLaws.{IsAdmitted, IsAdmittedDone, asked_admitted, called_admitted}
-use Rattle.ow_reopen.specs.Lasting.{AreEarly, AreWritable, IsDue, IsEarly, IsLasting}
+use Rattle.ow_decide.specs.Chain.{AreSteps, IsAccepted, IsOneOf, IsStep}
+use Rattle.ow_decide.proofs.ChainLaws.{all_one_of, decided_steps}
+use Rattle.ow_entity.specs.declared.actions.Action.{Action}
+use Rattle.ow_names.specs.declared.full.FullName.{FullName}
+use Rattle.ow_records.specs.declared.activations.Activation.{Activation}
+use Rattle.ow_reopen.specs.Lasting.{AreEarly, AreWritable, IsDue, IsEarly, IsLasting, IsTimely}
 use Rattle.ow_reopen.specs.Laws.{TracesLast}
 use Rattle.ow_reopen.proofs.Callees.{callee_good}
 
@@ -89,101 +78,35 @@ pub live_due : (T : Trace) → AreEarly T → AllByRecursion IsDue (live T)
 live_due [] early = tt
 live_due (item ∷ T) early = due_after item (live T) early.0 (live_due T early.1)
 
-due_found : (o : Option Run) (p : Run → Bool) (rs : List Run) → AllByRecursion IsDue rs → find p rs ≡ o → IfSome o IsDue
-due_found None p rs all e = tt
-due_found (Some r) p rs all e = all_found IsDue p r rs all e
+-- ---- a chain
 
-due_by : (s : Option Slot) (o : Option Run) → IfSome o IsDue → IfSome (run_by s o) IsDue
-due_by None o due = tt
-due_by (Some s) o due = due
+timely : (S : Sight) (a : Activation) (T : Trace) → S.moment ≤ GREATEST_MOMENT → AreWritable S.rows → a.at ≡ S.moment → IsAccepted S a T → IsTimely a
+timely S a T small all now ok = record {
+  counted = above a.id.count (last T a.id.namespace) ok.next;
+  early = omega (arith, small, now);
+  called =
+      ap (λ (o : Option Id). is_called o a.action.version a.binding) ok.uncaused
+      ∙ (ap (λ (x : Action). is_called None x.version a.binding) ok.callee.action
+      ∙ (ap (λ (n : Option FullName). is_called None ok.callee.called.action.version n) ok.callee.binding
+      ∙ callee_good S.rows all ok.callee.callee.0 ok.callee.callee.1.0 ok.callee.called ok.callee.callee.1.1));
+}
 
-busy_due : (run : ℕ) (T : Trace) → AreEarly T → IfSome (busy_run run (shown T)) IsDue
-busy_due run T early =
-    due_by (first_with (runs run) (slots T)) (find (is_number run) (live T)) (due_found (find (is_number run) (live T)) (is_number run) (live T) (live_due T early) refl)
+run_due : (S : Sight) (r : Option Run) → IfSome r (λ x. IsOneOf x (live S.trace)) → AllByRecursion IsDue (live S.trace) → IfSome r IsDue
+run_due S None one due = tt
+run_due S (Some r) one due = all_one_of IsDue r (live S.trace) one due
 
--- ---- items of the calls
+early_step : (S : Sight) (item : Item) (T : Trace) → S.moment ≤ GREATEST_MOMENT → AreWritable S.rows → AllByRecursion IsDue (live S.trace) → IsStep S item T → IsEarly item
+early_step S (Accepted a) T small all due step = timely S a T small all step.at step.is
+early_step S (Ordered r key) T small all due step =
+    let now : r.at ≡ S.moment = step.at in record { ordered = omega (arith, small, now); began = subst (λ (o : Option ℕ). IfSome o (λ at. at ≤ GREATEST_MOMENT)) (sym step.is) tt }
+early_step S (Begun run at) T small all due step = let now : at ≡ S.moment = step.at in omega (arith, small, now)
+early_step S (Ended e) T small all due step = (let now : e.at ≡ S.moment = step.at in omega (arith, small, now), run_due S e.run step.is.live due)
+early_step S (Resumed counts rs) T small all due step = absurd step.is
+early_step S item T small all due step = tt
 
-early_if : (b : Bool) (item : Item) → IsEarly item → AreEarly (items_if b item)
-early_if true item early = (early, tt)
-early_if false item early = tt
-
-module _ (at : ℕ) (small : at ≤ GREATEST_MOMENT) where
-  early_order : (p : Place) (o : Option Open) (v : FloorShown) → AreEarly (order_items p o at v)
-  early_order (places.Run slot start) None v = tt
-  early_order (places.Run slot start) (Some o) v = (record { ordered = small; began = tt }, tt)
-  early_order (places.Prewarm slot kind memory) o v = (tt, tt)
-  early_order (places.Remove slots) o v = (tt, tt)
-  early_order (places.Nothing reason) o v = tt
-
-  early_end : (ending : Ending) (run : Option Run) (o : Option Open) → IfSome run IsDue → AreEarly (end_items at ending run o)
-  early_end ending run None due = tt
-  early_end ending run (Some o) due = ((small, due), tt)
-
-  early_reply : (run : ℕ) (reply : RunReply) (v : FloorShown) (r : Option Run) → IfSome r IsDue → AreEarly (reply_items at run reply v r)
-  early_reply run reply v None due = tt
-  early_reply run reply v (Some r) due = (tt, early_end (Replied reply) (Some r) (find (is_of r.id) v.open_items) due)
-
-  early_by : (r : Run) (o : Open) (b : Bool) → IsDue r → AreEarly (cond b (end_items at Overran (Some r) (Some o)) [])
-  early_by r o true due = ((small, due), tt)
-  early_by r o false due = tt
-
-  early_late : (r : Run) (s : Option Slot) (o : Option Open) → IsDue r → AreEarly (late_items at r s o)
-  early_late r None o due = tt
-  early_late r (Some s) None due = tt
-  early_late r (Some s) (Some o) due = early_by r o (is_none (recorded_of s.state) && is_late at r o.task) due
-
-  early_overrun : (rs : List Run) (v : FloorShown) → AllByRecursion IsDue rs → AreEarly (overrun_items at rs v)
-  early_overrun [] v due = tt
-  early_overrun (r ∷ rs) v due =
-      all_both IsEarly (overrun_items at rs (grown (late_of at r v) v)) (late_of at r v) (early_overrun rs (grown (late_of at r v) v) due.1)
-      (early_late r (first_with (runs r.number) v.slots) (find (is_of r.id) v.open_items) due.0)
-
-  early_abandoned : (os : List Open) → AreEarly (abandoned_items at os)
-  early_abandoned [] = tt
-  early_abandoned (o ∷ os) = all_both IsEarly (abandoned_items at os) (end_items at Abandoned None (Some o)) (early_abandoned os) ((small, tt), tt)
-
-  early_next : (T : Trace) → AreEarly (next_items at T)
-  early_next T = early_order (place_on (shown T)) (find waits (shown T).open_items) (shown T)
-
-  early_answered : (run : ℕ) (reply : RunReply) (T : Trace) → AreEarly T → AreEarly (answered_items at run reply T)
-  early_answered run reply T early = early_reply run reply (shown T) (busy_run run (shown T)) (busy_due run T early)
-
-  early_swept : (T : Trace) → AreEarly T → AreEarly (swept_items at T)
-  early_swept T early = (tt, early_overrun (live T) (shown T) (live_due T early))
-
-  early_abandon : (T : Trace) → AreEarly (abandon_items at T)
-  early_abandon T = (tt, early_abandoned (sorted_by_id (open_items T)))
-
-early_begun : (at run : ℕ) (T : Trace) → at ≤ GREATEST_MOMENT → AreEarly (begun_items at run T)
-early_begun at run T small = early_if (begins run T) (Begun run at) small
-
-early_lost : (at run : ℕ) (T : Trace) → AreEarly (lost_items at run T)
-early_lost at run T = early_if (loses run T) (Lost run at) tt
-
-early_gone : (at slot generation : ℕ) (T : Trace) → AreEarly (gone_items at slot generation T)
-early_gone at slot generation T = early_if (goes slot generation T) (Gone slot generation at) tt
-
--- ---- what is accepted
-
-early_accepted : (S : Sight) (plan : Plan) → S.moment ≤ GREATEST_MOMENT → AreWritable S.rows → IsAdmitted S plan → AreEarly (accept_items S.moment plan)
-early_accepted S plan small all ok = (
-  record {
-    counted = above plan.id.count (last S.trace plan.id.namespace) ok.next;
-    early = small;
-    called = ap (λ o. is_called o plan.effective.action.version plan.effective.binding) ok.uncaused ∙ callee_good S.rows all ok.callee.0 ok.callee.1.0 plan.effective ok.callee.1.1;
-  },
-  tt,
-)
-
-early_asked : (S : Sight) (d : Result Done Reason) → S.moment ≤ GREATEST_MOMENT → AreWritable S.rows → IfOk d (IsAdmittedDone S) → AreEarly (ask_decision S.moment d).items
-early_asked S (Ok (Shown value)) small all ok = tt
-early_asked S (Ok (Changed change value)) small all ok = tt
-early_asked S (Ok (Invoked plan shows)) small all ok = early_accepted S plan small all ok
-early_asked S (Err reason) small all ok = tt
-
-early_called : (S : Sight) (p : Result Plan Reason) → S.moment ≤ GREATEST_MOMENT → AreWritable S.rows → IfOk p (IsAdmitted S) → AreEarly (call_decision S p).items
-early_called S (Ok plan) small all ok = early_accepted S plan small all ok
-early_called S (Err reason) small all ok = tt
+early_steps : (S : Sight) (items : Trace) → S.moment ≤ GREATEST_MOMENT → AreWritable S.rows → AllByRecursion IsDue (live S.trace) → AreSteps S items → AreEarly items
+early_steps S [] small all due steps = tt
+early_steps S (item ∷ items) small all due steps = (early_step S item (items ++ S.trace) small all due steps.0, early_steps S items small all due steps.1)
 
 -- ---- what is taken over
 
@@ -262,17 +185,7 @@ module _ (shallow : AbandonedAreShallow) (at : ℕ) (small : at ≤ GREATEST_MOM
 
 early_decided : AbandonedAreShallow → (S : Sight) (event : Event) → S.moment ≤ GREATEST_MOMENT → AreWritable S.rows → AreEarly S.trace → AreEarly (decide S event).items
 early_decided shallow S (events.Opened rows) small all early = early_opened shallow S.moment small S.trace rows (judged rows) refl
-early_decided shallow S (events.Asked r) small all early = early_asked S (request_done S (parts_of r)) small all (asked_admitted S (parts_of r))
-early_decided shallow S (events.Called name params) small all early = early_called S (call_plan S name params) small all (called_admitted S name params)
-early_decided shallow S events.Next small all early = early_next S.moment small S.trace
-early_decided shallow S (events.Answered run reply) small all early = early_answered S.moment small run reply S.trace early
-early_decided shallow S (events.Begun run) small all early = early_begun S.moment run S.trace small
-early_decided shallow S (events.Lost run) small all early = early_lost S.moment run S.trace
-early_decided shallow S (events.Gone slot generation) small all early = early_gone S.moment slot generation S.trace
-early_decided shallow S events.Sweep small all early = early_swept S.moment small S.trace early
-early_decided shallow S (events.Collected id) small all early = tt
-early_decided shallow S events.Drain small all early = (tt, tt)
-early_decided shallow S events.Reopened small all early = early_abandon S.moment small S.trace
+early_decided shallow S event small all early = early_steps S (decide S event).items small all (live_due S.trace early) (decided_steps S event refl)
 
 -- what happened lasts, where records of abandoned activations nest no deeper than they are read
 pub traces_last : TracesLast

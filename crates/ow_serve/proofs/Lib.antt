@@ -3,3 +3,4 @@ pub mod Crossing
 pub mod Seating
 pub mod Turning
 pub mod Whole
+pub mod Unopened

@@ -3,6 +3,7 @@ use Rattle.std.proofs.Common.{◌≡◌, ◌++◌, ◌⊎◌, ℕ, zero, Bool, L
 use Rattle.std.specs.Prelude.{IsOkAnd}
 use Rattle.std.specs.Option.{option_to_list}
 use Rattle.std.proofs.lemmas.List.{reverse-append, reverse-reverse}
+use Rattle.ow_traits.specs.Telling.{Telling}
 use Rattle.ow_traits.specs.Runner.{Giving, Tally}
 use Rattle.ow_threads.specs.Tasks.{AllEnd, Joined, pending}
 use Rattle.ow_audit.specs.Differs.{Matches}
@@ -181,24 +182,24 @@ legal_copied (Err e) t book hall legal same is = tt
 -- ---- the store
 
 -- what a service that was opened leaves
-pub store_left : {P : Type 0} (rows : P → KeptRows) (store : P) (end : ServedEnd) (back : Option P) (book : Option BookView) → IsOpenedEnd end → IfSome back (λ s. KeepsBook (rows s) book)
-    → LeavesStore rows store end back book
-store_left rows store ends.Closed back book opened left = left
-store_left rows store ends.ListenFault back book opened left = left
-store_left rows store ends.NoWorker back book opened left = left
-store_left rows store (ends.Unmatched difference) back book opened left = left
-store_left rows store ends.StoreFault back book opened left = absurd opened
-store_left rows store (ends.BadKept key) back book opened left = absurd opened
-store_left rows store ends.NoMemory None book opened left = tt
-store_left rows store ends.NoMemory (Some s) book opened left = inr left
+pub store_left : {P : Type 0} (telling : P → Telling) (store : P) (end : ServedEnd) (back : Option P) (book : Option BookView) → IsOpenedEnd end → IfSome back (λ s. KeepsBook (telling s).rows book)
+    → LeavesStore telling store end back book
+store_left telling store ends.Closed back book opened left = left
+store_left telling store ends.ListenFault back book opened left = left
+store_left telling store ends.NoWorker back book opened left = left
+store_left telling store (ends.Unmatched difference) back book opened left = left
+store_left telling store ends.StoreFault back book opened left = absurd opened
+store_left telling store (ends.BadKept key) back book opened left = absurd opened
+store_left telling store ends.NoMemory None book opened left = tt
+store_left telling store ends.NoMemory (Some s) book opened left = inr left
 
 -- what one that wasn't opened hands back
-pub store_back : {P : Type 0} (rows : P → KeptRows) (store s : P) (why : StartFault) (end : ServedEnd) (back : Option P) (book : Option BookView) → end ≡ unopened why → back ≡ Some s → rows s ≡ rows store
-    → LeavesStore rows store end back book
-store_back rows store s why end back book is given same =
-    subst (λ e. LeavesStore rows store e back book) (sym is) (subst (λ o. LeavesStore rows store (unopened why) o book) (sym given) (by_why why))
+pub store_back : {P : Type 0} (telling : P → Telling) (store s : P) (why : StartFault) (end : ServedEnd) (back : Option P) (book : Option BookView) → end ≡ unopened why → back ≡ Some s → (telling s).rows ≡ (telling store).rows
+    → LeavesStore telling store end back book
+store_back telling store s why end back book is given same =
+    subst (λ e. LeavesStore telling store e back book) (sym is) (subst (λ o. LeavesStore telling store (unopened why) o book) (sym given) (by_why why))
   where
-    by_why : (w : StartFault) → LeavesStore rows store (unopened w) (Some s) book
+    by_why : (w : StartFault) → LeavesStore telling store (unopened w) (Some s) book
     by_why (starts.BadKept key) = same
     by_why starts.StoreFault = same
     by_why starts.NoMemory = inl same

@@ -1,5 +1,6 @@
 -- How a service ends, and what it leaves.
 use Rattle.std.specs.Prelude.{◌≡◌, ◌≤◌, ◌⊎◌, ◌++◌, ℕ, Bool, List, [], ◌∷◌, Option, Some, None, IfSome, IsOk, length, map}
+use Rattle.ow_traits.specs.Telling.{Telling}
 use Rattle.ow_tenant.specs.Table.{Table}
 use Rattle.ow_threads.specs.Tasks.{AllEnd, joined, pending}
 use Rattle.ow_floor.specs.declared.answers.Drain.{Drain}
@@ -124,12 +125,12 @@ IsOpenedEnd (ends.BadKept key) = ⊥
 IsOpenedEnd end = Unit {0}
 
 -- why a service wasn't opened; the store is handed back then, and its rows stay
-abbrev pub IsUnopened : {P : Type 0} → (P → KeptRows) → (P → ℕ) → P → ServedEnd → Option P → Type 0
-IsUnopened rows faults store ends.StoreFault (Some back) = HasStartCause rows faults store back starts.StoreFault × (rows back ≡ rows store)
-IsUnopened rows faults store ends.StoreFault None = ⊥
-IsUnopened rows faults store (ends.BadKept key) (Some back) = HasStartCause rows faults store back (starts.BadKept key) × (rows back ≡ rows store)
-IsUnopened rows faults store (ends.BadKept key) None = ⊥
-IsUnopened rows faults store end back = Unit {0}
+abbrev pub IsUnopened : {P : Type 0} → (P → Telling) → P → ServedEnd → Option P → Type 0
+IsUnopened telling store ends.StoreFault (Some back) = HasStartCause telling store back starts.StoreFault × ((telling back).rows ≡ (telling store).rows)
+IsUnopened telling store ends.StoreFault None = ⊥
+IsUnopened telling store (ends.BadKept key) (Some back) = HasStartCause telling store back (starts.BadKept key) × ((telling back).rows ≡ (telling store).rows)
+IsUnopened telling store (ends.BadKept key) None = ⊥
+IsUnopened telling store end back = Unit {0}
 
 -- one that was opened was opened over rows that are allowed, where the store tells them
 abbrev pub IsOpenedOver : KeptRows → ServedEnd → Type 0
@@ -163,11 +164,11 @@ KeepsBook told (Some book) = (t : Table) × IsLegal t book.ledger.entries × Hol
 KeepsBook told None = (t : Table) × (L : Ledger) × IsLegal t L.entries × HoldsBook told t L
 
 -- by the end, where the store is handed back: its rows stay where the service wasn't opened
-abbrev pub LeavesStore : {P : Type 0} → (P → KeptRows) → P → ServedEnd → Option P → Option BookView → Type 0
-LeavesStore rows store ends.StoreFault back book = IfSome back (λ s. rows s ≡ rows store)
-LeavesStore rows store (ends.BadKept key) back book = IfSome back (λ s. rows s ≡ rows store)
-LeavesStore rows store ends.NoMemory back book = IfSome back (λ s. (rows s ≡ rows store) ⊎ KeepsBook (rows s) book)
-LeavesStore rows store end back book = IfSome back (λ s. KeepsBook (rows s) book)
+abbrev pub LeavesStore : {P : Type 0} → (P → Telling) → P → ServedEnd → Option P → Option BookView → Type 0
+LeavesStore telling store ends.StoreFault back book = IfSome back (λ s. (telling s).rows ≡ (telling store).rows)
+LeavesStore telling store (ends.BadKept key) back book = IfSome back (λ s. (telling s).rows ≡ (telling store).rows)
+LeavesStore telling store ends.NoMemory back book = IfSome back (λ s. ((telling s).rows ≡ (telling store).rows) ⊎ KeepsBook (telling s).rows book)
+LeavesStore telling store end back book = IfSome back (λ s. KeepsBook (telling s).rows book)
 
 -- ---- the service
 

@@ -103,8 +103,8 @@ pub(crate) fn left_of<H: Wait, P: Keeper + Drop, B: Drop>(
     alloc: Global,
     place: Arc<Place<P, B>, Global>,
 ) -> Result<(Option<P>, Book), NoMemory>
-    ensures told { IfOk result (λ l. (t : Table) × IsLegal t l.1.ledger.entries × IfSome l.0 (λ s. HoldsBook (P.rows s) t l.1.ledger)) }
-    ensures kept { IfOk result (λ l. IfSome l.0 (λ s. KeepsBook (P.rows s) None)) }
+    ensures told { IfOk result (λ l. (t : Table) × IsLegal t l.1.ledger.entries × IfSome l.0 (λ s. HoldsBook (P.telling s).rows t l.1.ledger)) }
+    ensures kept { IfOk result (λ l. IfSome l.0 (λ s. KeepsBook (P.telling s).rows None)) }
 {
     match Arc::try_unwrap(place) {
         Ok(place) => {
@@ -129,7 +129,7 @@ fn book_of<H: Wait, P: Keeper + Drop, B: Drop>(
 
 /// The store, where nothing else shares the place any more.
 pub(crate) fn store_of<P: Keeper + Drop, B: Drop>(place: Arc<Place<P, B>, Global>) -> Option<P>
-    ensures { IfSome result (λ s. KeepsBook (P.rows s) None) }
+    ensures { IfSome result (λ s. KeepsBook (P.telling s).rows None) }
 {
     let place = Arc::into_inner(place)?;
     let (store, _book) = place.into_desk().open().finish();

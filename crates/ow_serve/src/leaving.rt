@@ -77,7 +77,7 @@ where
     ensures closes { Closes (Drains (C.tells house.clock.value) house.notes.notes) (λ t d. Ends K.left K.taken R.gives R.tally (outset (C.tells t.clock.value) t.opened (view_of t.pass)) t.work t.notes.notes d.notes.notes d.ending d.runner) (λ d. d.notes.notes) (λ d. d.ending) first crew.old.tasks seats.items stopped result.end result.book (map (λ r. r.notes) result.receipts.items) result.endings.items }
     ensures faults { crew.new.faults ≡ crew.old.faults }
     ensures begins { BookBegins house.notes.notes result.end result.book }
-    ensures store { IfSome result.store (λ s. KeepsBook (P.rows s) result.book) }
+    ensures store { IfSome result.store (λ s. KeepsBook (P.telling s).rows result.book) }
 {
     let mut house = house;
     let joined = crew.join(rt, alloc, first);
@@ -117,7 +117,7 @@ fn leave<H: Wait, R: Runner + Drop, P: Keeper + Drop, C: Clock + Drop, G: Gate +
     ensures left { (tells : Option ℕ) (n : Notes) → (IsOk all → Drains tells n house.notes.notes) → IfOk all (λ a. Left (Drains tells n) (map (λ d. d.notes.notes) a.0.items) (map (λ d. d.ending) a.0.items) (map (λ d. d.notes.notes) a.1.items) stopped result.end result.book (map (λ r. r.notes) result.receipts.items) result.endings.items) }
     ensures none { OnErr all (result.end ≡ ServedEnd.NoMemory) }
     ensures begins { BookBegins house.notes.notes result.end result.book }
-    ensures store { IfSome result.store (λ s. KeepsBook (P.rows s) result.book) }
+    ensures store { IfSome result.store (λ s. KeepsBook (P.telling s).rows result.book) }
 {
     let House {
         place,

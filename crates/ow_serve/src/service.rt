@@ -60,10 +60,10 @@ where
     ensures listener { result.listener_faults ≡ L.faults listener.new - L.faults listener.old }
     ensures fault { result.end ≡ ServedEnd.ListenFault → Rose (L.faults listener.old) (L.faults listener.new) }
     ensures worker { result.end ≡ ServedEnd.NoWorker → 0 < result.spawner_faults }
-    ensures unopened { IsUnopened P.rows P.faults store result.end result.store }
-    ensures allowed { IsOpenedOver (P.rows store) result.end }
-    ensures opens { BookOpens (C.tells clock.value) (P.rows store) tenants result.end result.book }
-    ensures store { LeavesStore P.rows store result.end result.store result.book }
+    ensures unopened { IsUnopened P.telling store result.end result.store }
+    ensures allowed { IsOpenedOver (P.telling store).rows result.end }
+    ensures opens { BookOpens (C.tells clock.value) (P.telling store).rows tenants result.end result.book }
+    ensures store { LeavesStore P.telling store result.end result.store result.book }
 {
     let opened = clock.now();
     match Hall::start(alloc, store, tenants, opened) {
@@ -118,7 +118,7 @@ where
     ensures worker { result.end ≡ ServedEnd.NoWorker → 0 < result.spawner_faults }
     ensures opened { IsOpenedEnd result.end }
     ensures begins { BookBegins house.notes.notes result.end result.book }
-    ensures store { IfSome result.store (λ s. KeepsBook (P.rows s) result.book) }
+    ensures store { IfSome result.store (λ s. KeepsBook (P.telling s).rows result.book) }
 {
     let mut crew: Crew<V, Duty<H, K, R, P, C, G>> = Crew::new(alloc, leave);
     let before = listener.faults();
@@ -158,7 +158,7 @@ where
     ensures worker { result.end ≡ ServedEnd.NoWorker → 0 < crew.new.faults }
     ensures opened { IsOpenedEnd result.end }
     ensures begins { BookBegins house.notes.notes result.end result.book }
-    ensures store { IfSome result.store (λ s. KeepsBook (P.rows s) result.book) }
+    ensures store { IfSome result.store (λ s. KeepsBook (P.telling s).rows result.book) }
 {
     let mut house = house;
     match begin_all(rt, alloc, runners, &mut house, crew) {

@@ -48,9 +48,7 @@ impl FileKeeper {
 }
 
 impl Keeper for FileKeeper {
-    ghost rows = { λ k. None };
-
-    ghost faults = { λ k. k.inner.faults };
+    ghost telling = { λ k. record { rows = None; faults = k.inner.faults; commits = None } };
 
     fn faults(&self) -> u64 {
         self.inner.faults

@@ -94,9 +94,7 @@ impl<S: Alter> SqliteKeeper<S> {
 }
 
 impl<S: Alter> Keeper for SqliteKeeper<S> {
-    ghost rows = { λ k. None };
-
-    ghost faults = { λ k. k.faults };
+    ghost telling = { λ k. record { rows = None; faults = k.faults; commits = None } };
 
     fn faults(&self) -> u64 {
         self.faults

@@ -9,7 +9,7 @@ use Rattle.ow_names.proofs.NameLaws.{name_if_no_fault}
 use Rattle.ow_traits.specs.declared.prewarms.Prewarm.{Prewarm}
 use Rattle.ow_value.specs.Value.{text_cmp}
 use Rattle.ow_value.specs.Decimal.{number_within}
-use Rattle.ow_tenant.specs.ByText.{ByText, value_at, with_value}
+use Rattle.ow_value.specs.ByText.{ByText, value_at, with_value}
 use Rattle.ow_tenant.specs.Rights.{all_rights}
 use Rattle.ow_tenant.specs.Row.{grant_row, is_empty, is_key, is_name, is_text, key_row, limits_of_fields, may_be_listed, namespace_row, prewarm_of, right_of, row_by, row_of}
 use Rattle.ow_tenant.specs.Table.{Table, csv_rows, granted, has_number, is_called, is_key_of, is_listed, most_bytes, no_rows, or_bad, rows_of, table_of, wants_same, with_line, with_row, with_rows, AreHomes}

@@ -1,4 +1,3 @@
-pub mod ByTextLaws
 pub mod QueueLaws
 pub mod RowsLaws
 pub mod TextLaws

@@ -1,6 +1,7 @@
 -- How the rows of a table go on with each record that is read, and the bytes with each piece.
 use Rattle.std.proofs.Common.{◌≡◌, ◌≢◌, ℕ, zero, suc, ◌+◌, ◌<◌, ◌≤◌, List, [], ◌∷◌, ◌++◌, true, false, length, take, drop, Option, Some, None, Result, Ok, Err, refl, sym, ap, ◌∙◌, arith, append_assoc, append-nil}
-use Rattle.std.proofs.lemmas.List.{take-append-drop, length-take, drop_all}
+use Rattle.std.proofs.lemmas.List.{take-append-drop, length-append, length-take, drop_all}
+use Rattle.std.proofs.Math.Nat.{min-le_left}
 use Rattle.std.specs.Prelude.{nat_eq, option_and_then, IsErrAnd}
 use Rattle.std.proofs.lemmas.Bool.{eqb-true, le-ltb, lt-ltb}
 use Rattle.csv.specs.Machine.{Read, next_record}
@@ -9,7 +10,8 @@ use Rattle.csv.specs.declared.parser.State.{State}
 use Rattle.csv.specs.declared.reader.Reader.{Reader}
 use Rattle.csv.proofs.ReadFacts.{rows-end, rows-more}
 use Rattle.ow_traits.specs.Streams.{ReadsSome}
-use Rattle.ow_tenant.specs.Reading.{HasRead, IsAtEnd, ReadsBytes, Tells, TellsTable, most_read}
+use Rattle.ow_traits.specs.declared.streams.Failed.{Failed}
+use Rattle.ow_tenant.specs.Reading.{HasRead, IsAtEnd, ReadsBytes, ReadsUpTo, Tells, TellsTable, most_read}
 use Rattle.ow_tenant.specs.declared.refusal.TenantRefusal.{TenantRefusal}
 use Rattle.ow_tenant.specs.declared.refusal.TenantRefusal.TheVariants.{BadRow, ReadFault, NoMemory, UnknownKey, NotGranted}
 use Rattle.csv.specs.Reading.{strip_bom}
@@ -110,6 +112,38 @@ pub read_full : (old new : Option (List ℕ)) (bytes : List ℕ) → HasRead old
 read_full None new bytes h full = h
 read_full (Some all) new bytes h full =
     (sym (ap (take most_read) h.1 ∙ take_front most_read bytes h.0 full), h.2 ∙ ap Some (sym (ap (drop most_read) h.1 ∙ drop_front most_read bytes h.0 full)))
+
+-- where these bytes were read, no more than so many were
+pub has_up_to : (most : ℕ) (old new : Option (List ℕ)) (bytes : List ℕ) → HasRead old new bytes → length bytes ≤ most → ReadsUpTo most old new
+has_up_to most None new bytes h le = tt
+has_up_to most (Some all) new bytes h le = (length bytes, le, h.2 ∙ ap Some (sym (ap (drop (length bytes)) h.1 ∙ drop_front (length bytes) bytes h.0 refl)))
+
+length_take : (n : ℕ) (xs : List ℕ) → length (take n xs) ≤ n
+length_take n xs = let is = length-take n xs in let least = min-le_left n (length xs) in omega (arith, is, least)
+
+-- nor are they where a piece was read beyond them, or could not be read
+pub piece_up_to : (old mid new : Option (List ℕ)) (bytes room : List ℕ) (n space : ℕ) → HasRead old mid bytes → ReadsSome mid new room (Ok n) → n ≤ space → ReadsUpTo (length bytes + space) old new
+piece_up_to old mid new bytes room n space h r le =
+    has_up_to (length bytes + space) old new (bytes ++ take n room) (HasRead-more old mid new bytes (bytes ++ take n room) (take n room) room n h r refl refl)
+    (omega (arith, length-append bytes (take n room), length_take n room, le))
+
+pub fault_up_to : (old mid new : Option (List ℕ)) (bytes room : List ℕ) (e : Failed) (space : ℕ) → HasRead old mid bytes → ReadsSome mid new room (Err e) → ReadsUpTo (length bytes + space) old new
+fault_up_to None mid new bytes room e space h r = tt
+fault_up_to (Some all) None new bytes room e space h r = cc h.2
+fault_up_to (Some all) (Some m) new bytes room e space h r = has_up_to (length bytes + space) (Some all) new bytes (h.0, h.1, r ∙ h.2) (omega arith)
+
+-- where it is read to the end, or as far as it may be
+pub whole_up_to : (old new : Option (List ℕ)) (bytes : List ℕ) → ReadsBytes old new bytes → ReadsUpTo most_read old new
+whole_up_to None new bytes h = tt
+whole_up_to (Some text) new bytes h = (most_read, omega arith, h.1)
+
+pub none_up_to : (most : ℕ) (old : Option (List ℕ)) → ReadsUpTo most old old
+none_up_to most None = tt
+none_up_to most (Some text) = (0, omega arith, refl)
+
+pub up_to_most : (n most : ℕ) (old new : Option (List ℕ)) → n ≤ most → ReadsUpTo n old new → ReadsUpTo most old new
+up_to_most n most None new le h = tt
+up_to_most n most (Some text) new le h = (h.0, omega (arith, le, h.1), h.2)
 
 whole_front : (all bytes : List ℕ) → all ≡ bytes → length bytes ≤ most_read → bytes ≡ take most_read all
 whole_front all bytes e le = sym (ap (take most_read) e ∙ take_whole most_read bytes le)

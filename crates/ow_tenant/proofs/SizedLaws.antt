@@ -9,7 +9,7 @@ use Rattle.ow_traits.specs.declared.prewarms.Prewarm.{Prewarm}
 use Rattle.ow_tenant.specs.Row.{grant_row, is_empty, kind_of, limits_of_fields, may_be_listed, namespace_row, prewarm_of, right_of, row_by, row_of}
 use Rattle.ow_traits.specs.Prewarms.{AreWantsSized}
 use Rattle.ow_tenant.specs.Table.{IsPoolSized, Table, granted, has_number, is_called, is_key_of, is_listed, no_rows, wants_same, or_bad, rows_of, with_line, with_row, with_rows, csv_rows}
-use Rattle.ow_tenant.specs.ByText.{value_at, with_value}
+use Rattle.ow_value.specs.ByText.{value_at, with_value}
 use Rattle.ow_tenant.specs.Rights.{all_rights}
 use Rattle.ow_tenant.specs.declared.entries.Holder.{Holder}
 use Rattle.ow_tenant.specs.declared.line.Line.{Line}

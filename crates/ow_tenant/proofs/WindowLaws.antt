@@ -4,12 +4,12 @@ use Rattle.std.specs.Prelude.{◌&&◌, count_by}
 use Rattle.std.specs.Str.{bytes_eq}
 use Rattle.std.proofs.lemmas.Slice.Eq.{bytes_eq-Decides}
 use Rattle.std.proofs.lemmas.Bool.{false_from_ne_true}
-use Rattle.ow_tenant.specs.ByText.{ByText, value_at, with_value}
+use Rattle.ow_value.specs.ByText.{ByText, value_at, with_value}
 use Rattle.ow_tenant.specs.Notes.{Note, Notes, invoked, fired, ended, counts_at, fires, is_ended, is_invoked, is_recent, is_recent_fire, latest, minute}
 use Rattle.ow_tenant.specs.Queue.{AllUpTo, Rise, with_one}
 use Rattle.ow_tenant.specs.Windows.{HasRoom, KeepsOthers, Stands, StandsAs, no_window, window_of, or_none}
 use Rattle.ow_tenant.specs.declared.window.Window.{Window}
-use Rattle.ow_tenant.proofs.ByTextLaws.{value_at-same, value_at-other}
+use Rattle.ow_value.proofs.ByTextLaws.{value_at-same, value_at-other}
 use Rattle.ow_tenant.proofs.QueueLaws.{AllUpTo-more, counted-yes, counted-no}
 
 -- ---- texts

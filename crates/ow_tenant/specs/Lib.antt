@@ -1,4 +1,3 @@
-pub mod ByText
 pub mod Limits
 pub mod Notes
 pub mod Queue

@@ -1,5 +1,5 @@
 -- What a read of the office table answers.
-use Rattle.std.specs.Prelude.{◌≡◌, ◌+◌, ◌++◌, ℕ, List, [], drop, take, Option, Some, None, Result, Ok, Err, ⊤}
+use Rattle.std.specs.Prelude.{◌≡◌, ◌≤◌, ◌+◌, ◌++◌, ℕ, List, [], drop, take, Option, Some, None, Result, Ok, Err, ⊤}
 use Rattle.ow_tenant.specs.Table.{Table, most_bytes, table_of}
 use Rattle.ow_tenant.specs.declared.refusal.TenantRefusal.{TenantRefusal}
 use Rattle.ow_tenant.specs.declared.refusal.TenantRefusal.TheVariants.{BadRow, ReadFault, NoMemory, UnknownKey, NotGranted}
@@ -23,6 +23,11 @@ TellsTable None left result = (want : Result Table ℕ) × Tells want result
 TellsTable (Some text) left (Ok t) = (table_of text ≡ Ok t) × (left ≡ Some (drop most_read text))
 TellsTable (Some text) left (Err (BadRow row)) = (table_of text ≡ Err row) × (left ≡ Some (drop most_read text))
 TellsTable (Some text) left (Err e) = Tells (table_of text) (Err e)
+
+-- of a source that tells its bytes no more than so many were read
+abbrev pub ReadsUpTo : ℕ → Option (List ℕ) → Option (List ℕ) → Type 0
+ReadsUpTo most None left = Unit {0}
+ReadsUpTo most (Some text) left = (count : ℕ) × (count ≤ most) × (left ≡ Some (drop count text))
 
 -- these bytes of a source that tells its own were read, and it has the others left, for private clauses
 abbrev pub HasRead : Option (List ℕ) → Option (List ℕ) → List ℕ → Type 0

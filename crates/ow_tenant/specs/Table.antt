@@ -8,7 +8,7 @@ use Rattle.ow_names.specs.Name.{IsName}
 use Rattle.ow_traits.specs.declared.prewarms.Prewarm.{Prewarm}
 use Rattle.ow_traits.specs.declared.replies.Kind.{Kind}
 use Rattle.ow_traits.specs.declared.replies.Kind.TheVariants as kinds
-use Rattle.ow_tenant.specs.ByText.{ByText, value_at, with_value}
+use Rattle.ow_value.specs.ByText.{ByText, value_at, with_value}
 use Rattle.ow_tenant.specs.Rights.{all_rights, rights_or_none, with_right}
 use Rattle.ow_tenant.specs.Row.{row_of}
 use Rattle.ow_tenant.specs.declared.limits.NamespaceLimits.{NamespaceLimits}

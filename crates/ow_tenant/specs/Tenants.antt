@@ -3,7 +3,7 @@ use Rattle.std.specs.Prelude.{◌≡◌, ℕ, List, codes, map, if◌then◌else
 use Rattle.std.specs.Option.{unwrap_or}
 use Rattle.std.specs.Str.{bytes_eq}
 use Rattle.ow_value.specs.Value.{V, text}
-use Rattle.ow_tenant.specs.ByText.{StandsAt, value_at}
+use Rattle.ow_value.specs.ByText.{StandsAt, value_at}
 use Rattle.ow_tenant.specs.Limits.{default_limits}
 use Rattle.ow_tenant.specs.Rights.{has_right, rights_or_none}
 use Rattle.ow_tenant.specs.Table.{Table}

@@ -1,6 +1,6 @@
 -- How windows stand to what was noted.
 use Rattle.std.specs.Prelude.{◌≡◌, ◌≢◌, ◌+◌, ◌^◌, ◌≤◌, ◌<◌, ℕ, List, [], Option, Some, None, count_by}
-use Rattle.ow_tenant.specs.ByText.{ByText, value_at}
+use Rattle.ow_value.specs.ByText.{ByText, value_at}
 use Rattle.ow_tenant.specs.Notes.{Notes, concurrent, counts_at, fires, is_ended, is_invoked, latest, minute}
 use Rattle.ow_tenant.specs.Queue.{AllUpTo, Rise}
 use Rattle.ow_tenant.specs.declared.window.Window.{Window}

@@ -3,12 +3,11 @@ ghost use Rattle.std.specs.Prelude.{◌≡◌, map, IfOk};
 ghost use Rattle.ow_tenant.specs.Rights.{has_right};
 ghost use Rattle.ow_tenant.specs.Tenants.{name_value, rights_in};
 
-use crate::by_text::ByText;
 use crate::limits::NamespaceLimits;
 use crate::rights::{Right, Rights};
 use crate::tenants::names_of;
 use ow_names::EntityName;
-use ow_value::{NoMemory, PlainData, Str, Vals};
+use ow_value::{ByText, NoMemory, PlainData, Str, Vals};
 use std::alloc::Global;
 
 /// What a row says of a namespace.

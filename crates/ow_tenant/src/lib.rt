@@ -1,7 +1,6 @@
 #![tactic(auto)]
 
 //! The office table: the namespaces with their limits, the keys and their rights, and the counts that the limits are of.
-mod by_text;
 mod entries;
 mod known;
 mod limits;

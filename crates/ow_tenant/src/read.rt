@@ -5,7 +5,7 @@ ghost use Rattle.csv.specs.Records.{fields_of};
 ghost use Rattle.csv.specs.declared.parser.State.TheVariants as st;
 ghost use Rattle.csv.specs.declared.reader.Trim.TheVariants as trim;
 ghost use Rattle.ow_traits.specs.Streams.{Rose};
-ghost use Rattle.ow_tenant.specs.Reading.{HasRead, IsAtEnd, ReadsBytes, Tells};
+ghost use Rattle.ow_tenant.specs.Reading.{HasRead, IsAtEnd, ReadsBytes, ReadsUpTo, Tells, most_read};
 ghost use Rattle.ow_tenant.specs.Table.{most_bytes, rows_of, with_row};
 
 use crate::line::RowFault;
@@ -24,6 +24,7 @@ const PIECE: usize = 65_536;
 /// The bytes of the source, but no more than one behind those that a table may have.
 pub(crate) fn read_bytes<S: Source>(alloc: Global, source: &mut S) -> Result<Vec<u8>, TenantRefusal>
     ensures told { IfOk result (λ v. ReadsBytes (S.left source.old) (S.left source.new) v.items) }
+    ensures most { ReadsUpTo most_read (S.left source.old) (S.left source.new) }
     ensures later { S.faults source.old ≤ S.faults source.new }
     ensures why { IfErr result (λ e. e ≢ TenantRefusal.NoMemory → e ≡ TenantRefusal.ReadFault) }
     ensures cause { result ≡ Err TenantRefusal.ReadFault → Rose (S.faults source.old) (S.faults source.new) }
@@ -62,6 +63,7 @@ fn read_piece<S: Source>(
     requires within { space ≤ length room.old }
     ensures count { IfOk result (λ n. (n ≤ space) × (length text.new.items ≡ length text.old.items + n)) }
     ensures told { OnOk result ((before : Option (List ℕ)) → HasRead before (S.left source.old) text.old.items → HasRead before (S.left source.new) text.new.items) }
+    ensures most { (before : Option (List ℕ)) → HasRead before (S.left source.old) text.old.items → ReadsUpTo (length text.old.items + space) before (S.left source.new) }
     ensures end { IfOk result (λ n. n ≡ 0 → IsAtEnd (S.left source.new)) }
     ensures later { S.faults source.old ≤ S.faults source.new }
     ensures why { IfErr result (λ e. e ≢ TenantRefusal.NoMemory → e ≡ TenantRefusal.ReadFault) }

@@ -4,14 +4,13 @@ ghost use Rattle.std.specs.List.{list_any};
 ghost use Rattle.ow_tenant.specs.Rights.{all_rights};
 ghost use Rattle.ow_tenant.specs.Table.{Table, granted, has_number, is_called, is_listed, no_rows, same_kind, wants_same, with_grant, with_key, with_line, with_namespace, with_pool, with_prewarm, with_program};
 
-use crate::by_text::ByText;
 use crate::entries::{Holder, Space};
 use crate::limits::NamespaceLimits;
 use crate::line::{Line, RowFault};
 use crate::rights::{Right, Rights};
 use ow_names::EntityName;
 use ow_traits::{Kind, Prewarm};
-use ow_value::{NoMemory, PlainData, Str};
+use ow_value::{ByText, NoMemory, PlainData, Str};
 use std::alloc::Global;
 use std::marker::Model;
 

@@ -4,12 +4,11 @@ ghost use Rattle.std.specs.List.{AllByRecursion};
 ghost use Rattle.std.specs.Option.{option_copied};
 ghost use Rattle.ow_names.specs.Name.{IsName};
 ghost use Rattle.ow_traits.specs.Streams.{Rose};
-ghost use Rattle.ow_tenant.specs.Reading.{TellsTable};
+ghost use Rattle.ow_tenant.specs.Reading.{ReadsUpTo, TellsTable, most_read};
 ghost use Rattle.ow_traits.specs.Prewarms.{AreWantsSized};
 ghost use Rattle.ow_tenant.specs.Table.{IsPoolSized, no_rows};
 ghost use Rattle.ow_tenant.specs.Tenants.{Knows, granted_names, holder_at, holder_of, limits_of, may, name_value, number_of, pool_of};
 
-use crate::by_text::ByText;
 use crate::entries::{Holder, Space};
 use crate::known::known_homes;
 use crate::limits::NamespaceLimits;
@@ -20,7 +19,7 @@ use crate::table::Draft;
 use ow_names::EntityName;
 use ow_several::copied4;
 use ow_traits::{Prewarms, Source};
-use ow_value::{NoMemory, Pairs, PlainData, Shared, Str, Val, Vals};
+use ow_value::{ByText, NoMemory, Pairs, PlainData, Shared, Str, Val, Vals};
 use std::alloc::Global;
 use std::marker::Model;
 
@@ -59,6 +58,7 @@ impl Tenants {
     /// Reads the table from the source, to its end. It is CSV without a header.
     pub fn read<S: Source>(alloc: Global, source: &mut S) -> Result<Tenants, TenantRefusal>
         ensures told { TellsTable (S.left source.old) (S.left source.new) result }
+        ensures most { ReadsUpTo most_read (S.left source.old) (S.left source.new) }
         ensures sized { IfOk result (λ t. AreWantsSized t.wants) }
         ensures pool { IfOk result (λ t. IsPoolSized t.pool) }
         ensures later { S.faults source.old ≤ S.faults source.new }

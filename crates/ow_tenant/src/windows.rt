@@ -1,15 +1,14 @@
 // What was noted of invocations and fires, as far as it counts against the limits of namespaces.
 ghost use Rattle.std.specs.Prelude.{◌≡◌, ◌≤◌, ◌<◌, ◌+◌, ◌∷◌, [], ℕ, List, None, IfOk, OnOk, IsSome};
-ghost use Rattle.ow_tenant.specs.ByText.{StandsAt, value_at};
+ghost use Rattle.ow_value.specs.ByText.{StandsAt, value_at};
 ghost use Rattle.ow_tenant.specs.Notes.{Notes, admitted, concurrent, ended, fire_admitted, fired, fires, invoked, latest, minute};
 ghost use Rattle.ow_tenant.specs.Windows.{HasRoomIn, KeepsOthers, StandsAs, window_of};
 
-use crate::by_text::ByText;
 use crate::limits::NamespaceLimits;
 use crate::refusal::WindowRefusal;
 use crate::window::Window;
 use ow_names::EntityName;
-use ow_value::{NoMemory, Str};
+use ow_value::{ByText, NoMemory, Str};
 use std::alloc::Global;
 use std::marker::Model;
 
@@ -21,7 +20,7 @@ pub struct Windows {
 }
 
 impl Model for Windows {
-    ghost use Rattle.ow_tenant.specs.ByText.{ByText};
+    ghost use Rattle.ow_value.specs.ByText.{ByText};
     ghost use Rattle.ow_tenant.specs.declared.window.Window.{Window};
 
     ghost Value = { ByText Window };

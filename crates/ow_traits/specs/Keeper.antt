@@ -2,6 +2,7 @@
 use Rattle.std.specs.Prelude.{◌≡◌, ◌≤◌, ℕ, List, Option, Some, None, Result, Ok, Err}
 use Rattle.ow_traits.specs.Changes.{changed}
 use Rattle.ow_traits.specs.Streams.{Rose}
+use Rattle.ow_traits.specs.Telling.{Attempt, made, unmade}
 use Rattle.ow_traits.specs.declared.change_list.Change.{Change}
 use Rattle.ow_traits.specs.declared.keepers.KeeperError.{KeeperError}
 use Rattle.ow_traits.specs.declared.keepers.KeeperError.TheVariants.{Failed}
@@ -10,6 +11,11 @@ use Rattle.ow_traits.specs.declared.keepers.KeeperError.TheVariants.{Failed}
 pub record KeepsCause {T : Type 0} (before now : ℕ) (result : Result T KeeperError) : Type 0 where
   pub later : before ≤ now
   pub rose : result ≡ Err Failed → Rose before now
+
+-- the commit that was asked for, by its result
+abbrev pub attempt_of : {T : Type 0} → List Change → Result T KeeperError → Attempt
+attempt_of changes (Ok done) = made changes
+attempt_of changes (Err e) = unmade changes
 
 -- a load from a keeper that tells its rows: these, which stay
 abbrev pub Loads : Option (List (List ℕ × List ℕ)) → Option (List (List ℕ × List ℕ)) → Result (List (List ℕ × List ℕ)) KeeperError → Type 0

@@ -5,3 +5,4 @@ pub mod Prewarms
 pub mod Rows
 pub mod Runner
 pub mod Streams
+pub mod Telling

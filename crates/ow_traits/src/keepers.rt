@@ -1,6 +1,7 @@
 // What rows are kept by from one run of the service to the next.
-ghost use Rattle.std.specs.Prelude.{◌≡◌, List, ℕ, Option};
-ghost use Rattle.ow_traits.specs.Keeper.{Commits, KeepsCause, Loads};
+ghost use Rattle.std.specs.Prelude.{◌≡◌};
+ghost use Rattle.ow_traits.specs.Keeper.{Commits, KeepsCause, Loads, attempt_of};
+ghost use Rattle.ow_traits.specs.Telling.{Telling, with_attempt};
 
 use crate::{Changes, Rows};
 use ow_value::NoMemory;
@@ -28,23 +29,22 @@ impl From<NoMemory> for KeeperError {
 
 /// What keeps rows. A commit that fails leaves them.
 pub trait Keeper {
-    /// The kept rows, where the keeper tells them.
-    ghost rows: { Self → Option (List (List ℕ × List ℕ)) };
-
-    /// How many calls failed.
-    ghost faults: { Self → ℕ };
+    /// The kept rows, how many calls failed, and the commits that were asked for.
+    ghost telling: { Self → Telling };
 
     /// How many calls failed. The count stands still at the greatest u64.
     fn faults(&self) -> u64
-        ensures { result ≡ faults self.now };
+        ensures { result ≡ (telling self.now).faults };
 
     /// The kept rows, which stay kept.
     fn load(&mut self, alloc: Global) -> Result<Rows, KeeperError>
-        ensures told { Loads (rows self.old) (rows self.new) result }
-        ensures cause { KeepsCause (faults self.old) (faults self.new) result };
+        ensures told { Loads (telling self.old).rows (telling self.new).rows result }
+        ensures commits { (telling self.new).commits ≡ (telling self.old).commits }
+        ensures cause { KeepsCause (telling self.old).faults (telling self.new).faults result };
 
     /// Makes the changes in their order: all of them, or none.
     fn commit(&mut self, alloc: Global, changes: &Changes) -> Result<(), KeeperError>
-        ensures told { Commits (rows self.old) (rows self.new) changes.now result }
-        ensures cause { KeepsCause (faults self.old) (faults self.new) result };
+        ensures told { Commits (telling self.old).rows (telling self.new).rows changes.now result }
+        ensures commits { (telling self.new).commits ≡ with_attempt (attempt_of changes.now result) (telling self.old).commits }
+        ensures cause { KeepsCause (telling self.old).faults (telling self.new).faults result };
 }

@@ -1,5 +1,5 @@
 // A keeper in memory, of which some calls are to fail.
-ghost use Rattle.std.specs.Prelude.{◌≡◌, Some};
+ghost use Rattle.std.specs.Prelude.{◌≡◌, Some, None};
 
 use crate::calls::Calls;
 use crate::{Changes, Keeper, KeeperError, Rows};
@@ -18,16 +18,16 @@ impl MemoryKeeper {
 
     /// A keeper of no rows, none of whose calls is to fail.
     pub fn new(alloc: Global) -> MemoryKeeper
-        ensures rows { ⟦<MemoryKeeper as Keeper>⟧.rows result ≡ Some [] }
-        ensures faults { ⟦<MemoryKeeper as Keeper>⟧.faults result ≡ 0 }
+        ensures rows { (⟦<MemoryKeeper as Keeper>⟧.telling result).rows ≡ Some [] }
+        ensures faults { (⟦<MemoryKeeper as Keeper>⟧.telling result).faults ≡ 0 }
     {
         MemoryKeeper::holding(Rows::new(alloc), Vec::new(alloc))
     }
 
     /// A keeper of these rows.
     pub fn holding(rows: Rows, failing: Vec<u64>) -> MemoryKeeper
-        ensures rows { ⟦<MemoryKeeper as Keeper>⟧.rows result ≡ Some rows }
-        ensures faults { ⟦<MemoryKeeper as Keeper>⟧.faults result ≡ 0 }
+        ensures rows { (⟦<MemoryKeeper as Keeper>⟧.telling result).rows ≡ Some rows }
+        ensures faults { (⟦<MemoryKeeper as Keeper>⟧.telling result).faults ≡ 0 }
     {
         MemoryKeeper {
             rows,
@@ -37,23 +37,21 @@ impl MemoryKeeper {
 
     /// The kept rows.
     pub fn rows(&self) -> &Rows
-        ensures { ⟦<MemoryKeeper as Keeper>⟧.rows self.now ≡ Some result.now }
+        ensures { (⟦<MemoryKeeper as Keeper>⟧.telling self.now).rows ≡ Some result.now }
     {
         &self.rows
     }
 
     /// The kept rows, with no copy.
     pub fn into_rows(self) -> Rows
-        ensures { ⟦<MemoryKeeper as Keeper>⟧.rows self ≡ Some result }
+        ensures { (⟦<MemoryKeeper as Keeper>⟧.telling self).rows ≡ Some result }
     {
         self.rows
     }
 }
 
 impl Keeper for MemoryKeeper {
-    ghost rows = { λ k. Some k.rows };
-
-    ghost faults = { λ k. k.calls.faults };
+    ghost telling = { λ k. record { rows = Some k.rows; faults = k.calls.faults; commits = None } };
 
     fn faults(&self) -> u64 {
         self.calls.faults

@@ -7,6 +7,7 @@ pub mod Sizes
 pub mod KeySearch
 pub mod Between
 pub mod Entries
+pub mod ByTextLaws
 pub mod Finding
 pub mod Merging
 pub mod Back

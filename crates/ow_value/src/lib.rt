@@ -2,6 +2,7 @@
 
 //! JSON values whose numbers are integers of 64 bits, and the texts and lists that all crates above pass about. Texts,
 //! lists and objects never change and are shared by count.
+mod by_text;
 mod decimal;
 mod fields;
 mod join;
@@ -20,6 +21,7 @@ mod walk;
 mod whole;
 mod writer;
 
+pub use by_text::ByText;
 pub use decimal::{decimal_of, digits_of};
 pub use fields::Fields;
 pub use join::merge;

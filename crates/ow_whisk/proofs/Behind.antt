@@ -1,10 +1,16 @@
 -- Commits behind others.
 use Rattle.std.proofs.Common.{◌≡◌, ℕ, List, [], ◌∷◌, ◌++◌, refl}
 use Rattle.ow_traits.specs.Changes.{changed}
+use Rattle.ow_traits.specs.Telling.{Attempt, made}
 use Rattle.ow_traits.specs.declared.change_list.Change.{Change}
-use Rattle.ow_whisk.specs.Unkept.{rows_behind}
+use Rattle.ow_whisk.specs.Unkept.{attempts_behind, rows_behind}
 
 -- one more commit changes the rows that those before it made
 pub rows_behind_one : (cs : List (List Change × Unit {0})) (c : List Change × Unit {0}) (rows : List (List ℕ × List ℕ)) → rows_behind (cs ++ c ∷ []) rows ≡ changed c.0 (rows_behind cs rows)
 rows_behind_one [] c rows = refl
 rows_behind_one (x ∷ cs) c rows = rows_behind_one cs c (changed x.0 rows)
+
+-- and it is the newest
+pub attempts_behind_one : (cs : List (List Change × Unit {0})) (c : List Change × Unit {0}) (before : List Attempt) → attempts_behind (cs ++ c ∷ []) before ≡ made c.0 ∷ attempts_behind cs before
+attempts_behind_one [] c before = refl
+attempts_behind_one (x ∷ cs) c before = attempts_behind_one cs c (made x.0 ∷ before)

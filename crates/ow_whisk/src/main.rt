@@ -7,16 +7,16 @@ mod unkept;
 
 ghost use Rattle.std.specs.Prelude.{◌≡◌};
 ghost use Rattle.std.specs.Process.{exit_status};
-ghost use Rattle.ow_day.specs.Status.{status_number};
+ghost use Rattle.ow_words.specs.Status.{status_number};
 ghost use Rattle.ow_whisk.specs.Served.{IsSized};
 
 use crate::serving::{System, served};
 use crate::unkept::Unkept;
-use ow_day::{Status, office, report};
+use ow_office::office;
 use ow_store::FileKeeper;
 use ow_traits::{Keeper, MemorySource, ReaderSource, Source, WriterSink};
 use ow_value::{NoMemory, Str};
-use ow_words::{Command, ServeWords, WordsRefusal, read_words};
+use ow_words::{Command, ServeWords, Status, WordsRefusal, read_words, report};
 use std::alloc::Global;
 use std::fs::File;
 use std::net::{Net, TcpListener, TcpStream};
@@ -101,6 +101,7 @@ fn named(alloc: Global, words: &[String]) -> Result<(Option<Str>, Option<Str>), 
     match read_words(alloc, words) {
         Ok(Command::Day { table, store }) => Ok((table, store)),
         Ok(Command::Serve(ServeWords { table, store, .. })) => Ok((table, store)),
+        Ok(Command::Usage { store, .. }) => Ok((None, store)),
         Err(WordsRefusal::NoMemory) => Err(NoMemory),
         _ => Ok((None, None)),
     }

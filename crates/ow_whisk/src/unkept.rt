@@ -1,6 +1,6 @@
 // A keeper for a day or a service without a store.
 ghost use Rattle.std.specs.Prelude.{◌≡◌, Some, false, []};
-ghost use Rattle.ow_whisk.specs.Unkept.{rows_behind};
+ghost use Rattle.ow_whisk.specs.Unkept.{attempts_behind, rows_behind};
 
 use http_server::Log;
 use ow_traits::{Change, Changes, Keeper, KeeperError, Rows};
@@ -19,8 +19,8 @@ pub struct Unkept {
 impl Unkept {
     /// A keeper of no rows.
     pub fn new() -> Unkept
-        ensures rows { ⟦<Unkept as Keeper>⟧.rows result ≡ Some [] }
-        ensures faults { ⟦<Unkept as Keeper>⟧.faults result ≡ 0 }
+        ensures rows { (⟦<Unkept as Keeper>⟧.telling result).rows ≡ Some [] }
+        ensures faults { (⟦<Unkept as Keeper>⟧.telling result).faults ≡ 0 }
     {
         Unkept {
             committed: false,
@@ -30,9 +30,7 @@ impl Unkept {
 }
 
 impl Keeper for Unkept {
-    ghost rows = { λ k. Some (rows_behind k.commits.items []) };
-
-    ghost faults = { λ k. 0 };
+    ghost telling = { λ k. record { rows = Some (rows_behind k.commits.items []); faults = 0; commits = Some (attempts_behind k.commits.items []) } };
 
     fn faults(&self) -> u64 {
         0
@@ -45,7 +43,7 @@ impl Keeper for Unkept {
         Ok(Rows::new(alloc))
     }
 
-    #[tactic(auto, using(crate::proofs::Behind::rows_behind_one))]
+    #[tactic(auto, using(crate::proofs::Behind::rows_behind_one, crate::proofs::Behind::attempts_behind_one))]
     fn commit(&mut self, _alloc: Global, changes: &Changes) -> Result<(), KeeperError> {
         let commits = self.commits.and(changes, &());
         self.committed = true;

@@ -1,10 +1,10 @@
 -- Options in any order.
-use Rattle.std.proofs.Common.{◌≡◌, ◌∙◌, ◌&&◌, ◌||◌, refl, ap, ap₂, sym, ℕ, Bool, true, false, not, List, [], ◌∷◌, ◌++◌, Option, Some, None, cond, option_map, true≢false}
-use Rattle.std.specs.List.{find}
+use Rattle.std.proofs.Common.{is_some, ◌≡◌, ◌∙◌, ◌&&◌, ◌||◌, refl, ap, ap₂, sym, ℕ, Bool, true, false, not, List, [], ◌∷◌, ◌++◌, Option, Some, None, cond, option_map, true≢false}
+use Rattle.std.specs.List.{position, find}
 use Rattle.std.specs.Str.{bytes_eq}
 use Rattle.std.proofs.lemmas.Slice.Eq.{bytes_eq-Decides}
 use Rattle.ow_words.specs.Laws.{TurnsTwo}
-use Rattle.ow_words.specs.Words.{Given, alone, command_named, command_of, day_options, day_with, each_once, given_from, is_among, is_day, is_given, is_serve, once_of, serve_options, serve_with, values_in, values_of}
+use Rattle.ow_words.specs.Words.{Given, alone, command_named, command_of, day_options, day_with, each_once, given_from, is_among, is_csv, is_day, is_given, is_serve, is_usage, once_of, serve_options, serve_with, usage_at, usage_from, usage_of, usage_options, usage_with, values_in, values_of}
 use Rattle.std.specs.Prelude.{option_and_then}
 use Rattle.std.proofs.lemmas.Bool.{and_parts}
 use Rattle.ow_words.specs.declared.command.Command.{Command}
@@ -154,10 +154,17 @@ alone_more command [] [] behind g e = absurd (cc)
 alone_more command [] (x ∷ before) behind g e = absurd (cc)
 alone_more command (word ∷ words) before behind g e = refl
 
+usage_turned : (words turned : List (List ℕ)) → TurnsTwo words turned → usage_of words ≡ usage_of turned
+usage_turned words turned t =
+    ap (λ o. cond (is_some o) (usage_from false words) (usage_at (position is_csv words) words)) t.in_order
+    ∙ (ap (option_and_then (usage_with false)) (values_turned usage_options words turned t)
+    ∙ sym (ap (λ o. cond (is_some o) (usage_from false turned) (usage_at (position is_csv turned) turned)) t.in_turn))
+
 pub turned_command : (word : List ℕ) (words turned : List (List ℕ)) → TurnsTwo words turned → command_of (word ∷ words) ≡ command_of (word ∷ turned)
 turned_command word words turned t =
     let day = ap (option_map day_with) (values_turned day_options words turned t) in
     let serve = ap (option_and_then serve_with) (values_turned serve_options words turned t) in
+    let usage = usage_turned words turned t in
     let other = alone_more (command_named word) words t.before (t.second ∷ t.behind) t.first t.in_order
     ∙ sym (alone_more (command_named word) turned t.before (t.first ∷ t.behind) t.second t.in_turn) in
-    λ i. cond (is_day word) (day i) (cond (is_serve word) (serve i) (other i))
+    λ i. cond (is_day word) (day i) (cond (is_serve word) (serve i) (cond (is_usage word) (usage i) (other i)))

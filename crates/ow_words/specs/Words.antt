@@ -1,11 +1,12 @@
 -- The command set.
-use Rattle.std.specs.Prelude.{◌≡◌, ◌==◌, ◌&&◌, ◌||◌, ℕ, Bool, true, false, List, [], ◌∷◌, ◌++◌, Option, Some, None, if◌then◌else◌, codes, find, not, option_and_then, option_map, Result, MatchResult}
-use Rattle.std.specs.List.{list_any}
+use Rattle.std.specs.Prelude.{◌≡◌, ◌==◌, ◌&&◌, ◌||◌, ℕ, Bool, true, false, List, [], ◌∷◌, ◌++◌, Option, Some, None, if◌then◌else◌, codes, find, is_some, nat_le, not, take, drop, ◌+◌, option_and_then, option_map, Result, MatchResult}
+use Rattle.std.specs.List.{list_any, position}
 use Rattle.std.specs.Str.{bytes_eq}
 use Rattle.clap.specs.Lexer.{long_of}
 use Rattle.ow_value.specs.Decimal.{decimal_of, number_within}
+use Rattle.ow_words.specs.Days.{day_in}
 use Rattle.ow_words.specs.declared.command.Command.{Command}
-use Rattle.ow_words.specs.declared.command.Command.TheVariants.{Day, Serve, Help, Version}
+use Rattle.ow_words.specs.declared.command.Command.TheVariants.{Day, Serve, Usage, Help, Version}
 use Rattle.ow_words.specs.declared.command.WordsRefusal.{WordsRefusal}
 use Rattle.ow_words.specs.declared.command.WordsRefusal.TheVariants.{BadWords}
 
@@ -119,12 +120,48 @@ serve_with value =
 abbrev pub is_serve : List ℕ → Bool
 is_serve word = bytes_eq word (codes "serve")
 
+-- ---- usage
+
+abbrev pub usage_options : List (List ℕ)
+usage_options = codes "from" ∷ codes "to" ∷ codes "store" ∷ []
+
+-- the day that the value of an option names
+abbrev pub day_of : Option (List ℕ) → Option ℕ
+day_of value = option_and_then day_in value
+
+-- usage from one day to another, which isn't before it
+abbrev pub usage_by : (from to : Option ℕ) → Bool → (store : Option (List ℕ)) → Option Command
+usage_by (Some from) (Some to) csv store = if nat_le from to then Some (Usage from to csv store) else None
+usage_by from to csv store = None
+
+abbrev pub usage_with : Bool → Values → Option Command
+usage_with csv value = usage_by (day_of (value (codes "from"))) (day_of (value (codes "to"))) csv (value (codes "store"))
+
+-- by words that are options with values
+abbrev pub usage_from : Bool → List (List ℕ) → Option Command
+usage_from csv words = option_and_then (usage_with csv) (values_of usage_options words)
+
+abbrev pub is_csv : List ℕ → Bool
+is_csv word = bytes_eq word (codes "--csv")
+
+-- by words of which the one at this place, if any, is `--csv`: what stands before it is options with values
+abbrev pub usage_at : Option ℕ → List (List ℕ) → Option Command
+usage_at None words = usage_from false words
+usage_at (Some place) words = if is_some (given_from (take place words) None) then usage_from true (take place words ++ drop (place + 1) words) else None
+
+-- the words are options with values, or `--csv`, which has none, is once among these
+abbrev pub usage_of : List (List ℕ) → Option Command
+usage_of words = if is_some (given_from words None) then usage_from false words else usage_at (position is_csv words) words
+
+abbrev pub is_usage : List ℕ → Bool
+is_usage word = bytes_eq word (codes "usage")
+
 -- ---- the words
 
 -- the first word is that of a command with options
 abbrev pub takes_options : List (List ℕ) → Bool
 takes_options [] = false
-takes_options (word ∷ words) = is_day word || is_serve word
+takes_options (word ∷ words) = is_day word || (is_serve word || is_usage word)
 
 -- the commands of one word
 abbrev pub command_named : List ℕ → Option Command
@@ -140,7 +177,8 @@ abbrev pub command_of : List (List ℕ) → Option Command
 command_of [] = None
 command_of (word ∷ words) = if is_day word then option_map day_with (values_of day_options words)
     else (if is_serve word then option_and_then serve_with (values_of serve_options words)
-    else alone (command_named word) words)
+    else (if is_usage word then usage_of words
+    else alone (command_named word) words))
 
 -- a command is answered exactly where it is this one, and bad words only where there is none. Want of memory may always come
 abbrev pub IsReading : Option Command → Result Command WordsRefusal → Type 0

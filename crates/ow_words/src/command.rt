@@ -15,6 +15,17 @@ pub enum Command {
     },
     /// Serve requests that come over sockets.
     Serve(ServeWords),
+    /// Write what the records of these days count for.
+    Usage {
+        /// The first day, counted from 1970-01-01.
+        from: u32,
+        /// The last day, which isn't before the first.
+        to: u32,
+        /// Whether it is written as comma-separated values.
+        csv: bool,
+        /// The file that the records are kept in.
+        store: Option<Str>,
+    },
     /// Tell how the program is used.
     Help,
     /// Tell the program's version.

@@ -1,13 +1,16 @@
 #![tactic(auto)]
 
-//! The words of the command line, and the command that they ask for.
+//! The words of the command line, the command that they ask for, and the statuses with which the program ends.
 mod command;
+mod days;
 mod found;
 mod laws;
 mod option_word;
 mod parse;
 mod plain;
 mod read;
+mod status;
+mod usage;
 
 pub use command::{Command, ServeWords, WordsRefusal};
 pub use laws::{
@@ -15,3 +18,4 @@ pub use laws::{
     services_have_bounds, words_are_commands,
 };
 pub use read::read_words;
+pub use status::{Status, report};

@@ -1,5 +1,5 @@
 use Rattle.std.proofs.Common.{◌≡◌, IfOk, subst, sym}
-use Rattle.ow_decide.specs.declared.acts.Act.{Act}
+use Rattle.ow_reads.specs.declared.acts.Act.{Act}
 use Rattle.ow_decide.specs.Asking.{change_done}
 use Rattle.ow_decide.specs.Sight.{Sight}
 use Rattle.ow_decide.specs.Making.{IsSeen, served_of}

@@ -1,7 +1,7 @@
 use Rattle.std.proofs.Common.{◌≡◌, IfOk, subst, sym}
 use Rattle.ow_kept.specs.Keeping.{StandsForKept}
 use Rattle.ow_tenant.specs.declared.entries.Holder.{Holder}
-use Rattle.ow_decide.specs.declared.acts.Act.{Act}
+use Rattle.ow_reads.specs.declared.acts.Act.{Act}
 use Rattle.ow_decide.specs.Asking.{change_done}
 use Rattle.ow_decide.specs.Making.{done_of}
 use Rattle.ow_decide.specs.Sight.{Sight}

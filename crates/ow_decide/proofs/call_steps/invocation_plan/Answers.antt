@@ -3,8 +3,8 @@ use Rattle.ow_entity.specs.declared.rows.Row.{Row}
 use Rattle.ow_http.specs.Steps.{◌>>=◌}
 use Rattle.ow_tenant.specs.Table.{Table}
 use Rattle.ow_decide.specs.Calling.{called_plan, callee_in}
-use Rattle.ow_decide.specs.Reasons.{not_found}
-use Rattle.ow_decide.specs.Steps.{or_else}
+use Rattle.ow_reads.specs.Reasons.{not_found}
+use Rattle.ow_reads.specs.Steps.{or_else}
 use Rattle.ow_decide.specs.declared.call_steps.Callee.{Callee}
 use Rattle.ow_decide.proofs.Results.{if_ok_map}
 use Rattle.ow_decide.proofs.call_steps.invocation_plan.Goals as goal

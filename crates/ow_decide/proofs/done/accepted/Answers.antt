@@ -9,5 +9,5 @@ returns-clause-ok c = λ b S now commits. record {
   changes = refl;
   waits = c.waits_of-waits.ensures;
   invoked = c.in-Ok-charged.ensures c.args.at;
-  commit = plan_committed c.args.planned b S c.args.at now commits;
+  commit = (refl, plan_committed c.args.planned b S c.args.at now commits);
 }

@@ -1,4 +1,5 @@
-use Rattle.std.proofs.Common.{List, Ok, subst}
+use Rattle.std.proofs.Common.{◌≡◌, List, Ok, subst}
+use Rattle.ow_traits.specs.Telling.{made, with_attempt}
 use Rattle.ow_traits.specs.Keeper.{Commits}
 use Rattle.ow_traits.specs.declared.change_list.Change.{Change}
 use Rattle.ow_hall.proofs.OpenLaws.{opening_stands}
@@ -9,9 +10,10 @@ keep-requires g c = c.in-Ok.ensures.ready.over.room
 
 pub returns-in-Ok-commit-clause-opened : goal.returns-in-Ok-commit-clause-opened
 returns-in-Ok-commit-clause-opened g c =
-    let rows = g.P.Keeper.rows in
+    let telling = g.P.Keeper.telling in
     let mid = c.load.new.store in
     let new = c.commit.new.self in
-    let made = subst (λ (cs : List Change). Commits {T = Unit {0}} (rows mid) (rows new) cs (Ok tt)) c.changes.ensures c.in-Ok-commit.ensures.told in
-    opening_stands rows g.P.Keeper.faults c.args.store.now mid new c.args.tenants.now c.in_ok-rows.rows c.args.at c.in-Ok.ready c.keep.result
-    c.in_ok-rows.ensures.loaded c.in-Ok.ensures.ready made c.in-Ok-commit.ensures.cause.later c.keep.ensures
+    let commits = subst (λ (cs : List Change). Commits {T = Unit {0}} (telling mid).rows (telling new).rows cs (Ok tt)) c.changes.ensures c.in-Ok-commit.ensures.told in
+    let asked = subst (λ (cs : List Change). (telling new).commits ≡ with_attempt (made cs) (telling mid).commits) c.changes.ensures c.in-Ok-commit.ensures.commits in
+    opening_stands telling c.args.store.now mid new c.args.tenants.now c.in_ok-rows.rows c.args.at c.in-Ok.ready c.keep.result
+    c.in_ok-rows.ensures.loaded c.in-Ok.ensures.ready commits asked c.in-Ok-commit.ensures.cause.later c.keep.ensures

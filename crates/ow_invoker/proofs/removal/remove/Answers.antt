@@ -15,9 +15,9 @@ loop-container-preserved g c =
     let i = c.loop-container.container-index in
     let none : Container = record { slot = 0; generation = 0 } in
     record {
-      removed = subst (λ cs. Removed g.P.Keeper.rows g.P.Keeper.faults c.args.hall.now c.args.at c.clear-step.new.hall c.args.shelf.now c.clear-step.new.shelf cs c.note.new.steps.items)
+      removed = subst (λ cs. Removed g.P.Keeper.telling c.args.hall.now c.args.at c.clear-step.new.hall c.args.shelf.now c.clear-step.new.shelf cs c.note.new.steps.items)
           (sym (take_more items i none c.loop-container-test.true))
-          (removed_more g.P.Keeper.rows g.P.Keeper.faults c.args.hall.now c.args.at c.loop-container.hall c.clear-step.new.hall c.args.shelf.now c.loop-container.shelf c.clear-step.new.shelf (take i items)
+          (removed_more g.P.Keeper.telling c.args.hall.now c.args.at c.loop-container.hall c.clear-step.new.hall c.args.shelf.now c.loop-container.shelf c.clear-step.new.shelf (take i items)
           (get_or items i none) c.loop-container.steps.items c.note.new.steps.items c.clear-step.result inv.removed c.clear-step.ensures.tells c.clear-step.ensures.shelf c.note.ensures.steps);
       idles = idles_trans inv.idles c.clear-step.ensures.runner;
       few = let a = inv.few in let b = c.note.ensures.few in omega arith;

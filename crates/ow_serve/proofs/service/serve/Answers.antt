@@ -1,5 +1,6 @@
 use Rattle.std.proofs.Common.{ap, ◌∙◌}
 use Rattle.ow_serve.proofs.Whole.{one_entry, opened_serves, opens_none, opens_so, over_allowed, over_none, unserved_by}
+use Rattle.ow_serve.proofs.Unopened.{why_unopened}
 use Rattle.ow_serve.proofs.service.serve.Goals as goal
 
 pub new-requires-clause-one : goal.new-requires-clause-one
@@ -30,3 +31,8 @@ returns-in-Ok-new-clause-opens g c =
 
 pub returns-clause-opens : goal.returns-clause-opens
 returns-clause-opens g c = opens_none _ _ c.args.tenants c.in-Err.refusal.why _ _ (c.nothing-in-Err.ensures.end ∙ c.unopened.ensures)
+
+pub returns-clause-unopened : goal.returns-clause-unopened
+returns-clause-unopened g c =
+    let kept = c.in-Err.ensures.unopened in
+    why_unopened g.P.Keeper.telling c.args.store c.in-Err.refusal.store c.in-Err.refusal.why _ _ (c.nothing-in-Err.ensures.end ∙ c.unopened.ensures) c.nothing-in-Err.ensures.store kept.cause kept.rows_stay

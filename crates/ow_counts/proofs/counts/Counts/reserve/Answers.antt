@@ -1,5 +1,5 @@
 use Rattle.std.proofs.Common.{ap, subst, sym}
-use Rattle.ow_tenant.specs.ByText.{ByText}
+use Rattle.ow_value.specs.ByText.{ByText}
 use Rattle.ow_tenant.specs.Windows.{StandsAs}
 use Rattle.ow_tenant.specs.declared.window.Window.{Window}
 use Rattle.ow_counts.specs.View.{CountsView}

@@ -7,14 +7,14 @@ use Rattle.ow_day.proofs.Sessions.{carries_later}
 use Rattle.ow_day.proofs.run.Run.step.Goals as goal
 
 pub returns-then-len-eq0-clause-steps : goal.returns-then-len-eq0-clause-steps
-returns-then-len-eq0-clause-steps g c = idle_steps g.P.Keeper.faults c.args.self.now c.without_bytes.result c.requires (sym c.len.ensures ∙ c.if-len-eq0.true) c.without_bytes.ensures
+returns-then-len-eq0-clause-steps g c = idle_steps g.P.Keeper.telling c.args.self.now c.without_bytes.result c.requires (sym c.len.ensures ∙ c.if-len-eq0.true) c.without_bytes.ensures
 
 pub returns-in-Done-clause-steps : goal.returns-in-Done-clause-steps
 returns-in-Done-clause-steps g c =
     let same = c.newline-newline.ensures.same ∙ c.is_cut.ensures.same in
     let within = rw (c.pending.ensures, same) at c.in-Found.ensures.within in
     let some : 0 < length c.args.self.now.input.pending = omega (arith, c.len.ensures, c.if-len-eq0.false) in
-    found_steps g.P.Keeper.faults c.args.self.now _ (statement c.in-Found.statement) c.in-Found.used c.carry_out-step.result c.requires some
+    found_steps g.P.Keeper.telling c.args.self.now _ (statement c.in-Found.statement) c.in-Found.used c.carry_out-step.result c.requires some
     (rw (c.pending.ensures, same) at c.in-Found.ensures.first) within.0 (within.1 some) c.carry_out-step.ensures
     (λ done. (rw same at c.skip.ensures.pending, refl)) (c.skip.ensures.taken ∙ ap (λ (i : InputView). i.taken) same) refl
 
@@ -24,54 +24,54 @@ returns-in_default g c =
     let within = rw (c.pending.ensures, same) at c.in-Found.ensures.within in
     let some : 0 < length c.args.self.now.input.pending = omega (arith, c.len.ensures, c.if-len-eq0.false) in
     record {
-      steps = found_steps g.P.Keeper.faults c.args.self.now _ (statement c.in-Found.statement) c.in-Found.used c.carry_out-step.result c.requires some
+      steps = found_steps g.P.Keeper.telling c.args.self.now _ (statement c.in-Found.statement) c.in-Found.used c.carry_out-step.result c.requires some
           (rw (c.pending.ensures, same) at c.in-Found.ensures.first) within.0 (within.1 some) c.carry_out-step.ensures
           (λ done. absurd (c.in_default.not-Done done)) (ap (λ (i : InputView). i.taken) same) refl;
       bounded = λ done. absurd (c.in_default.not-Done done);
       falls = λ done. absurd (c.in_default.not-Done done);
-      later = carries_later g.P.Keeper.faults c.args.self.now.session c.carry_out-step.new.self (statement c.in-Found.statement) c.args.self.now.answers.items c.carry_out-step.new.answers.items c.carry_out-step.result c.carry_out-step.ensures;
+      later = carries_later g.P.Keeper.telling c.args.self.now.session c.carry_out-step.new.self (statement c.in-Found.statement) c.args.self.now.answers.items c.carry_out-step.new.answers.items c.carry_out-step.result c.carry_out-step.ensures;
     }
 
 pub returns-in-Wrong-clause-steps : goal.returns-in-Wrong-clause-steps
 returns-in-Wrong-clause-steps g c =
     let same = c.newline-newline.ensures.same ∙ c.is_cut.ensures.same in
     let some : 0 < length c.args.self.now.input.pending = omega (arith, c.len.ensures, c.if-len-eq0.false) in
-    wrong_ends g.P.Keeper.faults c.args.self.now _ c.requires.most some (rw (c.pending.ensures, same) at c.in-Wrong.ensures.first) refl refl refl
+    wrong_ends g.P.Keeper.telling c.args.self.now _ c.requires.most some (rw (c.pending.ensures, same) at c.in-Wrong.ensures.first) refl refl refl
 
 pub returns-then-is_cut-clause-steps : goal.returns-then-is_cut-clause-steps
 returns-then-is_cut-clause-steps g c =
     let r = c.args.self.now in
-    cut_steps g.P.Keeper.faults r _ (sym (c.is_cut.ensures.cut c.if-is_cut.true))
+    cut_steps g.P.Keeper.telling r _ (sym (c.is_cut.ensures.cut c.if-is_cut.true))
     (ap (λ (i : InputView). record { session = r.session; input = i; ended = r.ended; answers = r.answers; number = r.number }) c.is_cut.ensures.same)
 
 pub returns-in-Cut-clause-steps : goal.returns-in-Cut-clause-steps
 returns-in-Cut-clause-steps g c =
     let r = c.args.self.now in
     let same = c.newline-newline.ensures.same ∙ c.is_cut.ensures.same in
-    cut_steps g.P.Keeper.faults r _ (rw (c.pending.ensures, same) at c.in-Cut.ensures.first)
+    cut_steps g.P.Keeper.telling r _ (rw (c.pending.ensures, same) at c.in-Cut.ensures.first)
     (ap (λ (i : InputView). record { session = r.session; input = i; ended = r.ended; answers = r.answers; number = r.number }) same)
 
 pub returns-in-Awaits-clause-steps : goal.returns-in-Awaits-clause-steps
 returns-in-Awaits-clause-steps g c =
     let r = c.args.self.now in
     let same = c.newline-newline.ensures.same ∙ c.is_cut.ensures.same in
-    cut_steps g.P.Keeper.faults r _ (rw (c.pending.ensures, same) at c.in-Awaits.ensures.first)
+    cut_steps g.P.Keeper.telling r _ (rw (c.pending.ensures, same) at c.in-Awaits.ensures.first)
     (ap (λ (i : InputView). record { session = r.session; input = i; ended = r.ended; answers = r.answers; number = r.number }) (c.await_lines.ensures.same ∙ same))
 
 pub returns-in-Done-clause-later : goal.returns-in-Done-clause-later
-returns-in-Done-clause-later g c = carries_later g.P.Keeper.faults c.args.self.now.session c.carry_out-step.new.self (statement c.in-Found.statement) c.args.self.now.answers.items c.carry_out-step.new.answers.items c.carry_out-step.result c.carry_out-step.ensures
+returns-in-Done-clause-later g c = carries_later g.P.Keeper.telling c.args.self.now.session c.carry_out-step.new.self (statement c.in-Found.statement) c.args.self.now.answers.items c.carry_out-step.new.answers.items c.carry_out-step.result c.carry_out-step.ensures
 
 pub returns-then-len-eq0-clause-later : goal.returns-then-len-eq0-clause-later
-returns-then-len-eq0-clause-later g c = same_session g.P.Keeper.faults c.args.self.now.session
+returns-then-len-eq0-clause-later g c = same_session g.P.Keeper.telling c.args.self.now.session
 
 pub returns-in-Wrong-clause-later : goal.returns-in-Wrong-clause-later
-returns-in-Wrong-clause-later g c = same_session g.P.Keeper.faults c.args.self.now.session
+returns-in-Wrong-clause-later g c = same_session g.P.Keeper.telling c.args.self.now.session
 
 pub returns-then-is_cut-clause-later : goal.returns-then-is_cut-clause-later
-returns-then-is_cut-clause-later g c = same_session g.P.Keeper.faults c.args.self.now.session
+returns-then-is_cut-clause-later g c = same_session g.P.Keeper.telling c.args.self.now.session
 
 pub returns-in-Cut-clause-later : goal.returns-in-Cut-clause-later
-returns-in-Cut-clause-later g c = same_session g.P.Keeper.faults c.args.self.now.session
+returns-in-Cut-clause-later g c = same_session g.P.Keeper.telling c.args.self.now.session
 
 pub returns-in-Awaits-clause-later : goal.returns-in-Awaits-clause-later
-returns-in-Awaits-clause-later g c = same_session g.P.Keeper.faults c.args.self.now.session
+returns-in-Awaits-clause-later g c = same_session g.P.Keeper.telling c.args.self.now.session

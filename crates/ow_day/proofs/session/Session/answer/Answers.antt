@@ -11,7 +11,7 @@ use Rattle.ow_day.proofs.session.Session.answer.Goals as goal
 pub returns : goal.returns
 returns g c =
     let same : runs.Answer c.in_ok-text.text c.new-logs.result ≡ runs.Answer c.args.text.now [] = rw (c.in_ok-text.ensures, c.new-logs.ensures) refl in
-    subst (λ (r : RunReply). ComesTo g.P.Keeper.faults c.args.self.now c.reply.new.self (Meets (machine_of c.args.self.now) (events.Answered c.args.run r)) c.reply.result) same c.reply.ensures
+    subst (λ (r : RunReply). ComesTo g.P.Keeper.telling c.args.self.now c.reply.new.self (Meets (machine_of c.args.self.now) (events.Answered c.args.run r)) c.reply.result) same c.reply.ensures
 
 pub returns-in_err-text : goal.returns-in_err-text
-returns-in_err-text g c = stays_so g.P.Keeper.faults c.args.self.now (Does (machine_of c.args.self.now) (Answer c.args.run c.args.text.now)) c.from_residual.result c.from_residual.ensures.0
+returns-in_err-text g c = stays_so g.P.Keeper.telling c.args.self.now (Does (machine_of c.args.self.now) (Answer c.args.run c.args.text.now)) c.from_residual.result c.from_residual.ensures.0

@@ -3,4 +3,4 @@ use Rattle.ow_day.proofs.Meeting.{taken}
 use Rattle.ow_day.proofs.session.Session.begun.Goals as goal
 
 pub returns : goal.returns
-returns g c = rw c.told_of.ensures (taken g.P.Keeper.rows g.P.Keeper.faults c.args.self.now c.begun.new.self (events.Begun c.args.run) c.begun.result c.begun.ensures)
+returns g c = rw c.told_of.ensures (taken g.P.Keeper.telling c.args.self.now c.begun.new.self (events.Begun c.args.run) c.begun.result c.begun.ensures)

@@ -10,4 +10,4 @@ pub returns-in_err-words : goal.returns-in_err-words
 returns-in_err-words g c =
     let old = c.args.self.now in
     let new : Session g.row.P.Denot = record { hall = old.hall; given = old.given; scratch = c.call_words.new.scratch; routes = old.routes; runner = old.runner; shelf = old.shelf } in
-    wants_so g.P.Keeper.faults old new (Does (machine_of old) (Call c.args.name.now c.args.text.now)) c.from_residual.result c.from_residual.ensures.0 (record { behind = (refl, ([], refl)); count = omega arith })
+    wants_so g.P.Keeper.telling old new (Does (machine_of old) (Call c.args.name.now c.args.text.now)) c.from_residual.result c.from_residual.ensures.0 (record { behind = (refl, ([], refl)); count = omega arith })

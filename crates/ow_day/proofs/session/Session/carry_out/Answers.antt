@@ -9,4 +9,4 @@ returns-in-Ok-pushed g c = (
 )
 
 pub returns-in-Err : goal.returns-in-Err
-returns-in-Err g c = goes_later g.P.Keeper.faults c.args.self.now c.perform.new.self (statement c.args.said) c.in-Ok.done c.in-Ok.ensures
+returns-in-Err g c = goes_later g.P.Keeper.telling c.args.self.now c.perform.new.self (statement c.args.said) c.in-Ok.done c.in-Ok.ensures

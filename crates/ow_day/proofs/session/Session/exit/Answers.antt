@@ -7,4 +7,4 @@ use Rattle.ow_day.proofs.session.Session.exit.Goals as goal
 
 pub returns : goal.returns
 returns g c =
-    subst (λ (r : RunReply). ComesTo g.P.Keeper.faults c.args.self.now c.reply.new.self (Meets (machine_of c.args.self.now) (events.Answered c.args.run r)) c.reply.result) c.exited-ended.ensures c.reply.ensures
+    subst (λ (r : RunReply). ComesTo g.P.Keeper.telling c.args.self.now c.reply.new.self (Meets (machine_of c.args.self.now) (events.Answered c.args.run r)) c.reply.result) c.exited-ended.ensures c.reply.ensures

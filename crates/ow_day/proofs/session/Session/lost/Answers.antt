@@ -3,4 +3,4 @@ use Rattle.ow_day.proofs.Meeting.{taken}
 use Rattle.ow_day.proofs.session.Session.lost.Goals as goal
 
 pub returns : goal.returns
-returns g c = rw c.told_of.ensures (taken g.P.Keeper.rows g.P.Keeper.faults c.args.self.now c.lost.new.self (events.Lost c.args.run) c.lost.result c.lost.ensures)
+returns g c = rw c.told_of.ensures (taken g.P.Keeper.telling c.args.self.now c.lost.new.self (events.Lost c.args.run) c.lost.result c.lost.ensures)

@@ -4,7 +4,7 @@ use Rattle.ow_day.proofs.Meeting.{denied, met}
 use Rattle.ow_day.proofs.session.Session.reply.Goals as goal
 
 pub returns-in-Ok : goal.returns-in-Ok
-returns-in-Ok g c = met g.P.Keeper.rows g.P.Keeper.faults c.args.self.now c.answered.new.self (events.Answered c.args.run c.args.reply) (told.Answered c.in-Ok.answered) c.in-Ok.ensures.comes
+returns-in-Ok g c = met g.P.Keeper.telling c.args.self.now c.answered.new.self (events.Answered c.args.run c.args.reply) (told.Answered c.in-Ok.answered) c.in-Ok.ensures.comes
 
 pub returns-in-Err : goal.returns-in-Err
-returns-in-Err g c = denied g.P.Keeper.rows g.P.Keeper.faults c.args.self.now c.answered.new.self c.args.run c.args.reply c.in-Err.refused c.unanswered.result c.in-Err.ensures.comes c.unanswered.ensures
+returns-in-Err g c = denied g.P.Keeper.telling c.args.self.now c.answered.new.self c.args.run c.args.reply c.in-Err.refused c.unanswered.result c.in-Err.ensures.comes c.unanswered.ensures

@@ -4,10 +4,10 @@ use Rattle.ow_day.proofs.Meeting.{failed, met, wanted}
 use Rattle.ow_day.proofs.session.Session.sweep.Goals as goal
 
 pub returns-in-Ok : goal.returns-in-Ok
-returns-in-Ok g c = met g.P.Keeper.rows g.P.Keeper.faults c.args.self.now c.sweep.new.self events.Sweep (told.Swept c.in-Ok.swept) c.in-Ok.ensures
+returns-in-Ok g c = met g.P.Keeper.telling c.args.self.now c.sweep.new.self events.Sweep (told.Swept c.in-Ok.swept) c.in-Ok.ensures
 
 pub returns-in-Err-StoreFault : goal.returns-in-Err-StoreFault
-returns-in-Err-StoreFault g c = failed g.P.Keeper.rows g.P.Keeper.faults c.args.self.now c.sweep.new.self events.Sweep (rw c.in-Err-StoreFault.field-0-is at c.in-Err-StoreFault.ensures)
+returns-in-Err-StoreFault g c = failed g.P.Keeper.telling c.args.self.now c.sweep.new.self events.Sweep (rw c.in-Err-StoreFault.field-0-is at c.in-Err-StoreFault.ensures)
 
 pub returns-in-Err-NoMemory : goal.returns-in-Err-NoMemory
-returns-in-Err-NoMemory g c = wanted g.P.Keeper.rows g.P.Keeper.faults c.args.self.now c.sweep.new.self events.Sweep (rw c.in-Err-NoMemory.field-0-is at c.in-Err-NoMemory.ensures)
+returns-in-Err-NoMemory g c = wanted g.P.Keeper.telling c.args.self.now c.sweep.new.self events.Sweep (rw c.in-Err-NoMemory.field-0-is at c.in-Err-NoMemory.ensures)

@@ -13,25 +13,25 @@ reply_in-requires g c = subst (λ (t : Told). IsSome (reply_in t)) (sym c.in-Ok.
 
 pub returns-in_err-failed-clause-called : goal.returns-in_err-failed-clause-called
 returns-in_err-failed-clause-called g c =
-    let received : (o : Outcome) × Replies c.from_residual.result o × IsReceived g.P.Keeper.rows g.P.Keeper.faults c.args.desk.now c.args.desk.now c.args.at (events.Asked c.args.request.now) o c.args.self.now.notes c.args.self.now.notes = search rules in
-    reply_was_called g.P.Keeper.rows g.P.Keeper.faults c.args.desk.now c.args.desk.now c.args.at (events.Asked c.args.request.now) c.from_residual.result c.args.self.now.notes c.args.self.now.notes received
+    let received : (o : Outcome) × Replies c.from_residual.result o × IsReceived g.P.Keeper.telling c.args.desk.now c.args.desk.now c.args.at (events.Asked c.args.request.now) o c.args.self.now.notes c.args.self.now.notes = search rules in
+    reply_was_called g.P.Keeper.telling c.args.desk.now c.args.desk.now c.args.at (events.Asked c.args.request.now) c.from_residual.result c.args.self.now.notes c.args.self.now.notes received
 
 pub returns-in_err-copy-clause-called : goal.returns-in_err-copy-clause-called
 returns-in_err-copy-clause-called g c =
-    let received : (o : Outcome) × Replies c.from_residual-in_err-copy.result o × IsReceived g.P.Keeper.rows g.P.Keeper.faults c.args.desk.now c.args.desk.now c.args.at (events.Asked c.args.request.now) o c.args.self.now.notes c.args.self.now.notes = search rules in
-    reply_was_called g.P.Keeper.rows g.P.Keeper.faults c.args.desk.now c.args.desk.now c.args.at (events.Asked c.args.request.now) c.from_residual-in_err-copy.result c.args.self.now.notes c.args.self.now.notes received
+    let received : (o : Outcome) × Replies c.from_residual-in_err-copy.result o × IsReceived g.P.Keeper.telling c.args.desk.now c.args.desk.now c.args.at (events.Asked c.args.request.now) o c.args.self.now.notes c.args.self.now.notes = search rules in
+    reply_was_called g.P.Keeper.telling c.args.desk.now c.args.desk.now c.args.at (events.Asked c.args.request.now) c.from_residual-in_err-copy.result c.args.self.now.notes c.args.self.now.notes received
 
 pub returns-in_err-request-clause-called : goal.returns-in_err-request-clause-called
 returns-in_err-request-clause-called g c =
-    let received : (o : Outcome) × Replies c.from_residual-in_err-request.result o × IsReceived g.P.Keeper.rows g.P.Keeper.faults c.args.desk.now c.args.desk.now c.args.at (events.Asked c.args.request.now) o c.args.self.now.notes c.args.self.now.notes = search rules in
-    reply_was_called g.P.Keeper.rows g.P.Keeper.faults c.args.desk.now c.args.desk.now c.args.at (events.Asked c.args.request.now) c.from_residual-in_err-request.result c.args.self.now.notes c.args.self.now.notes received
+    let received : (o : Outcome) × Replies c.from_residual-in_err-request.result o × IsReceived g.P.Keeper.telling c.args.desk.now c.args.desk.now c.args.at (events.Asked c.args.request.now) o c.args.self.now.notes c.args.self.now.notes = search rules in
+    reply_was_called g.P.Keeper.telling c.args.desk.now c.args.desk.now c.args.at (events.Asked c.args.request.now) c.from_residual-in_err-request.result c.args.self.now.notes c.args.self.now.notes received
 
 pub returns-then-store_failed-clause-called : goal.returns-then-store_failed-clause-called
 returns-then-store_failed-clause-called g c =
-    let received : (o : Outcome) × Replies (Ok c.in_ok-failed.failed) o × IsReceived g.P.Keeper.rows g.P.Keeper.faults c.args.desk.now c.perform.new.desk c.args.at (events.Asked c.args.request.now) o c.args.self.now.notes c.perform.new.self.notes = search rules in
-    reply_was_called g.P.Keeper.rows g.P.Keeper.faults c.args.desk.now c.perform.new.desk c.args.at (events.Asked c.args.request.now) (Ok c.in_ok-failed.failed) c.args.self.now.notes c.perform.new.self.notes received
+    let received : (o : Outcome) × Replies (Ok c.in_ok-failed.failed) o × IsReceived g.P.Keeper.telling c.args.desk.now c.perform.new.desk c.args.at (events.Asked c.args.request.now) o c.args.self.now.notes c.perform.new.self.notes = search rules in
+    reply_was_called g.P.Keeper.telling c.args.desk.now c.perform.new.desk c.args.at (events.Asked c.args.request.now) (Ok c.in_ok-failed.failed) c.args.self.now.notes c.perform.new.self.notes received
 
 pub returns-else-store_failed-clause-called : goal.returns-else-store_failed-clause-called
 returns-else-store_failed-clause-called g c =
-    let received : IsReceived g.P.Keeper.rows g.P.Keeper.faults c.args.desk.now c.perform.new.desk c.args.at (events.Asked c.args.request.now) Wants c.args.self.now.notes c.perform.new.self.notes = search rules in
-    (Wants, refl, was_called g.P.Keeper.rows g.P.Keeper.faults c.args.desk.now c.perform.new.desk c.args.at (events.Asked c.args.request.now) Wants c.args.self.now.notes c.perform.new.self.notes received)
+    let received : IsReceived g.P.Keeper.telling c.args.desk.now c.perform.new.desk c.args.at (events.Asked c.args.request.now) Wants c.args.self.now.notes c.perform.new.self.notes = search rules in
+    (Wants, refl, was_called g.P.Keeper.telling c.args.desk.now c.perform.new.desk c.args.at (events.Asked c.args.request.now) Wants c.args.self.now.notes c.perform.new.self.notes received)

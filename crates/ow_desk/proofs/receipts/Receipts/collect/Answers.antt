@@ -7,5 +7,5 @@ use Rattle.ow_desk.proofs.receipts.Receipts.collect.Goals as goal
 
 pub returns-in-Err-clause-called : goal.returns-in-Err-clause-called
 returns-in-Err-clause-called g c =
-    let received : IsReceived g.P.Keeper.rows g.P.Keeper.faults c.args.desk.now c.perform.new.desk c.args.at (events.Collected c.args.id.now) Wants c.args.self.now.notes c.perform.new.self.notes = search rules in
-    was_called g.P.Keeper.rows g.P.Keeper.faults c.args.desk.now c.perform.new.desk c.args.at (events.Collected c.args.id.now) Wants c.args.self.now.notes c.perform.new.self.notes received
+    let received : IsReceived g.P.Keeper.telling c.args.desk.now c.perform.new.desk c.args.at (events.Collected c.args.id.now) Wants c.args.self.now.notes c.perform.new.self.notes = search rules in
+    was_called g.P.Keeper.telling c.args.desk.now c.perform.new.desk c.args.at (events.Collected c.args.id.now) Wants c.args.self.now.notes c.perform.new.self.notes received

@@ -10,5 +10,5 @@ pub returns-clause-called : goal.returns-clause-called
 returns-clause-called g c =
     let hall = c.desk.inside.hall in
     let standing = subst (λ (L : Ledger). IsStanding L.entries c.args.at c.of-before.result) c.book.ensures.ledger c.of-before.ensures in
-    taken_called g.P.Keeper.rows g.P.Keeper.faults hall c.gone-taken.new.self c.args.at (events.Gone c.args.slot c.args.generation) (taken_told c.gone-taken.result) c.taken_told.result c.args.self.now.notes
+    taken_called g.P.Keeper.telling hall c.gone-taken.new.self c.args.at (events.Gone c.args.slot c.args.generation) (taken_told c.gone-taken.result) c.taken_told.result c.args.self.now.notes
     c.note.new.self.notes c.of-before.result c.gone-taken.ensures standing c.taken_told.ensures (c.note.ensures.notes hall.ledger.entries c.args.at standing)

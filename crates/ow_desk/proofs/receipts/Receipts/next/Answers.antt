@@ -21,10 +21,10 @@ returns-in-Ok-clause-fits g c =
 pub returns-in-Ok-clause-called : goal.returns-in-Ok-clause-called
 returns-in-Ok-clause-called g c =
     subst (λ (t : Told). WasCalled c.args.at events.Next (Answers t) c.args.self.now.notes c.perform.new.self.notes) c.order_in.ensures
-    (was_called g.P.Keeper.rows g.P.Keeper.faults c.args.desk.now c.perform.new.desk c.args.at events.Next (Answers c.in-Ok.told) c.args.self.now.notes c.perform.new.self.notes c.in-Ok.ensures.received)
+    (was_called g.P.Keeper.telling c.args.desk.now c.perform.new.desk c.args.at events.Next (Answers c.in-Ok.told) c.args.self.now.notes c.perform.new.self.notes c.in-Ok.ensures.received)
 
 pub returns-in-Err-clause-called : goal.returns-in-Err-clause-called
 returns-in-Err-clause-called g c =
     let h = c.args.desk.now.hall in
-    wanted_called g.P.Keeper.rows g.P.Keeper.faults c.args.desk.now c.perform.new.desk c.args.at events.Next c.in-Err.undone.failed c.args.self.now.notes c.perform.new.self.notes
+    wanted_called g.P.Keeper.telling c.args.desk.now c.perform.new.desk c.args.at events.Next c.in-Err.undone.failed c.args.self.now.notes c.perform.new.self.notes
     (next_commits (sight h.tenants (seen h.tenants h.ledger.entries) (counted h.ledger.entries) (at_hall h c.args.at))) c.in-Err.ensures.received

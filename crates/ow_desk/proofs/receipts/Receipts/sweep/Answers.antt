@@ -8,10 +8,10 @@ use Rattle.ow_desk.proofs.receipts.Receipts.sweep.Goals as goal
 
 pub returns-then-failed-clause-called : goal.returns-then-failed-clause-called
 returns-then-failed-clause-called g c =
-    fault_called g.P.Keeper.rows g.P.Keeper.faults c.args.desk.now c.perform.new.desk c.args.at events.Sweep c.in-Err.undone.failed c.args.self.now.notes c.perform.new.self.notes
+    fault_called g.P.Keeper.telling c.args.desk.now c.perform.new.desk c.args.at events.Sweep c.in-Err.undone.failed c.args.self.now.notes c.perform.new.self.notes
     c.if-failed.true c.in-Err.ensures.received
 
 pub returns-in-Ok-clause-called : goal.returns-in-Ok-clause-called
 returns-in-Ok-clause-called g c =
     subst (λ (t : Told). WasCalled c.args.at events.Sweep (Answers t) c.args.self.now.notes c.perform.new.self.notes) c.swept_in.ensures
-    (was_called g.P.Keeper.rows g.P.Keeper.faults c.args.desk.now c.perform.new.desk c.args.at events.Sweep (Answers c.in-Ok.told) c.args.self.now.notes c.perform.new.self.notes c.in-Ok.ensures.received)
+    (was_called g.P.Keeper.telling c.args.desk.now c.perform.new.desk c.args.at events.Sweep (Answers c.in-Ok.told) c.args.self.now.notes c.perform.new.self.notes c.in-Ok.ensures.received)

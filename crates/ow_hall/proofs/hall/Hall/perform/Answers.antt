@@ -87,13 +87,13 @@ invariant_of-self-2 g c =
     c.in-Ok-prepare.ensures.ledger c.in-Ok-prepare.ensures.told c.post.ensures.room in
     let room = room_left t L at c.self.inside.book.room c.prepare.new.book.room c.post.new.self.room (owed T) c.in-Ok-prepare.bytes event step.told
     c.self.invariant.1 c.in-Ok-prepare.ensures.keeps used (c.in-Ok-prepare.ensures.ready T done.2) refl in
-    let store = committed g.P.Keeper.rows g.P.Keeper.faults step.commit (commits (decision t L.entries at event)) c.self.inside.store c.commit.new.store done.1.changes c.in_default-commit.ensures in
-    let holds = held_posted (g.P.Keeper.rows c.self.inside.store) (g.P.Keeper.rows c.commit.new.store) t L old at event step.told c.requires.later c.self.invariant.0
+    let store = committed g.P.Keeper.telling step.commit (commits (decision t L.entries at event)) c.self.inside.store c.commit.new.store done.1.changes c.in_default-commit.ensures in
+    let holds = held_posted (g.P.Keeper.telling c.self.inside.store).rows (g.P.Keeper.telling c.commit.new.store).rows t L old at event step.told c.requires.later c.self.invariant.0
     (kept (all_changed (decision t L.entries at event).changes (seen t L.entries).rows) T done.1.stands).ids both.0
-    (held g.P.Keeper.rows g.P.Keeper.faults (commits (decision t L.entries at event)) c.self.inside.store c.commit.new.store store) c.self.invariant.2 in (
+    (held g.P.Keeper.telling (commits (decision t L.entries at event)) c.self.inside.store c.commit.new.store store) c.self.invariant.2 in (
       subst (λ (l : Ledger). Keeps new t l) (sym post) both.1,
       subst (λ (l : Ledger). HasRoom (seen t l.entries).trace l c.post.new.self.room) (sym post) room,
-      subst (λ (l : Ledger). HoldsBook (g.P.Keeper.rows c.commit.new.store) t l) (sym post) holds,
+      subst (λ (l : Ledger). HoldsBook (g.P.Keeper.telling c.commit.new.store).rows t l) (sym post) holds,
     )
 
 pub returns-clause-comes : goal.returns-clause-comes
@@ -109,29 +109,29 @@ returns-clause-comes g c =
     c.self.invariant.0.stands c.counted.ensures c.in-Ok.ensures.ok in
     let post = c.post.ensures.ledger ∙ (ap (λ (l : Ledger). posted l at event c.in-Ok-prepare.copied) c.in-Ok-prepare.ensures.ledger
     ∙ ap (posted L at event) c.in-Ok-prepare.ensures.told) in
-    let store = committed g.P.Keeper.rows g.P.Keeper.faults c.in-Ok.step.commit (commits (decision t L.entries at event)) c.self.inside.store c.commit.new.store done.1.changes c.in_default-commit.ensures in
+    let store = committed g.P.Keeper.telling c.in-Ok.step.commit (commits (decision t L.entries at event)) c.self.inside.store c.commit.new.store done.1.changes c.in_default-commit.ensures in
     subst (λ (h : HallView _). (told ≡ answer h.tenants h.ledger.entries (at_hall h c.args.at) event) × (c.post.new.self.ledger ≡ posted h.ledger (at_hall h c.args.at) event told) × (t ≡ h.tenants)
-    × Holds g.P.Keeper.rows g.P.Keeper.faults (commits (decided h c.args.at event)) h.store c.commit.new.store)
+    × Holds g.P.Keeper.telling (commits (decided h c.args.at event)) h.store c.commit.new.store)
     c.self.view_is (
       subst (λ (m : ℕ). told ≡ answer t L.entries m event) c.moment.ensures done.0.told,
       post ∙ ap (λ (m : ℕ). posted L m event told) c.moment.ensures,
       refl,
-      subst (λ (m : ℕ). Holds g.P.Keeper.rows g.P.Keeper.faults (commits (decision t L.entries m event)) c.self.inside.store c.commit.new.store) c.moment.ensures store,
+      subst (λ (m : ℕ). Holds g.P.Keeper.telling (commits (decision t L.entries m event)) c.self.inside.store c.commit.new.store) c.moment.ensures store,
     )
 
 pub returns-in_default-clause-comes : goal.returns-in_default-clause-comes
 returns-in_default-clause-comes g c =
     let t = c.self.inside.tenants in
     let L = c.self.inside.book.ledger in
-    subst (λ (h : HallView _). (L ≡ h.ledger) × (t ≡ h.tenants) × Stays g.P.Keeper.rows g.P.Keeper.faults (commits (decided h c.args.at c.args.event)) h.store c.self.inside.store)
-    c.self.view_is (refl, refl, stays_same g.P.Keeper.rows g.P.Keeper.faults (commits (decision t L.entries (moment L.entries c.args.at) c.args.event)) c.self.inside.store)
+    subst (λ (h : HallView _). (L ≡ h.ledger) × (t ≡ h.tenants) × Stays g.P.Keeper.telling (commits (decided h c.args.at c.args.event)) h.store c.self.inside.store)
+    c.self.view_is (refl, refl, stays_same g.P.Keeper.telling (commits (decision t L.entries (moment L.entries c.args.at) c.args.event)) c.self.inside.store)
 
 pub returns-in_default-prepare-clause-comes : goal.returns-in_default-prepare-clause-comes
 returns-in_default-prepare-clause-comes g c =
     let t = c.self.inside.tenants in
     let L = c.self.inside.book.ledger in
-    subst (λ (h : HallView _). (c.prepare.new.book.ledger ≡ h.ledger) × (t ≡ h.tenants) × Stays g.P.Keeper.rows g.P.Keeper.faults (commits (decided h c.args.at c.args.event)) h.store c.self.inside.store)
-    c.self.view_is (c.prepare.ensures.ledger, refl, stays_same g.P.Keeper.rows g.P.Keeper.faults (commits (decision t L.entries (moment L.entries c.args.at) c.args.event)) c.self.inside.store)
+    subst (λ (h : HallView _). (c.prepare.new.book.ledger ≡ h.ledger) × (t ≡ h.tenants) × Stays g.P.Keeper.telling (commits (decided h c.args.at c.args.event)) h.store c.self.inside.store)
+    c.self.view_is (c.prepare.ensures.ledger, refl, stays_same g.P.Keeper.telling (commits (decision t L.entries (moment L.entries c.args.at) c.args.event)) c.self.inside.store)
 
 pub returns-in-Err-clause-comes : goal.returns-in-Err-clause-comes
 returns-in-Err-clause-comes g c =
@@ -145,9 +145,9 @@ returns-in-Err-clause-comes g c =
     c.self.invariant.0.stands c.counted.ensures c.in-Ok.ensures.ok in
     let made = done.1.changes ∙ ap (λ (m : ℕ). commits (decision t L.entries m event)) c.moment.ensures in
     let ledger = c.note_uncommitted-failed.ensures.ledger ∙ ap (uncommitted error) c.prepare.ensures.ledger in
-    subst (λ (b : Bool). Comes g.P.Keeper.rows g.P.Keeper.faults c.args.self.now (record { tenants = t; ledger = c.note_uncommitted-failed.new.self.ledger; store = c.commit.new.store }) c.args.at event (undone b))
+    subst (λ (b : Bool). Comes g.P.Keeper.telling c.args.self.now (record { tenants = t; ledger = c.note_uncommitted-failed.new.self.ledger; store = c.commit.new.store }) c.args.at event (undone b))
     (sym c.note_uncommitted-failed.ensures.failed)
-    (subst (λ (h : HallView _). Comes g.P.Keeper.rows g.P.Keeper.faults h (record { tenants = t; ledger = c.note_uncommitted-failed.new.self.ledger; store = c.commit.new.store }) c.args.at event (undone (is_fault error)))
+    (subst (λ (h : HallView _). Comes g.P.Keeper.telling h (record { tenants = t; ledger = c.note_uncommitted-failed.new.self.ledger; store = c.commit.new.store }) c.args.at event (undone (is_fault error)))
     c.self.view_is
-    (undone_comes g.P.Keeper.rows g.P.Keeper.faults (record { tenants = t; ledger = L; store = c.self.inside.store })
+    (undone_comes g.P.Keeper.telling (record { tenants = t; ledger = L; store = c.self.inside.store })
     (record { tenants = t; ledger = c.note_uncommitted-failed.new.self.ledger; store = c.commit.new.store }) c.args.at event c.in-Ok.step.commit error made c.in-Err.ensures ledger refl))

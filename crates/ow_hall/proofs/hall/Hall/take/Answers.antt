@@ -48,9 +48,9 @@ invariant_of-self g c =
     (taken_ready t L at room event taken c.self.invariant.1 c.requires both.0) refl in (
       subst (λ (l : Ledger). Keeps c.take-taken.new.self t l) (sym made) both.1,
       subst (λ (l : Ledger). HasRoom (seen t l.entries).trace l c.post.new.self.room) (sym made) has,
-      subst (λ (l : Ledger). HoldsBook (g.P.Keeper.rows c.self.inside.store) t l) (sym made)
-          (held_posted (g.P.Keeper.rows c.self.inside.store) (g.P.Keeper.rows c.self.inside.store) t L c.self.inside.state at event told (later_free event c.requires) c.self.invariant.0 both.2 both.0
-          (kept_none (g.P.Keeper.rows c.self.inside.store) (commits (decision t L.entries at event)) (free_commits t L at event c.requires)) c.self.invariant.2),
+      subst (λ (l : Ledger). HoldsBook (g.P.Keeper.telling c.self.inside.store).rows t l) (sym made)
+          (held_posted (g.P.Keeper.telling c.self.inside.store).rows (g.P.Keeper.telling c.self.inside.store).rows t L c.self.inside.state at event told (later_free event c.requires) c.self.invariant.0 both.2 both.0
+          (kept_none (g.P.Keeper.telling c.self.inside.store).rows (commits (decision t L.entries at event)) (free_commits t L at event c.requires)) c.self.invariant.2),
     )
 
 pub returns : goal.returns
@@ -64,10 +64,10 @@ returns g c =
     let now : Now = record { counted = c.counted.result; at = at } in
     let both = takes t L c.self.inside.state c.take-taken.new.self now event taken c.args.at c.self.invariant.0 c.counted.ensures c.moment.ensures c.requires
     c.take-taken.ensures.free (c.take-taken.ensures.ok t) c.take-taken.ensures.rest c.take-taken.ensures.counts c.take-taken.ensures.keeping in
-    subst (λ (h : HallView _). (told ≡ answer h.tenants h.ledger.entries (at_hall h c.args.at) event) × (c.post.new.self.ledger ≡ posted h.ledger (at_hall h c.args.at) event told) × (t ≡ h.tenants) × Holds g.P.Keeper.rows g.P.Keeper.faults (commits (decided h c.args.at event)) h.store c.self.inside.store)
+    subst (λ (h : HallView _). (told ≡ answer h.tenants h.ledger.entries (at_hall h c.args.at) event) × (c.post.new.self.ledger ≡ posted h.ledger (at_hall h c.args.at) event told) × (t ≡ h.tenants) × Holds g.P.Keeper.telling (commits (decided h c.args.at event)) h.store c.self.inside.store)
     c.self.view_is (
       subst (λ (m : ℕ). told ≡ answer t L.entries m event) c.moment.ensures both.0,
       c.post.ensures.ledger ∙ (ap (posted L at event) c.taken_told.ensures ∙ ap (λ (m : ℕ). posted L m event told) c.moment.ensures),
       refl,
-      holds_none g.P.Keeper.rows g.P.Keeper.faults (commits (decision t L.entries (moment L.entries c.args.at) event)) c.self.inside.store (free_commits t L (moment L.entries c.args.at) event c.requires),
+      holds_none g.P.Keeper.telling (commits (decision t L.entries (moment L.entries c.args.at) event)) c.self.inside.store (free_commits t L (moment L.entries c.args.at) event c.requires),
     )

@@ -1,5 +1,5 @@
 use Rattle.std.proofs.Common.{sym, subst}
-use Rattle.ow_tenant.specs.ByText.{ByText, StandsAt}
+use Rattle.ow_value.specs.ByText.{ByText, StandsAt}
 use Rattle.ow_tenant.specs.declared.window.Window.{Window}
 use Rattle.ow_tenant.proofs.WindowLaws.{closed-others, closed-window}
 use Rattle.ow_tenant.proofs.windows.Windows.close.Goals as goal

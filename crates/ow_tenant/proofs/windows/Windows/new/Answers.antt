@@ -1,5 +1,5 @@
 use Rattle.std.proofs.Common.{refl, sym, subst, []}
-use Rattle.ow_tenant.specs.ByText.{ByText}
+use Rattle.ow_value.specs.ByText.{ByText}
 use Rattle.ow_tenant.specs.Windows.{Stands, no_window, window_of}
 use Rattle.ow_tenant.specs.declared.window.Window.{Window}
 use Rattle.ow_tenant.proofs.WindowLaws.{Stands-none}

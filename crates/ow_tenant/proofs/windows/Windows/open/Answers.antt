@@ -1,5 +1,5 @@
 use Rattle.std.proofs.Common.{subst, ◌≡◌, List, ℕ}
-use Rattle.ow_tenant.specs.ByText.{StandsAt}
+use Rattle.ow_value.specs.ByText.{StandsAt}
 use Rattle.ow_tenant.proofs.WindowLaws.{closed-others}
 use Rattle.ow_tenant.proofs.windows.Windows.open.Goals as goal
 

@@ -1,5 +1,5 @@
 use Rattle.std.proofs.Common.{◌∙◌, refl, sym, ap, subst}
-use Rattle.ow_tenant.specs.ByText.{ByText}
+use Rattle.ow_value.specs.ByText.{ByText}
 use Rattle.ow_tenant.specs.Windows.{HasRoom, StandsAs, no_window}
 use Rattle.ow_tenant.specs.declared.window.Window.{Window}
 use Rattle.ow_tenant.proofs.WindowLaws.{Stands-fresh, closed-others, closed-window, fresh-notes, fresh-room, fresh-window, put-at}

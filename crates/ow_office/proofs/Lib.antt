@@ -1,0 +1,4 @@
+pub mod Tables
+pub mod Asking
+pub mod Countable
+pub mod Endings

@@ -1,0 +1,13 @@
+#![tactic(auto)]
+
+//! The top call: what the words of the command line ask for, over all that a command may touch.
+mod commands;
+mod day;
+mod serve;
+mod table;
+mod text;
+mod usage;
+mod words;
+
+pub use commands::office;
+pub use words::{HELP, VERSION};

@@ -1,0 +1,6 @@
+mod Filters
+pub mod SeenLaws
+mod BehindLaws
+mod ReadLaws
+mod RecordLaws
+mod NamedLaws

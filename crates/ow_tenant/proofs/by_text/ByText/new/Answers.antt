@@ -1,5 +1,0 @@
-use Rattle.ow_tenant.proofs.ByTextLaws.{none-rise}
-use Rattle.ow_tenant.proofs.by_text.ByText.new.Goals as goal
-
-pub invariant_of-result : goal.invariant_of-result
-invariant_of-result g c = rw c.new.ensures.items none-rise
