@@ -1,4 +1,4 @@
-"""What the trials of the proxy and of the dashboard share: services, nginx in front of them, and what is checked."""
+"""What the trials of proxy, dashboard and web actions share: services, nginx in front of them, a browser, and what is checked."""
 import atexit
 import importlib.util
 import os
@@ -71,6 +71,26 @@ def await_port(port, process):
         except OSError:
             time.sleep(0.1)
     sys.exit("nothing listens on port %d" % port)
+
+
+# Debian's packages of the browser: of the commands, and of the modules.
+BROWSER = [("chromium", "chromium"), ("chromedriver", "chromium-driver")], [("selenium", "python3-selenium")]
+
+
+def browser():
+    """A headless Chromium, which takes every certificate and keeps what its console says."""
+    from selenium import webdriver
+    from selenium.webdriver.chrome.options import Options
+    from selenium.webdriver.chrome.service import Service
+
+    options = Options()
+    options.binary_location = shutil.which("chromium")
+    options.accept_insecure_certs = True
+    words = ["--headless=new", "--disable-gpu", "--hide-scrollbars", "--lang=en-GB"] + (["--no-sandbox"] if os.getuid() == 0 else [])
+    for word in words:
+        options.add_argument(word)
+    options.set_capability("goog:loggingPrefs", {"browser": "ALL"})
+    return webdriver.Chrome(service=Service(shutil.which("chromedriver")), options=options)
 
 
 def begin(words, **more):

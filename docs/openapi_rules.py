@@ -84,7 +84,7 @@ RULES = {
         "media": fields(["schema"], ["example"], schema={"$ref": "#/$defs/schema"}),
         "responses": either("response"),
         "response": fields(
-            ["description"], ["headers", "content"], description=TEXT, headers=each("headers"), content=each("media", "^[a-z]+/")
+            ["description"], ["headers", "content"], description=TEXT, headers=each("headers"), content=each("media", r"^([a-z]+|\*)/")
         ),
         "headers": either("header"),
         "header": fields(["schema"], ["description", "required"], description=TEXT, required=FLAG, schema={"$ref": "#/$defs/schema"}),
@@ -94,10 +94,11 @@ RULES = {
         ),
         "components": fields(
             [],
-            ["schemas", "responses", "parameters", "headers", "securitySchemes"],
+            ["schemas", "responses", "parameters", "requestBodies", "headers", "securitySchemes"],
             schemas=each("schema"),
             responses=each("responses"),
             parameters=each("parameters"),
+            requestBodies=each("body"),
             headers=each("headers"),
             securitySchemes=each("security"),
         ),

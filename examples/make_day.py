@@ -6,13 +6,16 @@
     python3 examples/make_day.py rights > examples/rights.day
     python3 examples/make_day.py monday > examples/monday.day
     python3 examples/make_day.py tuesday > examples/tuesday.day
+    python3 examples/make_day.py web > examples/web.day
 
 Each request is counted in bytes, with its head's lines ended by CR LF. Standard library only.
 """
 
 import json
+import os
 import sys
 
+HERE = os.path.dirname(os.path.abspath(__file__))
 HOST = ["Host: localhost:3233", "User-Agent: curl/8.5.0", "Accept: */*"]
 
 
@@ -48,6 +51,15 @@ def say(line):
     return line.encode() + b"\n"
 
 
+def web(method, path, body="", *headers):
+    """The statement that asks by a request for a web action of guest, without a key. With a body the last header is its type."""
+    head = [f"{method} /api/v1/web/guest/default/{path} HTTP/1.1", *HOST, *headers]
+    data = body.encode()
+    if data:
+        head.append(f"Content-Length: {len(data)}")
+    return statement("\r\n".join([*head, "", ""]).encode() + data)
+
+
 def hello():
     """An action that greets, whatever it is given."""
     cases = {"cases": [{"when": {}, "give": {"greeting": "Hello"}}]}
@@ -60,6 +72,16 @@ def every():
     cases = {"cases": [{"when": {}, "give": {"$all": True}}]}
     code = json.dumps(cases, separators=(",", ":"))
     return {"exec": {"kind": "plain:1", "code": code}}
+
+
+def exported(code, values=(), **annotations):
+    """A web action of this code, which is a text or the `give` of its one case."""
+    if not isinstance(code, str):
+        code = json.dumps({"cases": [{"when": {}, "give": code}]}, separators=(",", ":"))
+    marks = [{"key": name.replace("_", "-"), "value": value} for name, value in annotations.items()]
+    marks = [{"key": "web-export", "value": True}, *marks]
+    body = {"exec": {"kind": "plain:1", "code": code}, "annotations": marks, "limits": {"memory": 128}}
+    return {**body, "parameters": list(values)} if values else body
 
 
 def pairs(**values):
@@ -183,6 +205,63 @@ TUESDAY = [
     say("end"),
 ]
 
+# Web actions are asked without a key: by each extension, with a query, a form and an object, and in the ways that are refused. Each
+# run is carried out, and its answer is collected; the last one is waited for in vain.
+GREET = {"body": {"$": "name"}, "text": {"$": "name"}}
+SHOW = {"body": {"$all": True}}
+FORM, JSON, TEXT = ("Content-Type: " + kind for kind in ("application/x-www-form-urlencoded", "application/json", "text/plain"))
+ID = "0000000000000001%016x"
+
+
+def answered(number):
+    """The statements that carry out the oldest run and collect the answer of that activation of guest."""
+    return say("turn") + say("collect " + ID % number)
+
+
+def redirect():
+    """The code of an action that sends a browser to another one."""
+    with open(os.path.join(HERE, "redirect.json"), encoding="utf-8") as file:
+        return file.read().strip()
+
+
+WEB = [
+    ask("PUT", "/greet", exported(GREET, pairs(language="en"))),
+    web("GET", "greet?name=Anna") + answered(1),
+    web("GET", "greet.json?name=Anna") + answered(2),
+    web("GET", "greet.text?name=Anna&name=Bert+B") + answered(3),
+    web("POST", "greet.text?name=Anna", "name=Carla", FORM) + answered(4),
+    web("POST", "greet.text", '{"name":7}', JSON) + answered(5),
+    web("GET", "greet.text") + answered(6),
+    web("GET", "greet?language=de"),
+    web("GET", "greet?__ow_method=put"),
+    web("GET", "greet.png"),
+    web("GET", "nothing"),
+    web("POST", "greet", "[]", JSON),
+    ask("PUT", "/hello", hello()),
+    web("GET", "hello"),
+    ask("PUT", "/show", exported(SHOW)),
+    web("PATCH", "show/a/b%20c?x=1", "a text", TEXT) + answered(7),
+    ask("PUT", "/raw", exported({"body": {"$": "__ow_query"}}, raw_http=True)),
+    web("GET", "raw?a=1&b") + answered(8),
+    ask("PUT", "/secret", exported({"statusCode": 201, "headers": {"X-Count": 3}, "body": "hi"}, require_whisk_auth="s")),
+    web("GET", "secret"),
+    web("GET", "secret", "", "X-Require-Whisk-Auth: s") + answered(9),
+    ask("PUT", "/start", exported(redirect())),
+    web("GET", "start") + answered(10),
+    ask("PUT", "/none", exported({})),
+    web("DELETE", "none") + answered(11),
+    ask("PUT", "/failing", exported({"error": "Out of tea."})),
+    web("OPTIONS", "failing.http") + answered(12),
+    ask("GET", "/" + ID % 10, of="activations"),
+    web("GET", "greet?name=Dora"),
+    say("at 60000"),
+    say("collect " + ID % 13),
+    say("turn"),
+    say("drain"),
+    web("GET", "greet?name=Anna"),
+    say("end"),
+]
+
 DAYS = {
     "actions": ACTIONS,
     "blocking": BLOCKING,
@@ -190,6 +269,7 @@ DAYS = {
     "rights": RIGHTS,
     "monday": MONDAY,
     "tuesday": TUESDAY,
+    "web": WEB,
 }
 
 if __name__ == "__main__":

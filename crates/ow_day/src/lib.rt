@@ -14,8 +14,10 @@ mod search;
 mod session;
 mod texts;
 
+pub use done::Done;
 pub use laws::{
     days_can_be_printed, printed_days_are_read_back, printed_statements_are_read_back,
     read_statements_are_printed,
 };
-pub use run::run_day;
+pub use run::{not_opened, run_day};
+pub use session::{Session, Unopened};

@@ -241,8 +241,8 @@ pub fn run_day<S: Source, O: Sink, P: Keeper + Drop>(
     }
 }
 
-// How the office ends where the service isn't opened.
-fn not_opened(why: StartFault) -> Status
+/// How the office ends where the service isn't opened.
+pub fn not_opened(why: StartFault) -> Status
     ensures { result ≡ not_opened why }
 {
     match why {

@@ -148,14 +148,16 @@ impl<P: Keeper + Drop> Session<P> {
         }
     }
 
-    fn set_moment(&mut self, moment: u64) -> Done
+    /// Sets the moment of the statements that follow, in milliseconds.
+    pub fn set_moment(&mut self, moment: u64) -> Done
         ensures { GoesTo P.telling self.old self.new (Does (machine_of self.old) (At moment)) result }
     {
         self.given = moment;
         Done::Silent
     }
 
-    fn call(&mut self, alloc: Global, name: &str, text: &str) -> Result<Done, NoMemory>
+    /// Calls an action by its percent-encoded full name, with parameters as JSON text.
+    pub fn call(&mut self, alloc: Global, name: &str, text: &str) -> Result<Done, NoMemory>
         ensures { ComesTo P.telling self.old self.new (Does (machine_of self.old) (Call name.now text.now)) result }
     {
         let full = self.hall.book().is_full(0);
@@ -283,7 +285,8 @@ impl<P: Keeper + Drop> Session<P> {
         Ok(Done::Collected(collected))
     }
 
-    fn turn(&mut self, alloc: Global) -> Result<Done, NoMemory>
+    /// Asks what is to be done, and does it.
+    pub fn turn(&mut self, alloc: Global) -> Result<Done, NoMemory>
         ensures { ComesTo P.telling self.old self.new (Does (machine_of self.old) Turn) result }
     {
         let turned = day_turn(
@@ -296,7 +299,8 @@ impl<P: Keeper + Drop> Session<P> {
         Ok(Done::Turned(turned))
     }
 
-    fn drain(&mut self, alloc: Global) -> Result<Done, NoMemory>
+    /// Takes no more invocations from now on, and tells whether all that were accepted have ended.
+    pub fn drain(&mut self, alloc: Global) -> Result<Done, NoMemory>
         ensures { ComesTo P.telling self.old self.new (Meets (machine_of self.old) events.Drain) result }
     {
         let drain = self.hall.drain(alloc, self.given)?;

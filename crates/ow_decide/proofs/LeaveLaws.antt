@@ -15,6 +15,7 @@ use Rattle.ow_reads.specs.Reasons.{no_route}
 use Rattle.ow_decide.specs.Sight.{Sight, room_for, view_of}
 use Rattle.ow_reads.specs.Steps.{or_else}
 use Rattle.ow_reads.specs.Tenants.{asker}
+use Rattle.ow_decide.proofs.RouteLaws.{keyed_so}
 
 -- what comes of a request leaves all as it was
 abbrev Leaves : ℕ → Result Done Reason → Type 0
@@ -35,4 +36,4 @@ acts_leave S reading p o e =
     (then_leaves S.moment (room_for S p.size) _ (λ room. then_leaves S.moment (asker S.tenants p.key) _ (λ h. shown_leaves S.moment (read_done (view_of S h) reading p))))
 
 pub reads_leave : ReadsChangeNothing
-reads_leave S reading p e = acts_leave S reading p (act_of p.route p.method) e
+reads_leave S reading p e = subst (Leaves S.moment) (sym (keyed_so S p (Reads reading) e)) (acts_leave S reading p (act_of p.route p.method) e)

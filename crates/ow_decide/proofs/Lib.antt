@@ -8,6 +8,8 @@ pub mod NotedLaws
 pub mod LimitLaws
 pub mod KeptLaws
 mod OnceLaws
+mod RouteLaws
+mod WebLaws
 mod ViewLaws
 mod WaitLaws
 mod FloorLaws

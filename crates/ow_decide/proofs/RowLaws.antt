@@ -1,5 +1,5 @@
 -- What becomes of the rows at a request: the row of a draft that is given is put, one is taken out, or they stay.
-use Rattle.std.proofs.Common.{◌≡◌, List, Bool, IfOk, Option, Some, None, Result, Ok, Err, refl}
+use Rattle.std.proofs.Common.{◌≡◌, List, Bool, true, false, if◌then◌else◌, IfOk, Option, Some, None, Result, Ok, Err, refl}
 use Rattle.ow_value.specs.Value.{V}
 use Rattle.ow_names.specs.declared.full.FullName.{FullName}
 use Rattle.ow_entity.specs.Finish.{finished_row}
@@ -13,14 +13,16 @@ use Rattle.ow_http.specs.Parts.{Parts}
 use Rattle.ow_http.specs.Steps.{◌>>=◌}
 use Rattle.ow_http.specs.declared.call.Call.{Call}
 use Rattle.ow_http.specs.declared.call_refusal.CallRefusal.{CallRefusal}
+use Rattle.ow_web.specs.Target.{is_web}
 use Rattle.ow_http.specs.declared.reason.Reason.{Reason}
 use Rattle.ow_kept.specs.Commits.{row_changes}
 use Rattle.ow_tables.specs.Refusal.{old_row, put_refusal, remove_refusal}
 use Rattle.ow_tables.specs.Rows.{changed, with_row, without}
 use Rattle.ow_tenant.specs.declared.entries.Holder.{Holder}
-use Rattle.ow_decide.specs.Asking.{Changed, Done, Invoked, Shown, act_done, act_for, ask_decision, change_done, or_table_reason, put_done, put_of, request_done, row_for, row_of, shown_done, unless_refused}
+use Rattle.ow_decide.specs.Asking.{Changed, Done, Invoked, Shown, act_done, act_for, ask_decision, change_done, keyed_done, or_table_reason, put_done, put_of, request_done, row_for, row_of, shown_done, unless_refused, web_done}
+use Rattle.ow_decide.specs.WebCalling.{web_extension, web_given, web_name, web_plan}
 use Rattle.ow_reads.specs.Acts.{grant_for, granted_call}
-use Rattle.ow_decide.specs.Calling.{charged_namespace, invocation_plan}
+use Rattle.ow_decide.specs.Calling.{callee, charged_namespace, invocation_plan}
 use Rattle.ow_decide.specs.Decision.{all_changed}
 use Rattle.ow_reads.specs.Reading.{name_in, or_call_reason, read_done}
 use Rattle.ow_reads.specs.Reasons.{no_route}
@@ -80,9 +82,21 @@ module _ (S : Sight) (p : Parts) (H : Holder → Type 0) (G : Call → Type 0) (
   act_good h (Removes kind) home = then_from G IsGoodDone (granted_call h S.rows (Removes kind) p) _ (granted_good h (Removes kind) home) (change_good h (Removes kind))
   act_good h Invokes home = then_from G IsGoodDone (granted_call h S.rows Invokes p) _ (granted_good h Invokes home) (change_good h Invokes)
 
-  request_good : IfOk (request_done S p) IsGoodDone
-  request_good = then_ok IsGoodDone (act_for p) _ (λ act. then_ok IsGoodDone (room_for S p.size) _ (λ room.
+  keyed_good : IfOk (keyed_done S p) IsGoodDone
+  keyed_good = then_ok IsGoodDone (act_for p) _ (λ act. then_ok IsGoodDone (room_for S p.size) _ (λ room.
       then_from H IsGoodDone (asker S.tenants p.key) _ known (λ h home. act_good h act home)))
+
+  web_good : IfOk (web_done S p) IsGoodDone
+  web_good = then_ok IsGoodDone (room_for S p.size) _ (λ room. then_ok IsGoodDone (web_name p.route) _ (λ name.
+      then_ok IsGoodDone (callee S name name.namespace) _ (λ c. then_ok IsGoodDone (web_given S.tenants c.effective p) _ (λ given.
+      then_ok IsGoodDone (web_extension p.route) _ (λ extension. then_ok IsGoodDone (web_plan S name.namespace c given) _ (λ plan. tt))))))
+
+  by_route : (b : Bool) → IfOk (if b then web_done S p else keyed_done S p) IsGoodDone
+  by_route true = web_good
+  by_route false = keyed_good
+
+  request_good : IfOk (request_done S p) IsGoodDone
+  request_good = by_route (is_web p.route)
 
   by_done : (d : Result Done Reason) → IfOk d IsGoodDone → N (all_changed (ask_decision S.moment d).changes S.rows)
   by_done (Ok (Shown value)) good = stays

@@ -15,7 +15,7 @@ use Rattle.ow_reads.specs.declared.acts.Act.{Act}
 use Rattle.ow_reads.specs.declared.acts.Act.TheVariants.{Reads}
 use Rattle.ow_reads.specs.declared.acts.Reading.{Reading}
 use Rattle.ow_reads.specs.declared.acts.Reading.TheVariants.{Namespaces, Rows, Row as OneRow, Activations, Activation}
-use Rattle.ow_decide.specs.Asking.{act_done, ask_decision, at_once, request_done, shown_done}
+use Rattle.ow_decide.specs.Asking.{Done, act_done, ask_decision, at_once, request_done, shown_done}
 use Rattle.ow_reads.specs.Acts.{act_of}
 use Rattle.ow_reads.specs.Reading.{answer_of, id_of, is_opened, name_in, or_call_reason, part_value, read_answer, read_call, read_done, read_grant, read_kind, read_namespace, read_value, recorded, row_read}
 use Rattle.ow_reads.specs.Shown.{shown_row}
@@ -27,6 +27,7 @@ use Rattle.ow_decide.specs.Sight.{Sight, is_full, room_for, view_of}
 use Rattle.ow_reads.specs.Steps.{or_else, unless}
 use Rattle.ow_reads.specs.Tenants.{asker}
 use Rattle.ow_reads.specs.View.{View, may_read}
+use Rattle.ow_decide.proofs.RouteLaws.{keyed_so}
 
 -- it isn't that the book is full
 abbrev IsOther : Reason → Type 0
@@ -87,7 +88,8 @@ told_so at (Err reason) other = rw other refl
 pub read_so : (S : Sight) (h : Holder) (reading : Reading) (p : Parts) → act_of p.route p.method ≡ Some (Reads reading) → is_full S.counted p.size ≡ false → holder_of p.key S.tenants ≡ Some h
     → (ask_decision S.moment (request_done S p)).told ≡ at_once (read_answer (view_of S h) reading p)
 read_so S h reading p act room held =
-    ap (λ (o : Option Act). (ask_decision S.moment (or_else o no_route >>= (λ (a : Act). room_for S p.size >>= (λ (u : Unit {0}). asker S.tenants p.key >>= (λ (k : Holder). act_done S k a p))))).told) act
+    ap (λ (d : Result Done Reason). (ask_decision S.moment d).told) (keyed_so S p (Reads reading) act)
+    ∙ (ap (λ (o : Option Act). (ask_decision S.moment (or_else o no_route >>= (λ (a : Act). room_for S p.size >>= (λ (u : Unit {0}). asker S.tenants p.key >>= (λ (k : Holder). act_done S k a p))))).told) act
     ∙ (ap (λ (b : Bool). (ask_decision S.moment (unless b book_full >>= (λ (u : Unit {0}). asker S.tenants p.key >>= (λ (k : Holder). act_done S k (Reads reading) p)))).told) room
     ∙ (ap (λ (o : Option Holder). (ask_decision S.moment (or_else o unknown_key >>= (λ (k : Holder). act_done S k (Reads reading) p))).told) held
-    ∙ told_so S.moment (read_done (view_of S h) reading p) (done_other (view_of S h) reading p)))
+    ∙ told_so S.moment (read_done (view_of S h) reading p) (done_other (view_of S h) reading p))))

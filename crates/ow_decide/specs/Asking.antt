@@ -1,6 +1,6 @@
 -- What a request is answered: its first refusal, in the order of their places, or what it reads and changes.
-use Rattle.std.specs.Prelude.{◌≡◌, ℕ, Bool, true, false, [], ◌∷◌, Option, Some, None, Result, Ok, Err, if◌then◌else◌}
-use Rattle.ow_value.specs.Value.{V}
+use Rattle.std.specs.Prelude.{◌≡◌, ℕ, List, Bool, true, false, [], ◌∷◌, Option, Some, None, Result, Ok, Err, if◌then◌else◌}
+use Rattle.ow_value.specs.Value.{V, Pairs}
 use Rattle.ow_names.specs.declared.full.FullName.{FullName}
 use Rattle.ow_entity.specs.Finish.{finished_row}
 use Rattle.ow_entity.specs.declared.kinds.EntityKind.{EntityKind}
@@ -20,15 +20,19 @@ use Rattle.ow_http.specs.Steps.{◌>>=◌}
 use Rattle.ow_http.specs.declared.answer.Answer.{Answer}
 use Rattle.ow_http.specs.declared.call.Call.{Call}
 use Rattle.ow_http.specs.declared.reason.Reason.{Reason}
+use Rattle.ow_web.specs.Target.{is_web}
+use Rattle.ow_web.specs.declared.target.Extension.{Extension}
 use Rattle.ow_reads.specs.Acts.{act_of, granted_call}
 use Rattle.ow_reads.specs.declared.acts.Act.{Act}
 use Rattle.ow_reads.specs.declared.acts.Act.TheVariants.{Reads, Puts, Removes, Invokes}
 use Rattle.ow_reads.specs.declared.acts.Reading.{Reading}
+use Rattle.ow_decide.specs.declared.call_steps.Callee.{Callee}
 use Rattle.ow_decide.specs.declared.events.Told.{Told}
 use Rattle.ow_decide.specs.declared.events.Told.TheVariants as told
 use Rattle.ow_decide.specs.declared.replies.Reply.{Reply}
 use Rattle.ow_decide.specs.declared.replies.Reply.TheVariants as replies
 use Rattle.ow_decide.specs.declared.waits.Shows.{Shows}
+use Rattle.ow_decide.specs.declared.waits.Shows.TheVariants.{Web}
 use Rattle.ow_decide.specs.declared.waits.Waits.TheVariants.{Keep}
 use Rattle.ow_tenant.specs.declared.entries.Holder.{Holder}
 use Rattle.ow_tenant.specs.Tenants.{holder_of}
@@ -39,7 +43,8 @@ use Rattle.ow_decide.specs.Reasons.{table_reason, tells_full}
 use Rattle.ow_decide.specs.Sight.{Sight, is_full, room_for, store_room, view_of}
 use Rattle.ow_decide.specs.Decision.{Decision, tells}
 use Rattle.ow_reads.specs.Reading.{good, name_in, read_answer, read_done}
-use Rattle.ow_decide.specs.Calling.{charged_namespace, invocation_plan}
+use Rattle.ow_decide.specs.Calling.{callee, charged_namespace, invocation_plan}
+use Rattle.ow_decide.specs.WebCalling.{web_extension, web_given, web_name, web_plan}
 use Rattle.ow_reads.specs.Shown.{shown_row}
 use Rattle.ow_decide.specs.Waiting.{invoked_reply, shows_of, waits_of}
 
@@ -125,14 +130,49 @@ act_done S h Puts p = called_done S h Puts p
 act_done S h (Removes kind) p = called_done S h (Removes kind) p
 act_done S h Invokes p = called_done S h Invokes p
 
--- what comes of a request, whose refusals stand in the order of their places: the route, the book, the key, the grant, query and
--- path and body, and what is named
-abbrev pub request_done : Sight → Parts → Result Done Reason
-request_done S p = do
+-- what comes of a request with a key, whose refusals stand in the order of their places: the route, the book, the key, the grant, query
+-- and path and body, and what is named
+abbrev pub keyed_done : Sight → Parts → Result Done Reason
+keyed_done S p = do
   act ← act_for p
   room ← room_for S p.size
   h ← asker S.tenants p.key
   act_done S h act p
+
+-- what comes of parameters that a web request gives: it waits for the end, which is answered as the extension says
+abbrev pub web_planned : Sight → List ℕ → Callee → Pairs → Extension → Result Done Reason
+web_planned S namespace c given extension = do
+  plan ← web_plan S namespace c given
+  Ok (Invoked plan (Web extension))
+
+abbrev pub web_accepted : Sight → Parts → FullName → Callee → Pairs → Result Done Reason
+web_accepted S p name c given = do
+  extension ← web_extension p.route
+  web_planned S name.namespace c given extension
+
+-- what comes of a web request to what is called
+abbrev pub web_called : Sight → Parts → FullName → Callee → Result Done Reason
+web_called S p name c = do
+  given ← web_given S.tenants c.effective p
+  web_accepted S p name c given
+
+-- what comes of a web request with a name
+abbrev pub web_named : Sight → Parts → FullName → Result Done Reason
+web_named S p name = do
+  c ← callee S name name.namespace
+  web_called S p name c
+
+-- what comes of a web request, which needs neither a key nor a grant. Its refusals stand in the order of their places: the book, the
+-- names of the path, what is called, what the request gives, and what is accepted
+abbrev pub web_done : Sight → Parts → Result Done Reason
+web_done S p = do
+  room ← room_for S p.size
+  name ← web_name p.route
+  web_named S p name
+
+-- what comes of a request
+abbrev pub request_done : Sight → Parts → Result Done Reason
+request_done S p = if is_web p.route then web_done S p else keyed_done S p
 
 -- ---- what is told
 

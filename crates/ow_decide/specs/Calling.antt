@@ -67,10 +67,11 @@ abbrev pub unless_fixed : Option (List ℕ) → Result (Unit {0}) Reason
 unless_fixed None = Ok tt
 unless_fixed (Some name) = Err (Fixed name)
 
--- what is given over what is called with: no given parameter is fixed, and all have not too many bytes
-abbrev pub given_over : Effective → Pairs → Result Pairs Reason
-given_over e given = do
-  free ← unless_fixed (first_fixed e given false)
+-- what is given over what is called with: no given parameter is fixed, and all have not too many bytes. A web request gives none that
+-- has a value
+abbrev pub given_over : Effective → Pairs → Bool → Result Pairs Reason
+given_over e given web = do
+  free ← unless_fixed (first_fixed e given web)
   or_else (fitting e.params given) too_large
 
 -- ---- what comes of it
@@ -108,9 +109,9 @@ merged_plan S subject namespace blocking c merged = do
   taken ← takes_calls S
   admitted_plan S (plan_for subject (until_of S.moment blocking c.effective.action) (next_id S c.number) namespace c.effective merged)
 
-abbrev pub called_plan : Sight → List ℕ → List ℕ → Bool → Callee → Pairs → Result Plan Reason
-called_plan S subject namespace blocking c given = do
-  merged ← given_over c.effective given
+abbrev pub called_plan : Sight → List ℕ → List ℕ → Bool → Bool → Callee → Pairs → Result Plan Reason
+called_plan S subject namespace blocking web c given = do
+  merged ← given_over c.effective given web
   merged_plan S subject namespace blocking c merged
 
 -- what is to be accepted, whose refusals stand in the order of their places: what is called, the fixed parameters, the merged
@@ -118,7 +119,7 @@ called_plan S subject namespace blocking c given = do
 abbrev pub invocation_plan : Sight → List ℕ → List ℕ → Bool → FullName → Pairs → Result Plan Reason
 invocation_plan S subject namespace blocking name given = do
   c ← callee S name namespace
-  called_plan S subject namespace blocking c given
+  called_plan S subject namespace blocking false c given
 
 -- what is to be accepted by a call of the office, in its own name: the namespace of the name is charged
 abbrev pub call_plan : Sight → FullName → Pairs → Result Plan Reason

@@ -1,6 +1,7 @@
 pub mod Sight
 pub mod Reasons
 pub mod Calling
+pub mod WebCalling
 pub mod Waiting
 pub mod Decision
 pub mod Chain

@@ -9,12 +9,13 @@ use Rattle.ow_records.specs.declared.record.Record.{Record}
 use Rattle.std.specs.Option.{option_or}
 use Rattle.ow_floor.specs.Collecting.{Collection, Unknown, Recorded, NotYet, Elapsed}
 use Rattle.ow_http.specs.declared.answer.Answer.{Answer}
+use Rattle.ow_web.specs.WebOut.{sent_answer}
 use Rattle.ow_decide.specs.declared.replies.HallCollected.{HallCollected}
 use Rattle.ow_decide.specs.declared.replies.HallCollected.TheVariants as collected
 use Rattle.ow_decide.specs.declared.replies.Reply.{Reply}
 use Rattle.ow_decide.specs.declared.replies.Reply.TheVariants.{Now, Waiting}
 use Rattle.ow_decide.specs.declared.waits.Shows.{Shows}
-use Rattle.ow_decide.specs.declared.waits.Shows.TheVariants.{Whole, ResultAlone}
+use Rattle.ow_decide.specs.declared.waits.Shows.TheVariants.{Whole, ResultAlone, Web}
 use Rattle.ow_decide.specs.declared.waits.Wait.{Wait}
 use Rattle.ow_decide.specs.declared.waits.Waits.{Waits}
 use Rattle.ow_decide.specs.declared.waits.Waits.TheVariants.{Keep, Add}
@@ -44,17 +45,19 @@ waits_of id shows (Some until) = Add (record { id = id; shows = shows })
 
 -- ---- once it has ended
 
-abbrev pub shown_value : Shows → Record → V
-shown_value Whole r = record_value r
-shown_value ResultAlone r = object (members_of r.response.result)
-
 -- success, or an error of whatever kind
 abbrev pub ended_status : ℕ → ℕ
 ended_status code = if code == 0 then 200 else 502
 
+-- the answer that shows a value of an activation that ended with a code
+abbrev pub shown_answer : ℕ → V → Answer
+shown_answer code value = record { status = ended_status code; headers = []; body = compact value }
+
 -- what is answered to one who waited for this record
 abbrev pub ended_answer : Shows → Record → Answer
-ended_answer shows r = record { status = ended_status r.response.code; headers = []; body = compact (shown_value shows r) }
+ended_answer Whole r = shown_answer r.response.code (record_value r)
+ended_answer ResultAlone r = shown_answer r.response.code (object (members_of r.response.result))
+ended_answer (Web extension) r = sent_answer extension r.response
 
 -- what is shown to the one who waits for it, the newest where there are several
 abbrev pub wait_shows : Id → List Wait → Option Shows

@@ -3,11 +3,12 @@ ghost use Rattle.std.specs.Prelude.{◌≡◌, ◌≢◌, None, Some, Ok, Err, f
 ghost use Rattle.ow_kept.specs.Commits.{row_changes};
 ghost use Rattle.ow_kept.specs.Keeping.{KeepingView, StandsForKept};
 ghost use Rattle.ow_http.specs.Request.{parts_of};
+ghost use Rattle.ow_web.specs.Target.{is_web};
 ghost use Rattle.ow_tables.specs.Rows.{changed as rows_changed, with_row};
 ghost use Rattle.ow_decide.specs.Asking as asking;
 ghost use Rattle.ow_decide.specs.declared.done.Served.TheVariants as served;
 ghost use Rattle.ow_reads.specs.Shown.{shown_row};
-ghost use Rattle.ow_decide.specs.Asking.{ask_decision, called_done, change_done, put_done, request_done, row_done};
+ghost use Rattle.ow_decide.specs.Asking.{ask_decision, called_done, change_done, keyed_done, put_done, request_done, row_done};
 ghost use Rattle.ow_decide.specs.Sight.{Sight};
 ghost use Rattle.ow_tenant.specs.declared.entries.Holder.{Holder};
 ghost use Rattle.ow_decide.specs.Making.{CommitsDone, CommitsServed, HasPlace, IsCommitOf, IsNextOf, IsSeen, Makes, change_of, done_of, served_change, served_of};
@@ -20,10 +21,11 @@ use crate::reasons::table_reason;
 use crate::room::room_for;
 use crate::step::{Now, Step};
 use crate::waits::shows_of;
+use crate::web_steps::web_served;
 use ow_counts::Counts;
 use ow_entity::{Draft, EntityKind};
 use ow_floor::Floor;
-use ow_http::{Call, HttpRefusal, Reason, Request, ServiceRefusal};
+use ow_http::{Call, HttpRefusal, Reason, Request, Route, ServiceRefusal};
 use ow_kept::{Commit, Keeping};
 use ow_reads::{Act, act_of, asker, granted_call, shown_once_put, shown_row};
 use ow_tables::{Ready, TableRefusal, Tables};
@@ -65,6 +67,35 @@ fn request_served(
     request: &Request,
 ) -> Result<Served, NoMemory>
     ensures done { IfOk result (λ d. (S : Sight) → IsSeen S tenants.now tables.old.rows counts.now keeping.now floor.now.now now → served_of d ≡ request_done S (parts_of request.now)) }
+    ensures commit { IfOk result (λ d. (S : Sight) → IsSeen S tenants.now tables.old.rows counts.now keeping.now floor.now.now now → CommitsServed d keeping.now S) }
+    ensures rows { tables.new.rows ≡ tables.old.rows }
+    ensures place { IfOk result (λ d. HasPlace (served_change d) tables.new.room) }
+    ensures next { IfOk result (IsNextOf floor.now.now.drawn) }
+{
+    if is_web(&request.route) {
+        return web_served(alloc, tenants, counts, keeping, floor, tables, now, request);
+    }
+    keyed_served(alloc, tenants, counts, keeping, floor, tables, now, request)
+}
+
+fn is_web(route: &Route) -> bool
+    ensures { result ≡ is_web route.now }
+{
+    matches!(route, Route::Web { .. })
+}
+
+// What comes of a request with a key.
+fn keyed_served(
+    alloc: Global,
+    tenants: &Tenants,
+    counts: &Counts,
+    keeping: &Keeping,
+    floor: &Floor,
+    tables: &mut Tables,
+    now: Now,
+    request: &Request,
+) -> Result<Served, NoMemory>
+    ensures done { IfOk result (λ d. (S : Sight) → IsSeen S tenants.now tables.old.rows counts.now keeping.now floor.now.now now → served_of d ≡ keyed_done S (parts_of request.now)) }
     ensures commit { IfOk result (λ d. (S : Sight) → IsSeen S tenants.now tables.old.rows counts.now keeping.now floor.now.now now → CommitsServed d keeping.now S) }
     ensures rows { tables.new.rows ≡ tables.old.rows }
     ensures place { IfOk result (λ d. HasPlace (served_change d) tables.new.room) }

@@ -157,15 +157,15 @@ pub(crate) fn invocation_plan(
 {
     match callee_in(alloc, tenants, tables, name, namespace)? {
         Some(called) => called_plan(
-            alloc, tenants, counts, keeping, floor, now, subject, namespace, blocking, called,
-            params,
+            alloc, tenants, counts, keeping, floor, now, subject, namespace, blocking, false,
+            called, params,
         ),
         None => Ok(Err(Reason::Service(ServiceRefusal::NotFound))),
     }
 }
 
-// The same of what is called.
-fn called_plan(
+/// The same of what is called. `web` says that a web request calls.
+pub(crate) fn called_plan(
     alloc: Global,
     tenants: &Tenants,
     counts: &Counts,
@@ -175,16 +175,17 @@ fn called_plan(
     subject: &Str,
     namespace: &EntityName,
     blocking: bool,
+    web: bool,
     called: Callee,
     params: &Params,
 ) -> Result<Result<Planned, Reason>, NoMemory>
     ensures plan { IfOk result (λ p. (S : Sight) (rs : List Row) → IsSeen S tenants.now rs counts.now keeping.now floor.now.now now
-        → plan_in p ≡ called_plan S subject.now namespace.now blocking called params.now) }
+        → plan_in p ≡ called_plan S subject.now namespace.now blocking web called params.now) }
     ensures commit { IfOk result (λ p. IfOk p (λ q. (S : Sight) (rs : List Row) → IsSeen S tenants.now rs counts.now keeping.now floor.now.now now → CommitsPlan q keeping.now S)) }
     ensures next { IfOk result (λ p. IfOk p (λ q. q.plan.id.count ≡ last_of floor.now.now.drawn q.plan.id.namespace + 1)) }
 {
     let Callee { number, effective } = called;
-    match given_over(alloc, &effective, params) {
+    match given_over(alloc, &effective, params, web) {
         Ok(Ok(merged)) => merged_plan(
             alloc, tenants, counts, keeping, floor, now, subject, namespace, blocking, number,
             effective, merged,
@@ -342,8 +343,8 @@ pub(crate) fn charged_namespace<'a>(holder: &'a Holder, name: &'a FullName) -> &
     }
 }
 
-// What the name calls for one in the namespace, where that has a number.
-fn callee_in(
+/// What the name calls for one in the namespace, where that has a number.
+pub(crate) fn callee_in(
     alloc: Global,
     tenants: &Tenants,
     tables: &Tables,
@@ -367,10 +368,11 @@ fn given_over(
     alloc: Global,
     called: &Effective,
     given: &Params,
+    web: bool,
 ) -> Result<Result<Params, Reason>, NoMemory>
-    ensures { IfOk result (λ r. r ≡ given_over called.now given.now) }
+    ensures { IfOk result (λ r. r ≡ given_over called.now given.now web) }
 {
-    match check_override(alloc, called, given, false) {
+    match check_override(alloc, called, given, web) {
         Ok(()) => match fitting(alloc, &called.params, given)? {
             Some(merged) => Ok(Ok(merged)),
             None => Ok(Err(Reason::Call(CallRefusal::BadEntity(EntityRefusal::TooLarge)))),

@@ -5,7 +5,7 @@ ghost use Rattle.ow_value.specs.View.{view};
 ghost use Rattle.ow_floor.specs.Collecting.{collection_of};
 ghost use Rattle.ow_decide.specs.Decisions.{decide};
 ghost use Rattle.ow_decide.specs.Making.{MakesFor};
-ghost use Rattle.ow_decide.specs.Waiting.{collected_told, ended_answer, ended_status, shown_value, shows_for, wait_shows};
+ghost use Rattle.ow_decide.specs.Waiting.{collected_told, ended_answer, ended_status, shown_answer, shows_for, wait_shows};
 ghost use Rattle.ow_tenant.specs.Table.{Table};
 ghost use Rattle.ow_counts.specs.View.{CountsView};
 ghost use Rattle.ow_kept.specs.Keeping.{KeepingView};
@@ -19,6 +19,7 @@ use ow_floor::{Collected, Floor, FloorRefusal};
 use ow_http::Answer;
 use ow_records::{Id, Record, write_record};
 use ow_value::{Bytes, NoMemory, Pairs, PlainData, Val, write_val};
+use ow_web::web_answer;
 use std::alloc::Global;
 
 /// What is told of an activation that is collected.
@@ -81,22 +82,27 @@ fn wait_shows(waits: &[Wait], id: Id) -> Option<Shows>
 fn ended_answer(alloc: Global, shows: Shows, ended: &Record) -> Result<Answer, NoMemory>
     ensures { IfOk result (λ a. a ≡ ended_answer shows ended.now) }
 {
-    let value = shown_value(alloc, shows, ended)?;
+    let response = &ended.response;
+    match shows {
+        Shows::Whole => shown_answer(alloc, response.code(), write_record(alloc, ended)?),
+        Shows::ResultAlone => {
+            let result = Val::Object(response.result().copy(alloc)?);
+            shown_answer(alloc, response.code(), result)
+        }
+        Shows::Web(extension) => web_answer(alloc, extension, response),
+    }
+}
+
+// The answer that shows a value of an activation that ended with this code.
+fn shown_answer(alloc: Global, code: u8, value: Val) -> Result<Answer, NoMemory>
+    ensures { IfOk result (λ a. a ≡ shown_answer code (view value)) }
+{
     let body = Bytes::from_vec(write_val(alloc, &value)?)?;
     Ok(Answer {
-        status: ended_status(ended.response.code()),
+        status: ended_status(code),
         headers: Pairs::new(),
         body,
     })
-}
-
-fn shown_value(alloc: Global, shows: Shows, ended: &Record) -> Result<Val, NoMemory>
-    ensures { IfOk result (λ v. view v ≡ shown_value shows ended.now) }
-{
-    match shows {
-        Shows::Whole => write_record(alloc, ended),
-        Shows::ResultAlone => Ok(Val::Object(ended.response.result().copy(alloc)?)),
-    }
 }
 
 fn ended_status(code: u8) -> u16

@@ -15,6 +15,7 @@ mod replies;
 mod room;
 mod step;
 mod waits;
+mod web_steps;
 
 pub use events::{Event, Told};
 pub use floor_steps::{take, taken_told};

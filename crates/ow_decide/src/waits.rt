@@ -7,6 +7,7 @@ use crate::replies::Reply;
 use ow_http::Answer;
 use ow_records::Id;
 use ow_value::{Bytes, Fields, NoMemory, Pairs, Str, Val, write_val};
+use ow_web::Extension;
 use std::alloc::Global;
 
 /// What is shown to one who waits.
@@ -16,6 +17,8 @@ pub enum Shows {
     Whole,
     /// The result that the action gave.
     ResultAlone,
+    /// What a web action answers, as the extension of the path says.
+    Web(Extension),
 }
 
 /// One who waits for an end.

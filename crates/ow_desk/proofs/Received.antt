@@ -1,5 +1,6 @@
 -- What a call of the hall leaves in the receipts.
-use Rattle.std.proofs.Common.{◌≡◌, ◌∙◌, ℕ, Bool, true, false, [], Result, Err, refl, subst, sym, ap}
+use Rattle.std.proofs.Common.{◌≡◌, ◌∙◌, ℕ, Bool, true, false, [], Result, Ok, Err, refl, subst, sym, ap}
+use Rattle.std.specs.Result.{IsErr}
 use Rattle.ow_traits.specs.Telling.{Telling}
 use Rattle.ow_traits.specs.declared.replies.RunReply.{RunReply}
 use Rattle.ow_value.specs.declared.memory.NoMemory.{NoMemory as Want}
@@ -17,6 +18,11 @@ use Rattle.ow_desk.specs.Desks.{DeskView, IsReceived}
 use Rattle.ow_desk.specs.Notes.{IsStanding, Notes, WasCalled, noted}
 
 -- ---- one call
+
+-- a request that is answered out of memory
+pub wants_of : (result : Result Reply Want) → IsErr result → Replies result Wants
+wants_of (Ok reply) is = let none : false ≡ true = is in cc
+wants_of (Err e) is = refl
 
 -- what was told is noted, by copies of the event and of what was told
 noted_same : (B : History) (a b : ℕ) (x y : Event) (s t : Told) (n r m : Notes) → a ≡ b → x ≡ y → s ≡ t → r ≡ n

@@ -10,7 +10,7 @@ use Rattle.ow_http.specs.declared.http_refusal.HttpRefusal.TheVariants as https
 use Rattle.ow_http.specs.declared.reason.Reason.{Reason}
 use Rattle.ow_http.specs.declared.reason.Reason.TheVariants as reasons
 use Rattle.ow_http.specs.declared.service_refusal.ServiceRefusal.{ServiceRefusal}
-use Rattle.ow_http.specs.declared.service_refusal.ServiceRefusal.TheVariants.{NotFound, BindsABinding, Exists, SequenceTooLong, SequenceLoops, NotEmpty, UnknownKey, NotGranted, MinuteLimit, ConcurrentLimit, FireLimit, StoreFault, Draining, BookFull, KeptFull, NotExported, BadExtension, NeedsAuth, OfficeBusy}
+use Rattle.ow_http.specs.declared.service_refusal.ServiceRefusal.TheVariants.{NotFound, BindsABinding, Exists, SequenceTooLong, SequenceLoops, NotEmpty, UnknownKey, NotGranted, MinuteLimit, ConcurrentLimit, FireLimit, StoreFault, Draining, BookFull, KeptFull, NotExported, BadExtension, NeedsAuth, NotText, OfficeBusy}
 
 abbrev pub http_number : HttpRefusal → ℕ
 http_number https.NoMemory = 0
@@ -46,6 +46,7 @@ service_number KeptFull = 34
 service_number NotExported = 41
 service_number BadExtension = 42
 service_number NeedsAuth = 44
+service_number NotText = 10
 service_number OfficeBusy = 46
 
 abbrev pub number_of : Reason → ℕ

@@ -15,7 +15,7 @@ use Rattle.ow_http.specs.declared.http_refusal.HttpRefusal.TheVariants as https
 use Rattle.ow_http.specs.declared.reason.Reason.{Reason}
 use Rattle.ow_http.specs.declared.reason.Reason.TheVariants as reasons
 use Rattle.ow_http.specs.declared.service_refusal.ServiceRefusal.{ServiceRefusal}
-use Rattle.ow_http.specs.declared.service_refusal.ServiceRefusal.TheVariants.{NotFound, BindsABinding, Exists, SequenceTooLong, SequenceLoops, NotEmpty, UnknownKey, NotGranted, MinuteLimit, ConcurrentLimit, FireLimit, StoreFault, Draining, BookFull, KeptFull, NotExported, BadExtension, NeedsAuth, OfficeBusy}
+use Rattle.ow_http.specs.declared.service_refusal.ServiceRefusal.TheVariants.{NotFound, BindsABinding, Exists, SequenceTooLong, SequenceLoops, NotEmpty, UnknownKey, NotGranted, MinuteLimit, ConcurrentLimit, FireLimit, StoreFault, Draining, BookFull, KeptFull, NotExported, BadExtension, NeedsAuth, NotText, OfficeBusy}
 use Rattle.ow_http.specs.declared.notice.Notice.{Notice}
 
 abbrev pub row : ℕ → List ℕ → Notice
@@ -94,6 +94,7 @@ service_notice KeptFull = row 503 (codes "The store is full.")
 service_notice NotExported = row 404 (codes "The resource does not exist.")
 service_notice BadExtension = row 400 (codes "The extension is unknown.")
 service_notice NeedsAuth = row 401 (codes "Authentication is needed.")
+service_notice NotText = row 400 (codes "The field __ow_body has a wrong type.")
 service_notice OfficeBusy = row 503 (codes "The office is busy.")
 
 -- what clients are told of a reason

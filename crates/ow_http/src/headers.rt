@@ -30,7 +30,7 @@ pub(crate) fn closes(minor: u8, fields: &[(Str, Str)]) -> bool
 }
 
 /// The value of the last header of this name.
-pub(crate) fn last_named<'a>(fields: &'a [(Str, Str)], name: &str) -> Option<&'a Str>
+pub fn last_named<'a>(fields: &'a [(Str, Str)], name: &str) -> Option<&'a Str>
     ensures { option_copied result ≡ last_named name.now fields.now }
 {
     let mut found = None;
@@ -43,7 +43,7 @@ pub(crate) fn last_named<'a>(fields: &'a [(Str, Str)], name: &str) -> Option<&'a
 }
 
 /// Whether the header has this name, in any case of its letters.
-pub(crate) fn is_named(field: &(Str, Str), name: &str) -> bool
+pub fn is_named(field: &(Str, Str), name: &str) -> bool
     ensures { result ≡ is_named name.now field.now }
 {
     field.0.as_str().eq_ignore_ascii_case(name)

@@ -29,6 +29,7 @@ pub use call::Call;
 pub use call_kind::CallKind;
 pub use call_of::read_call;
 pub use call_refusal::CallRefusal;
+pub use headers::{is_named, last_named};
 pub use http_refusal::HttpRefusal;
 pub use query::read_pairs;
 pub use read::read_request;

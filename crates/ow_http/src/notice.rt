@@ -143,6 +143,7 @@ fn service_notice(alloc: Global, refusal: ServiceRefusal) -> Result<Notice, NoMe
         ServiceRefusal::NotExported => fixed(alloc, 404, "The resource does not exist."),
         ServiceRefusal::BadExtension => fixed(alloc, 400, "The extension is unknown."),
         ServiceRefusal::NeedsAuth => fixed(alloc, 401, "Authentication is needed."),
+        ServiceRefusal::NotText => fixed(alloc, 400, "The field __ow_body has a wrong type."),
         ServiceRefusal::OfficeBusy => fixed(alloc, 503, "The office is busy."),
     }
 }

@@ -40,6 +40,8 @@ pub enum ServiceRefusal {
     BadExtension,
     /// The web action wants a key.
     NeedsAuth,
+    /// The body of a web request is to be a text, and isn't UTF-8.
+    NotText,
     /// Too many activations wait.
     OfficeBusy,
 }
@@ -70,6 +72,7 @@ impl ServiceRefusal {
             ServiceRefusal::NotExported => 41,
             ServiceRefusal::BadExtension => 42,
             ServiceRefusal::NeedsAuth => 44,
+            ServiceRefusal::NotText => 10,
             ServiceRefusal::OfficeBusy => 46,
         }
     }

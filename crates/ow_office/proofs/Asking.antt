@@ -3,7 +3,8 @@ use Rattle.std.proofs.Common.{Err, Ok, Result, ◌≡◌, ◌⊎◌, ◌||◌, �
 use Rattle.std.specs.List.{position}
 use Rattle.std.specs.Option.{option_and_then, option_map}
 use Rattle.std.proofs.lemmas.Bool.{false≢true}
-use Rattle.ow_words.specs.Words.{Values, alone, command_named, command_of, connections_of, day_of, day_options, day_with, given_from, is_csv, is_day, is_serve, is_usage, port_of, serve_by, serve_options, serve_with, takes_options, usage_at, usage_by, usage_from, usage_of, usage_options, usage_with, values_of, workers_of}
+use Rattle.ow_value.specs.Decimal.{decimal_of, number_within}
+use Rattle.ow_words.specs.Words.{Values, alone, command_named, command_of, connections_of, day_of, day_options, day_with, drill_by, drill_of, drill_options, drill_with, given_from, is_csv, is_day, is_drill, is_serve, is_usage, option_words, plain_words, port_of, serve_by, serve_options, serve_with, takes_options, usage_at, usage_by, usage_from, usage_of, usage_options, usage_with, values_of, workers_of}
 use Rattle.ow_words.specs.declared.command.Command.{Command}
 use Rattle.ow_words.specs.declared.command.Command.TheVariants as commands
 use Rattle.ow_words.specs.declared.command.ServeWords.{ServeWords}
@@ -17,6 +18,8 @@ use Rattle.ow_tenant.specs.declared.refusal.TenantRefusal.TheVariants as refusal
 use Rattle.ow_office.specs.declared.words.Asked.{Asked}
 use Rattle.ow_office.specs.declared.words.Asked.TheVariants as asks
 use Rattle.ow_office.specs.Day.{DoesDay, EndsDay}
+use Rattle.ow_office.specs.Drill.{DoesDrill}
+use Rattle.ow_drill.specs.Drilled.{EndsDrill}
 use Rattle.ow_office.specs.Office.{TellsCommand}
 use Rattle.ow_office.specs.Serve.{PassesOn}
 use Rattle.ow_office.specs.Sides.{Sides, SinkView, SourceView}
@@ -81,18 +84,31 @@ wanted_any help version ws s = go (is_some (given_from ws None))
     go true = wanted_from help version false (values_of usage_options ws) s
     go false = wanted_usage help version (position is_csv ws) ws s
 
+wanted_drill : (help version : List ℕ) (n seed : Option ℕ) (o : Option Values) (s : Sides) → TellsCommand help version (option_map asked_of (option_and_then (drill_with n seed) o)) s s statuses.NoMemory
+wanted_drill help version n seed None s = (inr refl, refl)
+wanted_drill help version None seed (Some value) s = (inr refl, refl)
+wanted_drill help version (Some n) None (Some value) s = (inr refl, refl)
+wanted_drill help version (Some n) (Some seed) (Some value) s = wanted_over (DoesDrill n seed) (is_some (value (codes "table"))) s
+
+wanted_calls : (help version : List ℕ) (plain options : List (List ℕ)) (s : Sides) → TellsCommand help version (option_map asked_of (drill_by plain options)) s s statuses.NoMemory
+wanted_calls help version [] options s = (inr refl, refl)
+wanted_calls help version (n ∷ []) options s = (inr refl, refl)
+wanted_calls help version (n ∷ seed ∷ []) options s = wanted_drill help version (number_within 0 1000000 n) (decimal_of seed) (values_of drill_options options) s
+wanted_calls help version (n ∷ seed ∷ more ∷ plain) options s = (inr refl, refl)
+
 wanted_words : (help version : List ℕ) (ws : List (List ℕ)) (s : Sides) → takes_options ws ≡ true → TellsCommand help version (asked_by ws) s s statuses.NoMemory
 wanted_words help version [] s takes = absurd (false≢true takes)
-wanted_words help version (word ∷ ws) s takes = go (is_day word) (is_serve word) (is_usage word) takes
+wanted_words help version (word ∷ ws) s takes = go (is_day word) (is_serve word) (is_usage word) (is_drill word) takes
   where
-    go : (day serve usage : Bool) → (day || (serve || usage)) ≡ true
+    go : (day serve usage drill : Bool) → (day || (serve || (usage || drill))) ≡ true
         → TellsCommand help version
-        (option_map asked_of (cond day (option_map day_with (values_of day_options ws)) (cond serve (option_and_then serve_with (values_of serve_options ws)) (cond usage (usage_of ws) (alone (command_named word) ws)))))
+        (option_map asked_of (cond day (option_map day_with (values_of day_options ws)) (cond serve (option_and_then serve_with (values_of serve_options ws)) (cond usage (usage_of ws) (cond drill (drill_of ws) (alone (command_named word) ws))))))
         s s statuses.NoMemory
-    go true serve usage e = wanted_day help version (values_of day_options ws) s
-    go false true usage e = wanted_serve help version (values_of serve_options ws) s
-    go false false true e = wanted_any help version ws s
-    go false false false e = absurd (false≢true e)
+    go true serve usage drill e = wanted_day help version (values_of day_options ws) s
+    go false true usage drill e = wanted_serve help version (values_of serve_options ws) s
+    go false false true drill e = wanted_any help version ws s
+    go false false false true e = wanted_calls help version (plain_words ws false) (option_words ws false) s
+    go false false false false e = absurd (false≢true e)
 
 -- ---- words that aren't read
 
@@ -139,6 +155,7 @@ command_is None asked is = cc
 command_is (Some (commands.Day table store)) asked is = cc
 command_is (Some (commands.Serve served)) asked is = let same : served ≡ asked = cc in ap (λ w. Some (commands.Serve w)) same
 command_is (Some (commands.Usage from to csv store)) asked is = cc
+command_is (Some (commands.Drill n seed table store)) asked is = cc
 command_is (Some commands.Help) asked is = cc
 command_is (Some commands.Version) asked is = cc
 
@@ -158,6 +175,20 @@ usage_not_read from to csv before after old new status wrote is = (subst (λ s. 
 pub usage_not_table : (from to : ℕ) (csv : Bool) (before after : Telling) (old new : SinkView) (status : Status) → WritesUsage from to csv before after old new status
     → (row : ℕ) → status ≡ statuses.BadTable row → ⊥
 usage_not_table from to csv before after old new status wrote row is = (subst (λ s. WritesUsage from to csv before after old new s) is wrote).1
+
+-- a drill reads words and a table that are good
+pub drill_ends : (status : Status) → EndsDrill status → EndsDay status × (status ≡ statuses.ReadFault → ⊥) × ((row : ℕ) → status ≡ statuses.BadTable row → ⊥)
+drill_ends statuses.Ok ends = (tt, λ e. cc, λ row e. cc)
+drill_ends (statuses.BadDay statement) never = absurd never
+drill_ends statuses.BadWords never = absurd never
+drill_ends statuses.ReadFault never = absurd never
+drill_ends statuses.WriteFault ends = (tt, λ e. cc, λ row e. cc)
+drill_ends statuses.StoreFault ends = (tt, λ e. cc, λ row e. cc)
+drill_ends (statuses.BadTable row) never = absurd never
+drill_ends statuses.NoMemory ends = (tt, λ e. cc, λ row e. cc)
+drill_ends statuses.DayTooLong never = absurd never
+drill_ends (statuses.BadKept key) ends = (tt, λ e. cc, λ row e. cc)
+drill_ends (statuses.Passed words tenants) never = absurd never
 
 -- a service that is passed on, or whose table isn't read, has read words and writes nothing
 neither : ⊥ ⊎ ⊥ → ⊥

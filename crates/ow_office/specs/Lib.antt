@@ -3,6 +3,7 @@ pub mod Words
 pub mod Sides
 pub mod Table
 pub mod Day
+pub mod Drill
 pub mod Serve
 pub mod Texts
 pub mod Office

@@ -5,6 +5,7 @@ use Rattle.ow_words.specs.declared.status.Status.TheVariants as statuses
 use Rattle.ow_office.specs.declared.words.Asked.{Asked}
 use Rattle.ow_office.specs.declared.words.Asked.TheVariants as asks
 use Rattle.ow_office.specs.Day.{DoesDay}
+use Rattle.ow_office.specs.Drill.{DoesDrill}
 use Rattle.ow_office.specs.Serve.{PassesOn}
 use Rattle.ow_office.specs.Sides.{Sides}
 use Rattle.ow_office.specs.Table.{TellsTable}
@@ -19,3 +20,4 @@ TellsCommand help version (Some asks.Version) before after status = TellsText ve
 TellsCommand help version (Some (asks.Serve asked)) before after status = TellsTable (PassesOn asked) (is_some asked.table) before after status
 TellsCommand help version (Some (asks.Day named)) before after status = TellsTable DoesDay named before after status
 TellsCommand help version (Some (asks.Usage from to csv)) before after status = TellsUsage from to csv before after status
+TellsCommand help version (Some (asks.Drill n seed named)) before after status = TellsTable (DoesDrill n seed) named before after status

@@ -8,12 +8,13 @@ use Rattle.ow_words.specs.declared.command.WordsRefusal.TheVariants as refusals
 use Rattle.ow_words.specs.declared.status.Status.{Status}
 use Rattle.ow_words.specs.declared.status.Status.TheVariants as statuses
 use Rattle.ow_office.specs.declared.words.Asked.{Asked}
-use Rattle.ow_office.specs.declared.words.Asked.TheVariants.{Day, Serve, Usage, Help, Version}
+use Rattle.ow_office.specs.declared.words.Asked.TheVariants.{Day, Serve, Usage, Drill, Help, Version}
 
 abbrev pub asked_of : Command → Asked
 asked_of (commands.Day table store) = Day (is_some table)
 asked_of (commands.Serve words) = Serve words
 asked_of (commands.Usage from to csv store) = Usage from to csv
+asked_of (commands.Drill n seed table store) = Drill n seed (is_some table)
 asked_of commands.Help = Help
 asked_of commands.Version = Version
 
@@ -25,12 +26,14 @@ asked_by words = option_map asked_of (command_of words)
 abbrev pub names_table : Option Asked → Bool
 names_table (Some (Day named)) = named
 names_table (Some (Serve words)) = is_some words.table
+names_table (Some (Drill n seed named)) = named
 names_table other = false
 
 -- it opens the store
 abbrev pub opens_store : Option Asked → Bool
 opens_store (Some (Day named)) = true
 opens_store (Some (Usage from to csv)) = true
+opens_store (Some (Drill n seed named)) = true
 opens_store other = false
 
 -- it reads the input
@@ -42,6 +45,7 @@ reads_input other = false
 abbrev pub writes_output : Option Asked → Bool
 writes_output (Some (Day named)) = true
 writes_output (Some (Usage from to csv)) = true
+writes_output (Some (Drill n seed named)) = true
 writes_output (Some Help) = true
 writes_output (Some Version) = true
 writes_output other = false

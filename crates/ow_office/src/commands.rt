@@ -15,6 +15,7 @@ ghost use Rattle.ow_office.specs.Sides.{sides, sink, source};
 ghost use Rattle.ow_office.specs.Office.{TellsCommand};
 
 use crate::day::do_day;
+use crate::drill::{Numbers, do_drill};
 use crate::serve::pass_on;
 use crate::text::write_text;
 use crate::usage::do_usage;
@@ -28,7 +29,7 @@ use std::alloc::Global;
 /// or once a megabyte is ready, a clause says of days whose read fails. The words are looked at first, then the table, then the
 /// store: where they name no table it has no rows, and `table` isn't touched. Of one that they name at most one byte more is read
 /// than a table may have. For `serve` it reads the words and the table alone, and passes both on: the caller serves. For `usage` it
-/// reads the store alone. The store is
+/// reads the store alone. For `drill` it opens the service as for `day`, makes calls of its own, and doesn't touch the day. The store is
 /// handed back in each case.
 pub fn office<T: Source, S: Source, O: Sink, E: Sink, P: Keeper + Drop>(
     alloc: Global,
@@ -105,6 +106,9 @@ fn perform<T: Source, S: Source, O: Sink, P: Keeper + Drop>(
         Ok(Asked::Day { has_table }) => do_day(alloc, has_table, table, store, day, out),
         Ok(Asked::Serve(asked)) => (pass_on(alloc, asked, table), store),
         Ok(Asked::Usage { from, to, csv }) => do_usage(alloc, from, to, csv, store, out),
+        Ok(Asked::Drill { n, seed, has_table }) => {
+            do_drill(alloc, Numbers { n, seed }, has_table, table, store, out)
+        }
         Ok(Asked::Help) => (write_text(out, HELP), store),
         Ok(Asked::Version) => (write_text(out, VERSION), store),
         Err(refusal) => (unread_words(refusal), store),

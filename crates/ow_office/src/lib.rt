@@ -3,6 +3,7 @@
 //! The top call: what the words of the command line ask for, over all that a command may touch.
 mod commands;
 mod day;
+mod drill;
 mod serve;
 mod table;
 mod text;

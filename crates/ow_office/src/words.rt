@@ -16,6 +16,8 @@ pub enum Asked {
     Serve(ServeWords),
     /// Write what the records of these days count for, counted from 1970-01-01, perhaps as comma-separated values.
     Usage { from: u32, to: u32, csv: bool },
+    /// Make so many calls by a seed, over an office table or none.
+    Drill { n: u64, seed: u64, has_table: bool },
     /// Tell how the program is used.
     Help,
     /// Tell the program's version.
@@ -39,6 +41,10 @@ usage: ow_whisk day < FILE     carries out the statements of a day, and writes e
                                writes what the records in a store count for, by the day of their start
                                and by namespace. A DAY is 1970-01-01 to 9999-12-31. After it may stand,
                                in any order: --csv, for comma-separated values, and --store STORE
+       ow_whisk drill N SEED   makes N calls of /whisk.system/utils/echo, at most 1000000, at moments made
+                               from SEED, a number of 64 bits, and after each accepted one a turn, and
+                               writes how many calls were accepted, refused and recorded. Anywhere after
+                               drill may stand: --table TABLE and --store STORE
        ow_whisk --help         writes this text
        ow_whisk --version      writes the version
 
@@ -168,6 +174,11 @@ pub(crate) fn read_asked(alloc: Global, words: &[String]) -> Result<Asked, Words
         }),
         Command::Serve(words) => Ok(Asked::Serve(words)),
         Command::Usage { from, to, csv, .. } => Ok(Asked::Usage { from, to, csv }),
+        Command::Drill { n, seed, table, .. } => Ok(Asked::Drill {
+            n,
+            seed,
+            has_table: table.is_some(),
+        }),
         Command::Help => Ok(Asked::Help),
         Command::Version => Ok(Asked::Version),
     }

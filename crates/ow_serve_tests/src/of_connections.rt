@@ -109,6 +109,11 @@ fn a_reply_to_each_request(rt: HostRuntime) -> Result<(), Fail> {
             "GET /api/v1/namespaces/_/actions/hello\nGET /api/v1/namespaces/_/actions|k2\n",
             "Ended 404 401 ",
         ),
+        // A web request needs no key: that the action isn't one of the web is told to everybody.
+        (
+            "PUT /api/v1/namespaces/_/actions/hello\nGET /api/v1/web/guest/default/hello|k2\n",
+            "Ended 200 404 ",
+        ),
         (
             "GET /api/v1/namespaces/_/actions|k1!\nGET /api/v1/namespaces/_/actions\n",
             "Closed 200 ",

@@ -102,6 +102,7 @@ fn named(alloc: Global, words: &[String]) -> Result<(Option<Str>, Option<Str>), 
         Ok(Command::Day { table, store }) => Ok((table, store)),
         Ok(Command::Serve(ServeWords { table, store, .. })) => Ok((table, store)),
         Ok(Command::Usage { store, .. }) => Ok((None, store)),
+        Ok(Command::Drill { table, store, .. }) => Ok((table, store)),
         Err(WordsRefusal::NoMemory) => Err(NoMemory),
         _ => Ok((None, None)),
     }

@@ -1,5 +1,6 @@
 pub mod Apps
 pub mod Levels
+pub mod Parting
 pub mod Places
 pub mod Results
 pub mod Turned

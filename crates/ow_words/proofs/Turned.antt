@@ -3,11 +3,13 @@ use Rattle.std.proofs.Common.{is_some, ◌≡◌, ◌∙◌, ◌&&◌, ◌||◌,
 use Rattle.std.specs.List.{position, find}
 use Rattle.std.specs.Str.{bytes_eq}
 use Rattle.std.proofs.lemmas.Slice.Eq.{bytes_eq-Decides}
-use Rattle.ow_words.specs.Laws.{TurnsTwo}
-use Rattle.ow_words.specs.Words.{Given, alone, command_named, command_of, day_options, day_with, each_once, given_from, is_among, is_csv, is_day, is_given, is_serve, is_usage, once_of, serve_options, serve_with, usage_at, usage_from, usage_of, usage_options, usage_with, values_in, values_of}
+use Rattle.ow_words.specs.Laws.{MovesNumbers, TurnsOptions, TurnsTwo, drill}
+use Rattle.ow_words.specs.Words.{Given, alone, command_named, command_of, day_options, day_with, drill_by, drill_of, drill_options, drill_with, each_once, given_from, is_among, is_csv, is_day, is_drill, is_given, is_serve, is_usage, once_of, option_words, plain_words, serve_options, serve_with, usage_at, usage_from, usage_of, usage_options, usage_with, values_in, values_of}
 use Rattle.std.specs.Prelude.{option_and_then}
 use Rattle.std.proofs.lemmas.Bool.{and_parts}
 use Rattle.ow_words.specs.declared.command.Command.{Command}
+use Rattle.ow_value.specs.Decimal.{decimal_of, number_within}
+use Rattle.ow_words.proofs.Parting.{no_plain}
 
 same_either_way : (xs ys : List ℕ) (b c : Bool) → bytes_eq xs ys ≡ b → bytes_eq ys xs ≡ c → b ≡ c
 same_either_way xs ys true true e d = refl
@@ -160,6 +162,27 @@ usage_turned words turned t =
     ∙ (ap (option_and_then (usage_with false)) (values_turned usage_options words turned t)
     ∙ sym (ap (λ o. cond (is_some o) (usage_from false turned) (usage_at (position is_csv turned) turned)) t.in_turn))
 
+-- words that are options with values give no numbers
+drill_none : (words : List (List ℕ)) (given : List Given) → given_from words None ≡ Some given → drill_of words ≡ None
+drill_none words given e = ap (λ plain. drill_by plain (option_words words false)) (no_plain words given e)
+
+drill_turned : (words turned : List (List ℕ)) → TurnsTwo words turned → drill_of words ≡ drill_of turned
+drill_turned words turned t = drill_none words _ t.in_order ∙ sym (drill_none turned _ t.in_turn)
+
+options_turned : (plain words turned : List (List ℕ)) → TurnsTwo words turned → drill_by plain words ≡ drill_by plain turned
+options_turned [] words turned t = refl
+options_turned (n ∷ []) words turned t = refl
+options_turned (n ∷ seed ∷ []) words turned t = ap (option_and_then (drill_with (number_within 0 1000000 n) (decimal_of seed))) (values_turned drill_options words turned t)
+options_turned (n ∷ seed ∷ more ∷ plain) words turned t = refl
+
+-- numbers among options
+pub moved_numbers : (words moved : List (List ℕ)) → MovesNumbers words moved → command_of (drill ∷ words) ≡ command_of (drill ∷ moved)
+moved_numbers words moved m = ap₂ drill_by m.numbers m.options
+
+pub turned_options : (words turned : List (List ℕ)) → TurnsOptions words turned → command_of (drill ∷ words) ≡ command_of (drill ∷ turned)
+turned_options words turned t =
+    ap (λ plain. drill_by plain (option_words words false)) t.numbers ∙ options_turned (plain_words turned false) (option_words words false) (option_words turned false) t.options
+
 pub turned_command : (word : List ℕ) (words turned : List (List ℕ)) → TurnsTwo words turned → command_of (word ∷ words) ≡ command_of (word ∷ turned)
 turned_command word words turned t =
     let day = ap (option_map day_with) (values_turned day_options words turned t) in
@@ -167,4 +190,5 @@ turned_command word words turned t =
     let usage = usage_turned words turned t in
     let other = alone_more (command_named word) words t.before (t.second ∷ t.behind) t.first t.in_order
     ∙ sym (alone_more (command_named word) turned t.before (t.first ∷ t.behind) t.second t.in_turn) in
-    λ i. cond (is_day word) (day i) (cond (is_serve word) (serve i) (cond (is_usage word) (usage i) (other i)))
+    let made = drill_turned words turned t in
+    λ i. cond (is_day word) (day i) (cond (is_serve word) (serve i) (cond (is_usage word) (usage i) (cond (is_drill word) (made i) (other i))))

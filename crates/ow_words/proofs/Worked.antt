@@ -3,8 +3,9 @@ use Rattle.std.proofs.Common.{◌≡◌, ◌==◌, ◌&&◌, refl, ap, sym, ℕ,
 use Rattle.std.proofs.lemmas.Bool.{eqb-true}
 use Rattle.std.specs.Prelude.{option_and_then}
 use Rattle.ow_value.specs.Decimal.{decimal_of, if_within, number_within}
-use Rattle.ow_words.specs.Laws.{BoundsWorkers, RefusesAgain, RefusesServices, RefusesWords, TakesDays, TakesNumbers, TakesServices, TakesWords, service}
-use Rattle.ow_words.specs.Words.{connections_of, each_once, given_from, is_value, port_of, serve_by, workers_of}
+use Rattle.ow_words.specs.Laws.{BoundsWorkers, RefusesAgain, RefusesDrills, RefusesServices, RefusesWords, TakesCounts, TakesDays, TakesDrills, TakesNumbers, TakesServices, TakesWords, service}
+use Rattle.clap.specs.Lexer.{long_of}
+use Rattle.ow_words.specs.Words.{connections_of, each_once, given_from, is_value, option_words, plain_words, port_of, serve_by, workers_of}
 
 pub takes_days : (f g : List ℕ) → is_value f ≡ true → is_value g ≡ true → TakesDays f g
 unfolding each_once given_from
@@ -90,6 +91,61 @@ bounds_workers p w at n p_is w_is =
     go : (b : Bool) → serve_by (Some at) (cond b (Some n) None) (Some None) None None ≡ cond b (service at n None None None) None
     go true = refl
     go false = refl
+
+-- ---- drills
+
+-- what begins with no `-` names no option
+no_option : (text : List ℕ) → is_value text ≡ true → long_of text ≡ None
+no_option [] e = refl
+no_option (c ∷ cs) e = go (c == 45) refl e
+  where
+    go : (b : Bool) → (c == 45) ≡ b → not b ≡ true → long_of (c ∷ cs) ≡ None
+    go true is e = absurd (true≢false (sym e))
+    go false is e = rw is refl
+
+pub takes_drills : (n s f g : List ℕ) (k x : ℕ) → number_within 0 1000000 n ≡ Some k → decimal_of s ≡ Some x → is_value f ≡ true → is_value g ≡ true → TakesDrills n s f g k x
+unfolding each_once given_from option_words plain_words
+takes_drills n s f g k x n_is s_is e d =
+    let n_plain = no_option n (within_is_value 0 1000000 n k n_is) in
+    let s_plain = no_option s (decimal_is_value s x s_is) in
+    let s_value = decimal_is_value s x s_is in
+    record {
+      alone = simp (n_plain, s_plain, n_is, s_is) refl;
+      table_before = simp (n_plain, s_plain, n_is, s_is, e) refl;
+      table_between = simp (n_plain, s_plain, n_is, s_is, e) refl;
+      table_after = simp (n_plain, s_plain, n_is, s_is, e) refl;
+      joined_before = simp (n_plain, s_plain, n_is, s_is, d) refl;
+      joined_between = simp (n_plain, s_plain, n_is, s_is, d) refl;
+      both_after = simp (n_plain, s_plain, n_is, s_is, e, d) refl;
+      both_around = simp (n_plain, s_plain, n_is, s_is, e, d) refl;
+      no_seed = simp n_plain refl;
+      three = simp (n_plain, s_plain) refl;
+      number_as_file = simp n_plain refl;
+      table_twice = simp (n_plain, s_plain, n_is, s_is, e) refl;
+      open_table = simp (n_plain, s_plain) refl;
+      port = simp (n_plain, s_plain) refl;
+    }
+
+pub takes_counts : TakesCounts
+unfolding each_once given_from option_words plain_words
+takes_counts = record { least = refl; greatest = refl }
+
+pub refuses_drills : RefusesDrills
+unfolding each_once given_from option_words plain_words
+refuses_drills = record {
+  numberless = refl;
+  past_calls = refl;
+  past_seeds = refl;
+  zero_in_calls = refl;
+  zero_in_seed = refl;
+  signed = refl;
+  negative = refl;
+  empty = refl;
+  dashes = refl;
+  unknown = refl;
+}
+
+-- ---- other words
 
 pub takes_words : TakesWords
 takes_words = record { help = refl; version = refl }

@@ -1,8 +1,8 @@
 -- Words that are in the command set, and words that aren't.
-use Rattle.std.specs.Prelude.{◌≡◌, ◌&&◌, ℕ, List, [], ◌∷◌, ◌++◌, Option, Some, None, codes, if◌then◌else◌, nat_le}
+use Rattle.std.specs.Prelude.{◌≡◌, ◌&&◌, ℕ, List, [], ◌∷◌, ◌++◌, Option, Some, None, codes, false, if◌then◌else◌, nat_le}
 use Rattle.ow_words.specs.declared.command.Command.{Command}
-use Rattle.ow_words.specs.declared.command.Command.TheVariants.{Day, Serve, Help, Version}
-use Rattle.ow_words.specs.Words.{Given, command_of, given_from, values_in}
+use Rattle.ow_words.specs.declared.command.Command.TheVariants.{Day, Serve, Drill, Help, Version}
+use Rattle.ow_words.specs.Words.{Given, command_of, given_from, option_words, plain_words, values_in}
 
 abbrev day : List ℕ
 day = codes "day"
@@ -115,6 +115,56 @@ pub record RefusesServices : Type 0 where
   pub port_twice : command_of (serve ∷ codes "--port=80" ∷ codes "--port=80" ∷ []) ≡ None
   pub port_of_day : command_of (day ∷ codes "--port" ∷ codes "1" ∷ []) ≡ None
   pub unknown : command_of (serve ∷ codes "--port=80" ∷ codes "--seed=1" ∷ []) ≡ None
+
+-- ---- drills
+
+abbrev pub drill : List ℕ
+drill = codes "drill"
+
+-- a drill of k calls by the number x, which the words n and s are, with a table, a store, or both, anywhere around the numbers
+pub record TakesDrills (n s f g : List ℕ) (k x : ℕ) : Type 0 where
+  pub alone : command_of (drill ∷ n ∷ s ∷ []) ≡ Some (Drill k x None None)
+  pub table_before : command_of (drill ∷ table ∷ f ∷ n ∷ s ∷ []) ≡ Some (Drill k x (Some f) None)
+  pub table_between : command_of (drill ∷ n ∷ table ∷ f ∷ s ∷ []) ≡ Some (Drill k x (Some f) None)
+  pub table_after : command_of (drill ∷ n ∷ s ∷ table ∷ f ∷ []) ≡ Some (Drill k x (Some f) None)
+  pub joined_before : command_of (drill ∷ joined store g ∷ n ∷ s ∷ []) ≡ Some (Drill k x None (Some g))
+  pub joined_between : command_of (drill ∷ n ∷ joined store g ∷ s ∷ []) ≡ Some (Drill k x None (Some g))
+  pub both_after : command_of (drill ∷ n ∷ s ∷ table ∷ f ∷ store ∷ g ∷ []) ≡ Some (Drill k x (Some f) (Some g))
+  pub both_around : command_of (drill ∷ store ∷ g ∷ n ∷ joined table f ∷ s ∷ []) ≡ Some (Drill k x (Some f) (Some g))
+  pub no_seed : command_of (drill ∷ n ∷ []) ≡ None
+  pub three : command_of (drill ∷ n ∷ s ∷ n ∷ []) ≡ None
+  pub number_as_file : command_of (drill ∷ n ∷ table ∷ s ∷ []) ≡ None
+  pub table_twice : command_of (drill ∷ table ∷ f ∷ n ∷ s ∷ joined table f ∷ []) ≡ None
+  pub open_table : command_of (drill ∷ n ∷ s ∷ table ∷ []) ≡ None
+  pub port : command_of (drill ∷ n ∷ s ∷ codes "--port=1" ∷ []) ≡ None
+
+-- the words have the same numbers in this order, and the same options
+pub record MovesNumbers (words moved : List (List ℕ)) : Type 0 where
+  pub numbers : plain_words words false ≡ plain_words moved false
+  pub options : option_words words false ≡ option_words moved false
+
+-- the same, but for the order of two options that stand side by side, whatever numbers stand between them
+pub record TurnsOptions (words turned : List (List ℕ)) : Type 0 where
+  pub numbers : plain_words words false ≡ plain_words turned false
+  pub options : TurnsTwo (option_words words false) (option_words turned false)
+
+-- the greatest numbers that a drill takes, and the least
+pub record TakesCounts : Type 0 where
+  pub least : command_of (drill ∷ codes "0" ∷ codes "0" ∷ []) ≡ Some (Drill 0 0 None None)
+  pub greatest : command_of (drill ∷ codes "1000000" ∷ codes "18446744073709551615" ∷ []) ≡ Some (Drill 1000000 18446744073709551615 None None)
+
+-- what asks for no drill
+pub record RefusesDrills : Type 0 where
+  pub numberless : command_of (drill ∷ []) ≡ None
+  pub past_calls : command_of (drill ∷ codes "1000001" ∷ codes "1" ∷ []) ≡ None
+  pub past_seeds : command_of (drill ∷ codes "1" ∷ codes "18446744073709551616" ∷ []) ≡ None
+  pub zero_in_calls : command_of (drill ∷ codes "01" ∷ codes "1" ∷ []) ≡ None
+  pub zero_in_seed : command_of (drill ∷ codes "1" ∷ codes "01" ∷ []) ≡ None
+  pub signed : command_of (drill ∷ codes "+1" ∷ codes "1" ∷ []) ≡ None
+  pub negative : command_of (drill ∷ codes "-1" ∷ codes "1" ∷ []) ≡ None
+  pub empty : command_of (drill ∷ [] ∷ codes "1" ∷ []) ≡ None
+  pub dashes : command_of (drill ∷ codes "1" ∷ codes "--" ∷ codes "1" ∷ []) ≡ None
+  pub unknown : command_of (drill ∷ codes "1" ∷ codes "1" ∷ codes "--workers=1" ∷ []) ≡ None
 
 -- ---- other words
 

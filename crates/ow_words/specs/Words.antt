@@ -1,12 +1,12 @@
 -- The command set.
-use Rattle.std.specs.Prelude.{◌≡◌, ◌==◌, ◌&&◌, ◌||◌, ℕ, Bool, true, false, List, [], ◌∷◌, ◌++◌, Option, Some, None, if◌then◌else◌, codes, find, is_some, nat_le, not, take, drop, ◌+◌, option_and_then, option_map, Result, MatchResult}
+use Rattle.std.specs.Prelude.{◌≡◌, ◌==◌, ◌&&◌, ◌||◌, ℕ, Bool, true, false, List, [], ◌∷◌, ◌++◌, Option, Some, None, if◌then◌else◌, codes, find, is_none, is_some, nat_le, not, take, drop, ◌+◌, option_and_then, option_map, Result, MatchResult}
 use Rattle.std.specs.List.{list_any, position}
 use Rattle.std.specs.Str.{bytes_eq}
 use Rattle.clap.specs.Lexer.{long_of}
 use Rattle.ow_value.specs.Decimal.{decimal_of, number_within}
 use Rattle.ow_words.specs.Days.{day_in}
 use Rattle.ow_words.specs.declared.command.Command.{Command}
-use Rattle.ow_words.specs.declared.command.Command.TheVariants.{Day, Serve, Usage, Help, Version}
+use Rattle.ow_words.specs.declared.command.Command.TheVariants.{Day, Serve, Usage, Drill, Help, Version}
 use Rattle.ow_words.specs.declared.command.WordsRefusal.{WordsRefusal}
 use Rattle.ow_words.specs.declared.command.WordsRefusal.TheVariants.{BadWords}
 
@@ -156,12 +156,57 @@ usage_of words = if is_some (given_from words None) then usage_from false words 
 abbrev pub is_usage : List ℕ → Bool
 is_usage word = bytes_eq word (codes "usage")
 
+-- ---- a drill
+
+abbrev pub drill_options : List (List ℕ)
+drill_options = codes "table" ∷ codes "store" ∷ []
+
+-- an option whose value is the next word
+abbrev pub is_open : Option (List ℕ × Option (List ℕ)) → Bool
+is_open None = false
+is_open (Some p) = is_none p.1
+
+-- the word is the value of the option before it, and else it may be an option whose value is the next word
+abbrev pub leaves_open : List ℕ → (waits : Bool) → Bool
+leaves_open word waits = not waits && is_open (long_of word)
+
+-- the word is neither an option nor the value of one
+abbrev pub is_plain : List ℕ → (waits : Bool) → Bool
+is_plain word waits = not waits && is_none (long_of word)
+
+-- the words that are neither options nor values of options. The first word is such a value where an option waits for it
+unfoldable pub plain_words : List (List ℕ) → (waits : Bool) → List (List ℕ)
+plain_words [] waits = []
+plain_words (word ∷ words) waits = if is_plain word waits then word ∷ plain_words words (leaves_open word waits) else plain_words words (leaves_open word waits)
+
+-- the other words: options and their values
+unfoldable pub option_words : List (List ℕ) → (waits : Bool) → List (List ℕ)
+option_words [] waits = []
+option_words (word ∷ words) waits = if is_plain word waits then option_words words (leaves_open word waits) else word ∷ option_words words (leaves_open word waits)
+
+-- a drill of n calls, at most 1,000,000, by a seed, which is a number of 64 bits
+abbrev pub drill_with : (n seed : Option ℕ) → Values → Option Command
+drill_with (Some n) (Some seed) value = Some (Drill n seed (value (codes "table")) (value (codes "store")))
+drill_with n seed value = None
+
+-- by the plain words, which are the two numbers, and the options
+abbrev pub drill_by : (plain options : List (List ℕ)) → Option Command
+drill_by (n ∷ seed ∷ []) options = option_and_then (drill_with (number_within 0 1000000 n) (decimal_of seed)) (values_of drill_options options)
+drill_by plain options = None
+
+-- the two numbers may be anywhere among the options
+abbrev pub drill_of : List (List ℕ) → Option Command
+drill_of words = drill_by (plain_words words false) (option_words words false)
+
+abbrev pub is_drill : List ℕ → Bool
+is_drill word = bytes_eq word (codes "drill")
+
 -- ---- the words
 
 -- the first word is that of a command with options
 abbrev pub takes_options : List (List ℕ) → Bool
 takes_options [] = false
-takes_options (word ∷ words) = is_day word || (is_serve word || is_usage word)
+takes_options (word ∷ words) = is_day word || (is_serve word || (is_usage word || is_drill word))
 
 -- the commands of one word
 abbrev pub command_named : List ℕ → Option Command
@@ -178,7 +223,8 @@ command_of [] = None
 command_of (word ∷ words) = if is_day word then option_map day_with (values_of day_options words)
     else (if is_serve word then option_and_then serve_with (values_of serve_options words)
     else (if is_usage word then usage_of words
-    else alone (command_named word) words))
+    else (if is_drill word then drill_of words
+    else alone (command_named word) words)))
 
 -- a command is answered exactly where it is this one, and bad words only where there is none. Want of memory may always come
 abbrev pub IsReading : Option Command → Result Command WordsRefusal → Type 0

@@ -26,6 +26,17 @@ pub enum Command {
         /// The file that the records are kept in.
         store: Option<Str>,
     },
+    /// Carry out made calls, and write what they come to.
+    Drill {
+        /// How many calls, at most 1,000,000.
+        n: u64,
+        /// The number from which their moments are made.
+        seed: u64,
+        /// The file with the office table.
+        table: Option<Str>,
+        /// The file that the rows and records are kept in.
+        store: Option<Str>,
+    },
     /// Tell how the program is used.
     Help,
     /// Tell the program's version.

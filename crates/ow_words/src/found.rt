@@ -50,8 +50,8 @@ pub(crate) fn connections_of(found: &ArgMatches<'_>) -> Option<Option<u64>>
     }
 }
 
-// The number, if it lies between these two.
-fn number_within(least: u32, most: u32, text: &str) -> Option<u32>
+/// The number, if it lies between these two.
+pub(crate) fn number_within(least: u32, most: u32, text: &str) -> Option<u32>
     ensures is { result ≡ number_within least most text.now }
     ensures most { IfSome result (λ n. n ≤ most) }
 {

@@ -1,7 +1,7 @@
 // Words of the command line, and what they ask for.
 ghost use Rattle.std.specs.Prelude.{◌≡◌, ◌∷◌, ℕ, List, Some, true};
-ghost use Rattle.ow_value.specs.Decimal.{decimal_of};
-ghost use Rattle.ow_words.specs.Laws.{BoundsWorkers, NeedsPort, RefusesAgain, RefusesServices, RefusesWords, TakesDays, TakesNumbers, TakesServices, TakesWords, TurnsTwo};
+ghost use Rattle.ow_value.specs.Decimal.{decimal_of, number_within};
+ghost use Rattle.ow_words.specs.Laws.{BoundsWorkers, MovesNumbers, NeedsPort, RefusesAgain, RefusesDrills, RefusesServices, RefusesWords, TakesCounts, TakesDays, TakesDrills, TakesNumbers, TakesServices, TakesWords, TurnsOptions, TurnsTwo, drill};
 ghost use Rattle.ow_words.specs.Words.{command_of, connections_of, is_value, port_of, workers_of};
 
 /// A day has a table, a store, or both, in any order, each in one word or in two.
@@ -25,6 +25,19 @@ pub fn services_have_bounds()
 /// Options mean the same in any order.
 pub fn options_stand_in_any_order()
     ensures { (word : List ℕ) (words turned : List (List ℕ)) → TurnsTwo words turned → command_of (word ∷ words) ≡ command_of (word ∷ turned) }
+{}
+
+/// A drill has two numbers, and a table, a store, or both anywhere around them. The numbers have bounds.
+pub fn drills_are_taken()
+    ensures taken { (n s f g : List ℕ) (k x : ℕ) → number_within 0 1000000 n ≡ Some k → decimal_of s ≡ Some x → is_value f ≡ true → is_value g ≡ true → TakesDrills n s f g k x }
+    ensures counts { TakesCounts }
+    ensures refused { RefusesDrills }
+{}
+
+/// The numbers of a drill mean the same anywhere among its options, and these mean the same in any order.
+pub fn numbers_stand_among_options()
+    ensures moved { (words moved : List (List ℕ)) → MovesNumbers words moved → command_of (drill ∷ words) ≡ command_of (drill ∷ moved) }
+    ensures turned { (words turned : List (List ℕ)) → TurnsOptions words turned → command_of (drill ∷ words) ≡ command_of (drill ∷ turned) }
 {}
 
 /// No option stands twice.

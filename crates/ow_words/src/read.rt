@@ -4,6 +4,7 @@ ghost use Rattle.ow_words.specs.Parse.{values_found};
 ghost use Rattle.ow_words.specs.Words.{IsReading, alone, command_named, command_of, day_options, day_with, serve_options, serve_with, takes_options, values_of};
 
 use crate::command::{Command, ServeWords, WordsRefusal};
+use crate::drill::read_drill;
 use crate::found::{connections_of, port_of, text_of, workers_of};
 use crate::parse::find_options;
 use crate::usage::read_usage;
@@ -11,13 +12,14 @@ use clap::ArgMatches;
 use ow_value::NoMemory;
 use std::alloc::Global;
 
-/// The command that the words ask for, after the program's own name. They are `day`, `serve` or `usage` with its options after it, in
-/// any order, each at most once, or `--help` or `--version` alone. A day takes `--table` and `--store`. A service takes these too,
+/// The command that the words ask for, after the program's own name. They are `day`, `serve`, `usage` or `drill` with its options after
+/// it, in any order, each at most once, or `--help` or `--version` alone. A day takes `--table` and `--store`. A service takes these too,
 /// `--port`, which it needs, a number of 16 bits, `--workers`, 1 to 64, and `--connections`, a number of 64 bits: decimal digits,
 /// without a sign or a zero in front of others. Usage takes `--from` and `--to`, which it needs: days as 2026-12-01, from 1970-01-01 to
-/// 9999-12-31, the second no day before the first; `--store`, and `--csv`, which has no value. The value of an option stands after
-/// `=` in its word, or is the next word; it isn't empty, and begins with no `-`. Other words than those that begin with `day`, `serve`
-/// or `usage` take no memory.
+/// 9999-12-31, the second no day before the first; `--store`, and `--csv`, which has no value. A drill has two numbers, up to 1,000,000
+/// and of 64 bits, anywhere among its options, which are those of a day. The value of an option stands after
+/// `=` in its word, or is the next word; it isn't empty, and begins with no `-`. Other words than those that begin with `day`, `serve`,
+/// `usage` or `drill` take no memory.
 pub fn read_words(alloc: Global, words: &[String]) -> Result<Command, WordsRefusal>
     ensures command { IsReading (command_of (map string_bytes words.now)) result }
     ensures memory { result ≡ Err WordsRefusal.NoMemory → takes_options (map string_bytes words.now) ≡ true }
@@ -31,6 +33,8 @@ pub fn read_words(alloc: Global, words: &[String]) -> Result<Command, WordsRefus
         read_serve(alloc, behind)
     } else if word.as_str() == "usage" {
         read_usage(alloc, behind)
+    } else if word.as_str() == "drill" {
+        read_drill(alloc, behind)
     } else {
         read_alone(word.as_str(), behind)
     }

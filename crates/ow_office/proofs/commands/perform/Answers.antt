@@ -1,4 +1,4 @@
-use Rattle.std.proofs.Common.{ℕ, List, Err, ap, map, refl, string_bytes, sym, ◌∙◌}
+use Rattle.std.proofs.Common.{ℕ, List, Err, ap, inr, map, refl, string_bytes, sym, ◌∙◌}
 use Rattle.std.proofs.lemmas.Bool.{false≢true}
 use Rattle.ow_office.specs.declared.words.TheConstants.{HELP, VERSION}
 use Rattle.ow_office.specs.Words.{asked_by, names_table, opens_store, reads_input, writes_output}
@@ -75,6 +75,36 @@ returns-in-Ok-Usage-clause-bad_table g c = λ row bad. absurd (usage_not_table _
 
 pub returns-in-Ok-Usage-clause-passed : goal.returns-in-Ok-Usage-clause-passed
 returns-in-Ok-Usage-clause-passed g c = λ served t is. absurd (usage_not_passed _ _ _ _ (g.P.Keeper.telling c.do_usage.result.1) _ _ c.do_usage.result.0 c.do_usage.ensures.writes served t is)
+
+pub returns-in-Ok-Drill-clause-told : goal.returns-in-Ok-Drill-clause-told
+returns-in-Ok-Drill-clause-told g c = let asked = rw c.in-Ok-Drill.field-0-is at c.in-Ok-Drill.ensures.asked in rw asked (c.do_drill.ensures.told _)
+
+pub returns-in-Ok-Drill-clause-unnamed : goal.returns-in-Ok-Drill-clause-unnamed
+returns-in-Ok-Drill-clause-unnamed g c = let asked = rw c.in-Ok-Drill.field-0-is at c.in-Ok-Drill.ensures.asked in rw asked c.do_drill.ensures.unnamed
+
+pub returns-in-Ok-Drill-clause-untouched : goal.returns-in-Ok-Drill-clause-untouched
+returns-in-Ok-Drill-clause-untouched g c = let asked = rw c.in-Ok-Drill.field-0-is at c.in-Ok-Drill.ensures.asked in λ not. absurd (false≢true (sym not ∙ ap opens_store asked))
+
+pub returns-in-Ok-Drill-clause-silent : goal.returns-in-Ok-Drill-clause-silent
+returns-in-Ok-Drill-clause-silent g c = let asked = rw c.in-Ok-Drill.field-0-is at c.in-Ok-Drill.ensures.asked in λ not. absurd (false≢true (sym not ∙ ap writes_output asked))
+
+pub returns-in-Ok-Drill-clause-refused : goal.returns-in-Ok-Drill-clause-refused
+returns-in-Ok-Drill-clause-refused g c = let asked = rw c.in-Ok-Drill.field-0-is at c.in-Ok-Drill.ensures.asked in λ none. absurd (asks_none _ _ asked none)
+
+pub returns-in-Ok-Drill-clause-words : goal.returns-in-Ok-Drill-clause-words
+returns-in-Ok-Drill-clause-words g c = λ bad. absurd (day_not_bad c.do_drill.result.0 c.do_drill.ensures.ends bad)
+
+pub returns-in-Ok-Drill-clause-read : goal.returns-in-Ok-Drill-clause-read
+returns-in-Ok-Drill-clause-read g c = λ bad. let r = c.do_drill.ensures.read bad in inr (r.0, r.1, refl, r.2)
+
+pub returns-in-Ok-Drill-clause-bad_table : goal.returns-in-Ok-Drill-clause-bad_table
+returns-in-Ok-Drill-clause-bad_table g c = λ row bad. let r = c.do_drill.ensures.bad_table row bad in (r.0, refl, r.1)
+
+pub returns-in-Ok-Drill-clause-unbegun : goal.returns-in-Ok-Drill-clause-unbegun
+returns-in-Ok-Drill-clause-unbegun g c = λ fault. (refl, c.do_drill.ensures.unbegun fault)
+
+pub returns-in-Ok-Drill-clause-passed : goal.returns-in-Ok-Drill-clause-passed
+returns-in-Ok-Drill-clause-passed g c = λ served t is. absurd (day_not_passed c.do_drill.result.0 c.do_drill.ensures.ends served t is)
 
 pub returns-in-Ok-Help-clause-told : goal.returns-in-Ok-Help-clause-told
 returns-in-Ok-Help-clause-told g c = let asked = rw c.in-Ok-Help.field-0-is at c.in-Ok-Help.ensures.asked in rw asked (c.write_text.ensures.told _ _ _)

@@ -5,7 +5,7 @@ use Rattle.ow_decide.specs.Asking.{reply_in}
 use Rattle.ow_decide.proofs.AskLaws.{ask_replies}
 use Rattle.ow_hall.specs.Comes.{Outcome, Replies, Wants}
 use Rattle.ow_desk.specs.Desks.{IsReceived}
-use Rattle.ow_desk.proofs.Received.{reply_was_called, was_called}
+use Rattle.ow_desk.proofs.Received.{nothing_received, reply_was_called, wants_of, was_called}
 use Rattle.ow_desk.proofs.receipts.Receipts.ask.Goals as goal
 
 pub reply_in-requires : goal.reply_in-requires
@@ -18,12 +18,14 @@ returns-in_err-failed-clause-called g c =
 
 pub returns-in_err-copy-clause-called : goal.returns-in_err-copy-clause-called
 returns-in_err-copy-clause-called g c =
-    let received : (o : Outcome) × Replies c.from_residual-in_err-copy.result o × IsReceived g.P.Keeper.telling c.args.desk.now c.args.desk.now c.args.at (events.Asked c.args.request.now) o c.args.self.now.notes c.args.self.now.notes = search rules in
+    let received : (o : Outcome) × Replies c.from_residual-in_err-copy.result o × IsReceived g.P.Keeper.telling c.args.desk.now c.args.desk.now c.args.at (events.Asked c.args.request.now) o c.args.self.now.notes c.args.self.now.notes =
+    (Wants, wants_of c.from_residual-in_err-copy.result c.from_residual-in_err-copy.ensures.0, nothing_received g.P.Keeper.telling c.args.desk.now c.args.at (events.Asked c.args.request.now) c.args.self.now.notes c.args.self.now.notes refl) in
     reply_was_called g.P.Keeper.telling c.args.desk.now c.args.desk.now c.args.at (events.Asked c.args.request.now) c.from_residual-in_err-copy.result c.args.self.now.notes c.args.self.now.notes received
 
 pub returns-in_err-request-clause-called : goal.returns-in_err-request-clause-called
 returns-in_err-request-clause-called g c =
-    let received : (o : Outcome) × Replies c.from_residual-in_err-request.result o × IsReceived g.P.Keeper.telling c.args.desk.now c.args.desk.now c.args.at (events.Asked c.args.request.now) o c.args.self.now.notes c.args.self.now.notes = search rules in
+    let received : (o : Outcome) × Replies c.from_residual-in_err-request.result o × IsReceived g.P.Keeper.telling c.args.desk.now c.args.desk.now c.args.at (events.Asked c.args.request.now) o c.args.self.now.notes c.args.self.now.notes =
+    (Wants, wants_of c.from_residual-in_err-request.result c.from_residual-in_err-request.ensures.0, nothing_received g.P.Keeper.telling c.args.desk.now c.args.at (events.Asked c.args.request.now) c.args.self.now.notes c.args.self.now.notes refl) in
     reply_was_called g.P.Keeper.telling c.args.desk.now c.args.desk.now c.args.at (events.Asked c.args.request.now) c.from_residual-in_err-request.result c.args.self.now.notes c.args.self.now.notes received
 
 pub returns-then-store_failed-clause-called : goal.returns-then-store_failed-clause-called

@@ -1,0 +1,4 @@
+pub mod ReadLaws
+pub mod HallLaws
+pub mod ListLaws
+pub mod UnseenLaws

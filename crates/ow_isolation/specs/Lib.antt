@@ -1,0 +1,4 @@
+pub mod Views
+pub mod Reads
+pub mod Lists
+pub mod Unseen

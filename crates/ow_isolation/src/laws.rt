@@ -1,0 +1,53 @@
+// Isolation of reads. The contracts are the laws; the functions call those that they rest on.
+ghost use Rattle.ow_isolation.specs.Lists.{HallsAnswerAlike, LogsAnswerAlike};
+ghost use Rattle.ow_isolation.specs.Reads.{AnswersOfView, LeavesAll, LeavesHalls, LeavesViews, RepliesOfView};
+ghost use Rattle.ow_isolation.specs.Unseen.{UnseenLeaves};
+ghost use Rattle.ow_hall.specs.History.{History};
+ghost use Rattle.ow_tenant.specs.Table.{Table};
+
+use ow_decide::{reads_are_answered_of_the_view, reads_change_nothing};
+use ow_traits::Keeper;
+
+/// A read with a known key is answered by what the key may see after the entries of a log, and by nothing else, unless the log is full.
+/// Its entry leaves all that came of the entries before it: the entities, the trace, who waits, and so what each key may see.
+pub fn reads_of_a_log_are_isolated()
+    ensures answered { (t : Table) (B : History) → AnswersOfView t B }
+    ensures left { (t : Table) (B : History) → LeavesAll t B }
+    ensures views { (t : Table) (B : History) → LeavesViews t B }
+{
+    reads_are_answered_of_the_view();
+    reads_change_nothing();
+}
+
+/// The same holds of each read that a controller is asked: a reply is that of the view, or that the log is full, and no other. Whatever
+/// comes of the read, it leaves each key's view, the office table and the store as they were.
+pub fn reads_of_a_hall_are_isolated<P: Keeper>()
+    ensures replied { RepliesOfView P.telling }
+    ensures left { LeavesHalls P.telling }
+{
+    reads_are_answered_of_the_view();
+    reads_change_nothing();
+}
+
+/// After two logs, of any two office tables, two keys with equal views get equal answers to each list of reads that ask the same, where
+/// no answer is that the log is full.
+pub fn logs_answer_alike()
+    ensures { LogsAnswerAlike }
+{
+    reads_are_answered_of_the_view();
+    reads_change_nothing();
+}
+
+/// Two controllers, of any two office tables and stores, give two keys with equal views equal replies to each list of reads that ask the
+/// same, where no reply is that the log is full.
+pub fn halls_answer_alike<P: Keeper, Q: Keeper>()
+    ensures { HallsAnswerAlike P.telling Q.telling }
+{
+    reads_are_answered_of_the_view();
+    reads_change_nothing();
+}
+
+/// An event that changes no entity, and ends only activations of namespaces in which a key may not read, leaves the key's view.
+pub fn unseen_events_leave_views()
+    ensures { (t : Table) (B : History) → UnseenLeaves t B }
+{}

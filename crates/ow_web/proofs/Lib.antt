@@ -1,0 +1,2 @@
+mod OfRequest
+mod Sendable
