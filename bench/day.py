@@ -18,9 +18,9 @@ def write_table(path):
         table.write(TABLE)
 
 
-def ask(method, path, body=b""):
-    """The statement of a request for an action, with that key."""
-    head = [f"{method} /api/v1/namespaces/_/actions/{path} HTTP/1.1", "Host: localhost", "X-Whisk-Key: k1"]
+def ask(method, path, body=b"", kind="actions"):
+    """The statement of a request for an entity of that kind, with that key."""
+    head = [f"{method} /api/v1/namespaces/_/{kind}/{path} HTTP/1.1", "Host: localhost", "X-Whisk-Key: k1"]
     if body:
         head += ["Content-Type: application/json", f"Content-Length: {len(body)}"]
     data = "\r\n".join([*head, "", ""]).encode() + body

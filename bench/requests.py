@@ -1,5 +1,6 @@
 """Times days of requests: puts of actions in rising, falling and mixed order of their names, puts in the place of
-what stands, gets among few and many actions; and measures the memory of a day that calls one large action often."""
+what stands, gets among few and many actions, fires of triggers with few and many rules; and measures the memory of a day that calls one
+large action often."""
 import json
 import random
 import subprocess
@@ -7,7 +8,7 @@ import sys
 import tempfile
 import time
 
-from day import ask, peak, write_table
+from day import ask, every, peak, write_table
 
 ROUNDS = 3
 PUTS = 10_000
@@ -63,6 +64,7 @@ def measure(command):
     show(command, "put in the place of what stands", puts[:100], [ask("PUT", "a000007?overwrite=true", small)] * PUTS)
     show(command, "get, of 100 actions", puts[:100], [ask("GET", names[k % 100]) for k in range(GETS)])
     show(command, f"get, of {PUTS} actions", puts, [ask("GET", names[k * 7 % PUTS]) for k in range(GETS)])
+    measure_fires(command)
     with tempfile.NamedTemporaryFile() as day:
         day.write(ask("PUT", "large", action(CODE_BYTES)))
         for k in range(1, CALLS + 1):
@@ -70,6 +72,23 @@ def measure(command):
         day.flush()
         memory = peak(command, day.name)
         print(f"an action of {CODE_BYTES} bytes, called {CALLS} times: peak memory {memory / 1e6:.1f} MB")
+
+
+def rules(count, trigger):
+    """The puts of rules that join the trigger to one action."""
+    body = json.dumps({"trigger": trigger, "action": "a"}).encode()
+    return [ask("PUT", f"{trigger}{k:05}", body, "rules") for k in range(count)]
+
+
+def measure_fires(command):
+    """Prints what a fire and the turns of its activations take, beside an invocation and its turn."""
+    begun = [ask("PUT", "a", every()), ask("PUT", "t", b"{}", "triggers"), ask("PUT", "u", b"{}", "triggers")]
+    show(command, "invocation, with its turn", begun, [ask("POST", "a", b"{}") + b"turn\n"] * PUTS)
+    for count in (1, 100, 1_000):
+        fire = ask("POST", "t", b"{}", "triggers") + b"turn\n" * count
+        show(command, f"fire of {count} rules, with their turns", begun + rules(count, "t"), [fire] * (PUTS // count))
+    fire = ask("POST", "t", b"{}", "triggers") + b"turn\n"
+    show(command, f"fire of 1 rule, with {PUTS} of another trigger", begun + rules(1, "t") + rules(PUTS, "u"), [fire] * PUTS)
 
 
 if __name__ == "__main__":

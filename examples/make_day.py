@@ -7,6 +7,7 @@
     python3 examples/make_day.py monday > examples/monday.day
     python3 examples/make_day.py tuesday > examples/tuesday.day
     python3 examples/make_day.py web > examples/web.day
+    python3 examples/make_day.py rules > examples/rules.day
 
 Each request is counted in bytes, with its head's lines ended by CR LF. Standard library only.
 """
@@ -262,6 +263,39 @@ WEB = [
     say("end"),
 ]
 
+# A trigger is fired: without a rule, with two rules, with one that is turned off, and with one whose action is gone.
+VISIT, GREET_RULE = "/visit", "/greet"
+RULES = [
+    ask("PUT", "/hello", hello()),
+    ask("PUT", VISIT, {"parameters": pairs(door="front", name="nobody")}, of="triggers"),
+    ask("POST", VISIT, {"name": "Anna"}, of="triggers"),
+    ask("PUT", GREET_RULE, {"trigger": "visit", "action": "hello"}, of="rules"),
+    ask("PUT", "/note", {"trigger": "visit", "action": "/whisk.system/utils/echo"}, of="rules"),
+    ask("GET", "", of="rules"),
+    ask("POST", VISIT, {"name": "Anna"}, of="triggers"),
+    ask("GET", f"/{FIRST}", of="activations"),
+    say("turn"),
+    say("turn"),
+    ask("GET", f"/{SECOND}/result", of="activations"),
+    ask("GET", f"/{THIRD}", of="activations"),
+    say("at 1000"),
+    ask("POST", GREET_RULE, {"status": "inactive"}, of="rules"),
+    ask("POST", VISIT, {"name": "Bert"}, of="triggers"),
+    ask("GET", "/" + ID % 4 + "/logs", of="activations"),
+    say("turn"),
+    ask("POST", GREET_RULE, {"status": "active"}, of="rules"),
+    ask("DELETE", "/hello"),
+    ask("POST", VISIT, of="triggers"),
+    ask("GET", "/" + ID % 6 + "/logs", of="activations"),
+    say("turn"),
+    ask("GET", "?limit=4", of="activations"),
+    ask("DELETE", VISIT, of="triggers"),
+    ask("GET", GREET_RULE, of="rules"),
+    ask("POST", VISIT, of="triggers"),
+    say("drain"),
+    say("end"),
+]
+
 DAYS = {
     "actions": ACTIONS,
     "blocking": BLOCKING,
@@ -270,6 +304,7 @@ DAYS = {
     "monday": MONDAY,
     "tuesday": TUESDAY,
     "web": WEB,
+    "rules": RULES,
 }
 
 if __name__ == "__main__":

@@ -31,6 +31,66 @@ const PACKAGE: (&str, &str) = (
     r#"{"annotations":[],"binding":{},"name":"tools","namespace":"guest","parameters":[],"publish":false,"version":"0.0.1"}"#,
 );
 
+const RULE: (&str, &str) = (
+    "row/rule/guest/r",
+    r#"{"action":"/lib/tools/hi","annotations":[],"name":"r","namespace":"guest","publish":false,"status":"inactive","trigger":"/guest/t","version":"0.0.3"}"#,
+);
+
+const TRIGGER: (&str, &str) = (
+    "row/trigger/guest/t",
+    r#"{"annotations":[],"name":"t","namespace":"guest","parameters":[{"key":"a","value":1}],"publish":false,"version":"0.0.1"}"#,
+);
+
+// The record of a fire: no annotations, and a line for each active rule.
+const FIRED: (&str, &str) = (
+    "done/00000000000000010000000000000001",
+    r#"{"activationId":"00000000000000010000000000000001","annotations":[],"duration":0,"end":5,"logs":["{\"action\":\"/lib/tools/hi\",\"activationId\":\"00000000000000010000000000000002\",\"rule\":\"/guest/r\"}"],"name":"t","namespace":"guest","response":{"result":{"a":1},"status":"success","statusCode":0,"success":true},"start":5,"subject":"anna","version":"0.0.1"}"#,
+);
+
+// A status that no rule has.
+const STATUS: (&str, &str) = (
+    "row/rule/guest/r",
+    r#"{"action":"/lib/tools/hi","annotations":[],"name":"r","namespace":"guest","publish":false,"status":"on","trigger":"/guest/t","version":"0.0.3"}"#,
+);
+
+const UNSET: (&str, &str) = (
+    "row/rule/guest/r",
+    r#"{"action":"/lib/tools/hi","annotations":[],"name":"r","namespace":"guest","publish":false,"trigger":"/guest/t","version":"0.0.3"}"#,
+);
+
+// A put reads `_` as the namespace of the rule, so no rule is written with it.
+const HOME: (&str, &str) = (
+    "row/rule/guest/r",
+    r#"{"action":"/_/hi","annotations":[],"name":"r","namespace":"guest","publish":false,"status":"active","trigger":"/guest/t","version":"0.0.3"}"#,
+);
+
+const HERE: (&str, &str) = (
+    "row/rule/guest/r",
+    r#"{"action":"/lib/tools/hi","annotations":[],"name":"r","namespace":"guest","publish":false,"status":"active","trigger":"/_/t","version":"0.0.3"}"#,
+);
+
+// The key of another rule.
+const OTHER: (&str, &str) = (
+    "row/rule/guest/q",
+    r#"{"action":"/lib/tools/hi","annotations":[],"name":"r","namespace":"guest","publish":false,"status":"active","trigger":"/guest/t","version":"0.0.3"}"#,
+);
+
+// Rules and triggers lie in no package.
+const GROUPED: (&str, &str) = (
+    "row/rule/guest/p/r",
+    r#"{"action":"/lib/tools/hi","annotations":[],"name":"r","namespace":"guest/p","publish":false,"status":"active","trigger":"/guest/t","version":"0.0.3"}"#,
+);
+
+const INSIDE: (&str, &str) = (
+    "row/trigger/guest/p/t",
+    r#"{"annotations":[],"name":"t","namespace":"guest/p","parameters":[],"publish":false,"version":"0.0.1"}"#,
+);
+
+const UNMADE: (&str, &str) = (
+    "row/trigger/guest/t",
+    r#"{"annotations":[],"name":"t","namespace":"guest","parameters":[],"publish":false,"version":"0.0.0"}"#,
+);
+
 // The code of an action that is there from the start may not be kept.
 const ECHO: (&str, &str) = (
     "row/action/whisk.system/utils/echo",
@@ -50,7 +110,7 @@ const SPACED: (&str, &str) = (
 );
 
 // Rows, and the key of the first bad one, or none.
-const CASES: [(&[(&str, &str)], &str); 14] = [
+const CASES: [(&[(&str, &str)], &str); 23] = [
     (&[], ""),
     (&[VERSION], ""),
     (&[COUNT, DONE, OPEN, ACTION, PACKAGE, VERSION], ""),
@@ -73,6 +133,15 @@ const CASES: [(&[(&str, &str)], &str); 14] = [
     ),
     (&[ECHO, VERSION], "row/action/whisk.system/utils/echo"),
     (&[SPACED, VERSION], "row/package/guest/tools"),
+    (&[COUNT, FIRED, RULE, TRIGGER, VERSION], ""),
+    (&[STATUS, TRIGGER, VERSION], "row/rule/guest/r"),
+    (&[UNSET, VERSION], "row/rule/guest/r"),
+    (&[OTHER, VERSION], "row/rule/guest/q"),
+    (&[GROUPED, VERSION], "row/rule/guest/p/r"),
+    (&[HOME, VERSION], "row/rule/guest/r"),
+    (&[HERE, VERSION], "row/rule/guest/r"),
+    (&[INSIDE, VERSION], "row/trigger/guest/p/t"),
+    (&[UNMADE, VERSION], "row/trigger/guest/t"),
     (&[VERSION, ("zzz", "1")], "zzz"),
 ];
 

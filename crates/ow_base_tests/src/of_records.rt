@@ -258,7 +258,7 @@ fn action(alloc: Global, path: &str, body: &str) -> Result<Box<Shared<Action>>, 
     let row = row_of(alloc, path, body)?;
     match &*row {
         Row::Action(action) => boxed(alloc, action.copy(alloc)),
-        Row::Package(_) => Err("no action")?,
+        _ => Err("no action")?,
     }
 }
 

@@ -36,6 +36,12 @@ count-same p q [] same = refl
 count-same p q (x ∷ xs) same =
     count-cons p x xs ∙ (ap (λ (b : Bool). with_one b (count_by p xs)) (same x) ∙ (ap (with_one (q x)) (count-same p q xs same) ∙ sym (count-cons q x xs)))
 
+-- tests that agree on each of these
+pub count-each : {X : Type 0} (p q : X → Bool) (xs : List X) → AllByRecursion (λ x. p x ≡ q x) xs → count_by p xs ≡ count_by q xs
+count-each p q [] same = refl
+count-each p q (x ∷ xs) same =
+    count-cons p x xs ∙ (ap (λ (b : Bool). with_one b (count_by p xs)) same.0 ∙ (ap (with_one (q x)) (count-each p q xs same.1) ∙ sym (count-cons q x xs)))
+
 -- a test that none passes counts none
 pub count-none : {X : Type 0} (p : X → Bool) (xs : List X) → ((x : X) → p x ≡ false) → count_by p xs ≡ 0
 count-none p [] none = refl

@@ -5,17 +5,17 @@ use Rattle.std.proofs.lemmas.Bool.{le-leb, lt-leb}
 use Rattle.ow_floor.specs.Trace.{Trace}
 use Rattle.ow_floor.specs.Laws.{IsSound}
 use Rattle.ow_tenant.specs.Notes as notes
-use Rattle.ow_tenant.specs.Notes.{Notes, ended, invoked}
+use Rattle.ow_tenant.specs.Notes.{Notes, ended, fired, invoked}
 use Rattle.ow_tenant.specs.Windows.{StandsAs}
 use Rattle.ow_tenant.specs.declared.limits.NamespaceLimits.{NamespaceLimits}
 use Rattle.ow_tenant.specs.declared.refusal.WindowRefusal.{WindowRefusal}
-use Rattle.ow_tenant.specs.declared.refusal.WindowRefusal.TheVariants.{MinuteLimit, ConcurrentLimit}
-use Rattle.ow_counts.specs.Counts.{admitted, busy, concurrent, minute, most_busy}
+use Rattle.ow_tenant.specs.declared.refusal.WindowRefusal.TheVariants.{MinuteLimit, ConcurrentLimit, FireLimit}
+use Rattle.ow_counts.specs.Counts.{admitted, busy, concurrent, fire_admitted, minute, most_busy}
 use Rattle.ow_counts.specs.View.{CountsView, MayEnd, StandsFor, is_end, is_invocation, notes_of}
 use Rattle.ow_counts.specs.declared.refusal.LimitRefusal.{LimitRefusal}
 use Rattle.ow_counts.specs.declared.refusal.LimitRefusal.TheVariants.{OfficeBusy, OfNamespace}
 use Rattle.ow_counts.proofs.Counting.{count-cons}
-use Rattle.ow_counts.proofs.Noting.{busy_noted, concurrent_noted, minute_noted}
+use Rattle.ow_counts.proofs.Noting.{busy_noted, concurrent_noted, fires_noted, minute_noted}
 
 -- ---- one more note
 
@@ -29,6 +29,12 @@ pub keeps_ended : (v w : CountsView) (n : List ℕ) (ns : Notes) → StandsAs w.
 keeps_ended v w n ns stands less may h = record {
   windows = stands;
   busy = omega (arith, less, may.everywhere, h.busy, count-cons is_end (ended n) ns, count-cons is_invocation (ended n) ns);
+}
+
+pub keeps_fired : (v w : CountsView) (n : List ℕ) (at : ℕ) (ns : Notes) → StandsAs w.windows (fired n at ∷ ns) → w.busy ≡ v.busy → StandsFor v ns → StandsFor w (fired n at ∷ ns)
+keeps_fired v w n at ns stands same h = record {
+  windows = stands;
+  busy = omega (arith, same, h.busy, count-cons is_end (fired n at) ns, count-cons is_invocation (fired n at) ns);
 }
 
 pub kept : (v w : CountsView) (ns : Notes) → StandsAs w.windows ns → w.busy ≡ v.busy → StandsFor v ns → StandsFor w ns
@@ -62,3 +68,14 @@ window_admits T v n limits now r h sound few is =
     ∙ (ap (λ (m : ℕ). cond (nat_le limits.per_minute m) (Err (OfNamespace (MinuteLimit m limits.per_minute))) (cond (nat_le limits.concurrent (notes.concurrent (notes_of T) n)) (Err (OfNamespace (ConcurrentLimit (notes.concurrent (notes_of T) n) limits.concurrent))) (Ok tt))) (minute_noted T n now)
     ∙ (ap (λ (m : ℕ). cond (nat_le limits.per_minute (minute T n now)) (Err (OfNamespace (MinuteLimit (minute T n now) limits.per_minute))) (cond (nat_le limits.concurrent m) (Err (OfNamespace (ConcurrentLimit m limits.concurrent))) (Ok tt))) (concurrent_noted T n sound)
     ∙ sym (ap (λ (b : Bool). cond b (Err OfficeBusy) (cond (nat_le limits.per_minute (minute T n now)) (Err (OfNamespace (MinuteLimit (minute T n now) limits.per_minute))) (cond (nat_le limits.concurrent (concurrent T n)) (Err (OfNamespace (ConcurrentLimit (concurrent T n) limits.concurrent))) (Ok tt)))) free))))
+
+of_test : (a : Bool) (x : WindowRefusal) → of_namespace (cond a (Err x) (Ok tt)) ≡ cond a (Err (OfNamespace x)) (Ok tt)
+of_test true x = refl
+of_test false x = refl
+
+-- the limit of fires alone decides on a fire
+pub window_admits_fire : (T : Trace) (n : List ℕ) (limits : NamespaceLimits) (now : ℕ) (r : Result (Unit {0}) WindowRefusal) → r ≡ notes.fire_admitted (notes_of T) n limits now → of_namespace r ≡ fire_admitted T n limits now
+window_admits_fire T n limits now r is =
+    ap of_namespace is
+    ∙ (of_test (nat_le limits.fires (notes.fires (notes_of T) n now)) (FireLimit (notes.fires (notes_of T) n now) limits.fires)
+    ∙ ap (λ (m : ℕ). cond (nat_le limits.fires m) (Err (OfNamespace (FireLimit m limits.fires))) (Ok tt)) (fires_noted T n now))

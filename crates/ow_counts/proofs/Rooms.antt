@@ -1,9 +1,10 @@
 -- What is admitted had room.
-use Rattle.std.proofs.Common.{◌≡◌, Bool, true, false, cond, leb, Result, Ok, Err, refl, arith}
+use Rattle.std.proofs.Common.{◌≡◌, ◌<◌, Bool, true, false, cond, leb, Result, Ok, Err, refl, arith}
 use Rattle.std.proofs.lemmas.Bool.{leb-false}
 use Rattle.ow_records.specs.declared.activations.Activation.{Activation}
 use Rattle.ow_floor.specs.Trace.{Trace}
-use Rattle.ow_counts.specs.Counts.{admitted, busy, concurrent, minute, most_busy}
+use Rattle.ow_records.specs.declared.record.Record.{Record}
+use Rattle.ow_counts.specs.Counts.{admitted, busy, concurrent, fire_admitted, fires, minute, most_busy}
 use Rattle.ow_counts.specs.Within.{HadRoom, LimitsByName}
 use Rattle.ow_counts.specs.declared.refusal.LimitRefusal.{LimitRefusal}
 
@@ -22,3 +23,12 @@ had_room limits a T ok =
       minute = omega (arith, leb-false _ (minute T a.namespace a.at) all.1);
       concurrent = omega (arith, leb-false _ (concurrent T a.namespace) all.2);
     }
+
+passed_one : (a : Bool) (x : LimitRefusal) (e : Result (Unit {0}) LimitRefusal) → cond a (Err x) (Ok tt) ≡ e → e ≡ Ok tt → a ≡ false
+passed_one true x e is ok = cc
+passed_one false x e is ok = refl
+
+pub fires_had_room : (limits : LimitsByName) (r : Record) (T : Trace) → fire_admitted T r.namespace (limits r.namespace) r.span.start ≡ Ok tt → fires T r.namespace r.span.start < (limits r.namespace).fires
+fires_had_room limits r T ok =
+    let room : leb (limits r.namespace).fires (fires T r.namespace r.span.start) ≡ false = passed_one _ _ _ refl ok in
+    omega (arith, leb-false _ (fires T r.namespace r.span.start) room)

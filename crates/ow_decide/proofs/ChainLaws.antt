@@ -24,7 +24,7 @@ use Rattle.ow_floor.specs.declared.runs.Run.{Run}
 use Rattle.ow_floor.specs.Calls.{abandon_items, abandoned_items, accept_items, answered_items, begins, begun_items, busy_run, end_items, ended_by, goes, gone_items, is_late, items_if, late_items, late_of, loses, lost_items, next_items, order_items, overrun_items, place_on, reply_items, resume_items, run_by, sorted_by_id, swept_items}
 use Rattle.ow_floor.specs.Growth.{AreRight, IsRight, grown}
 use Rattle.ow_floor.specs.Laws.{IsSound}
-use Rattle.ow_floor.specs.Trace.{Accepted, Begun, Drained, Gone, Item, Lost, Trace, live, moment_of, open_items, shown, slots}
+use Rattle.ow_floor.specs.Trace.{Accepted, Begun, Drained, Drawn, Fired, Gone, Item, Lost, Trace, live, moment_of, open_items, shown, slots}
 use Rattle.ow_floor.specs.View.{Shown as FloorShown, is_number, is_of, waits}
 use Rattle.ow_floor.proofs.Apart.{open_distinct}
 use Rattle.ow_floor.proofs.Coming.{right_begun, right_gone, right_lost, right_next, right_reopened, right_reply, right_swept}
@@ -34,13 +34,15 @@ use Rattle.ow_http.specs.Request.{parts_of}
 use Rattle.ow_http.specs.declared.reason.Reason.{Reason}
 use Rattle.ow_decide.specs.declared.events.Event.{Event}
 use Rattle.ow_decide.specs.declared.events.Event.TheVariants as events
-use Rattle.ow_decide.specs.Asking.{Changed, Done, Invoked, Shown, ask_decision, request_done}
+use Rattle.ow_decide.specs.Asking.{Changed, Done, Invoked, Quiet, Shown, ask_decision, request_done}
+use Rattle.ow_decide.specs.Asking as asking
 use Rattle.ow_decide.specs.Calling.{call_decision, call_plan}
 use Rattle.ow_decide.specs.Chain.{AreSteps, IsDecided, IsEnd, IsOneOf}
 use Rattle.ow_decide.specs.Decisions.{decide, is_opening}
 use Rattle.ow_decide.specs.Opening.{opened_decision, parts_taken}
 use Rattle.ow_decide.specs.Sight.{Sight}
-use Rattle.ow_decide.proofs.AcceptLaws.{IsAdmitted, IsAdmittedDone, asked_admitted, called_admitted}
+use Rattle.ow_decide.proofs.AcceptLaws.{IsAdmittedDone, asked_admitted, called_admitted}
+use Rattle.ow_decide.proofs.CalleeLaws.{IsAdmitted}
 
 -- ---- runs
 
@@ -159,6 +161,8 @@ module _ (S : Sight) where
 
 is_over : (S : Sight) (item : Item) (T : Trace) → IsOfFloor S item → IsDecided S item T
 is_over S (Accepted a) T made = absurd made.0
+is_over S (Drawn id at) T made = absurd made.0
+is_over S (Fired r) T made = absurd made.0
 is_over S item T made = made.2
 
 -- items of a call that may come are a chain
@@ -187,6 +191,8 @@ asked_steps : (S : Sight) (d : Result Done Reason) → IfOk d (IsAdmittedDone S)
 asked_steps S (Ok (Shown value)) ok = tt
 asked_steps S (Ok (Changed change value)) ok = tt
 asked_steps S (Ok (Invoked plan shows)) ok = accepted_steps S plan ok
+asked_steps S (Ok Quiet) ok = tt
+asked_steps S (Ok (asking.Fired items id)) ok = ok.steps
 asked_steps S (Err reason) ok = tt
 
 called_steps : (S : Sight) (p : Result Plan Reason) → IfOk p (IsAdmitted S) → AreSteps S (call_decision S p).items

@@ -51,17 +51,17 @@ next_makes t rs k b old new now order is grows S seen =
 
 -- what is told where all that is open is abandoned
 pub reopened_carried : (h : List Happening) (at : ℕ) (b : KeepingView) (S : Sight) → h ≡ happened (abandoned_ends at S.trace)
-    → Carries (record { told = told.Reopened h; change = None; waits = Clear; invoked = None; commit = None }) (reopened_decision at S.trace) b S
+    → Carries (record { told = told.Reopened h; change = None; waits = Clear; invoked = None; commit = None; fire = None }) (reopened_decision at S.trace) b S
 reopened_carried h at b S is =
     let later = are_later (record S { moment = at }) (abandon_items at S.trace) (of_abandon (record S { moment = at })) in
     record { told = ap told.Reopened is; changes = refl; waits = refl; invoked = sym (later_invoked (abandon_items at S.trace) later); commit = (refl, later) }
 
 pub reopened_makes : (t : Table) (rs : List Row) (k : CountsView) (b : KeepingView) (old new : Shown) (now : Now) (h : List Happening)
     → ((T : Trace) → Stands old T → h ≡ happened (abandoned_ends now.at T)) → Grows old new (λ T. abandon_items now.at T) → (S : Sight) → IsSeen S t rs k b old now
-    → Carries (record { told = told.Reopened h; change = None; waits = Clear; invoked = None; commit = None }) (reopened_decision S.moment S.trace) b S
+    → Carries (record { told = told.Reopened h; change = None; waits = Clear; invoked = None; commit = None; fire = None }) (reopened_decision S.moment S.trace) b S
     × Stands new (abandon_items S.moment S.trace ++ S.trace)
 reopened_makes t rs k b old new now h is grows S seen = (
-  subst (λ (at : ℕ). Carries (record { told = told.Reopened h; change = None; waits = Clear; invoked = None; commit = None }) (reopened_decision at S.trace) b S) (sym seen.moment)
+  subst (λ (at : ℕ). Carries (record { told = told.Reopened h; change = None; waits = Clear; invoked = None; commit = None; fire = None }) (reopened_decision at S.trace) b S) (sym seen.moment)
       (reopened_carried h now.at b S (is S.trace seen.stands)),
   at_moment old new (λ at T. abandon_items at T) t rs k b now grows S seen,
 )

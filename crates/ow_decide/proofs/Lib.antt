@@ -2,6 +2,8 @@ pub mod AskLaws
 pub mod Results
 pub mod OpenLaws
 pub mod SoundLaws
+pub mod CalleeLaws
+pub mod ShotLaws
 pub mod AcceptLaws
 pub mod ChainLaws
 pub mod NotedLaws
@@ -15,6 +17,9 @@ mod WaitLaws
 mod FloorLaws
 mod CallLaws
 mod PlanLaws
+mod FireLaws
+mod RuleLaws
 mod PutLaws
+mod SetLaws
 mod LeaveLaws
 pub mod RowLaws

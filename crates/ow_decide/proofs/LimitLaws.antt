@@ -1,10 +1,10 @@
--- No acceptance that is decided passes the limits of its namespace.
+-- No acceptance and no fire that is decided passes the limits of its namespace.
 use Rattle.std.proofs.Common.{◌≡◌, ◌++◌, ℕ, [], ◌∷◌, Ok, sym, subst}
-use Rattle.ow_floor.specs.Trace.{Accepted, Item, Trace}
+use Rattle.ow_floor.specs.Trace.{Accepted, Fired, Item, Trace}
 use Rattle.ow_tenant.specs.Tenants.{limits_of}
-use Rattle.ow_counts.specs.Counts.{admitted}
+use Rattle.ow_counts.specs.Counts.{admitted, fire_admitted}
 use Rattle.ow_counts.specs.Within.{AreWithin, IsWithin}
-use Rattle.ow_counts.proofs.Rooms.{had_room}
+use Rattle.ow_counts.proofs.Rooms.{fires_had_room, had_room}
 use Rattle.ow_decide.specs.declared.events.Event.{Event}
 use Rattle.ow_decide.specs.Chain.{AreSteps, IsStep}
 use Rattle.ow_decide.specs.Sight.{Sight}
@@ -14,6 +14,8 @@ use Rattle.ow_decide.proofs.ChainLaws.{by_decision}
 within_step : (S : Sight) (item : Item) (T : Trace) → IsStep S item T → IsWithin (λ n. limits_of n S.tenants) item T
 within_step S (Accepted a) T step = λ uncaused.
     had_room (λ n. limits_of n S.tenants) a T (subst (λ (m : ℕ). admitted T a.namespace (limits_of a.namespace S.tenants) m ≡ Ok tt) (sym step.at) step.is.admitted)
+within_step S (Fired r) T step =
+    fires_had_room (λ n. limits_of n S.tenants) r T (subst (λ (m : ℕ). fire_admitted T r.namespace (limits_of r.namespace S.tenants) m ≡ Ok tt) (sym step.at) step.is.admitted)
 within_step S item T step = tt
 
 steps_within : (S : Sight) (items : Trace) → AreSteps S items → AreWithin (λ n. limits_of n S.tenants) S.trace → AreWithin (λ n. limits_of n S.tenants) (items ++ S.trace)

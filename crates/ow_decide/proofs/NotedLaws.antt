@@ -1,11 +1,11 @@
 -- What is noted of what is decided, and how it stands to what was noted before.
-use Rattle.std.proofs.Common.{◌≡◌, ◌⊎◌, Result, Ok, Err, inl, inr, ◌+◌, ◌≤◌, ◌<◌, ◌++◌, ℕ, Bool, true, false, cond, List, [], ◌∷◌, Option, Some, None, append_assoc, refl, sym, ap, ◌∙◌, arith, subst}
+use Rattle.std.proofs.Common.{◌≡◌, ◌⊎◌, Result, Ok, Err, IfOk, inl, inr, ◌+◌, ◌≤◌, ◌<◌, ◌++◌, ℕ, Bool, true, false, cond, List, [], ◌∷◌, Option, Some, None, append_assoc, refl, sym, ap, ◌∙◌, arith, subst}
 use Rattle.std.specs.Prelude.{count_by, is_none}
 use Rattle.std.specs.List.{AllByRecursion}
 use Rattle.std.proofs.lemmas.List.{append-nil}
 use Rattle.ow_records.specs.declared.activations.Activation.{Activation}
 use Rattle.ow_records.specs.declared.record.Record.{Record}
-use Rattle.ow_floor.specs.Trace.{Accepted, Begun, Ended, Gone, Item, Lost, Trace, accepted, record_of, records, records_after}
+use Rattle.ow_floor.specs.Trace.{Accepted, Begun, Drawn, Ended, Fired, Gone, Item, Lost, Trace, accepted, fired, record_of, records, records_after}
 use Rattle.ow_floor.specs.Calls.{abandon_items, accept_items, answered_items, begins, begun_items, goes, gone_items, items_if, loses, lost_items, next_items, swept_items}
 use Rattle.ow_floor.specs.declared.activations.Plan.{Plan}
 use Rattle.ow_floor.specs.Laws.{IsSound}
@@ -17,8 +17,9 @@ use Rattle.ow_counts.proofs.Noting.{all_ended_were_invoked, ended_were_invoked}
 use Rattle.ow_decide.specs.declared.events.Event.{Event}
 use Rattle.ow_decide.specs.declared.events.Event.TheVariants as events
 use Rattle.ow_decide.specs.Sight.{Sight}
-use Rattle.ow_decide.specs.Noted.{MayAllEnd, invoked_by, invoked_in, noted_end, noted_ends, noted_invoked}
-use Rattle.ow_decide.specs.Asking.{Changed, Done, Invoked, Shown, ask_decision, request_done}
+use Rattle.ow_decide.specs.Noted.{IsUnfired, MayAllEnd, invoked_by, invoked_in, noted_end, noted_ends, noted_invoked}
+use Rattle.ow_decide.specs.Asking.{Changed, Done, Invoked, Quiet, Shown, ask_decision, request_done}
+use Rattle.ow_decide.specs.Asking as asking
 use Rattle.ow_decide.specs.Calling.{call_decision, call_plan}
 use Rattle.ow_decide.specs.Chain.{AreSteps, IsStep}
 use Rattle.ow_decide.specs.Decisions.{decide, is_opening, wants_memory}
@@ -28,6 +29,7 @@ use Rattle.ow_http.specs.declared.reason.Reason.{Reason}
 use Rattle.ow_keep.specs.Judged.{judged}
 use Rattle.ow_keep.specs.Split.{Parts}
 use Rattle.ow_kept.specs.Keeping.{AreLater, IsLater}
+use Rattle.ow_decide.proofs.AcceptLaws.{IsAdmittedDone, asked_admitted}
 use Rattle.ow_decide.proofs.ChainLaws.{are_later, by_decision, of_abandon, of_answered, of_begun, of_gone, of_lost, of_next, of_swept}
 use Rattle.ow_reads.proofs.SeenLaws.{same_bytes}
 use Rattle.ow_decide.proofs.SoundLaws.{decided_sound}
@@ -36,6 +38,7 @@ use Rattle.ow_decide.proofs.SoundLaws.{decided_sound}
 
 records_at : (item : Item) (old new : List Record) → records_after item (old ++ new) ≡ old ++ records_after item new
 records_at (Ended e) old new = append_assoc old new (record_of e ∷ [])
+records_at (Fired r) old new = append_assoc old new (r ∷ [])
 records_at item old new = refl
 
 -- the records of items come behind those of the trace
@@ -56,6 +59,8 @@ record IsPlain (item : Item) : Type 0 where
 
 is_plain : (item : Item) → IsLater item → IsPlain item
 is_plain (Accepted a) later = absurd later
+is_plain (Drawn id at) later = absurd later
+is_plain (Fired r) later = absurd later
 is_plain (Ended e) later = record { invoked = refl; notes = λ rs ns. sym (ends_push rs (record_of e) ns) }
 is_plain item later = record { invoked = refl; notes = λ rs ns. refl }
 
@@ -73,29 +78,31 @@ later_noted (item ∷ items) T later = ap (noted_after item) (later_noted items 
 abbrev IsAlone : ℕ → Trace → Type 0
 IsAlone at items = AreLater items ⊎ ((plan : Plan) × (items ≡ accept_items at plan))
 
-asked_alone : (at : ℕ) (d : Result Done Reason) → IsAlone at (ask_decision at d).items
-asked_alone at (Ok (Shown value)) = inl tt
-asked_alone at (Ok (Changed change value)) = inl tt
-asked_alone at (Ok (Invoked plan shows)) = inr (plan, refl)
-asked_alone at (Err reason) = inl tt
+asked_alone : (S : Sight) (d : Result Done Reason) → IfOk d (IsAdmittedDone S) → IsUnfired (ask_decision S.moment d).items → IsAlone S.moment (ask_decision S.moment d).items
+asked_alone S (Ok (Shown value)) ok unfired = inl tt
+asked_alone S (Ok (Changed change value)) ok unfired = inl tt
+asked_alone S (Ok (Invoked plan shows)) ok unfired = inr (plan, refl)
+asked_alone S (Ok Quiet) ok unfired = inl tt
+asked_alone S (Ok (asking.Fired items id)) ok unfired = absurd (ok.fires unfired)
+asked_alone S (Err reason) ok unfired = inl tt
 
 called_alone : (S : Sight) (p : Result Plan Reason) → IsAlone S.moment (call_decision S p).items
 called_alone S (Ok plan) = inr (plan, refl)
 called_alone S (Err reason) = inl tt
 
-decided_alone : (S : Sight) (event : Event) → is_opening event ≡ false → IsAlone S.moment (decide S event).items
-decided_alone S (events.Opened rows) other = cc
-decided_alone S (events.Asked r) other = asked_alone S.moment (request_done S (parts_of r))
-decided_alone S (events.Called name params) other = called_alone S (call_plan S name params)
-decided_alone S events.Next other = inl (are_later S (next_items S.moment S.trace) (of_next S))
-decided_alone S (events.Answered run reply) other = inl (are_later S (answered_items S.moment run reply S.trace) (of_answered S run reply))
-decided_alone S (events.Begun run) other = inl (are_later S (begun_items S.moment run S.trace) (of_begun S run))
-decided_alone S (events.Lost run) other = inl (are_later S (lost_items S.moment run S.trace) (of_lost S run))
-decided_alone S (events.Gone slot generation) other = inl (are_later S (gone_items S.moment slot generation S.trace) (of_gone S slot generation))
-decided_alone S events.Sweep other = inl (are_later S (swept_items S.moment S.trace) (of_swept S))
-decided_alone S (events.Collected id) other = inl tt
-decided_alone S events.Drain other = inl (tt, tt)
-decided_alone S events.Reopened other = inl (are_later S (abandon_items S.moment S.trace) (of_abandon S))
+decided_alone : (S : Sight) (event : Event) → is_opening event ≡ false → IsUnfired (decide S event).items → IsAlone S.moment (decide S event).items
+decided_alone S (events.Opened rows) other unfired = cc
+decided_alone S (events.Asked r) other unfired = asked_alone S (request_done S (parts_of r)) (asked_admitted S (parts_of r)) unfired
+decided_alone S (events.Called name params) other unfired = called_alone S (call_plan S name params)
+decided_alone S events.Next other unfired = inl (are_later S (next_items S.moment S.trace) (of_next S))
+decided_alone S (events.Answered run reply) other unfired = inl (are_later S (answered_items S.moment run reply S.trace) (of_answered S run reply))
+decided_alone S (events.Begun run) other unfired = inl (are_later S (begun_items S.moment run S.trace) (of_begun S run))
+decided_alone S (events.Lost run) other unfired = inl (are_later S (lost_items S.moment run S.trace) (of_lost S run))
+decided_alone S (events.Gone slot generation) other unfired = inl (are_later S (gone_items S.moment slot generation S.trace) (of_gone S slot generation))
+decided_alone S events.Sweep other unfired = inl (are_later S (swept_items S.moment S.trace) (of_swept S))
+decided_alone S (events.Collected id) other unfired = inl tt
+decided_alone S events.Drain other unfired = inl (tt, tt)
+decided_alone S events.Reopened other unfired = inl (are_later S (abandon_items S.moment S.trace) (of_abandon S))
 
 abbrev AreNoted : ℕ → Trace → Trace → Type 0
 AreNoted at T items = notes_of (items ++ T) ≡ noted_ends (records items) (noted_invoked (invoked_in items) at (notes_of T))
@@ -115,10 +122,10 @@ opened_noted : (at : ℕ) (T : Trace) (parts : Option Parts) → AreNoted at T (
 opened_noted at T None = refl
 opened_noted at T (Some parts) = refl
 
--- the invocation is noted, or the ends are, the first one first
-pub decided_noted : (S : Sight) (event : Event) → notes_of ((decide S event).items ++ S.trace) ≡ noted_ends (records (decide S event).items) (noted_invoked (invoked_in (decide S event).items) S.moment (notes_of S.trace))
-decided_noted S (events.Opened rows) = opened_noted S.moment S.trace (parts_taken S.moment S.trace (judged rows))
-decided_noted S event = alone_noted S.moment S.trace (decide S event).items (decided_alone S event refl)
+-- where nothing is fired the invocation is noted, or the ends are, the first one first
+pub decided_noted : (S : Sight) (event : Event) → IsUnfired (decide S event).items → notes_of ((decide S event).items ++ S.trace) ≡ noted_ends (records (decide S event).items) (noted_invoked (invoked_in (decide S event).items) S.moment (notes_of S.trace))
+decided_noted S (events.Opened rows) unfired = opened_noted S.moment S.trace (parts_taken S.moment S.trace (judged rows))
+decided_noted S event unfired = alone_noted S.moment S.trace (decide S event).items (decided_alone S event refl unfired)
 
 if_quiet : (b : Bool) (item : Item) (T : Trace) → notes_of (item ∷ T) ≡ notes_of T → notes_of (items_if b item ++ T) ≡ notes_of T
 if_quiet true item T same = same
@@ -186,26 +193,27 @@ ends_in : (T : Trace) → IsSound T → AreEndsOf (notes_of T)
 ends_in T sound = record { each = λ n. ended_were_invoked T n sound; all = all_ended_were_invoked T sound }
 
 -- each end that is noted is of an invocation that has not ended
-pub decided_may_end : (S : Sight) (event : Event) → IsSound S.trace → MayAllEnd (records (decide S event).items) (noted_invoked (invoked_in (decide S event).items) S.moment (notes_of S.trace))
-decided_may_end S event sound =
+pub decided_may_end : (S : Sight) (event : Event) → IsUnfired (decide S event).items → IsSound S.trace → MayAllEnd (records (decide S event).items) (noted_invoked (invoked_in (decide S event).items) S.moment (notes_of S.trace))
+decided_may_end S event unfired sound =
     let items = (decide S event).items in
     may_all_end (records items) (noted_invoked (invoked_in items) S.moment (notes_of S.trace))
-    (subst AreEndsOf (decided_noted S event) (ends_in (items ++ S.trace) (decided_sound S event sound)))
+    (subst AreEndsOf (decided_noted S event unfired) (ends_in (items ++ S.trace) (decided_sound S event sound)))
 
 -- ---- moments
 
-all_push : (P : Activation → Type 0) (a : Activation) (xs : List Activation) → AllByRecursion P xs → P a → AllByRecursion P (xs ++ a ∷ [])
+all_push : {X : Type 0} (P : X → Type 0) (a : X) (xs : List X) → AllByRecursion P xs → P a → AllByRecursion P (xs ++ a ∷ [])
 all_push P a [] all here = (here, tt)
 all_push P a (x ∷ xs) all here = (all.0, all_push P a xs all.1 here)
 
 up_to_step : (S : Sight) (item : Item) (T : Trace) → IsStep S item T → AreUpTo S.moment T → AreUpTo S.moment (item ∷ T)
-up_to_step S (Accepted a) T step up = let now : a.at ≡ S.moment = step.at in all_push (λ x. x.at ≤ S.moment) a (accepted T) up (omega (arith, now))
+up_to_step S (Accepted a) T step up = let now : a.at ≡ S.moment = step.at in (all_push (λ (x : Activation). x.at ≤ S.moment) a (accepted T) up.0 (omega (arith, now)), up.1)
+up_to_step S (Fired r) T step up = let now : r.span.start ≡ S.moment = step.at in (up.0, all_push (λ (x : Record). x.span.start ≤ S.moment) r (fired T) up.1 (omega (arith, now)))
 up_to_step S item T step up = up
 
 steps_up_to : (S : Sight) (items : Trace) → AreSteps S items → AreUpTo S.moment S.trace → AreUpTo S.moment (items ++ S.trace)
 steps_up_to S [] steps up = up
 steps_up_to S (item ∷ items) steps up = up_to_step S item (items ++ S.trace) steps.0 (steps_up_to S items steps.1 up)
 
--- nothing is accepted behind the moment
+-- nothing is accepted or fired after the moment
 pub decided_up_to : (S : Sight) (event : Event) → AreUpTo S.moment S.trace → AreUpTo S.moment ((decide S event).items ++ S.trace)
 decided_up_to S event up = by_decision S (λ (items : Trace). AreUpTo S.moment (items ++ S.trace)) (λ items steps. steps_up_to S items steps up) (λ counts rs. up) event

@@ -19,7 +19,7 @@ use Rattle.ow_decide.specs.Reasons.{draining, store_full}
 use Rattle.ow_decide.specs.Sight.{Sight, is_store_full, within_limits}
 use Rattle.ow_reads.specs.Steps.{unless}
 
-then_then : {X Y Z : Type 0} (r : Result X Reason) (f : X → Result Y Reason) (g : Y → Result Z Reason) → ((r >>= f) >>= g) ≡ (r >>= (λ (x : X). f x >>= g))
+pub then_then : {X Y Z : Type 0} (r : Result X Reason) (f : X → Result Y Reason) (g : Y → Result Z Reason) → ((r >>= f) >>= g) ≡ (r >>= (λ (x : X). f x >>= g))
 then_then (Ok x) f g = refl
 then_then (Err reason) f g = refl
 

@@ -1,6 +1,6 @@
--- What becomes of the rows at a request: the row of a draft that is given is put, one is taken out, or they stay.
-use Rattle.std.proofs.Common.{◌≡◌, List, Bool, true, false, if◌then◌else◌, IfOk, Option, Some, None, Result, Ok, Err, refl}
-use Rattle.ow_value.specs.Value.{V}
+-- What becomes of the rows at a request: the row of a draft that is given is put, one is taken out, a rule's status is set, or they stay.
+use Rattle.std.proofs.Common.{◌≡◌, ℕ, List, [], ◌∷◌, Bool, true, false, if◌then◌else◌, IfOk, Option, Some, None, Result, Ok, Err, refl}
+use Rattle.ow_value.specs.Value.{V, Pairs}
 use Rattle.ow_names.specs.declared.full.FullName.{FullName}
 use Rattle.ow_entity.specs.Finish.{finished_row}
 use Rattle.ow_entity.specs.Row.{kind_of, name_of}
@@ -17,20 +17,28 @@ use Rattle.ow_web.specs.Target.{is_web}
 use Rattle.ow_http.specs.declared.reason.Reason.{Reason}
 use Rattle.ow_kept.specs.Commits.{row_changes}
 use Rattle.ow_tables.specs.Refusal.{old_row, put_refusal, remove_refusal}
-use Rattle.ow_tables.specs.Rows.{changed, with_row, without}
+use Rattle.ow_tables.specs.Contents.{Change}
+use Rattle.ow_tables.specs.Joined.{rule_at}
+use Rattle.ow_tables.specs.Rows.{changed, standing, with_row, without}
+use Rattle.ow_entity.specs.declared.rules.Rule.{Rule}
+use Rattle.ow_entity.specs.declared.triggers.Trigger.{Trigger}
+use Rattle.ow_rules.specs.Fired.{fired}
+use Rattle.ow_rules.specs.Status.{status_change}
+use Rattle.ow_decide.specs.Firing.{fire_plan, number_for, shot_items, trigger_for, within_fires}
 use Rattle.ow_tenant.specs.declared.entries.Holder.{Holder}
-use Rattle.ow_decide.specs.Asking.{Changed, Done, Invoked, Shown, act_done, act_for, ask_decision, change_done, keyed_done, or_table_reason, put_done, put_of, request_done, row_for, row_of, shown_done, unless_refused, web_done}
+use Rattle.ow_decide.specs.Asking.{Changed, Done, Fired, Invoked, Quiet, Shown, act_done, act_for, ask_decision, change_done, keyed_done, or_table_reason, put_done, put_of, request_done, row_for, row_of, rule_for, rules_done, set_done, shown_done, unless_refused, web_done}
 use Rattle.ow_decide.specs.WebCalling.{web_extension, web_given, web_name, web_plan}
 use Rattle.ow_reads.specs.Acts.{grant_for, granted_call}
 use Rattle.ow_decide.specs.Calling.{callee, charged_namespace, invocation_plan}
-use Rattle.ow_decide.specs.Decision.{all_changed}
+use Rattle.ow_decide.specs.Decision.{all_changed, items_changes}
 use Rattle.ow_reads.specs.Reading.{name_in, or_call_reason, read_done}
-use Rattle.ow_reads.specs.Reasons.{no_route}
+use Rattle.ow_reads.specs.Reasons.{no_route, not_found}
 use Rattle.ow_decide.specs.Sight.{Sight, room_for, store_room, view_of}
 use Rattle.ow_reads.specs.Steps.{or_else}
 use Rattle.ow_reads.specs.Tenants.{asker}
 use Rattle.ow_reads.specs.declared.acts.Act.{Act}
-use Rattle.ow_reads.specs.declared.acts.Act.TheVariants.{Invokes, Puts, Reads, Removes}
+use Rattle.ow_reads.specs.declared.acts.Act.TheVariants.{Fires, Invokes, Puts, Reads, Removes, Sets}
+use Rattle.ow_decide.proofs.CalleeLaws.{there_ok}
 use Rattle.ow_decide.proofs.Results.{then_from, then_ok}
 
 called_good : (G : Call → Type 0) (r : Result Call CallRefusal) → IfOk r G → IfOk (or_call_reason r) G
@@ -41,11 +49,12 @@ made_so : (o : Result Row EntityRefusal) → IfOk (or_table_reason o) (λ (r : R
 made_so (Ok r) = refl
 made_so (Err e) = tt
 
--- who asks, what the request calls for, and the rows: as they stand, with a row of the call's draft, and without those of a kind and name
+-- who asks, what the request calls for, and the rows: as they are, with a row of the call's draft, without those of a kind and name, and with another status of a rule
 module _ (S : Sight) (p : Parts) (H : Holder → Type 0) (G : Call → Type 0) (N : List Row → Type 0) (known : IfOk (asker S.tenants p.key) H)
     (called : (h : Holder) → H h → IfOk (call_of h.home p) G) (stays : N S.rows)
     (put : (c : Call) (d : Draft) (r : Row) → G c → c.draft ≡ Some d → finished_row d (old_row d S.rows) ≡ Ok r → N (with_row r S.rows))
-    (removed : (kind : EntityKind) (name : FullName) → N (without kind name S.rows)) where
+    (removed : (kind : EntityKind) (name : FullName) → N (without kind name S.rows))
+    (set : (name : FullName) (r : Rule) (active : Bool) (c : Change) → rule_at (standing S.rows) name ≡ Some r → status_change r active ≡ Some c → N (changed c S.rows)) where
   abbrev IsGoodDone : Done → Type 0
   IsGoodDone (Changed c value) = N (changed c S.rows)
   IsGoodDone done = Unit {0}
@@ -60,6 +69,15 @@ module _ (S : Sight) (p : Parts) (H : Holder → Type 0) (G : Call → Type 0) (
       then_from (λ (r : Row). finished_row d (old_row d S.rows) ≡ Ok r) IsGoodDone (row_of S d c.overwrite) _ (row_so d c.overwrite) (λ r made.
       then_ok IsGoodDone (store_room S (row_changes (put_of r))) _ (λ room. put c d r g e made))
 
+  rules_good : (subject : List ℕ) (name : FullName) (number : ℕ) (t : Trigger) (given : Pairs) (rs : List Rule) → IfOk (rules_done S subject name number t given rs) IsGoodDone
+  rules_good subject name number t given [] = tt
+  rules_good subject name number t given (r ∷ rs) = then_ok IsGoodDone (fire_plan S subject name number t given) _ (λ f.
+      then_ok IsGoodDone (store_room S (items_changes (shot_items S f (r ∷ rs)))) _ (λ room. then_ok IsGoodDone (within_fires S f.namespace) _ (λ within. tt)))
+
+  set_good : (r : Rule) (active : Bool) (change : Option Change) → status_change r active ≡ change → ((c : Change) → status_change r active ≡ Some c → N (changed c S.rows)) → IsGoodDone (set_done S r change)
+  set_good r active None is good = tt
+  set_good r active (Some c) is good = good c is
+
   change_good : (h : Holder) (act : Act) (c : Call) → G c → IfOk (change_done S h act c) IsGoodDone
   change_good h (Reads reading) c g = tt
   change_good h Puts c g = draft_good c c.draft g refl
@@ -68,6 +86,11 @@ module _ (S : Sight) (p : Parts) (H : Holder → Type 0) (G : Call → Type 0) (
       then_ok IsGoodDone (row_for S kind name) _ (λ row. removed (kind_of row) (name_of row))))
   change_good h Invokes c g = then_ok IsGoodDone (name_in c) _ (λ name.
       then_ok IsGoodDone (invocation_plan S h.subject (charged_namespace h name) c.blocking name c.params) _ (λ plan. tt))
+  change_good h Fires c g = then_ok IsGoodDone (name_in c) _ (λ name. then_ok IsGoodDone (trigger_for S name) _ (λ t. then_ok IsGoodDone (number_for S name.namespace) _ (λ number.
+      rules_good h.subject name number t c.params (fired S.rows name))))
+  change_good h Sets c g = then_ok IsGoodDone (name_in c) _ (λ name. then_ok IsGoodDone (or_else c.active no_route) _ (λ active.
+      then_from (λ (r : Rule). rule_at (standing S.rows) name ≡ Some r) IsGoodDone (rule_for S name) _ (there_ok (rule_at (standing S.rows) name) not_found) (λ r there.
+      set_good r active (status_change r active) refl (λ change is. set name r active change there is))))
 
   shown_good : (r : Result V Reason) → IfOk (shown_done r) IsGoodDone
   shown_good (Ok value) = tt
@@ -81,6 +104,8 @@ module _ (S : Sight) (p : Parts) (H : Holder → Type 0) (G : Call → Type 0) (
   act_good h Puts home = then_from G IsGoodDone (granted_call h S.rows Puts p) _ (granted_good h Puts home) (change_good h Puts)
   act_good h (Removes kind) home = then_from G IsGoodDone (granted_call h S.rows (Removes kind) p) _ (granted_good h (Removes kind) home) (change_good h (Removes kind))
   act_good h Invokes home = then_from G IsGoodDone (granted_call h S.rows Invokes p) _ (granted_good h Invokes home) (change_good h Invokes)
+  act_good h Fires home = then_from G IsGoodDone (granted_call h S.rows Fires p) _ (granted_good h Fires home) (change_good h Fires)
+  act_good h Sets home = then_from G IsGoodDone (granted_call h S.rows Sets p) _ (granted_good h Sets home) (change_good h Sets)
 
   keyed_good : IfOk (keyed_done S p) IsGoodDone
   keyed_good = then_ok IsGoodDone (act_for p) _ (λ act. then_ok IsGoodDone (room_for S p.size) _ (λ room.
@@ -102,6 +127,8 @@ module _ (S : Sight) (p : Parts) (H : Holder → Type 0) (G : Call → Type 0) (
   by_done (Ok (Shown value)) good = stays
   by_done (Ok (Changed c value)) good = good
   by_done (Ok (Invoked plan shows)) good = stays
+  by_done (Ok Quiet) good = stays
+  by_done (Ok (Fired items id)) good = stays
   by_done (Err reason) good = stays
 
   -- what is true of them each is true of the rows behind a request

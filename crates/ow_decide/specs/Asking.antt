@@ -7,11 +7,20 @@ use Rattle.ow_entity.specs.declared.kinds.EntityKind.{EntityKind}
 use Rattle.ow_entity.specs.declared.refusal.EntityRefusal.{EntityRefusal}
 use Rattle.ow_entity.specs.declared.rows.Draft.{Draft}
 use Rattle.ow_entity.specs.declared.rows.Row.{Row}
+use Rattle.ow_entity.specs.declared.rows.Row.TheVariants as rows
+use Rattle.ow_entity.specs.declared.rules.Rule.{Rule}
+use Rattle.ow_entity.specs.declared.triggers.Trigger.{Trigger}
+use Rattle.ow_records.specs.declared.fires.Fire.{Fire}
+use Rattle.ow_records.specs.declared.ids.Id.{Id}
+use Rattle.ow_rules.specs.Fired.{fired}
+use Rattle.ow_rules.specs.Status.{status_change}
 use Rattle.ow_tables.specs.Contents.{Change}
+use Rattle.ow_tables.specs.Joined.{rule_at}
 use Rattle.ow_tables.specs.Refusal.{table_refusal, old_row, put_refusal, remove_refusal}
-use Rattle.ow_tables.specs.Rows.{found, with_row}
+use Rattle.ow_tables.specs.Rows.{found, standing, with_row}
 use Rattle.ow_kept.specs.Commits.{row_changes}
 use Rattle.ow_floor.specs.Calls.{accept_items}
+use Rattle.ow_floor.specs.Trace.{Trace}
 use Rattle.ow_floor.specs.declared.activations.Plan.{Plan}
 use Rattle.ow_tables.specs.declared.refusal.TableRefusal.{TableRefusal}
 use Rattle.ow_http.specs.Parts.{Parts}
@@ -24,7 +33,7 @@ use Rattle.ow_web.specs.Target.{is_web}
 use Rattle.ow_web.specs.declared.target.Extension.{Extension}
 use Rattle.ow_reads.specs.Acts.{act_of, granted_call}
 use Rattle.ow_reads.specs.declared.acts.Act.{Act}
-use Rattle.ow_reads.specs.declared.acts.Act.TheVariants.{Reads, Puts, Removes, Invokes}
+use Rattle.ow_reads.specs.declared.acts.Act.TheVariants.{Reads, Puts, Removes, Invokes, Fires, Sets}
 use Rattle.ow_reads.specs.declared.acts.Reading.{Reading}
 use Rattle.ow_decide.specs.declared.call_steps.Callee.{Callee}
 use Rattle.ow_decide.specs.declared.events.Told.{Told}
@@ -41,12 +50,13 @@ use Rattle.ow_reads.specs.Steps.{or_else}
 use Rattle.ow_reads.specs.Reasons.{no_route, not_found}
 use Rattle.ow_decide.specs.Reasons.{table_reason, tells_full}
 use Rattle.ow_decide.specs.Sight.{Sight, is_full, room_for, store_room, view_of}
-use Rattle.ow_decide.specs.Decision.{Decision, tells}
+use Rattle.ow_decide.specs.Decision.{Decision, adds, items_changes, tells}
+use Rattle.ow_decide.specs.Firing.{fire_plan, number_for, shot_items, trigger_for, within_fires}
 use Rattle.ow_reads.specs.Reading.{good, name_in, read_answer, read_done}
 use Rattle.ow_decide.specs.Calling.{callee, charged_namespace, invocation_plan}
 use Rattle.ow_decide.specs.WebCalling.{web_extension, web_given, web_name, web_plan}
 use Rattle.ow_reads.specs.Shown.{shown_row}
-use Rattle.ow_decide.specs.Waiting.{invoked_reply, shows_of, waits_of}
+use Rattle.ow_decide.specs.Waiting.{accepted_answer, invoked_reply, shows_of, waits_of}
 
 -- ---- what is wanted, or why it isn't there
 
@@ -78,11 +88,14 @@ row_of S draft overwrite = do
 
 -- ---- what comes of it
 
--- a value is shown, a change is made of which this is shown, or an activation is accepted
+-- a value is shown, a change is made of which this is shown, or an activation is accepted; a trigger is fired of which no rule is active, or
+-- one whose fire has these items and this id
 pub data Done : Type 0 where
   Shown : (value : V) → Done
   Changed : (change : Change) (value : V) → Done
   Invoked : (plan : Plan) (shows : Shows) → Done
+  Quiet : Done
+  Fired : (items : Trace) (id : Id) → Done
 
 abbrev pub put_of : Row → Change
 put_of row = record { row = row; removes = false }
@@ -97,6 +110,35 @@ abbrev pub put_done : Sight → Draft → Bool → Result Done Reason
 put_done S draft overwrite = do
   row ← row_of S draft overwrite
   row_done S row
+
+-- the rule of the name
+abbrev pub rule_for : Sight → FullName → Result Rule Reason
+rule_for S name = or_else (rule_at (standing S.rows) name) not_found
+
+-- a rule with another status is stored and shown; one that has the status already is shown as it is, and nothing is stored
+abbrev pub set_done : Sight → Rule → Option Change → Done
+set_done S r None = Shown (shown_row S.rows (rows.Rule r))
+set_done S r (Some change) = Changed change (shown_row (with_row change.row S.rows) change.row)
+
+-- what comes of a status for the rule of a name
+abbrev pub named_set : Sight → FullName → Bool → Result Done Reason
+named_set S name active = do
+  r ← rule_for S name
+  Ok (set_done S r (status_change r active))
+
+-- what comes of a fire of these rules, where the store has room for all that is kept of it, and the limit of fires allows it
+abbrev pub shot_done : Sight → Fire → List Rule → Result Done Reason
+shot_done S f rs = do
+  room ← store_room S (items_changes (shot_items S f rs))
+  within ← within_fires S f.namespace
+  Ok (Fired (shot_items S f rs) f.id)
+
+-- where no rule is active nothing happens, and nothing else is tested
+abbrev pub rules_done : Sight → List ℕ → FullName → ℕ → Trigger → Pairs → List Rule → Result Done Reason
+rules_done S subject name number t given [] = Ok Quiet
+rules_done S subject name number t given (r ∷ rs) = do
+  f ← fire_plan S subject name number t given
+  shot_done S f (r ∷ rs)
 
 -- what comes of an act that isn't a read, of what a request wants
 abbrev pub change_done : Sight → Holder → Act → Call → Result Done Reason
@@ -113,6 +155,15 @@ change_done S h Invokes c = do
   name ← name_in c
   plan ← invocation_plan S h.subject (charged_namespace h name) c.blocking name c.params
   Ok (Invoked plan (shows_of c.result_only))
+change_done S h Fires c = do
+  name ← name_in c
+  t ← trigger_for S name
+  number ← number_for S name.namespace
+  rules_done S h.subject name number t c.params (fired S.rows name)
+change_done S h Sets c = do
+  name ← name_in c
+  active ← or_else c.active no_route
+  named_set S name active
 
 abbrev pub shown_done : Result V Reason → Result Done Reason
 shown_done (Ok value) = Ok (Shown value)
@@ -129,6 +180,8 @@ act_done S h (Reads reading) p = shown_done (read_done (view_of S h) reading p)
 act_done S h Puts p = called_done S h Puts p
 act_done S h (Removes kind) p = called_done S h (Removes kind) p
 act_done S h Invokes p = called_done S h Invokes p
+act_done S h Fires p = called_done S h Fires p
+act_done S h Sets p = called_done S h Sets p
 
 -- what comes of a request with a key, whose refusals stand in the order of their places: the route, the book, the key, the grant, query
 -- and path and body, and what is named
@@ -184,6 +237,10 @@ at_once answer = told.Asked (replies.Now answer)
 abbrev pub refusal_told : Reason → Told
 refusal_told reason = if tells_full reason then told.Full (refusal_of reason) else at_once (refusal_of reason)
 
+-- an answer without a body
+abbrev pub no_content : Answer
+no_content = record { status = 204; headers = []; body = [] }
+
 -- what is done at a request, at a moment
 abbrev pub ask_decision : ℕ → Result Done Reason → Decision
 ask_decision at (Ok (Shown value)) = tells (at_once (good value))
@@ -194,6 +251,8 @@ ask_decision at (Ok (Invoked plan shows)) = record {
   changes = [];
   waits = waits_of plan.id shows plan.until;
 }
+ask_decision at (Ok Quiet) = tells (at_once no_content)
+ask_decision at (Ok (Fired items id)) = adds (at_once (accepted_answer id)) items
 ask_decision at (Err reason) = tells (refusal_told reason)
 
 -- what a request is answered by what it is told: an answer that the book is full looks as any other

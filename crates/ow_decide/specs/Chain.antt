@@ -1,20 +1,30 @@
 -- A decision is a chain of items: each may be decided on what is seen, after those before it.
-use Rattle.std.specs.Prelude.{◌≡◌, ◌⊎◌, ◌++◌, ℕ, true, List, [], ◌∷◌, IfSome, Option, Some, None, Ok}
+use Rattle.std.specs.Prelude.{◌≡◌, ◌≤◌, ◌⊎◌, ◌++◌, ℕ, true, List, [], ◌∷◌, IfSome, Option, Some, None, Ok}
 use Rattle.ow_names.specs.declared.full.FullName.{FullName}
+use Rattle.ow_entity.specs.declared.kinds.EntityKind.TheVariants as kinds
 use Rattle.ow_entity.specs.declared.rows.Row.{Row}
+use Rattle.ow_entity.specs.declared.rows.Row.TheVariants as rows
+use Rattle.ow_entity.specs.declared.triggers.Trigger.{Trigger}
+use Rattle.ow_value.specs.Find.{merge}
+use Rattle.ow_http.specs.CallOf.{call_of}
+use Rattle.ow_http.specs.Parts.{Parts}
+use Rattle.ow_http.specs.declared.call.Call.{Call}
 use Rattle.ow_packages.specs.Effective.{effective}
 use Rattle.ow_packages.specs.declared.effective_action.Effective.{Effective}
-use Rattle.ow_tables.specs.Rows.{standing}
+use Rattle.ow_tables.specs.Rows.{found, standing}
+use Rattle.ow_records.specs.Fire.{trigger_record}
+use Rattle.ow_records.specs.declared.fires.Fire.{Fire}
+use Rattle.ow_records.specs.declared.record.Record.{Record}
 use Rattle.ow_records.specs.declared.activations.Activation.{Activation}
 use Rattle.ow_records.specs.declared.outcomes.Ending.{Ending}
 use Rattle.ow_records.specs.declared.outcomes.Ending.TheVariants.{Abandoned, Overran, Replied}
 use Rattle.ow_floor.specs.Calls.{IsNext, is_late}
 use Rattle.ow_floor.specs.Growth.{IsRight}
 use Rattle.ow_floor.specs.Laws.{IsSound}
-use Rattle.ow_floor.specs.Trace.{Accepted, End, Ended, Item, Ordered, Resumed, Trace, live, moment_of, shown}
+use Rattle.ow_floor.specs.Trace.{Accepted, Drawn, End, Ended, Fired, Item, Ordered, Resumed, Trace, live, moment_of, shown}
 use Rattle.ow_floor.specs.declared.runs.Run.{Run}
 use Rattle.ow_tenant.specs.Tenants.{limits_of}
-use Rattle.ow_counts.specs.Counts.{admitted}
+use Rattle.ow_counts.specs.Counts.{admitted, fire_admitted}
 use Rattle.ow_decide.specs.Sight.{Sight}
 
 -- ---- what is accepted
@@ -56,6 +66,32 @@ pub record IsEnd (S : Sight) (e : End) : Type 0 where
   pub by : IsEndBy S.moment e.ending e.run e.task
   pub live : IfSome e.run (λ r. IsOneOf r (live S.trace))
 
+-- ---- fires
+
+-- a trigger of this name stands, and the fire has its name, its namespace and its version, and its parameters with those of the body of some call
+pub record IsShot (S : Sight) (f : Fire) : Type 0 where
+  pub name : FullName
+  pub trigger : Trigger
+  pub row : found kinds.Trigger name S.rows ≡ Some (rows.Trigger trigger)
+  pub home : List ℕ
+  pub parts : Parts
+  pub call : Call
+  pub called : call_of home parts ≡ Ok call
+  pub called_so : f.name ≡ name.name
+  pub home_is : f.namespace ≡ name.namespace
+  pub at : f.at ≡ S.moment
+  pub version : f.version ≡ trigger.version
+  pub params : f.params ≡ merge trigger.params call.params
+
+-- it is the record of the fire of a trigger, under an id that was drawn, and the limit of fires allows it
+pub record IsFired (S : Sight) (r : Record) (T : Trace) : Type 0 where
+  pub admitted : fire_admitted T r.namespace (limits_of r.namespace S.tenants) S.moment ≡ Ok tt
+  pub counted : 1 ≤ r.id.count
+  pub fire : Fire
+  pub lines : List (List ℕ)
+  pub made : r ≡ trigger_record fire lines
+  pub shot : IsShot S fire
+
 -- ---- each item
 
 -- why an item may be decided after these: an opening, which takes over records of an earlier run, stands apart
@@ -64,6 +100,8 @@ IsDecided S (Accepted a) T = IsAccepted S a T
 IsDecided S (Ended e) T = IsEnd S e
 IsDecided S (Ordered r key) T = r.begun ≡ None
 IsDecided S (Resumed counts rs) T = ⊥
+IsDecided S (Drawn id at) T = IsNext id T
+IsDecided S (Fired r) T = IsFired S r T
 IsDecided S item T = Unit {0}
 
 -- it is of the moment, it may be decided, and a floor may take it

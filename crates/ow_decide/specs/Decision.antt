@@ -4,8 +4,9 @@ use Rattle.std.specs.List.{flat_map}
 use Rattle.ow_entity.specs.declared.rows.Row.{Row}
 use Rattle.ow_records.specs.Unrecorded.{unrecorded_of}
 use Rattle.ow_traits.specs.declared.change_list.Change.{Change as StoreChange}
-use Rattle.ow_floor.specs.Trace.{Accepted, Ended, Item, Trace, record_of}
-use Rattle.ow_kept.specs.Commits.{accept_changes, end_changes, row_changes}
+use Rattle.ow_floor.specs.Trace.{Accepted, Drawn, Ended, Fired, Item, Trace, record_of}
+use Rattle.ow_items.specs.declared.item.Item.TheVariants as items
+use Rattle.ow_kept.specs.Commits.{accept_changes, end_changes, put_of, row_changes}
 use Rattle.ow_tables.specs.Contents.{Change}
 use Rattle.ow_tables.specs.Rows.{changed}
 use Rattle.ow_decide.specs.declared.events.Told.{Told}
@@ -38,6 +39,8 @@ all_changed (c ∷ cs) rs = all_changed cs (changed c rs)
 abbrev pub item_changes : Item → List StoreChange
 item_changes (Accepted a) = accept_changes (unrecorded_of a)
 item_changes (Ended e) = end_changes (record_of e)
+item_changes (Drawn id at) = put_of (items.Count id.namespace id.count) ∷ []
+item_changes (Fired r) = put_of (items.Done r) ∷ []
 item_changes item = []
 
 -- what items change of it, the earliest first

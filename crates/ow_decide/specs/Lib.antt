@@ -4,6 +4,7 @@ pub mod Calling
 pub mod WebCalling
 pub mod Waiting
 pub mod Decision
+pub mod Firing
 pub mod Chain
 pub mod Noted
 pub mod Asking

@@ -1,7 +1,7 @@
--- What is noted for the limits of what is decided: an invocation, or the ends of such.
+-- What is noted for the limits of what is decided, where nothing is fired: an invocation, or the ends of such.
 use Rattle.std.specs.Prelude.{◌≡◌, ℕ, true, List, [], ◌∷◌, is_none, if◌then◌else◌, Option, Some, None}
 use Rattle.ow_records.specs.declared.record.Record.{Record}
-use Rattle.ow_floor.specs.Trace.{Accepted, Item, Trace}
+use Rattle.ow_floor.specs.Trace.{Accepted, Fired, Item, Trace}
 use Rattle.ow_tenant.specs.Notes.{Notes, ended, invoked}
 use Rattle.ow_counts.specs.View.{MayEnd, noted_if}
 
@@ -9,6 +9,16 @@ use Rattle.ow_counts.specs.View.{MayEnd, noted_if}
 abbrev pub invoked_by : Item → Option (List ℕ)
 invoked_by (Accepted a) = if is_none a.cause then Some a.namespace else None
 invoked_by item = None
+
+-- the item isn't the record of a fire
+abbrev pub IsNoFire : Item → Type 0
+IsNoFire (Fired r) = ⊥
+IsNoFire item = Unit {0}
+
+-- nor is the newest of these items: so nothing was fired
+abbrev pub IsUnfired : Trace → Type 0
+IsUnfired [] = Unit {0}
+IsUnfired (item ∷ items) = IsNoFire item
 
 -- of the newest of these items
 abbrev pub invoked_in : Trace → Option (List ℕ)

@@ -4,11 +4,14 @@ ghost use Rattle.ow_kept.specs.Commits.{row_changes};
 ghost use Rattle.ow_kept.specs.Keeping.{KeepingView, StandsForKept};
 ghost use Rattle.ow_http.specs.Request.{parts_of};
 ghost use Rattle.ow_web.specs.Target.{is_web};
-ghost use Rattle.ow_tables.specs.Rows.{changed as rows_changed, with_row};
+ghost use Rattle.ow_entity.specs.declared.rows.Row.TheVariants as rows;
+ghost use Rattle.ow_entity.specs.declared.rules.Rule.{Rule};
+ghost use Rattle.ow_tables.specs.Joined.{rule_at};
+ghost use Rattle.ow_tables.specs.Rows.{changed as rows_changed, standing, with_row};
 ghost use Rattle.ow_decide.specs.Asking as asking;
 ghost use Rattle.ow_decide.specs.declared.done.Served.TheVariants as served;
 ghost use Rattle.ow_reads.specs.Shown.{shown_row};
-ghost use Rattle.ow_decide.specs.Asking.{ask_decision, called_done, change_done, keyed_done, put_done, request_done, row_done};
+ghost use Rattle.ow_decide.specs.Asking.{ask_decision, called_done, change_done, keyed_done, named_set, put_done, request_done, row_done};
 ghost use Rattle.ow_decide.specs.Sight.{Sight};
 ghost use Rattle.ow_tenant.specs.declared.entries.Holder.{Holder};
 ghost use Rattle.ow_decide.specs.Making.{CommitsDone, CommitsServed, HasPlace, IsCommitOf, IsNextOf, IsSeen, Makes, change_of, done_of, served_change, served_of};
@@ -16,6 +19,7 @@ ghost use Rattle.ow_decide.specs.Making.{CommitsDone, CommitsServed, HasPlace, I
 use crate::call_steps::{charged_namespace, invocation_plan};
 use crate::commits::{changing, is_store_full};
 use crate::done::{Done, Served, accepted};
+use crate::fire_steps::{fired, shot};
 use crate::read_steps::read;
 use crate::reasons::table_reason;
 use crate::room::room_for;
@@ -27,7 +31,9 @@ use ow_entity::{Draft, EntityKind};
 use ow_floor::Floor;
 use ow_http::{Call, HttpRefusal, Reason, Request, Route, ServiceRefusal};
 use ow_kept::{Commit, Keeping};
+use ow_names::FullName;
 use ow_reads::{Act, act_of, asker, granted_call, shown_once_put, shown_row};
+use ow_rules::set_status;
 use ow_tables::{Ready, TableRefusal, Tables};
 use ow_tenant::{Holder, Tenants};
 use ow_value::NoMemory;
@@ -44,6 +50,7 @@ pub(crate) fn ask(
     now: Now,
     request: &Request,
 ) -> Result<Step, NoMemory>
+    requires held { floor.old.before ≡ Some floor.old.now }
     ensures ok { IfOk result (Makes tenants.now tables.old.rows counts.now keeping.now now floor.old.now floor.new.now (λ S. ask_decision S.moment (request_done S (parts_of request.now)))) }
     ensures before { floor.new.before ≡ floor.old.before }
     ensures rows { tables.new.rows ≡ tables.old.rows }
@@ -52,6 +59,9 @@ pub(crate) fn ask(
     match request_served(alloc, tenants, counts, keeping, floor, tables, now, request)? {
         Served::Done(done) => done.step(alloc),
         Served::Accepts { planned, shows } => accepted(alloc, floor, now.at, planned, shows),
+        Served::Fires { fire, rules } => shot(
+            alloc, tenants, counts, keeping, floor, tables, now, fire, rules,
+        ),
     }
 }
 
@@ -66,7 +76,7 @@ fn request_served(
     now: Now,
     request: &Request,
 ) -> Result<Served, NoMemory>
-    ensures done { IfOk result (λ d. (S : Sight) → IsSeen S tenants.now tables.old.rows counts.now keeping.now floor.now.now now → served_of d ≡ request_done S (parts_of request.now)) }
+    ensures done { IfOk result (λ d. (S : Sight) → IsSeen S tenants.now tables.old.rows counts.now keeping.now floor.now.now now → served_of S d ≡ request_done S (parts_of request.now)) }
     ensures commit { IfOk result (λ d. (S : Sight) → IsSeen S tenants.now tables.old.rows counts.now keeping.now floor.now.now now → CommitsServed d keeping.now S) }
     ensures rows { tables.new.rows ≡ tables.old.rows }
     ensures place { IfOk result (λ d. HasPlace (served_change d) tables.new.room) }
@@ -95,7 +105,7 @@ fn keyed_served(
     now: Now,
     request: &Request,
 ) -> Result<Served, NoMemory>
-    ensures done { IfOk result (λ d. (S : Sight) → IsSeen S tenants.now tables.old.rows counts.now keeping.now floor.now.now now → served_of d ≡ keyed_done S (parts_of request.now)) }
+    ensures done { IfOk result (λ d. (S : Sight) → IsSeen S tenants.now tables.old.rows counts.now keeping.now floor.now.now now → served_of S d ≡ keyed_done S (parts_of request.now)) }
     ensures commit { IfOk result (λ d. (S : Sight) → IsSeen S tenants.now tables.old.rows counts.now keeping.now floor.now.now now → CommitsServed d keeping.now S) }
     ensures rows { tables.new.rows ≡ tables.old.rows }
     ensures place { IfOk result (λ d. HasPlace (served_change d) tables.new.room) }
@@ -134,7 +144,7 @@ fn called_served(
     act: Act,
     request: &Request,
 ) -> Result<Served, NoMemory>
-    ensures done { IfOk result (λ d. (S : Sight) → IsSeen S tenants.now tables.old.rows counts.now keeping.now floor.now.now now → served_of d ≡ called_done S holder.now act (parts_of request.now)) }
+    ensures done { IfOk result (λ d. (S : Sight) → IsSeen S tenants.now tables.old.rows counts.now keeping.now floor.now.now now → served_of S d ≡ called_done S holder.now act (parts_of request.now)) }
     ensures commit { IfOk result (λ d. (S : Sight) → IsSeen S tenants.now tables.old.rows counts.now keeping.now floor.now.now now → CommitsServed d keeping.now S) }
     ensures rows { tables.new.rows ≡ tables.old.rows }
     ensures place { IfOk result (λ d. HasPlace (served_change d) tables.new.room) }
@@ -160,7 +170,7 @@ fn call_served(
     act: Act,
     call: Call,
 ) -> Result<Served, NoMemory>
-    ensures done { IfOk result (λ d. (S : Sight) → IsSeen S tenants.now tables.old.rows counts.now keeping.now floor.now.now now → served_of d ≡ change_done S holder.now act call) }
+    ensures done { IfOk result (λ d. (S : Sight) → IsSeen S tenants.now tables.old.rows counts.now keeping.now floor.now.now now → served_of S d ≡ change_done S holder.now act call) }
     ensures commit { IfOk result (λ d. (S : Sight) → IsSeen S tenants.now tables.old.rows counts.now keeping.now floor.now.now now → CommitsServed d keeping.now S) }
     ensures rows { tables.new.rows ≡ tables.old.rows }
     ensures place { IfOk result (λ d. HasPlace (served_change d) tables.new.room) }
@@ -170,6 +180,11 @@ fn call_served(
         Act::Invokes => invoked(
             alloc, tenants, holder, counts, keeping, floor, tables, now, &call,
         ),
+        Act::Fires => {
+            let served = fired(alloc, tenants, holder, floor, tables, now, &call);
+            drop(call);
+            served
+        }
         act => done_served(changed(alloc, keeping, tables, act, call)),
     }
 }
@@ -184,7 +199,7 @@ fn done_served(done: Result<Done, NoMemory>) -> Result<Served, NoMemory>
     }
 }
 
-// What comes of a put or a removal. A read is no call.
+// What comes of a put, a removal or a status. A read is no call.
 fn changed(
     alloc: Global,
     keeping: &Keeping,
@@ -192,7 +207,8 @@ fn changed(
     act: Act,
     call: Call,
 ) -> Result<Done, NoMemory>
-    requires { act ≢ Act.Invokes }
+    requires invokes { act ≢ Act.Invokes }
+    requires fires { act ≢ Act.Fires }
     ensures done { IfOk result (λ d. (S : Sight) (h : Holder) → S.rows ≡ tables.old.rows → StandsForKept keeping.now S.rows S.trace → done_of d ≡ change_done S h act call) }
     ensures commit { IfOk result (λ d. (S : Sight) → S.rows ≡ tables.old.rows → StandsForKept keeping.now S.rows S.trace → CommitsDone d keeping.now S) }
     ensures rows { tables.new.rows ≡ tables.old.rows }
@@ -205,11 +221,16 @@ fn changed(
             drop(call);
             done
         }
+        Act::Sets => {
+            let done = set(alloc, keeping, tables, &call);
+            drop(call);
+            done
+        }
         Act::Reads(_) => {
             drop(call);
             Ok(Done::Refused(Reason::Http(HttpRefusal::NoRoute)))
         }
-        Act::Invokes => unreachable!(),
+        Act::Invokes | Act::Fires => unreachable!(),
     }
 }
 
@@ -225,7 +246,7 @@ fn invoked(
     now: Now,
     call: &Call,
 ) -> Result<Served, NoMemory>
-    ensures done { IfOk result (λ d. (S : Sight) → IsSeen S tenants.now tables.now.rows counts.now keeping.now floor.now.now now → served_of d ≡ change_done S holder.now Act.Invokes call.now) }
+    ensures done { IfOk result (λ d. (S : Sight) → IsSeen S tenants.now tables.now.rows counts.now keeping.now floor.now.now now → served_of S d ≡ change_done S holder.now Act.Invokes call.now) }
     ensures commit { IfOk result (λ d. (S : Sight) → IsSeen S tenants.now tables.now.rows counts.now keeping.now floor.now.now now → CommitsServed d keeping.now S) }
     ensures change { IfOk result (λ d. served_change d ≡ None) }
     ensures next { IfOk result (IsNextOf floor.now.now.drawn) }
@@ -395,5 +416,70 @@ fn removal_shown(
             drop((ready, commit));
             Err(e)
         }
+    }
+}
+
+// What comes of a status: a rule that has it already stays as it is.
+fn set(alloc: Global, keeping: &Keeping, tables: &mut Tables, call: &Call) -> Result<Done, NoMemory>
+    ensures done { IfOk result (λ d. (S : Sight) (h : Holder) → S.rows ≡ tables.old.rows → done_of d ≡ change_done S h Act.Sets call.now) }
+    ensures commit { IfOk result (λ d. (S : Sight) → S.rows ≡ tables.old.rows → StandsForKept keeping.now S.rows S.trace → CommitsDone d keeping.now S) }
+    ensures rows { tables.new.rows ≡ tables.old.rows }
+    ensures place { IfOk result (λ d. HasPlace (change_of d) tables.new.room) }
+{
+    let Some(name) = &call.name else {
+        return Ok(Done::Refused(Reason::Http(HttpRefusal::NoRoute)));
+    };
+    let Some(active) = call.active else {
+        return Ok(Done::Refused(Reason::Http(HttpRefusal::NoRoute)));
+    };
+    set_named(alloc, keeping, tables, name, active)
+}
+
+fn set_named(
+    alloc: Global,
+    keeping: &Keeping,
+    tables: &mut Tables,
+    name: &FullName,
+    active: bool,
+) -> Result<Done, NoMemory>
+    ensures done { IfOk result (λ d. (S : Sight) → S.rows ≡ tables.old.rows → done_of d ≡ named_set S name.now active) }
+    ensures commit { IfOk result (λ d. (S : Sight) → S.rows ≡ tables.old.rows → StandsForKept keeping.now S.rows S.trace → CommitsDone d keeping.now S) }
+    ensures rows { tables.new.rows ≡ tables.old.rows }
+    ensures place { IfOk result (λ d. HasPlace (change_of d) tables.new.room) }
+{
+    match set_status(alloc, tables, name, active) {
+        Ok(Some(ready)) => status_ready(alloc, keeping, tables, ready),
+        Ok(None) => status_shown(alloc, tables, name),
+        Err(TableRefusal::NoMemory) => Err(NoMemory),
+        Err(refusal) => Ok(Done::Refused(table_reason(refusal))),
+    }
+}
+
+// A rule with its status that was made ready: whether the store has room for it isn't tested.
+fn status_ready(
+    alloc: Global,
+    keeping: &Keeping,
+    tables: &Tables,
+    ready: Ready,
+) -> Result<Done, NoMemory>
+    ensures done { IfOk result (λ d. done_of d ≡ Ok (asking.Changed ready (shown_row (with_row ready.row tables.now.rows) ready.row))) }
+    ensures commit { IfOk result (λ d. (S : Sight) → S.rows ≡ tables.now.rows → StandsForKept keeping.now S.rows S.trace → CommitsDone d keeping.now S) }
+    ensures change { IfOk result (λ d. change_of d ≡ Some ready) }
+{
+    let Ok(commit) = changing(alloc, keeping, tables, &ready) else {
+        drop(ready);
+        return Err(NoMemory);
+    };
+    put_shown(alloc, tables, ready, commit)
+}
+
+// The rule of the name.
+fn status_shown(alloc: Global, tables: &Tables, name: &FullName) -> Result<Done, NoMemory>
+    ensures done { IfOk result (λ d. (r : Rule) → rule_at (standing tables.now.rows) name.now ≡ Some r → done_of d ≡ Ok (asking.Shown (shown_row tables.now.rows (rows.Rule r)))) }
+    ensures change { IfOk result (λ d. change_of d ≡ None) }
+{
+    match tables.get(EntityKind::Rule, name) {
+        Ok(row) => Ok(Done::Shown(shown_row(alloc, tables, row)?)),
+        Err(refusal) => Ok(Done::Refused(table_reason(refusal))),
     }
 }

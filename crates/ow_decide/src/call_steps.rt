@@ -96,6 +96,7 @@ fn called(alloc: Global, floor: &mut Floor, at: u64, planned: Planned) -> Result
         waits: Waits::Keep,
         invoked,
         commit: Some(commit),
+        fire: None,
     })
 }
 
@@ -307,8 +308,8 @@ fn until_of(at: u64, blocking: bool, action: &Action) -> Result<Option<u64>, NoM
     }
 }
 
-// The plan of an invocation under this id, with these merged parameters.
-fn plan_for(
+/// The plan of an invocation under this id, with these merged parameters.
+pub(crate) fn plan_for(
     alloc: Global,
     subject: &Str,
     until: Option<u64>,
@@ -363,8 +364,8 @@ pub(crate) fn callee_in(
     }
 }
 
-// What is given over what is called with, where none of it is fixed and it has not too many bytes.
-fn given_over(
+/// What is given over what is called with, where none of it is fixed and it has not too many bytes.
+pub(crate) fn given_over(
     alloc: Global,
     called: &Effective,
     given: &Params,
@@ -382,9 +383,13 @@ fn given_over(
     }
 }
 
-// What is given over these, unless it has too many bytes.
+/// What is given over these, unless it has too many bytes.
 #[tactic(auto, unfolding(crate::specs::Calling::is_oversized))]
-fn fitting(alloc: Global, own: &Params, given: &Params) -> Result<Option<Params>, NoMemory>
+pub(crate) fn fitting(
+    alloc: Global,
+    own: &Params,
+    given: &Params,
+) -> Result<Option<Params>, NoMemory>
     ensures { IfOk result (λ p. p ≡ fitting own.now given.now) }
 {
     let merged = Val::Object(merge(alloc, own, given)?);

@@ -4,7 +4,7 @@ ghost use Rattle.ow_value.specs.View.{view};
 ghost use Rattle.ow_floor.specs.Calls.{accept_items};
 ghost use Rattle.ow_floor.specs.Laws.{Grows};
 ghost use Rattle.ow_floor.specs.View.{last_of};
-ghost use Rattle.ow_decide.specs.Asking.{Invoked, ask_decision, refusal_told};
+ghost use Rattle.ow_decide.specs.Asking.{Invoked, ask_decision, no_content, refusal_told};
 ghost use Rattle.ow_reads.specs.Reading.{good};
 ghost use Rattle.ow_kept.specs.Keeping.{KeepingView};
 ghost use Rattle.ow_decide.specs.Sight.{Sight};
@@ -21,6 +21,8 @@ use ow_floor::{Floor, Plan};
 use ow_http::{Answer, Reason, refusal};
 use ow_kept::Commit;
 use ow_names::EntityName;
+use ow_records::Fire;
+use ow_rules::Rules;
 use ow_tables::Ready;
 use ow_value::{Bytes, NoMemory, Pairs, PlainData, Val, write_val};
 use std::alloc::Global;
@@ -32,9 +34,11 @@ pub(crate) enum Served {
     Done(Done),
     /// This is to be accepted. Where it has a moment up to which it is waited for, this is shown to one who waits.
     Accepts { planned: Planned, shows: Shows },
+    /// This fire is to be made, and these rules to be followed.
+    Fires { fire: Fire, rules: Rules },
 }
 
-/// A refusal, a value to be shown, or a change that was made ready.
+/// A refusal, a value to be shown, a change that was made ready, or nothing.
 #[derive(Drop)]
 pub(crate) enum Done {
     /// Why nothing comes of it.
@@ -47,6 +51,8 @@ pub(crate) enum Done {
         shown: Val,
         commit: Commit,
     },
+    /// A trigger is fired of which no rule is active: nothing comes of it.
+    Quiet,
 }
 
 impl Done {
@@ -66,6 +72,7 @@ impl Done {
             waits: Waits::Keep,
             invoked: None,
             commit,
+            fire: None,
         })
     }
 
@@ -77,6 +84,7 @@ impl Done {
             Done::Shown(value) | Done::Changed { shown: value, .. } => {
                 Ok(Told::Asked(Reply::Now(good(alloc, value)?)))
             }
+            Done::Quiet => Ok(Told::Asked(Reply::Now(no_content()))),
         }
     }
 
@@ -126,6 +134,7 @@ pub(crate) fn accepted(
         waits,
         invoked,
         commit: Some(commit),
+        fire: None,
     })
 }
 
@@ -137,6 +146,17 @@ pub(crate) fn charged(alloc: Global, plan: &Plan) -> Result<Option<EntityName>, 
         return Ok(None);
     }
     Ok(Some(plan.namespace.copy(alloc)?))
+}
+
+// An answer without a body.
+fn no_content() -> Answer
+    ensures { result ≡ no_content }
+{
+    Answer {
+        status: 204,
+        headers: Pairs::new(),
+        body: Bytes::new(),
+    }
 }
 
 fn good(alloc: Global, value: &Val) -> Result<Answer, NoMemory>

@@ -103,5 +103,6 @@ pub(crate) fn reopen(alloc: Global, floor: &mut Floor, now: Now) -> Result<Step,
         waits: Waits::Clear,
         invoked: None,
         commit: None,
+        fire: None,
     })
 }

@@ -12,7 +12,7 @@ ghost use Rattle.ow_decide.specs.Asking.{IsOfView, ReadsChangeNothing};
 ghost use Rattle.ow_decide.specs.Chain.{AreSteps};
 ghost use Rattle.ow_decide.specs.Decision.{all_changed, commits};
 ghost use Rattle.ow_decide.specs.Decisions.{decide, is_opening, wants_memory};
-ghost use Rattle.ow_decide.specs.Noted.{MayAllEnd, invoked_in, noted_ends, noted_invoked};
+ghost use Rattle.ow_decide.specs.Noted.{IsUnfired, MayAllEnd, invoked_in, noted_ends, noted_invoked};
 ghost use Rattle.ow_decide.specs.Sight.{Sight};
 ghost use Rattle.ow_decide.specs.declared.events.Event.{Event};
 
@@ -36,13 +36,13 @@ pub fn decisions_keep_traces_sound()
     ensures { (S : Sight) (event : Event) → IsSound S.trace → IsSound ((decide S event).items ++ S.trace) }
 {}
 
-/// What a decision adds to the notes for the limits: the invocation, at the moment, and then the ends, by their records. Each
-/// end is of an invocation that has not ended, and nothing is accepted behind the moment.
+/// What a decision adds to the notes for the limits, where nothing is fired: the invocation, at the moment, and then the ends, by their records. Each
+/// end is of an invocation that has not ended, and nothing is accepted or fired after the moment.
 pub fn notes_follow_decisions()
-    ensures noted { (S : Sight) (event : Event) → notes_of ((decide S event).items ++ S.trace) ≡ noted_ends (records (decide S event).items) (noted_invoked (invoked_in (decide S event).items) S.moment (notes_of S.trace)) }
+    ensures noted { (S : Sight) (event : Event) → IsUnfired (decide S event).items → notes_of ((decide S event).items ++ S.trace) ≡ noted_ends (records (decide S event).items) (noted_invoked (invoked_in (decide S event).items) S.moment (notes_of S.trace)) }
     ensures quiet { (S : Sight) (event : Event) → wants_memory event ≡ false → notes_of ((decide S event).items ++ S.trace) ≡ notes_of S.trace }
     ensures records { (items T : Trace) → records (items ++ T) ≡ records T ++ records items }
-    ensures may_end { (S : Sight) (event : Event) → IsSound S.trace → MayAllEnd (records (decide S event).items) (noted_invoked (invoked_in (decide S event).items) S.moment (notes_of S.trace)) }
+    ensures may_end { (S : Sight) (event : Event) → IsUnfired (decide S event).items → IsSound S.trace → MayAllEnd (records (decide S event).items) (noted_invoked (invoked_in (decide S event).items) S.moment (notes_of S.trace)) }
     ensures up_to { (S : Sight) (event : Event) → AreUpTo S.moment S.trace → AreUpTo S.moment ((decide S event).items ++ S.trace) }
 {}
 

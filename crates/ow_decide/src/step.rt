@@ -1,5 +1,5 @@
 // What is done at each event, over the floor and the rows.
-ghost use Rattle.std.specs.Prelude.{◌≡◌, [], None, true, false, IfOk};
+ghost use Rattle.std.specs.Prelude.{◌≡◌, [], None, Some, true, false, IfOk};
 ghost use Rattle.ow_decide.specs.Decisions.{decide, is_opening, wants_memory};
 ghost use Rattle.ow_decide.specs.Making.{HasPlace, MakesFor, telling};
 
@@ -10,8 +10,8 @@ use crate::events::{Event, Told};
 use crate::floor_steps::{answered, drain, next, reopen, sweep};
 use crate::waits::{Wait, Waits};
 use ow_counts::Counts;
-use ow_floor::Floor;
-use ow_kept::{Commit, Keeping};
+use ow_floor::{Floor, Moves};
+use ow_kept::{Commit, Following, Keeping};
 use ow_names::EntityName;
 use ow_tables::{Ready, Tables};
 use ow_tenant::Tenants;
@@ -20,7 +20,7 @@ use std::alloc::Global;
 
 /// What was done: what is told, the change of the rows that was made ready, what becomes of those who wait, which namespace is
 /// charged for what was accepted, where no other activation caused it, and what is to be committed of an acceptance or a change of
-/// the rows. What has ended is to be committed beside it.
+/// the rows. What has ended is to be committed beside it. A fire has none of these, but its own part.
 #[derive(Drop)]
 pub struct Step {
     pub told: Told,
@@ -28,6 +28,14 @@ pub struct Step {
     pub waits: Waits,
     pub invoked: Option<EntityName>,
     pub commit: Option<Commit>,
+    pub fire: Option<FireStep>,
+}
+
+/// What a fire did: all that moved on the floor, and what is to be committed of it.
+#[derive(Drop)]
+pub struct FireStep {
+    pub moves: Moves,
+    pub commit: Following,
 }
 
 /// How many bytes the book counts, and the moment in milliseconds.
@@ -48,6 +56,7 @@ impl Step {
             waits: Waits::Keep,
             invoked: None,
             commit: None,
+            fire: None,
         }
     }
 }
@@ -66,6 +75,7 @@ pub fn step_for(
 ) -> Result<Step, NoMemory>
     requires event { wants_memory event.now ≡ true }
     requires opened { is_opening event.now ≡ false }
+    requires held { floor.old.before ≡ Some floor.old.now }
     ensures ok { IfOk result (MakesFor waits.now tenants.now tables.old.rows counts.now keeping.now now floor.old.now floor.new.now (λ S. decide S event.now)) }
     ensures before { floor.new.before ≡ floor.old.before }
     ensures rows { tables.new.rows ≡ tables.old.rows }

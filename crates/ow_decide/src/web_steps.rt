@@ -40,7 +40,7 @@ pub(crate) fn web_served(
     request: &Request,
 ) -> Result<Served, NoMemory>
     requires web { is_web request.now.route ≡ true }
-    ensures done { IfOk result (λ d. (S : Sight) → IsSeen S tenants.now tables.now.rows counts.now keeping.now floor.now.now now → served_of d ≡ web_done S (parts_of request.now)) }
+    ensures done { IfOk result (λ d. (S : Sight) → IsSeen S tenants.now tables.now.rows counts.now keeping.now floor.now.now now → served_of S d ≡ web_done S (parts_of request.now)) }
     ensures commit { IfOk result (λ d. (S : Sight) → IsSeen S tenants.now tables.now.rows counts.now keeping.now floor.now.now now → CommitsServed d keeping.now S) }
     ensures change { IfOk result (λ d. served_change d ≡ None) }
     ensures next { IfOk result (IsNextOf floor.now.now.drawn) }
@@ -101,7 +101,7 @@ fn web_named(
     name: &FullName,
 ) -> Result<Served, NoMemory>
     requires web { is_web request.now.route ≡ true }
-    ensures done { IfOk result (λ d. (S : Sight) → IsSeen S tenants.now tables.now.rows counts.now keeping.now floor.now.now now → served_of d ≡ web_named S (parts_of request.now) name.now) }
+    ensures done { IfOk result (λ d. (S : Sight) → IsSeen S tenants.now tables.now.rows counts.now keeping.now floor.now.now now → served_of S d ≡ web_named S (parts_of request.now) name.now) }
     ensures commit { IfOk result (λ d. (S : Sight) → IsSeen S tenants.now tables.now.rows counts.now keeping.now floor.now.now now → CommitsServed d keeping.now S) }
     ensures change { IfOk result (λ d. served_change d ≡ None) }
     ensures next { IfOk result (IsNextOf floor.now.now.drawn) }
@@ -127,7 +127,7 @@ fn web_called(
     called: Callee,
 ) -> Result<Served, NoMemory>
     requires web { is_web request.now.route ≡ true }
-    ensures done { IfOk result (λ d. (S : Sight) (rs : List Row) → IsSeen S tenants.now rs counts.now keeping.now floor.now.now now → served_of d ≡ web_called S (parts_of request.now) name.now called) }
+    ensures done { IfOk result (λ d. (S : Sight) (rs : List Row) → IsSeen S tenants.now rs counts.now keeping.now floor.now.now now → served_of S d ≡ web_called S (parts_of request.now) name.now called) }
     ensures commit { IfOk result (λ d. (S : Sight) (rs : List Row) → IsSeen S tenants.now rs counts.now keeping.now floor.now.now now → CommitsServed d keeping.now S) }
     ensures change { IfOk result (λ d. served_change d ≡ None) }
     ensures next { IfOk result (IsNextOf floor.now.now.drawn) }
@@ -189,7 +189,7 @@ fn web_accepted(
     given: Params,
 ) -> Result<Served, NoMemory>
     requires web { is_web request.now.route ≡ true }
-    ensures done { IfOk result (λ d. (S : Sight) (rs : List Row) → IsSeen S tenants.now rs counts.now keeping.now floor.now.now now → served_of d ≡ web_accepted S (parts_of request.now) name.now called given) }
+    ensures done { IfOk result (λ d. (S : Sight) (rs : List Row) → IsSeen S tenants.now rs counts.now keeping.now floor.now.now now → served_of S d ≡ web_accepted S (parts_of request.now) name.now called given) }
     ensures commit { IfOk result (λ d. (S : Sight) (rs : List Row) → IsSeen S tenants.now rs counts.now keeping.now floor.now.now now → CommitsServed d keeping.now S) }
     ensures change { IfOk result (λ d. served_change d ≡ None) }
     ensures next { IfOk result (IsNextOf floor.now.now.drawn) }
@@ -238,7 +238,7 @@ fn web_planned(
     given: Params,
     extension: Extension,
 ) -> Result<Served, NoMemory>
-    ensures done { IfOk result (λ d. (S : Sight) (rs : List Row) → IsSeen S tenants.now rs counts.now keeping.now floor.now.now now → served_of d ≡ web_planned S namespace.now called given extension) }
+    ensures done { IfOk result (λ d. (S : Sight) (rs : List Row) → IsSeen S tenants.now rs counts.now keeping.now floor.now.now now → served_of S d ≡ web_planned S namespace.now called given extension) }
     ensures commit { IfOk result (λ d. (S : Sight) (rs : List Row) → IsSeen S tenants.now rs counts.now keeping.now floor.now.now now → CommitsServed d keeping.now S) }
     ensures change { IfOk result (λ d. served_change d ≡ None) }
     ensures next { IfOk result (IsNextOf floor.now.now.drawn) }

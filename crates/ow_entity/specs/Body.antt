@@ -7,7 +7,7 @@ use Rattle.ow_value.specs.Field.{field}
 use Rattle.ow_value.specs.Decimal.{if_within}
 use Rattle.ow_names.specs.declared.full.FullName.{FullName}
 use Rattle.ow_names.specs.declared.refusal.NameRefusal.{NameRefusal}
-use Rattle.ow_names.specs.Path.{named_in}
+use Rattle.ow_names.specs.Path.{named_in, resolved}
 use Rattle.ow_entity.specs.declared.kinds.EntityKind.{EntityKind}
 use Rattle.ow_entity.specs.declared.kinds.EntityKind.TheVariants as kinds
 use Rattle.ow_entity.specs.declared.field_name.FieldName.{FieldName}
@@ -132,6 +132,17 @@ binding_given home (Some v) = Err (WrongType fields.Binding)
 abbrev pub binding_field : List ℕ → V → Result (Option (Option FullName)) EntityRefusal
 binding_field home body = binding_given home (field (codes "binding") body)
 
+-- ---- what a rule joins
+
+abbrev pub name_given : FieldName → List ℕ → Option V → Result (Option FullName) EntityRefusal
+name_given name home None = Ok None
+name_given name home (Some (text s)) = result_map Some (or_bad_name (resolved home s))
+name_given name home (Some v) = Err (WrongType name)
+
+-- a full name, as a text is one for a reader of the namespace
+abbrev pub name_field : FieldName → List ℕ → V → Result (Option FullName) EntityRefusal
+name_field name home body = name_given name home (field (field_name name) body)
+
 -- ---- the table
 
 -- a field: the kinds that have it, and what is wrong with it in a body, for a path of this namespace
@@ -154,6 +165,10 @@ abbrev pub is_package : EntityKind → Bool
 is_package kinds.Package = true
 is_package kind = false
 
+abbrev pub is_rule : EntityKind → Bool
+is_rule kinds.Rule = true
+is_rule kind = false
+
 -- the fields, in the order in which they are looked at
 abbrev pub field_table : List Field
 field_table =
@@ -163,6 +178,8 @@ field_table =
     ∷ record { of = is_action; fault = λ home body. result_err (exec_field body) }
     ∷ record { of = is_action; fault = λ home body. result_err (limits_field body) }
     ∷ record { of = is_package; fault = λ home body. result_err (binding_field home body) }
+    ∷ record { of = is_rule; fault = λ home body. result_err (name_field fields.Trigger home body) }
+    ∷ record { of = is_rule; fault = λ home body. result_err (name_field fields.Action home body) }
     ∷ []
 
 -- what is wrong with the first wrong field
@@ -195,10 +212,28 @@ package_draft name body = drafts.Package (record {
   binding = result_unwrap_or (binding_field name.namespace body) None;
 })
 
+abbrev pub trigger_draft : FullName → V → Draft
+trigger_draft name body = drafts.Trigger (record {
+  name = name;
+  publish = result_unwrap_or (bool_field fields.Publish body) None;
+  params = result_unwrap_or (pairs_field fields.Parameters body) None;
+  notes = result_unwrap_or (pairs_field fields.Annotations body) None;
+})
+
+abbrev pub rule_draft : FullName → V → Draft
+rule_draft name body = drafts.Rule (record {
+  name = name;
+  publish = result_unwrap_or (bool_field fields.Publish body) None;
+  notes = result_unwrap_or (pairs_field fields.Annotations body) None;
+  trigger = result_unwrap_or (name_field fields.Trigger name.namespace body) None;
+  action = result_unwrap_or (name_field fields.Action name.namespace body) None;
+})
+
 abbrev pub draft_of : EntityKind → FullName → V → Result Draft EntityRefusal
 draft_of kinds.Action name body = draft_unless (first_refusal kinds.Action name.namespace body) (action_draft name body)
 draft_of kinds.Package name body = draft_unless (first_refusal kinds.Package name.namespace body) (package_draft name body)
-draft_of kind name body = Err UnknownKind
+draft_of kinds.Rule name body = draft_unless (first_refusal kinds.Rule name.namespace body) (rule_draft name body)
+draft_of kinds.Trigger name body = draft_unless (first_refusal kinds.Trigger name.namespace body) (trigger_draft name body)
 
 -- the entity that a body gives, or what is wrong with it
 unfoldable pub entity_of : EntityKind → FullName → V → Result Draft EntityRefusal

@@ -1,7 +1,7 @@
 -- How a body writes the names of its fields.
 use Rattle.std.specs.Prelude.{ℕ, List, codes}
 use Rattle.ow_entity.specs.declared.field_name.FieldName.{FieldName}
-use Rattle.ow_entity.specs.declared.field_name.FieldName.TheVariants.{Body, Annotations, Parameters, Publish, Exec, Kind, Code, Limits, Timeout, Memory, Logs, Binding, BoundNamespace, BoundName}
+use Rattle.ow_entity.specs.declared.field_name.FieldName.TheVariants.{Body, Annotations, Parameters, Publish, Exec, Kind, Code, Limits, Timeout, Memory, Logs, Binding, BoundNamespace, BoundName, Trigger, Action, Status}
 
 abbrev pub field_name : FieldName → List ℕ
 field_name Body = codes "body"
@@ -18,3 +18,6 @@ field_name Logs = codes "logs"
 field_name Binding = codes "binding"
 field_name BoundNamespace = codes "namespace"
 field_name BoundName = codes "name"
+field_name Trigger = codes "trigger"
+field_name Action = codes "action"
+field_name Status = codes "status"

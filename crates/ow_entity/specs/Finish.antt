@@ -1,5 +1,5 @@
 -- The row that a draft makes, over an old row or over none.
-use Rattle.std.specs.Prelude.{◌==◌, ◌+◌, ℕ, [], false, if◌then◌else◌, unwrap_or, Option, Some, None, Result, Ok, Err}
+use Rattle.std.specs.Prelude.{◌==◌, ◌+◌, ℕ, [], true, false, if◌then◌else◌, unwrap_or, Option, Some, None, Result, Ok, Err}
 use Rattle.ow_entity.specs.Chain.{and_then, result_map}
 use Rattle.ow_value.specs.Value.{V}
 use Rattle.ow_names.specs.declared.full.FullName.{FullName}
@@ -17,6 +17,10 @@ use Rattle.ow_entity.specs.declared.actions.Action.{Action}
 use Rattle.ow_entity.specs.declared.actions.ActionDraft.{ActionDraft}
 use Rattle.ow_entity.specs.declared.packages.Package.{Package}
 use Rattle.ow_entity.specs.declared.packages.PackageDraft.{PackageDraft}
+use Rattle.ow_entity.specs.declared.rules.Rule.{Rule}
+use Rattle.ow_entity.specs.declared.rules.RuleDraft.{RuleDraft}
+use Rattle.ow_entity.specs.declared.triggers.Trigger.{Trigger}
+use Rattle.ow_entity.specs.declared.triggers.TriggerDraft.{TriggerDraft}
 use Rattle.ow_entity.specs.declared.rows.Row.{Row}
 use Rattle.ow_entity.specs.declared.rows.Row.TheVariants as rows
 use Rattle.ow_entity.specs.declared.rows.Draft.{Draft}
@@ -113,11 +117,86 @@ abbrev pub package_made : PackageDraft → Option Package → Result Package Ent
 package_made d None = Ok (new_package d)
 package_made d (Some old) = next_package d old
 
+-- ---- triggers
+
+abbrev pub trigger_over : TriggerDraft → Trigger → ℕ → Trigger
+trigger_over d old version = record {
+  name = d.name;
+  version = version;
+  publish = unwrap_or d.publish old.publish;
+  params = unwrap_or d.params old.params;
+  notes = unwrap_or d.notes old.notes;
+}
+
+-- the defaults: nothing but a name
+abbrev pub default_trigger : FullName → Trigger
+default_trigger name = record { name = name; version = 0; publish = false; params = []; notes = [] }
+
+abbrev pub new_trigger : TriggerDraft → Trigger
+new_trigger d = trigger_over d (default_trigger d.name) FIRST_VERSION
+
+abbrev pub next_trigger : TriggerDraft → Trigger → Result Trigger EntityRefusal
+next_trigger d old = if old.version == LAST_VERSION then Err LastVersion else Ok (trigger_over d old (old.version + 1))
+
+-- the trigger that a draft of a trigger is put over
+abbrev pub as_trigger : Option Row → Option Trigger
+as_trigger (Some (rows.Trigger old)) = Some old
+as_trigger old = None
+
+abbrev pub trigger_made : TriggerDraft → Option Trigger → Result Trigger EntityRefusal
+trigger_made d None = Ok (new_trigger d)
+trigger_made d (Some old) = next_trigger d old
+
+-- ---- rules
+
+-- no draft says anything of the status
+abbrev pub rule_over : RuleDraft → Rule → ℕ → Rule
+rule_over d old version = record {
+  name = d.name;
+  version = version;
+  publish = unwrap_or d.publish old.publish;
+  notes = unwrap_or d.notes old.notes;
+  trigger = unwrap_or d.trigger old.trigger;
+  action = unwrap_or d.action old.action;
+  active = old.active;
+}
+
+-- the defaults: nothing but a name and what it joins, and active
+abbrev pub default_rule : FullName → FullName → FullName → Rule
+default_rule name trigger action = record {
+  name = name;
+  version = 0;
+  publish = false;
+  notes = [];
+  trigger = trigger;
+  action = action;
+  active = true;
+}
+
+abbrev pub new_rule : RuleDraft → Option FullName → Option FullName → Result Rule EntityRefusal
+new_rule d None action = Err (MissingField fields.Trigger)
+new_rule d (Some trigger) None = Err (MissingField fields.Action)
+new_rule d (Some trigger) (Some action) = Ok (rule_over d (default_rule d.name trigger action) FIRST_VERSION)
+
+abbrev pub next_rule : RuleDraft → Rule → Result Rule EntityRefusal
+next_rule d old = if old.version == LAST_VERSION then Err LastVersion else Ok (rule_over d old (old.version + 1))
+
+-- the rule that a draft of a rule is put over
+abbrev pub as_rule : Option Row → Option Rule
+as_rule (Some (rows.Rule old)) = Some old
+as_rule old = None
+
+abbrev pub rule_made : RuleDraft → Option Rule → Result Rule EntityRefusal
+rule_made d None = new_rule d d.trigger d.action
+rule_made d (Some old) = next_rule d old
+
 -- ---- rows
 
 unfoldable pub finished_row : Draft → Option Row → Result Row EntityRefusal
 finished_row (drafts.Action d) old = result_map rows.Action (action_made d (as_action old))
 finished_row (drafts.Package d) old = result_map rows.Package (package_made d (as_package old))
+finished_row (drafts.Rule d) old = result_map rows.Rule (rule_made d (as_rule old))
+finished_row (drafts.Trigger d) old = result_map rows.Trigger (trigger_made d (as_trigger old))
 
 -- the row that a body makes over no row
 unfoldable pub row_of_body : EntityKind → FullName → V → Result Row EntityRefusal

@@ -10,6 +10,7 @@ pub mod Fit
 pub mod Code
 pub mod FitAction
 pub mod Body
+pub mod Status
 pub mod Finish
 pub mod Written
 pub mod Annotations

@@ -1,15 +1,19 @@
 -- How a row is shown.
 use Rattle.std.specs.Prelude.{ℕ, pos, Bool, List, [], ◌∷◌, ◌++◌, codes, decimal, Option, Some, None}
 use Rattle.ow_value.specs.Value.{V, Pairs, boolean, whole, text, object, members_of}
+use Rattle.ow_names.specs.FullName.{full_text}
 use Rattle.ow_names.specs.declared.full.FullName.{FullName}
 use Rattle.ow_entity.specs.declared.bounds.Limits.{Limits}
 use Rattle.ow_entity.specs.declared.exec.Exec.{Exec}
 use Rattle.ow_entity.specs.declared.actions.Action.{Action}
 use Rattle.ow_entity.specs.declared.packages.Package.{Package}
+use Rattle.ow_entity.specs.declared.rules.Rule.{Rule}
+use Rattle.ow_entity.specs.declared.triggers.Trigger.{Trigger}
 use Rattle.ow_entity.specs.declared.rows.Row.{Row}
 use Rattle.ow_entity.specs.declared.rows.Row.TheVariants as rows
 use Rattle.ow_entity.specs.Exec.{exec_kind, exec_code}
 use Rattle.ow_entity.specs.Pairs.{pairs_value}
+use Rattle.ow_entity.specs.Status.{status_text}
 
 abbrev pub exec_value : Exec → V
 exec_value e = object (members_of ((codes "code", text (exec_code e)) ∷ (codes "kind", text (exec_kind e)) ∷ []))
@@ -58,9 +62,33 @@ package_value p = object (members_of (
     ∷ (codes "version", text (shown_version p.version))
     ∷ []))
 
+abbrev pub rule_value : Rule → V
+rule_value r = object (members_of (
+    (codes "action", text (full_text r.action))
+    ∷ (codes "annotations", pairs_value r.notes)
+    ∷ (codes "name", text r.name.name)
+    ∷ (codes "namespace", text (shown_namespace r.name.namespace r.name.package))
+    ∷ (codes "publish", boolean r.publish)
+    ∷ (codes "status", text (status_text r.active))
+    ∷ (codes "trigger", text (full_text r.trigger))
+    ∷ (codes "version", text (shown_version r.version))
+    ∷ []))
+
+abbrev pub trigger_value : Trigger → V
+trigger_value t = object (members_of (
+    (codes "annotations", pairs_value t.notes)
+    ∷ (codes "name", text t.name.name)
+    ∷ (codes "namespace", text (shown_namespace t.name.namespace t.name.package))
+    ∷ (codes "parameters", pairs_value t.params)
+    ∷ (codes "publish", boolean t.publish)
+    ∷ (codes "version", text (shown_version t.version))
+    ∷ []))
+
 unfoldable pub row_value : Row → V
 row_value (rows.Action a) = action_value a
 row_value (rows.Package p) = package_value p
+row_value (rows.Rule r) = rule_value r
+row_value (rows.Trigger t) = trigger_value t
 
 abbrev pub summary_of : FullName → Pairs → Bool → ℕ → V
 summary_of name notes publish version = object (members_of (
@@ -74,6 +102,8 @@ summary_of name notes publish version = object (members_of (
 unfoldable pub summary_value : Row → V
 summary_value (rows.Action a) = summary_of a.name a.notes a.publish a.version
 summary_value (rows.Package p) = summary_of p.name p.notes p.publish p.version
+summary_value (rows.Rule r) = summary_of r.name r.notes r.publish r.version
+summary_value (rows.Trigger t) = summary_of t.name t.notes t.publish t.version
 
 -- what a package shows of a row that lies in it
 abbrev pub entry_of : FullName → Pairs → ℕ → V
@@ -86,3 +116,5 @@ entry_of name notes version = object (members_of (
 unfoldable pub package_entry : Row → V
 package_entry (rows.Action a) = entry_of a.name a.notes a.version
 package_entry (rows.Package p) = entry_of p.name p.notes p.version
+package_entry (rows.Rule r) = entry_of r.name r.notes r.version
+package_entry (rows.Trigger t) = entry_of t.name t.notes t.version

@@ -16,6 +16,8 @@ use crate::pairs::pairs_field;
 use crate::plain_code::PlainCode;
 use crate::refusal::EntityRefusal;
 use crate::rows::Draft;
+use crate::rule_body::read_rule;
+use crate::trigger_body::read_trigger;
 use ow_names::FullName;
 use ow_several::kept_beside;
 use ow_value::{Params, PlainData, Val, Whole};
@@ -41,7 +43,8 @@ pub fn read_entity(
     match kind {
         EntityKind::Action => read_action(alloc, name, fields),
         EntityKind::Package => read_package(alloc, name, fields),
-        _ => Err(EntityRefusal::UnknownKind),
+        EntityKind::Rule => read_rule(alloc, name, fields),
+        EntityKind::Trigger => read_trigger(alloc, name, fields),
     }
 }
 

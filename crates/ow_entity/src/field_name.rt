@@ -33,6 +33,12 @@ pub enum FieldName {
     BoundNamespace,
     /// What the bound package is called there.
     BoundName,
+    /// The trigger whose fires a rule follows.
+    Trigger,
+    /// The action that a rule invokes.
+    Action,
+    /// Whether a rule is active.
+    Status,
 }
 
 impl FieldName {
@@ -55,6 +61,9 @@ impl FieldName {
             FieldName::Binding => "binding",
             FieldName::BoundNamespace => "namespace",
             FieldName::BoundName => "name",
+            FieldName::Trigger => "trigger",
+            FieldName::Action => "action",
+            FieldName::Status => "status",
         }
     }
 }

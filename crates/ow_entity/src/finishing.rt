@@ -12,6 +12,8 @@ use crate::package_finishing::finish_package;
 use crate::params::EntityParams;
 use crate::refusal::EntityRefusal;
 use crate::rows::{Draft, Row};
+use crate::rule_finishing::finish_rule;
+use crate::trigger_finishing::finish_trigger;
 use ow_value::{PlainData, Shared};
 use std::alloc::Global;
 
@@ -31,6 +33,8 @@ pub fn finish(alloc: Global, draft: Draft, old: Option<&Row>) -> Result<Row, Ent
     match draft {
         Draft::Action(draft) => finish_action(alloc, draft, old),
         Draft::Package(draft) => finish_package(alloc, draft, old),
+        Draft::Rule(draft) => finish_rule(alloc, draft, old),
+        Draft::Trigger(draft) => finish_trigger(alloc, draft, old),
     }
 }
 

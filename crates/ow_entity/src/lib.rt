@@ -1,7 +1,7 @@
 #![tactic(auto)]
 
-//! Actions and packages: as they stand, as bodies give them and as clients see them. No value of these types lies
-//! outside the bounds that a body must keep.
+//! Actions, packages, triggers and rules: as they are stored, as bodies give them and as clients see them. No value of
+//! these types lies outside the bounds that a body must keep.
 mod actions;
 mod annotations;
 mod body;
@@ -18,6 +18,12 @@ mod params;
 mod plain_code;
 mod refusal;
 mod rows;
+mod rule_body;
+mod rule_finishing;
+mod rules;
+mod trigger_body;
+mod trigger_finishing;
+mod triggers;
 mod written;
 
 pub use actions::{Action, ActionDraft};
@@ -37,4 +43,7 @@ pub use params::EntityParams;
 pub use plain_code::PlainCode;
 pub use refusal::EntityRefusal;
 pub use rows::{Draft, Lookup, Row};
+pub use rule_body::{read_status, status_text};
+pub use rules::{Rule, RuleDraft};
+pub use triggers::{Trigger, TriggerDraft};
 pub use written::{package_entry, summary, write_entity};

@@ -15,7 +15,7 @@ pub enum EntityRefusal {
     WrongType { name: FieldName },
     /// The field's number lies outside its range.
     OutOfRange { name: FieldName },
-    /// The kind of the code, or of the entity, is none that the service has.
+    /// The kind of the code is none that the service has.
     UnknownKind,
     /// A list of pairs, or a code, has over 1 MB.
     TooLarge,

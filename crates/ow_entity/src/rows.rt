@@ -7,6 +7,8 @@ ghost use Rattle.ow_entity.specs.declared.kinds.EntityKind.{EntityKind};
 use crate::actions::{Action, ActionDraft};
 use crate::kinds::EntityKind;
 use crate::packages::{Package, PackageDraft};
+use crate::rules::{Rule, RuleDraft};
+use crate::triggers::{Trigger, TriggerDraft};
 use ow_names::FullName;
 use ow_value::{NoMemory, PlainData, Shared};
 use std::alloc::Global;
@@ -18,6 +20,10 @@ pub enum Row {
     Action(Shared<Action>),
     /// What actions lie in.
     Package(Shared<Package>),
+    /// By which a trigger calls an action.
+    Rule(Shared<Rule>),
+    /// What is fired with an event.
+    Trigger(Shared<Trigger>),
 }
 
 /// An entity as a body gives it.
@@ -27,6 +33,10 @@ pub enum Draft {
     Action(ActionDraft),
     /// Of a package.
     Package(PackageDraft),
+    /// Of a rule.
+    Rule(RuleDraft),
+    /// Of a trigger.
+    Trigger(TriggerDraft),
 }
 
 /// Where entities stand, at most one under each kind and name.
@@ -53,6 +63,8 @@ impl Row {
         match self {
             Row::Action(_) => EntityKind::Action,
             Row::Package(_) => EntityKind::Package,
+            Row::Rule(_) => EntityKind::Rule,
+            Row::Trigger(_) => EntityKind::Trigger,
         }
     }
 
@@ -63,6 +75,8 @@ impl Row {
         match self {
             Row::Action(action) => &action.get().name,
             Row::Package(package) => &package.get().name,
+            Row::Rule(rule) => &rule.get().name,
+            Row::Trigger(trigger) => &trigger.get().name,
         }
     }
 
@@ -73,6 +87,8 @@ impl Row {
         match self {
             Row::Action(action) => action.get().version,
             Row::Package(package) => package.get().version,
+            Row::Rule(rule) => rule.get().version,
+            Row::Trigger(trigger) => trigger.get().version,
         }
     }
 }
@@ -82,6 +98,8 @@ impl PlainData for Row {
         match (self, other) {
             (Row::Action(a), Row::Action(b)) => a.same(b),
             (Row::Package(a), Row::Package(b)) => a.same(b),
+            (Row::Rule(a), Row::Rule(b)) => a.same(b),
+            (Row::Trigger(a), Row::Trigger(b)) => a.same(b),
             _ => false,
         }
     }
@@ -90,6 +108,8 @@ impl PlainData for Row {
         match self {
             Row::Action(action) => Ok(Row::Action(action.copy(alloc)?)),
             Row::Package(package) => Ok(Row::Package(package.copy(alloc)?)),
+            Row::Rule(rule) => Ok(Row::Rule(rule.copy(alloc)?)),
+            Row::Trigger(trigger) => Ok(Row::Trigger(trigger.copy(alloc)?)),
         }
     }
 }
@@ -104,6 +124,8 @@ impl Draft {
         match self {
             Draft::Action(_) => EntityKind::Action,
             Draft::Package(_) => EntityKind::Package,
+            Draft::Rule(_) => EntityKind::Rule,
+            Draft::Trigger(_) => EntityKind::Trigger,
         }
     }
 
@@ -114,6 +136,8 @@ impl Draft {
         match self {
             Draft::Action(draft) => &draft.name,
             Draft::Package(draft) => &draft.name,
+            Draft::Rule(draft) => &draft.name,
+            Draft::Trigger(draft) => &draft.name,
         }
     }
 }
@@ -123,6 +147,8 @@ impl PlainData for Draft {
         match (self, other) {
             (Draft::Action(a), Draft::Action(b)) => a.same(b),
             (Draft::Package(a), Draft::Package(b)) => a.same(b),
+            (Draft::Rule(a), Draft::Rule(b)) => a.same(b),
+            (Draft::Trigger(a), Draft::Trigger(b)) => a.same(b),
             _ => false,
         }
     }
@@ -131,6 +157,8 @@ impl PlainData for Draft {
         match self {
             Draft::Action(draft) => Ok(Draft::Action(draft.copy(alloc)?)),
             Draft::Package(draft) => Ok(Draft::Package(draft.copy(alloc)?)),
+            Draft::Rule(draft) => Ok(Draft::Rule(draft.copy(alloc)?)),
+            Draft::Trigger(draft) => Ok(Draft::Trigger(draft.copy(alloc)?)),
         }
     }
 }

@@ -3,11 +3,12 @@ ghost use Rattle.std.specs.Prelude.{◌≡◌, pos, Ok, IfOk, OnOk};
 ghost use Rattle.ow_value.specs.Value.{whole, text};
 ghost use Rattle.ow_value.specs.Find.{with_pair};
 ghost use Rattle.ow_value.specs.View.{view};
+ghost use Rattle.ow_names.specs.FullName.{full_text};
 ghost use Rattle.ow_entity.specs.declared.kinds.EntityKind.TheVariants as kinds;
 ghost use Rattle.ow_entity.specs.declared.actions.Action.{Action};
 ghost use Rattle.ow_entity.specs.declared.rows.Row.TheVariants as rows;
 ghost use Rattle.ow_entity.specs.Finish.{row_of_body};
-ghost use Rattle.ow_entity.specs.Written.{exec_value, limits_value, shown_namespace, shown_version, action_value, binding_value, package_value, row_value, summary_of, summary_value, entry_of, package_entry};
+ghost use Rattle.ow_entity.specs.Written.{exec_value, limits_value, shown_namespace, shown_version, action_value, binding_value, package_value, rule_value, trigger_value, row_value, summary_of, summary_value, entry_of, package_entry};
 
 use crate::actions::Action;
 use crate::bounds::Limits;
@@ -16,7 +17,10 @@ use crate::finishing::FIRST_VERSION;
 use crate::packages::Package;
 use crate::pairs::listed;
 use crate::rows::Row;
-use ow_names::FullName;
+use crate::rule_body::status_text;
+use crate::rules::Rule;
+use crate::triggers::Trigger;
+use ow_names::{FullName, full_text};
 use ow_several::kept_beside;
 use ow_value::{Fields, NoMemory, Params, Str, Val, Whole};
 use std::alloc::Global;
@@ -44,6 +48,8 @@ pub fn write_entity(alloc: Global, row: &Row) -> Result<Val, NoMemory>
     match row {
         Row::Action(action) => write_action(alloc, action.get()),
         Row::Package(package) => write_package(alloc, package.get()),
+        Row::Rule(rule) => write_rule(alloc, rule.get()),
+        Row::Trigger(trigger) => write_trigger(alloc, trigger.get()),
     }
 }
 
@@ -73,6 +79,26 @@ pub fn summary(alloc: Global, row: &Row) -> Result<Val, NoMemory>
                 package.version,
             )
         }
+        Row::Rule(rule) => {
+            let rule = rule.get();
+            summary_of(
+                alloc,
+                &rule.name,
+                rule.notes.get(),
+                rule.publish,
+                rule.version,
+            )
+        }
+        Row::Trigger(trigger) => {
+            let trigger = trigger.get();
+            summary_of(
+                alloc,
+                &trigger.name,
+                trigger.notes.get(),
+                trigger.publish,
+                trigger.version,
+            )
+        }
     }
 }
 
@@ -89,6 +115,14 @@ pub fn package_entry(alloc: Global, row: &Row) -> Result<Val, NoMemory>
         Row::Package(bundle) => {
             let bundle = bundle.get();
             entry_of(alloc, &bundle.name, bundle.notes.get(), bundle.version)
+        }
+        Row::Rule(rule) => {
+            let rule = rule.get();
+            entry_of(alloc, &rule.name, rule.notes.get(), rule.version)
+        }
+        Row::Trigger(trigger) => {
+            let trigger = trigger.get();
+            entry_of(alloc, &trigger.name, trigger.notes.get(), trigger.version)
         }
     }
 }
@@ -142,6 +176,52 @@ fn write_package(alloc: Global, bundle: &Package) -> Result<Val, NoMemory>
     let (fields, version) = kept_beside(fields, shown_version(alloc, bundle.version))?;
     let fields = with(alloc, fields, "version", version)?;
     Ok(Val::Object(fields.into_params()?))
+}
+
+fn write_rule(alloc: Global, rule: &Rule) -> Result<Val, NoMemory>
+    ensures { IfOk result (λ v. view v ≡ rule_value rule.now) }
+{
+    let name = &rule.name;
+    let action = full_name(alloc, &rule.action)?;
+    let fields = with(alloc, Fields::new(alloc), "action", action)?;
+    let (fields, notes) = kept_beside(fields, listed(alloc, rule.notes.get()))?;
+    let fields = with(alloc, fields, "annotations", Val::List(notes))?;
+    let (fields, shown) = kept_beside(fields, text(alloc, name.name.as_str()))?;
+    let fields = with(alloc, fields, "name", shown)?;
+    let (fields, namespace) = kept_beside(fields, shown_namespace(alloc, name))?;
+    let fields = with(alloc, fields, "namespace", namespace)?;
+    let fields = with(alloc, fields, "publish", Val::Bool(rule.publish))?;
+    let (fields, status) = kept_beside(fields, text(alloc, status_text(rule.active)))?;
+    let fields = with(alloc, fields, "status", status)?;
+    let (fields, trigger) = kept_beside(fields, full_name(alloc, &rule.trigger))?;
+    let fields = with(alloc, fields, "trigger", trigger)?;
+    let (fields, version) = kept_beside(fields, shown_version(alloc, rule.version))?;
+    let fields = with(alloc, fields, "version", version)?;
+    Ok(Val::Object(fields.into_params()?))
+}
+
+fn write_trigger(alloc: Global, trigger: &Trigger) -> Result<Val, NoMemory>
+    ensures { IfOk result (λ v. view v ≡ trigger_value trigger.now) }
+{
+    let name = &trigger.name;
+    let notes = listed(alloc, trigger.notes.get())?;
+    let fields = with(alloc, Fields::new(alloc), "annotations", Val::List(notes))?;
+    let (fields, shown) = kept_beside(fields, text(alloc, name.name.as_str()))?;
+    let fields = with(alloc, fields, "name", shown)?;
+    let (fields, namespace) = kept_beside(fields, shown_namespace(alloc, name))?;
+    let fields = with(alloc, fields, "namespace", namespace)?;
+    let (fields, params) = kept_beside(fields, listed(alloc, trigger.params.get()))?;
+    let fields = with(alloc, fields, "parameters", Val::List(params))?;
+    let fields = with(alloc, fields, "publish", Val::Bool(trigger.publish))?;
+    let (fields, version) = kept_beside(fields, shown_version(alloc, trigger.version))?;
+    let fields = with(alloc, fields, "version", version)?;
+    Ok(Val::Object(fields.into_params()?))
+}
+
+fn full_name(alloc: Global, name: &FullName) -> Result<Val, NoMemory>
+    ensures { IfOk result (λ v. view v ≡ text (full_text name.now)) }
+{
+    Ok(Val::Text(Str::from_string(full_text(alloc, name)?)?))
 }
 
 fn binding_value(alloc: Global, binding: &Option<FullName>) -> Result<Val, NoMemory>

@@ -1,4 +1,4 @@
-//! The tests of ow_entity and ow_tables, in a crate of their own, so that each of these is proved once.
+//! The tests of ow_entity, ow_tables and ow_rules, in a crate of their own, so that each of these is proved once.
 #![tactic(auto)]
 
 #[cfg(test)]
@@ -7,5 +7,7 @@ mod held;
 mod of_entity;
 #[cfg(test)]
 mod of_packages;
+#[cfg(test)]
+mod of_rules;
 #[cfg(test)]
 mod of_tables;

@@ -100,7 +100,7 @@ fn aged(alloc: Global, row: &Row) -> Result<Row, NoMemory> {
             action.version = 4_294_967_295;
             Ok(Row::Action(Shared::new(alloc, action)?))
         }
-        Row::Package(_) => row.copy(alloc),
+        _ => row.copy(alloc),
     }
 }
 
@@ -315,16 +315,6 @@ fn drafts_are_plain_data(rt: HostRuntime) -> Result<(), Fail> {
     assert!(rt; copy.same(&draft));
     assert_eq!(rt; draft.kind(), EntityKind::Action);
     assert_eq!(rt; draft.name().name.as_str(), "hello");
-    Ok(())
-}
-
-#[test]
-fn kinds_that_are_not_kept_are_unknown(rt: HostRuntime) -> Result<(), Fail> {
-    let alloc = rt.alloc();
-    let name = name_of(alloc, "hello")?;
-    let body = value_of(alloc, "{}")?;
-    let refused = read_entity(alloc, EntityKind::Rule, &name, &body).err();
-    assert!(rt; refused.is_some_and(|e| e == EntityRefusal::UnknownKind));
     Ok(())
 }
 

@@ -11,7 +11,7 @@ use Rattle.ow_floor.specs.Laws.{IsAmong, IsSound, Stands}
 use Rattle.ow_records.specs.Records.{is_of_id}
 use Rattle.std.specs.Option.{option_or}
 use Rattle.ow_floor.specs.View.{Shown, wait_in}
-use Rattle.ow_floor.specs.Trace.{Trace, Item, Opened, Resumed, Accepted, Ordered, Prewarming, Removed, Begun, Answered, Lost, Gone, Ended, Swept, Drained, Reopened, accepted, blocked_by, blocking, end_of, records, resumed, wait_of}
+use Rattle.ow_floor.specs.Trace.{Trace, Item, Opened, Resumed, Accepted, Ordered, Prewarming, Removed, Begun, Answered, Lost, Gone, Ended, Drawn, Fired, Swept, Drained, Reopened, accepted, blocked_by, blocking, end_of, records, resumed, wait_of}
 use Rattle.ow_floor.proofs.Among.{all_among, among_last, among_push}
 use Rattle.ow_floor.proofs.Firsts.{all_more, find_none, none_tail}
 use Rattle.ow_floor.proofs.Tallies.{eq_of}
@@ -55,6 +55,8 @@ wait_told (item ∷ T) id = of_item item T id (wait_told T id)
     of_item (Lost run at) T id e = e
     of_item (Gone slot generation at) T id e = e
     of_item (Ended end) T id e = e
+    of_item (Drawn own at) T id e = e
+    of_item (Fired r) T id e = e
     of_item (Swept at) T id e = e
     of_item (Drained at) T id e = e
     of_item (Reopened at) T id e = refl
@@ -104,6 +106,8 @@ wait_accepted_so (item ∷ T) id until found = of_item item found (wait_accepted
     of_item (Lost run at) found rest = rest found
     of_item (Gone slot generation at) found rest = rest found
     of_item (Ended end) found rest = rest found
+    of_item (Drawn own at) found rest = rest found
+    of_item (Fired r) found rest = rest found
     of_item (Swept at) found rest = rest found
     of_item (Drained at) found rest = rest found
     of_item (Reopened at) found rest = cc

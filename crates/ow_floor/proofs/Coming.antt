@@ -25,7 +25,7 @@ use Rattle.ow_floor.specs.View.{Shown, containers_of, is_of, is_number, remove_f
 use Rattle.ow_floor.specs.Trace.{Trace, End, Answered, Begun, Drained, Ended, Gone, Lost, Reopened, Swept, end_of, live, live_run, open_items, overrun_of, record_of, records, shown, slots}
 use Rattle.ow_floor.specs.Growth.{grow, grown, IsEventRight, IsLive, IsRight, AreRight}
 use Rattle.ow_floor.specs.Laws.{IsSound, bearers}
-use Rattle.ow_floor.specs.Calls.{KeepSound, abandon_items, abandoned_items, accept_items, answered_items, end_items, ended_by, goes_by, head_by, is_late, items_if, items_on, late_items, late_of, leaves_alive, next_items, order_items, overrun_items, place_on, reply_items, resume_items, run_by, sorted_by_id, swept_items}
+use Rattle.ow_floor.specs.Calls.{KeepSound, abandon_items, abandoned_items, accept_items, answered_items, draw_items, end_items, ended_by, fire_items, goes_by, head_by, is_late, items_if, items_on, late_items, late_of, leaves_alive, next_items, order_items, overrun_items, place_on, reply_items, resume_items, run_by, sorted_by_id, swept_items}
 use Rattle.ow_floor.proofs.Alters.{same_id_refl}
 use Rattle.ow_floor.proofs.Apart.{AreFound, all_sorted, distinct_sorted, each_by_id, found_left, length_sorted, open_distinct}
 use Rattle.ow_floor.proofs.Drawn.{drawn_last}
@@ -248,6 +248,8 @@ calls_keep_sound = record {
   start = sound_start;
   resume = λ counts rs T fresh resumable sound. (sound_items (resume_items counts rs) T (((fresh, resumable), tt), tt) sound).0;
   accept = λ at plan T next sound. (sound_items (accept_items at plan) T ((next ∙ ap (λ n. n + 1) (sym (drawn_last T plan.id.namespace)), tt), tt) sound).0;
+  draw = λ at id T next sound. (sound_items (draw_items at id) T ((next ∙ ap (λ n. n + 1) (sym (drawn_last T id.namespace)), tt), tt) sound).0;
+  fire = λ r T drawn sound. (sound_items (fire_items r) T ((drawn, tt), tt) sound).0;
   next = λ at T sound. (sound_items (next_items at T) T (right_next at (shown T) sound.slotted.within) sound).0;
   begun = λ at run T sound. (sound_items _ T (right_begun at run (shown T) sound.slotted.within) sound).0;
   answered = λ at run reply T sound. (sound_items _ T (right_reply at run reply T sound) sound).0;

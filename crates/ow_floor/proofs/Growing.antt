@@ -1,7 +1,7 @@
 -- How a floor grows by what is done to the kept lists.
-use Rattle.std.proofs.Common.{◌≡◌, ◌+◌, ◌++◌, ◌&&◌, ℕ, Bool, true, false, cond, not, List, [], ◌∷◌, Option, Some, None, length, get_or, refl, sym, ap, ◌∙◌, arith, subst, length-append, append_assoc, append-nil, map}
+use Rattle.std.proofs.Common.{◌≡◌, ◌+◌, ◌-◌, ◌++◌, ◌&&◌, ℕ, Bool, true, false, cond, not, List, [], ◌∷◌, Option, Some, None, length, get_or, refl, sym, ap, ◌∙◌, arith, subst, length-append, append_assoc, append-nil, map}
 use Rattle.std.specs.List.{find, IsDistinct}
-use Rattle.std.specs.Prelude.{is_err, is_none, is_some, slice_get, OnOk, Result, Ok, Err}
+use Rattle.std.specs.Prelude.{is_err, is_none, is_some, slice_get, OnErr, OnOk, Result, Ok, Err}
 use Rattle.ow_records.specs.declared.outcomes.Ending.TheVariants.{Abandoned, Replied, Overran}
 use Rattle.ow_records.specs.declared.ids.Id.{Id}
 use Rattle.ow_records.specs.declared.record.Record.{Record}
@@ -16,25 +16,25 @@ use Rattle.ow_lifecycle.specs.Life as lives
 use Rattle.ow_lifecycle.specs.Life.{Event}
 use Rattle.ow_floor.specs.declared.activations.Plan.{Plan}
 use Rattle.ow_floor.specs.declared.activations.Open.{Open}
-use Rattle.ow_floor.specs.declared.answers.Happening.{Happening}
+use Rattle.ow_floor.specs.declared.moves.Moved.{Moved}
 use Rattle.ow_floor.specs.declared.answers.Order.{Order}
 use Rattle.ow_floor.specs.declared.lists.Berth.{Berth}
 use Rattle.ow_floor.specs.declared.runs.Run.{Run}
-use Rattle.ow_floor.specs.View.{Shown, is_number, is_of, last_of, same_open}
+use Rattle.ow_floor.specs.View.{Shown, is_number, is_of, last_of, recorded_in, same_open}
 use Rattle.ow_floor.specs.Places.{recorded_there}
-use Rattle.ow_floor.specs.Trace.{Trace, Accepted, Answered as replied, Begun, Drained, Gone, Lost, Reopened, Swept, last, open_items, records, shown}
+use Rattle.ow_floor.specs.Trace.{Trace, Accepted, Answered as replied, Begun, Drained, Gone, Lost, Reopened, Swept, last, live, open_items, records, shown}
 use Rattle.ow_floor.specs.Growth.{AreResumable, IsFresh, grow, grown}
 use Rattle.ow_floor.specs.Laws.{Grows, Stands}
-use Rattle.ow_floor.specs.Calls.{abandon_items, abandoned_ends, abandoned_items, accept_items, activation_of, answer_by, answer_to, answered_by, answered_items, begun_items, busy_run, drain_answer, drain_by, end_items, goes_by, gone_items, happened, is_late, items_if, items_on, late_items, late_of, leaves_alive, lost_items, next_items, next_order, order_on, overrun_items, record_abandoned, reply_items, resume_items, sorted_by_id, swept_ends, swept_items, unrecorded_by, unrecorded_in}
-use Rattle.ow_floor.specs.Store.{IsCell, IsGood, IsGoodPast, Store, answered_in, at_moment, drained_in, event_in, opens, reopened_in, resumed_in, run_in, run_put, show, show_past, taken_back, there}
+use Rattle.ow_floor.specs.Calls.{abandon_items, abandoned_ends, abandoned_items, accept_items, activation_of, answer_by, answer_of, answer_to, answered_by, answered_items, begun_items, busy_run, drain_answer, drain_by, end_items, goes_by, gone_items, happened, happened_of, is_late, items_if, items_on, late_items, late_of, leaves_alive, lost_items, moved, next_items, next_order, order_on, overrun_items, record_abandoned, recorded_with, reply_items, reply_recorded, resume_items, run_by, sorted_by_id, swept_ends, swept_items, unrecorded_by, unrecorded_in, draw_items, fire_items}
+use Rattle.ow_floor.specs.Store.{IsCell, IsGood, IsGoodPast, Store, answered_in, at_moment, drained_in, event_in, opens, reopened_in, resumed_in, run_in, run_put, show, show_past, taken_back, drawn_in, fired_in}
 use Rattle.ow_floor.specs.Ends.{AreAbandoned, IsEndedRun, IsMade, IsRunBegun, IsRunLost, sweeps}
 use Rattle.ow_floor.proofs.Coming.{right_begun, right_gone, right_lost, right_next, right_reopened, right_reply, right_swept}
 use Rattle.ow_floor.proofs.Drawn.{drawn_last}
-use Rattle.ow_floor.proofs.Making.{happened_append}
+use Rattle.ow_floor.proofs.Making.{moved_append}
 use Rattle.ow_floor.proofs.Numbers.{number_is}
 use Rattle.ow_floor.proofs.Results.{sure}
 use Rattle.ow_floor.proofs.Serving.{is_order, within_kept}
-use Rattle.ow_floor.proofs.Showing.{good_event, good_marked, good_put, show_answered, show_reopened, show_resumed}
+use Rattle.ow_floor.proofs.Showing.{good_event, good_marked, good_put, show_answered, show_reopened, show_resumed, show_drawn, show_fired}
 use Rattle.ow_floor.proofs.Soundness.{grows}
 use Rattle.ow_floor.proofs.Apart.{open_distinct}
 
@@ -49,6 +49,18 @@ pub made_accept : (R S : Store) (at : ℕ) (plan : Plan) → plan.id.count ≡ l
 made_accept R S at plan next is =
     grows (λ v. accept_items at plan) (show R) (show S)
     (λ T st. ((next ∙ ap (λ (v : Shown). last_of v.drawn plan.id.namespace + 1) st.is, tt), tt)) is
+
+-- ---- fires
+
+pub grows_draw : (R : Store) (at : ℕ) (id : Id) → id.count ≡ last_of R.drawn id.namespace + 1 → Grows (show R) (show (drawn_in at id R)) (λ T. draw_items at id)
+grows_draw R at id next =
+    grows (λ v. draw_items at id) (show R) (show (drawn_in at id R))
+    (λ T st. ((next ∙ ap (λ (v : Shown). last_of v.drawn id.namespace + 1) st.is, tt), tt)) (show_drawn R at id)
+
+pub grows_fire : (R : Store) (r : Record) → IsGood R → R.marks.firing ≡ Some r.id → Grows (show R) (show (fired_in r R)) (λ T. fire_items r)
+grows_fire R r good drawn =
+    grows (λ v. fire_items r) (show R) (show (fired_in r R))
+    (λ T st. ((ap (λ (v : Shown). v.firing) (sym st.is) ∙ drawn, tt), tt)) (show_fired R r good)
 
 -- ---- orders
 
@@ -84,40 +96,65 @@ grows_gone R S at slot generation b is made =
 pub same_berth : (R : Store) (run k : ℕ) (c : IsCell run_in (is_number run) R.runs k) (b : Berth) → get_or R.runs k None ≡ Some b → b ≡ c.item
 same_berth R run k c b here = let e : Some b ≡ Some c.item = sym here ∙ c.here None in cc
 
-pub made_reply : (R S U : Store) (at run k : ℕ) (reply : RunReply) (told : List Happening) (s : Slot) (c : IsCell run_in (is_number run) R.runs k) → first_with (runs run) R.slots ≡ Some s
-    → IsEndedRun at c.item.run reply R S told → U ≡ answered_in at run (leaves_alive reply) k S
+pub made_reply : (R S U : Store) (at run k : ℕ) (reply : RunReply) (before after : List Moved) (s : Slot) (c : IsCell run_in (is_number run) R.runs k) → first_with (runs run) R.slots ≡ Some s
+    → IsEndedRun at c.item.run reply R S before after → U ≡ answered_in at run (leaves_alive reply) k S
     → Makes R U (λ T. answered_items at run reply T)
-    × ((T : Trace) → Stands (show R) T → Some (answered_by run (recorded_of s.state) told) ≡ answer_to at run reply T)
-made_reply R S U at run k reply told s c busy e is =
+    × ((T : Trace) → Stands (show R) T → (Some (recorded_of s.state) ≡ reply_recorded run T) × (after ≡ before ++ moved (answered_items at run reply T)))
+made_reply R S U at run k reply before after s c busy e is =
     let there' : IsCell run_in (is_number run) S.runs k = subst (λ rs. IsCell run_in (is_number run) rs k) (sym e.runs) c in
-    let number : c.item.run.number ≡ run = number_is run c.item.run (there run_in R.runs) c.found in
     let items : reply_items at run reply (show R) (busy_run run (show R))
     ≡ replied run (leaves_alive reply) at ∷ end_items at (Replied reply) (Some c.item.run) (find (is_of c.item.run.id) (opens R.spots R.tasks))
     = rw (busy, c.found) refl in
     let shows : show U ≡ grown (reply_items at run reply (show R) (busy_run run (show R))) (show R)
     = ap show is ∙ (show_answered S at run k (leaves_alive reply) there' ∙ (ap (grow (replied run (leaves_alive reply) at)) e.shows ∙ ap (λ items. grown items (show R)) (sym items))) in
-    let tells : Some (answered_by run (recorded_of s.state) told) ≡ answer_by at run reply (show R) (busy_run run (show R))
-    = rw (busy, c.found) (rw busy (ap (λ hs. Some (answered_by run (recorded_of s.state) hs)) e.tells
-    ∙ ap (λ n. Some (answered_by n (recorded_of s.state) (happened (end_items at (Replied reply) (Some c.item.run) (find (is_of c.item.run.id) (opens R.spots R.tasks)))))) (sym number))) in (
+    let told : Some (recorded_of s.state) ≡ recorded_with run (show R) (busy_run run (show R)) = rw (busy, c.found) (rw busy refl) in
+    let noted : after ≡ before ++ moved (reply_items at run reply (show R) (busy_run run (show R)))
+    = e.noted ∙ (ap (λ (ms : List Moved). before ++ ms) (sym (append-nil (moved (end_items at (Replied reply) (Some c.item.run) (find (is_of c.item.run.id) (opens R.spots R.tasks))))))
+    ∙ ap (λ (items : Trace). before ++ moved items) (sym items)) in (
       (
         grows (λ v. reply_items at run reply v (busy_run run v)) (show R) (show U) (λ T st. right_reply at run reply T st.sound) shows,
         subst (λ (V : Store). IsGood V) (sym is)
             (good_event (run_put k None S) at (lives.Answered run (leaves_alive reply) at) (within_kept (lives.Answered run (leaves_alive reply) at) S.slots S.pool refl e.good.pool) (good_put S k None e.good)),
       ),
-      λ T st. tells ∙ ap (λ (v : Shown). answer_by at run reply v (busy_run run v)) st.is,
+      λ T st. (
+        told ∙ ap (λ (v : Shown). recorded_with run v (busy_run run v)) st.is,
+        noted ∙ ap (λ (v : Shown). before ++ moved (reply_items at run reply v (busy_run run v))) st.is,
+      ),
     )
 
-pub made_replied : (R S U : Store) (at run k : ℕ) (reply : RunReply) (told : List Happening) (s : Slot) (b : Berth) (c : IsCell run_in (is_number run) R.runs k) → first_with (runs run) R.slots ≡ Some s
-    → get_or R.runs k None ≡ Some b → IsEndedRun at b.run reply R S told → U ≡ answered_in at run (leaves_alive reply) k S
+pub made_replied : (R S U : Store) (at run k : ℕ) (reply : RunReply) (before after : List Moved) (s : Slot) (b : Berth) (c : IsCell run_in (is_number run) R.runs k)
+    → first_with (runs run) R.slots ≡ Some s → get_or R.runs k None ≡ Some b → IsEndedRun at b.run reply R S before after → U ≡ answered_in at run (leaves_alive reply) k S
     → Makes R U (λ T. answered_items at run reply T)
-    × ((T : Trace) → Stands (show R) T → Some (answered_by run (recorded_of s.state) told) ≡ answer_to at run reply T)
-made_replied R S U at run k reply told s b c busy here e is =
-    made_reply R S U at run k reply told s c busy (subst (λ (x : Berth). IsEndedRun at x.run reply R S told) (same_berth R run k c b here) e) is
+    × ((T : Trace) → Stands (show R) T → (Some (recorded_of s.state) ≡ reply_recorded run T) × (after ≡ before ++ moved (answered_items at run reply T)))
+made_replied R S U at run k reply before after s b c busy here e is =
+    made_reply R S U at run k reply before after s c busy (subst (λ (x : Berth). IsEndedRun at x.run reply R S before after) (same_berth R run k c b here) e) is
+
+-- a live run is one of those of its number
+busy_found : (s : Option Slot) (o : Option Run) (r : Run) → run_by s o ≡ Some r → o ≡ Some r
+busy_found None o r is = cc
+busy_found (Some s) o r is = is
+
+answer_by_moves : (at run : ℕ) (reply : RunReply) (v : Shown) (o : Option Run) → busy_run run v ≡ o
+    → answer_of run (recorded_with run v o) (happened (reply_items at run reply v o)) ≡ answer_by at run reply v o
+answer_by_moves at run reply v None is = refl
+answer_by_moves at run reply v (Some r) is =
+    let number : r.number ≡ run = number_is run r v.live (busy_found (first_with (runs run) v.slots) (find (is_number run) v.live) r is) in
+    let ends = moved (end_items at (Replied reply) (Some r) (find (is_of r.id) v.open_items)) in
+    ap (λ (ms : List Moved). Some (answered_by run (recorded_in run v.slots) (happened_of ms))) (append-nil ends)
+    ∙ ap (λ n. Some (answered_by n (recorded_in run v.slots) (happened_of ends))) (sym number)
+
+-- what a reply is answered, by what was recorded before and by what moved
+pub answer_told : (at run : ℕ) (reply : RunReply) (T : Trace) → answer_of run (reply_recorded run T) (happened (answered_items at run reply T)) ≡ answer_to at run reply T
+answer_told at run reply T = answer_by_moves at run reply (shown T) (busy_run run (shown T)) refl
 
 -- ---- sweeps, openings, drains
 
-pub made_sweep : (R S : Store) (at : ℕ) (told : List Happening) → IsMade (sweeps at R) R S told → Makes R (at_moment at S) (λ T. swept_items at T)
-made_sweep R S at told made = (
+-- an item that moves nothing tells nothing
+pub told_unmoved : (ms : List Moved) (items : Trace) → ms ≡ moved items ++ [] → happened_of ms ≡ happened items
+told_unmoved ms items is = ap happened_of (is ∙ append-nil (moved items))
+
+pub made_sweep : (R S : Store) (at : ℕ) (before after : List Moved) → IsMade (sweeps at R) R S before after → Makes R (at_moment at S) (λ T. swept_items at T)
+made_sweep R S at before after made = (
   grows (λ v. Swept at ∷ overrun_items at v.live v) (show R) (show (at_moment at S)) (λ T st. right_swept at (shown T) st.sound.slotted.within st.sound.single) (ap (grow (Swept at)) made.shows),
   (good_marked S at made.good).0,
 )
@@ -126,15 +163,20 @@ made_sweep R S at told made = (
 shown_distinct : (v : Shown) (T : Trace) → Stands v T → IsDistinct same_open v.open_items
 shown_distinct v T st = subst (λ (u : Shown). IsDistinct same_open u.open_items) (sym st.is) (open_distinct T st.sound)
 
-pub grows_abandon : (R S : Store) (at : ℕ) (told : List Happening) → AreAbandoned at R S told → Grows (show R) (show (reopened_in at S)) (λ T. abandon_items at T)
-grows_abandon R S at told made T st =
+pub grows_abandon : (R S : Store) (at : ℕ) (before after : List Moved) → AreAbandoned at R S before after → Grows (show R) (show (reopened_in at S)) (λ T. abandon_items at T)
+grows_abandon R S at before after made T st =
     let done = made (shown_distinct (show R) T st) in
     grows (λ v. Reopened at ∷ abandoned_items at (sorted_by_id v.open_items)) (show R) (show (reopened_in at S))
     (λ U us. right_reopened at (shown U) us.sound.slotted.within (open_distinct U us.sound)) (show_reopened S at ∙ ap (grow (Reopened at)) done.shows) T st
 
-pub abandon_told : (R S : Store) (at : ℕ) (told : List Happening) → AreAbandoned at R S told → (T : Trace) → Stands (show R) T → told ≡ happened (abandoned_ends at T)
-abandon_told R S at told made T st =
-    (made (shown_distinct (show R) T st)).tells ∙ ap (λ (v : Shown). happened (abandoned_items at (sorted_by_id v.open_items))) st.is
+-- an item that moves nothing adds nothing to what moved
+unmoved : (before after : List Moved) (items : Trace) → after ≡ before ++ moved items → after ≡ before ++ (moved items ++ [])
+unmoved before after items is = is ∙ ap (λ (ms : List Moved). before ++ ms) (sym (append-nil (moved items)))
+
+pub abandon_moved : (R S : Store) (at : ℕ) (before after : List Moved) → AreAbandoned at R S before after → (T : Trace) → Stands (show R) T → after ≡ before ++ moved (abandon_items at T)
+abandon_moved R S at before after made T st =
+    unmoved before after (abandoned_ends at T)
+    ((made (shown_distinct (show R) T st)).noted ∙ ap (λ (v : Shown). before ++ moved (abandoned_items at (sorted_by_id v.open_items))) st.is)
 
 abandoned_records : (at : ℕ) (os : List Open) (T : Trace) → records (abandoned_items at os ++ T) ≡ records T ++ map (record_abandoned at) os
 abandoned_records at [] T = sym (append-nil (records T))
@@ -175,6 +217,10 @@ pub back_good : (p : Option Store) (R : Store) → IsGood R → IsGoodPast p →
 back_good None R good past = good
 back_good (Some P) R good past = past
 
+pub back_free : (p : Option Store) (R : Store) → show_past p ≡ None → show (taken_back p R) ≡ show R
+back_free None R free = refl
+back_free (Some P) R free = cc
+
 pub last_told : (v : Shown) (n k : ℕ) → n ≡ last_of v.drawn k → (T : Trace) → Stands v T → n ≡ last T k
 last_told v n k is T st = is ∙ (ap (λ (u : Shown). last_of u.drawn k) st.is ∙ drawn_last T k)
 
@@ -209,6 +255,16 @@ pub gone_done : (R S : Store) (at slot generation : ℕ) (r : Result (Unit {0}) 
 gone_done R S at slot generation r is made ok =
     grows_gone R S at slot generation true (sym (gone_told slot generation (slice_get R.slots slot) r false is ok)) (ap show (sure r _ made ok))
 
+-- what is refused leaves the lists
+refused : {A E : Type 0} (r : Result A E) (P : Type 0) → OnErr r P → true ≡ is_err r → P
+refused (Ok a) P h e = cc
+refused (Err x) P h e = h
+
+pub gone_refused : (R S : Store) (at slot generation : ℕ) (r : Result (Unit {0}) SlotRefusal) → r ≡ gone_answer slot generation (slice_get R.slots slot) → OnErr r (S ≡ R)
+    → true ≡ is_err r → Grows (show R) (show S) (λ T. gone_items at slot generation T)
+gone_refused R S at slot generation r is same e =
+    grows_gone R S at slot generation false (sym (gone_told slot generation (slice_get R.slots slot) r true is e)) (ap show (refused r _ same e))
+
 pub good_done : {A E : Type 0} (R F : Store) (at : ℕ) (e : Event) (r : Result A E) → is_order e ≡ false → OnOk r (F ≡ event_in at e R) → false ≡ is_err r → IsGood R → IsGood F
 good_done R F at e r plain made ok good = subst (λ (U : Store). IsGood U) (sym (sure r _ made ok)) (good_event R at e (within_kept e R.slots R.pool plain good.pool) good)
 
@@ -217,32 +273,34 @@ pub recorded_slot : (o : Option Slot) (recorded : Option ℕ) → Some recorded 
 recorded_slot None recorded is = cc
 recorded_slot (Some s) recorded is = (s, refl, cc)
 
-happened_length : (at : ℕ) (rs : List Run) (v : Shown) → length (happened (overrun_items at rs v)) ≡ length (overrun_items at rs v)
-happened_length at [] v = refl
-happened_length at (r ∷ rs) v =
+moved_length : (at : ℕ) (rs : List Run) (v : Shown) → length (moved (overrun_items at rs v)) ≡ length (overrun_items at rs v)
+moved_length at [] v = refl
+moved_length at (r ∷ rs) v =
     let late = late_of at r v in
     let rest = overrun_items at rs (grown late v) in
-    let a = happened_length at rs (grown late v) in
+    let a = moved_length at rs (grown late v) in
     let b = late_length at r (first_with (runs r.number) v.slots) (find (is_of r.id) v.open_items) in
-    let d : length (happened (rest ++ late)) ≡ length (happened late) + length (happened rest) = ap (λ (hs : List Happening). length hs) (happened_append rest late) ∙ length-append (happened late) (happened rest) in
+    let d : length (moved (rest ++ late)) ≡ length (moved late) + length (moved rest) = ap (λ (ms : List Moved). length ms) (moved_append rest late) ∙ length-append (moved late) (moved rest) in
     let e : length (rest ++ late) ≡ length rest + length late = length-append rest late in
     omega (arith, a, b, d, e)
   where
-    late_by : (at : ℕ) (r : Run) (o : Open) (b : Bool) → length (happened (cond b (end_items at Overran (Some r) (Some o)) [])) ≡ length (cond b (end_items at Overran (Some r) (Some o)) [])
+    late_by : (at : ℕ) (r : Run) (o : Open) (b : Bool) → length (moved (cond b (end_items at Overran (Some r) (Some o)) [])) ≡ length (cond b (end_items at Overran (Some r) (Some o)) [])
     late_by at r o true = refl
     late_by at r o false = refl
 
-    late_length : (at : ℕ) (r : Run) (s : Option Slot) (o : Option Open) → length (happened (late_items at r s o)) ≡ length (late_items at r s o)
+    late_length : (at : ℕ) (r : Run) (s : Option Slot) (o : Option Open) → length (moved (late_items at r s o)) ≡ length (late_items at r s o)
     late_length at r None o = refl
     late_length at r (Some s) None = refl
     late_length at r (Some s) (Some o) = late_by at r o (is_none (recorded_of s.state) && is_late at r o.task)
 
-pub swept_told : (R S : Store) (at : ℕ) (told : List Happening) (n : ℕ) → IsMade (sweeps at R) R S told → n ≡ length told → (T : Trace) → Stands (show R) T
-    → (told ≡ happened (swept_ends at T)) × (n ≡ length (swept_ends at T))
-swept_told R S at told n made is T st =
+-- so many ends were noted as a sweep made
+pub swept_moved : (R S : Store) (at : ℕ) (before after : List Moved) (n : ℕ) → IsMade (sweeps at R) R S before after → n ≡ length after - length before → (T : Trace) → Stands (show R) T
+    → (n ≡ length (swept_ends at T)) × (after ≡ before ++ moved (swept_items at T))
+swept_moved R S at before after n made is T st =
     let items : sweeps at R ≡ swept_ends at T = ap (λ (v : Shown). overrun_items at v.live v) st.is in
-    let tells : told ≡ happened (swept_ends at T) = made.tells ∙ ap happened items in
-    (tells, is ∙ (ap (λ (hs : List Happening). length hs) made.tells ∙ (happened_length at (show R).live (show R) ∙ ap (λ (xs : Trace). length xs) items)))
+    let noted : after ≡ before ++ moved (swept_ends at T) = made.noted ∙ ap (λ (items : Trace). before ++ moved items) items in
+    let all : length after ≡ length before + length (moved (swept_ends at T)) = ap (λ (ms : List Moved). length ms) noted ∙ length-append before (moved (swept_ends at T)) in
+    (omega (arith, is, all, moved_length at (live T) (shown T)), unmoved before after (swept_ends at T) noted)
 
 pub drain_told : (v : Shown) (busy n : ℕ) → busy ≡ length v.open_items → n ≡ v.count → (T : Trace) → Stands v T → drain_by busy n ≡ drain_answer T
 drain_told v busy n is count T st = rw (is, count) (ap (λ (u : Shown). drain_by (length u.open_items) u.count) st.is)

@@ -19,12 +19,14 @@ pub mod Serving
 pub mod Slotting
 pub mod Soundness
 pub mod Apart
+pub mod Fires
 pub mod Sorting
 pub mod Coming
 pub mod Sweeping
 pub mod Showing
 pub mod Owing
 pub mod Making
+pub mod Newest
 pub mod Growing
 pub mod Losing
 pub mod Ordering

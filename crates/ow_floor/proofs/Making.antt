@@ -9,12 +9,11 @@ use Rattle.ow_records.specs.declared.ids.Id.{Id}
 use Rattle.ow_records.specs.Id.{same_id}
 use Rattle.ow_records.specs.declared.outcomes.Ending.{Ending}
 use Rattle.ow_records.specs.declared.outcomes.Ending.TheVariants.{Replied, Overran, Abandoned}
-use Rattle.ow_records.specs.Outcome.{outcome}
 use Rattle.ow_traits.specs.declared.replies.RunReply.{RunReply}
 use Rattle.ow_records.specs.declared.activations.Activation.{Activation}
 use Rattle.ow_floor.specs.declared.activations.Open.{Open}
-use Rattle.ow_floor.specs.declared.answers.Happening.{Happening}
-use Rattle.ow_floor.specs.declared.answers.Happening.TheVariants as happenings
+use Rattle.ow_floor.specs.declared.moves.Moved.{Moved}
+use Rattle.ow_floor.specs.declared.moves.Moved.TheVariants as moves
 use Rattle.ow_floor.specs.declared.by_id.OpenPlace.{OpenPlace}
 use Rattle.ow_floor.specs.declared.lists.Spot.{Spot}
 use Rattle.ow_floor.specs.declared.lists.Berth.{Berth}
@@ -26,7 +25,7 @@ use Rattle.ow_slots.specs.State.{IsUnrecorded, recorded_of, runs}
 use Rattle.ow_lifecycle.specs.Life as lives
 use Rattle.ow_floor.specs.Trace.{Trace, overrun_of, record_of}
 use Rattle.ow_floor.specs.Growth.{grown}
-use Rattle.ow_floor.specs.Calls.{abandoned_items, end_items, ended_by, happened, happened_by, overrun_items, sorted_by_id}
+use Rattle.ow_floor.specs.Calls.{abandoned_items, end_items, ended_by, moved, moved_by, overrun_items, sorted_by_id}
 use Rattle.ow_floor.specs.Store.{IsGood, IsSpot, Store, ended_in, event_in, opens, run_in, show, there}
 use Rattle.ow_floor.specs.Ends.{AreAbandoned, ArePlaced, IsAbandonedAt, IsAbandoning, IsByIds, IsEndedAt, IsEndedRun, IsLateEnd, IsLateSpot, IsLeft, IsMade, IsOverrunAt, IsSweeping, IsSweptOne, abandons, late_at, placed, sweeps}
 use Rattle.ow_floor.proofs.Alters.{same_id_refl}
@@ -38,9 +37,14 @@ use Rattle.ow_floor.proofs.Showing.{good_ended, good_event, show_ended, show_ove
 use Rattle.ow_floor.proofs.Tallies.{eq_of}
 use Rattle.ow_floor.proofs.Sorting.{placed_by_ids}
 
-pub happened_append : (xs ys : Trace) → happened (xs ++ ys) ≡ happened ys ++ happened xs
-happened_append [] ys = sym (append-nil (happened ys))
-happened_append (x ∷ xs) ys = ap (λ zs. zs ++ happened_by x) (happened_append xs ys) ∙ append_assoc (happened ys) (happened xs) (happened_by x)
+pub moved_append : (xs ys : Trace) → moved (xs ++ ys) ≡ moved ys ++ moved xs
+moved_append [] ys = sym (append-nil (moved ys))
+moved_append (x ∷ xs) ys = ap (λ zs. zs ++ moved_by x) (moved_append xs ys) ∙ append_assoc (moved ys) (moved xs) (moved_by x)
+
+-- what moved was noted of the task that stood there
+noted_of : (at : ℕ) (ending : Ending) (run : Option Run) (a b : Activation) (before after : List Moved) → a ≡ b → after ≡ before ++ moves.Ended (record_of (ended_by at ending run a)) ∷ []
+    → after ≡ before ++ moves.Ended (record_of (ended_by at ending run b)) ∷ []
+noted_of at ending run a b before after same is = is ∙ ap (λ (x : Activation). before ++ moves.Ended (record_of (ended_by at ending run x)) ∷ []) same
 
 -- ---- one end
 
@@ -49,9 +53,9 @@ same_task R p place spot a here =
     let e : Some a ≡ Some spot.item.task = sym here ∙ spot.task None in
     cc
 
-pub ended_made : (at : ℕ) (ending : Ending) (place : ℕ) (run : Option Run) (id : Id) (R S : Store) (h : Happening) → overrun_of ending run at ≡ None → IsGood R → (spot : IsSpot (is_of id) R.spots R.tasks place)
-    → IsEndedAt at ending run place R S h → IsMade (end_items at ending run (Some spot.item)) R S (h ∷ [])
-ended_made at ending place run id R S h plain good spot x =
+pub ended_made : (at : ℕ) (ending : Ending) (place : ℕ) (run : Option Run) (id : Id) (R S : Store) (before after : List Moved) → overrun_of ending run at ≡ None → IsGood R → (spot : IsSpot (is_of id) R.spots R.tasks place)
+    → IsEndedAt at ending run place R S before after → IsMade (end_items at ending run (Some spot.item)) R S before after
+ended_made at ending place run id R S before after plain good spot x =
     let task = same_task R (is_of id) place spot x.task x.here in
     let e = ended_by at ending run spot.item.task in
     let now : S ≡ ended_in at place (record_of e) R = x.now ∙ ap (λ a. ended_in at place (record_of (ended_by at ending run a)) R) task in
@@ -60,46 +64,45 @@ ended_made at ending place run id R S h plain good spot x =
       shows = ap show now ∙ show_ended R place id e same plain spot;
       good = subst (λ (U : Store). IsGood U) (sym now) (good_ended R (is_of id) at place (record_of e) spot good);
       runs = ap (λ (U : Store). U.runs) now;
-      tells = ap (λ (y : Happening). y ∷ []) (x.told ∙ ap (λ (a : Activation). happenings.Recorded a.id (outcome ending a.action.limits).code) task);
+      noted = noted_of at ending run x.task spot.item.task before after task x.noted;
     }
 
 -- ---- replies
 
-pub run_ended : (at : ℕ) (r : Run) (reply : RunReply) (place : ℕ) (R S : Store) (h : Happening) → IsGood R → IsSpot (is_of r.id) R.spots R.tasks place
-    → IsEndedAt at (Replied reply) (Some r) place R S h → IsEndedRun at r reply R S (h ∷ [])
-run_ended at r reply place R S h good spot x =
-    let made = ended_made at (Replied reply) place (Some r) r.id R S h refl good spot x in
+pub run_ended : (at : ℕ) (r : Run) (reply : RunReply) (place : ℕ) (R S : Store) (before after : List Moved) → IsGood R → IsSpot (is_of r.id) R.spots R.tasks place
+    → IsEndedAt at (Replied reply) (Some r) place R S before after → IsEndedRun at r reply R S before after
+run_ended at r reply place R S before after good spot x =
+    let made = ended_made at (Replied reply) place (Some r) r.id R S before after refl good spot x in
     record {
       shows = rw spot.found made.shows;
       good = made.good;
       runs = made.runs;
       slots = ap (λ (U : Store). U.slots) x.now;
-      tells = rw spot.found made.tells;
+      noted = rw spot.found made.noted;
     }
 
-pub run_late : (at : ℕ) (r : Run) (reply : RunReply) (R : Store) → IsGood R → find (is_of r.id) (opens R.spots R.tasks) ≡ None → IsEndedRun at r reply R R []
-run_late at r reply R good none = record { shows = rw none refl; good = good; runs = refl; slots = refl; tells = rw none refl }
+pub run_late : (at : ℕ) (r : Run) (reply : RunReply) (R : Store) (before : List Moved) → IsGood R → find (is_of r.id) (opens R.spots R.tasks) ≡ None → IsEndedRun at r reply R R before before
+run_late at r reply R before good none = record { shows = rw none refl; good = good; runs = refl; slots = refl; noted = rw none (sym (append-nil before)) }
 
 -- ---- sweeps
 
-pub made_none : (R : Store) → IsGood R → IsMade [] R R []
-made_none R good = record { shows = refl; good = good; runs = refl; tells = refl }
+pub made_none : (R : Store) (before : List Moved) → IsGood R → IsMade [] R R before before
+made_none R before good = record { shows = refl; good = good; runs = refl; noted = sym (append-nil before) }
 
-pub swept_none : (at : ℕ) (R : Store) (told : List Happening) → IsGood R → IsSweptOne at None R R told told
-swept_none at R told good = ([], made_none R good, sym (append-nil told))
+pub swept_none : (at : ℕ) (R : Store) (before : List Moved) → IsGood R → IsSweptOne at None R R before before
+swept_none at R before good = made_none R before good
 
-pub swept_in_time : (at : ℕ) (b : Berth) (R : Store) (told : List Happening) → IsGood R → IsLateEnd at b.run R None → IsSweptOne at (Some b) R R told told
-swept_in_time at b R told good late =
-    ([], subst (λ (items : Trace). IsMade items R R []) (sym late) (made_none R good), sym (append-nil told))
+pub swept_in_time : (at : ℕ) (b : Berth) (R : Store) (before : List Moved) → IsGood R → IsLateEnd at b.run R None → IsSweptOne at (Some b) R R before before
+swept_in_time at b R before good late = subst (λ (items : Trace). IsMade items R R before before) (sym late) (made_none R before good)
 
 unrecorded : (o : Option Slot) → IsThere IsUnrecorded o → (s : Slot) × (o ≡ Some s) × (is_none (recorded_of s.state) ≡ true)
 unrecorded None h = absurd h
 unrecorded (Some s) h = (s, refl, rw h refl)
 
 -- what overran has ended, and is recorded so in the slot of its run
-pub overran_made : (at : ℕ) (r : Run) (place : ℕ) (R S : Store) (h : Happening) → IsGood R → (spot : IsSpot (is_of r.id) R.spots R.tasks place) → IsOverrunAt at r place R S h
-    → IsMade (end_items at Overran (Some r) (Some spot.item)) R S (h ∷ [])
-overran_made at r place R S h good spot x =
+pub overran_made : (at : ℕ) (r : Run) (place : ℕ) (R S : Store) (before after : List Moved) → IsGood R → (spot : IsSpot (is_of r.id) R.spots R.tasks place) → IsOverrunAt at r place R S before after
+    → IsMade (end_items at Overran (Some r) (Some spot.item)) R S before after
+overran_made at r place R S before after good spot x =
     let task = same_task R (is_of r.id) place spot x.ended.task x.ended.here in
     let e = ended_by at Overran (Some r) spot.item.task in
     let middle : x.middle ≡ ended_in at place (record_of e) R = x.ended.now ∙ ap (λ a. ended_in at place (record_of (ended_by at Overran (Some r) a)) R) task in
@@ -110,16 +113,16 @@ overran_made at r place R S h good spot x =
       good = subst (λ (U : Store). IsGood U) (sym now)
           (good_event _ at (lives.Overran r.number at) (within_kept (lives.Overran r.number at) R.slots R.pool refl good.pool) (good_ended R (is_of r.id) at place (record_of e) spot good));
       runs = ap (λ (U : Store). U.runs) now;
-      tells = ap (λ (y : Happening). y ∷ []) (x.ended.told ∙ ap (λ (a : Activation). happenings.Recorded a.id (outcome Overran a.action.limits).code) task);
+      noted = noted_of at Overran (Some r) x.ended.task spot.item.task before after task x.ended.noted;
     }
 
-pub swept_late : (at : ℕ) (b : Berth) (place : ℕ) (R S : Store) (h : Happening) (told after : List Happening) → IsGood R → IsLateSpot at b.run R place
-    → IsOverrunAt at b.run place R S h → after ≡ told ++ h ∷ [] → IsSweptOne at (Some b) R S told after
-swept_late at b place R S h told after good late x is =
+pub swept_late : (at : ℕ) (b : Berth) (place : ℕ) (R S : Store) (before after : List Moved) → IsGood R → IsLateSpot at b.run R place
+    → IsOverrunAt at b.run place R S before after → IsSweptOne at (Some b) R S before after
+swept_late at b place R S before after good late x =
     let spot = late.spot in
     let slot = unrecorded (first_with (runs b.run.number) R.slots) late.unrecorded in
     let items : late_at at (Some b) R ≡ end_items at Overran (Some b.run) (Some spot.item) = rw (slot.1, spot.found) (rw (slot.2, late.late) refl) in
-    (h ∷ [], subst (λ (items : Trace). IsMade items R S (h ∷ [])) (sym items) (overran_made at b.run place R S h good spot x), is)
+    subst (λ (items : Trace). IsMade items R S before after) (sym items) (overran_made at b.run place R S before after good spot x)
 
 overrun_on : (at : ℕ) (c : Option Berth) (cells : List (Option Berth)) (R : Store)
     → overrun_items at (there run_in (c ∷ cells)) (show R) ≡ overrun_items at (there run_in cells) (grown (late_at at c R) (show R)) ++ late_at at c R
@@ -127,41 +130,40 @@ overrun_on at None cells R = sym (append-nil (overrun_items at (there run_in cel
 overrun_on at (Some b) cells R = refl
 
 -- one run further
-pub sweeps_on : (at : ℕ) (old now new : Store) (c : Option Berth) (cells : List (Option Berth)) (told after : List Happening)
-    → IsSweeping at old now (c ∷ cells) told → IsSweptOne at c now new told after → IsSweeping at old new cells after
-sweeps_on at old now new c cells told after before one =
-    let made = one.1 in
+pub sweeps_on : (at : ℕ) (old now new : Store) (c : Option Berth) (cells : List (Option Berth)) (start told after : List Moved)
+    → IsSweeping at old now (c ∷ cells) start told → IsSweptOne at c now new told after → IsSweeping at old new cells start after
+sweeps_on at old now new c cells start told after before made =
     let late = late_at at c now in
     let rest : Shown → Trace = λ v. overrun_items at (there run_in cells) v in
     let both = overrun_on at c cells now in
     record {
       shows = ap (λ v. grown (rest v) v) made.shows ∙ (sym (grown_append (rest (grown late (show now))) late (show now)) ∙ (ap (λ items. grown items (show now)) (sym both) ∙ before.shows));
-      tells =
-          ap (λ (hs : List Happening). hs ++ happened (rest (show new))) (one.2 ∙ ap (λ (hs : List Happening). told ++ hs) made.tells)
-          ∙ (append_assoc told (happened late) (happened (rest (show new)))
-          ∙ (ap (λ v. told ++ (happened late ++ happened (rest v))) made.shows
-          ∙ (ap (λ (hs : List Happening). told ++ hs) (sym (happened_append (rest (grown late (show now))) late) ∙ ap happened (sym both)) ∙ before.tells)));
+      noted =
+          ap (λ (ms : List Moved). ms ++ moved (rest (show new))) made.noted
+          ∙ (append_assoc told (moved late) (moved (rest (show new)))
+          ∙ (ap (λ v. told ++ (moved late ++ moved (rest v))) made.shows
+          ∙ (ap (λ (ms : List Moved). told ++ ms) (sym (moved_append (rest (grown late (show now))) late) ∙ ap moved (sym both)) ∙ before.noted)));
       runs = made.runs ∙ before.runs;
       good = made.good;
     }
 
-pub sweeping_start : (at : ℕ) (R : Store) → IsGood R → IsSweeping at R R R.runs []
-sweeping_start at R good = record { shows = refl; tells = refl; runs = refl; good = good }
+pub sweeping_start : (at : ℕ) (R : Store) (start : List Moved) → IsGood R → IsSweeping at R R R.runs start start
+sweeping_start at R start good = record { shows = refl; noted = refl; runs = refl; good = good }
 
-pub sweeping_end : (at : ℕ) (old now : Store) (told : List Happening) → IsSweeping at old now [] told → IsMade (sweeps at old) old now told
-sweeping_end at old now told done = record { shows = done.shows; good = done.good; runs = done.runs; tells = sym (append-nil told) ∙ done.tells }
+pub sweeping_end : (at : ℕ) (old now : Store) (start told : List Moved) → IsSweeping at old now [] start told → IsMade (sweeps at old) old now start told
+sweeping_end at old now start told done = record { shows = done.shows; good = done.good; runs = done.runs; noted = sym (append-nil told) ∙ done.noted }
 
 -- the run at this place
-pub sweeps_at : (at : ℕ) (old now new : Store) (i : ℕ) (told after : List Happening) → i < length old.runs
-    → IsSweeping at old now (drop i old.runs) told → IsSweptOne at (get_or now.runs i None) now new told after → IsSweeping at old new (drop (i + 1) old.runs) after
-sweeps_at at old now new i told after lt before one =
+pub sweeps_at : (at : ℕ) (old now new : Store) (i : ℕ) (start told after : List Moved) → i < length old.runs
+    → IsSweeping at old now (drop i old.runs) start told → IsSweptOne at (get_or now.runs i None) now new told after → IsSweeping at old new (drop (i + 1) old.runs) start after
+sweeps_at at old now new i start told after lt before one =
     let cells : drop i old.runs ≡ get_or old.runs i None ∷ drop (suc i) old.runs = drop-cons old.runs i None lt in
     let here : get_or now.runs i None ≡ get_or old.runs i None = ap (λ (rs : List (Option Berth)). get_or rs i None) before.runs in
     let next : suc i ≡ i + 1 = omega arith in
-    let done = sweeps_on at old now new (get_or old.runs i None) (drop (suc i) old.runs) told after
-    (subst (λ (cs : List (Option Berth)). IsSweeping at old now cs told) cells before)
+    let done = sweeps_on at old now new (get_or old.runs i None) (drop (suc i) old.runs) start told after
+    (subst (λ (cs : List (Option Berth)). IsSweeping at old now cs start told) cells before)
     (subst (λ (c : Option Berth). IsSweptOne at c now new told after) here one) in
-    subst (λ n. IsSweeping at old new (drop n old.runs) after) next done
+    subst (λ n. IsSweeping at old new (drop n old.runs) start after) next done
 
 -- ---- openings
 
@@ -239,15 +241,15 @@ placed_left ts k o (p ∷ ps) (x ∷ os) here all other = (all.0, elsewhere ∙ 
     elsewhere : get_or (slice_set ts k None) p.place None ≡ get_or ts p.place None
     elsewhere = get_or-set_other ts k p.place None None different
 
-pub abandoning_start : (at : ℕ) (R : Store) (ps : List OpenPlace) → IsGood R → IsByIds R.tasks ps → IsAbandoning at R R ps []
-abandoning_start at R ps good sorted = record {
+pub abandoning_start : (at : ℕ) (R : Store) (ps : List OpenPlace) (start : List Moved) → IsGood R → IsByIds R.tasks ps → IsAbandoning at R R ps start start
+abandoning_start at R ps start good sorted = record {
   ends = λ apart. record {
     left = sorted_by_id (opens R.spots R.tasks);
     placed = placed_by_ids R.tasks ps (opens R.spots R.tasks) (opens_placed R good) apart sorted;
     others = distinct_sorted (opens R.spots R.tasks) apart;
     apart = apart;
     shows = refl;
-    tells = refl;
+    noted = refl;
   };
   size = refl;
   runs = refl;
@@ -271,11 +273,11 @@ place_within ts ps i d sorted lt =
     all_at (λ p. p.place < length ts) ps i d (recursion_from_All _ ps all) lt
 
 -- what stands at the first of these places ends
-left_on : (at : ℕ) (old now new : Store) (p : OpenPlace) (ps : List OpenPlace) (told after : List Happening) (h : Happening) (os : List Open) → IsGood now → IsEndedAt at Abandoned None p.place now new h
-    → after ≡ told ++ h ∷ [] → (left : IsLeft at old now (p ∷ ps) told) → left.left ≡ os → IsLeft at old new ps after
+left_on : (at : ℕ) (old now new : Store) (p : OpenPlace) (ps : List OpenPlace) (start told after : List Moved) (os : List Open) → IsGood now → IsEndedAt at Abandoned None p.place now new told after
+    → (left : IsLeft at old now (p ∷ ps) start told) → left.left ≡ os → IsLeft at old new ps start after
 unfolding IsDistinct
-left_on at old now new p ps told after h [] good x is left e = absurd (subst (λ (os : List Open). ArePlaced now.tasks (p ∷ ps) os) e left.placed)
-left_on at old now new p ps told after h (o ∷ os) good x is left e =
+left_on at old now new p ps start told after [] good x left e = absurd (subst (λ (os : List Open). ArePlaced now.tasks (p ∷ ps) os) e left.placed)
+left_on at old now new p ps start told after (o ∷ os) good x left e =
     let all : ArePlaced now.tasks (p ∷ ps) (o ∷ os) = subst (λ (zs : List Open). ArePlaced now.tasks (p ∷ ps) zs) e left.placed in
     let others : IsDistinct same_open (o ∷ os) = subst (λ (zs : List Open). IsDistinct same_open zs) e left.others in
     let there : Some x.task ≡ Some o.task = sym x.here ∙ all.1 in
@@ -285,7 +287,7 @@ left_on at old now new p ps told after h (o ∷ os) good x is left e =
     let cut = opens_cut now.spots now.tasks p.place o.task good.paired all.1 left.apart in
     let last : Trace = end_items at Abandoned None (Some o) in
     let made : show new ≡ grown last (show now) = ap show now_is ∙ rw cut refl in
-    let tells : h ∷ [] ≡ happened last = ap (λ (y : Happening). y ∷ []) (x.told ∙ ap (λ (a : Activation). happenings.Recorded a.id (outcome Abandoned a.action.limits).code) task) in
+    let noted : after ≡ told ++ moved last = noted_of at Abandoned None x.task o.task told after task x.noted in
     let items : abandoned_items at left.left ≡ abandoned_items at os ++ last = ap (abandoned_items at) e in
     record {
       left = os;
@@ -295,37 +297,37 @@ left_on at old now new p ps told after h (o ∷ os) good x is left e =
       shows =
           ap (grown (abandoned_items at os)) made
           ∙ (sym (grown_append (abandoned_items at os) last (show now)) ∙ (ap (λ items. grown items (show now)) (sym items) ∙ left.shows));
-      tells =
-          ap (λ (hs : List Happening). hs ++ happened (abandoned_items at os)) (is ∙ ap (λ (hs : List Happening). told ++ hs) tells)
-          ∙ (append_assoc told (happened last) (happened (abandoned_items at os))
-          ∙ (ap (λ (hs : List Happening). told ++ hs) (sym (happened_append (abandoned_items at os) last) ∙ ap happened (sym items)) ∙ left.tells));
+      noted =
+          ap (λ (ms : List Moved). ms ++ moved (abandoned_items at os)) noted
+          ∙ (append_assoc told (moved last) (moved (abandoned_items at os))
+          ∙ (ap (λ (ms : List Moved). told ++ ms) (sym (moved_append (abandoned_items at os) last) ∙ ap moved (sym items)) ∙ left.noted));
     }
 
 -- one place further
-pub abandons_at : (at : ℕ) (old now new : Store) (ps : List OpenPlace) (i : ℕ) (d : OpenPlace) (told after : List Happening) → i < length ps → IsGood new
-    → IsAbandonedAt at (get_or ps i d).place now new told after → IsAbandoning at old now (drop i ps) told → IsAbandoning at old new (drop (i + 1) ps) after
-abandons_at at old now new ps i d told after lt good one before =
-    let x = one.1 in
+pub abandons_at : (at : ℕ) (old now new : Store) (ps : List OpenPlace) (i : ℕ) (d : OpenPlace) (start told after : List Moved) → i < length ps → IsGood new
+    → IsAbandonedAt at (get_or ps i d).place now new told after → IsAbandoning at old now (drop i ps) start told → IsAbandoning at old new (drop (i + 1) ps) start after
+abandons_at at old now new ps i d start told after lt good x before =
     let cells : drop i ps ≡ get_or ps i d ∷ drop (suc i) ps = drop-cons ps i d lt in
     let next : suc i ≡ i + 1 = omega arith in
-    subst (λ n. IsAbandoning at old new (drop n ps) after) next
+    subst (λ n. IsAbandoning at old new (drop n ps) start after) next
     record {
       ends = λ apart.
-          let left = subst (λ (qs : List OpenPlace). IsLeft at old now qs told) cells (before.ends apart) in
-          left_on at old now new (get_or ps i d) (drop (suc i) ps) told after one.0 left.left before.good x one.2 left refl;
+          let left = subst (λ (qs : List OpenPlace). IsLeft at old now qs start told) cells (before.ends apart) in
+          left_on at old now new (get_or ps i d) (drop (suc i) ps) start told after left.left before.good x left refl;
       size = ap (λ (U : Store). length U.tasks) x.now ∙ (length-set now.tasks (get_or ps i d).place None ∙ before.size);
       runs = ap (λ (U : Store). U.runs) x.now ∙ before.runs;
       good = good;
     }
 
-end_by : (at : ℕ) (old now : Store) (told : List Happening) (os : List Open) → (left : IsLeft at old now [] told) → left.left ≡ os → now.runs ≡ old.runs → IsGood now → IsMade (abandons at old) old now told
-end_by at old now told [] left e runs good = record {
+end_by : (at : ℕ) (old now : Store) (start told : List Moved) (os : List Open) → (left : IsLeft at old now [] start told) → left.left ≡ os → now.runs ≡ old.runs → IsGood now
+    → IsMade (abandons at old) old now start told
+end_by at old now start told [] left e runs good = record {
   shows = ap (λ os. grown (abandoned_items at os) (show now)) (sym e) ∙ left.shows;
   good = good;
   runs = runs;
-  tells = sym (append-nil told) ∙ (ap (λ os. told ++ happened (abandoned_items at os)) (sym e) ∙ left.tells);
+  noted = sym (append-nil told) ∙ (ap (λ os. told ++ moved (abandoned_items at os)) (sym e) ∙ left.noted);
 }
-end_by at old now told (o ∷ os) left e runs good = absurd (subst (λ (zs : List Open). ArePlaced now.tasks [] zs) e left.placed)
+end_by at old now start told (o ∷ os) left e runs good = absurd (subst (λ (zs : List Open). ArePlaced now.tasks [] zs) e left.placed)
 
 none_left : (ps : List OpenPlace) (n : ℕ) → length ps ≤ n → drop n ps ≡ []
 none_left [] zero le = refl
@@ -333,7 +335,7 @@ none_left [] (suc n) le = refl
 none_left (p ∷ ps) zero le = absurd (omega (arith, le))
 none_left (p ∷ ps) (suc n) le = none_left ps n (omega (arith, le))
 
-pub abandoning_end : (at : ℕ) (old now : Store) (ps : List OpenPlace) (n : ℕ) (told : List Happening) → length ps ≤ n → IsAbandoning at old now (drop n ps) told → AreAbandoned at old now told
-abandoning_end at old now ps n told le done apart =
-    let left = subst (λ (qs : List OpenPlace). IsLeft at old now qs told) (none_left ps n le) (done.ends apart) in
-    end_by at old now told left.left left refl done.runs done.good
+pub abandoning_end : (at : ℕ) (old now : Store) (ps : List OpenPlace) (n : ℕ) (start told : List Moved) → length ps ≤ n → IsAbandoning at old now (drop n ps) start told → AreAbandoned at old now start told
+abandoning_end at old now ps n start told le done apart =
+    let left = subst (λ (qs : List OpenPlace). IsLeft at old now qs start told) (none_left ps n le) (done.ends apart) in
+    end_by at old now start told left.left left refl done.runs done.good

@@ -17,7 +17,7 @@ use Rattle.ow_floor.specs.declared.activations.Open.{Open}
 use Rattle.ow_floor.specs.declared.answers.Container.{Container}
 use Rattle.ow_floor.specs.declared.runs.Run.{Run}
 use Rattle.ow_floor.specs.View.{Shown, is_of, waits}
-use Rattle.ow_floor.specs.Trace.{Trace, Item, Opened, Resumed, Accepted, Ordered, Prewarming, Removed, Begun, Answered, Lost, Gone, Ended, Swept, Drained, Reopened, event_of, live, overrun_of, run_count, shown, slots, slots_by}
+use Rattle.ow_floor.specs.Trace.{Trace, Item, Opened, Resumed, Accepted, Ordered, Prewarming, Removed, Begun, Answered, Lost, Gone, Ended, Drawn, Fired, Swept, Drained, Reopened, event_of, live, overrun_of, run_count, shown, slots, slots_by}
 use Rattle.ow_floor.specs.Growth.{AreRight, IsRight, grown}
 use Rattle.ow_floor.specs.Laws.{IsSound}
 use Rattle.ow_floor.specs.Calls.{RaisesLittle, abandoned_items, begins, end_items, goes, is_late, late_items, late_of, loses, overrun_items, reply_items, busy_run, order_items, place_on, sorted_by_id}
@@ -46,6 +46,8 @@ item_rises (Answered run alive at) slots = raises (events.Answered run alive at)
 item_rises (Lost run at) slots = raises (events.Lost run) slots
 item_rises (Gone slot generation at) slots = raises (events.Gone slot generation) slots
 item_rises (Ended e) slots = let h = ended_rises e.ending e.run e.at slots in omega (arith, h)
+item_rises (Drawn id at) slots = omega arith
+item_rises (Fired r) slots = omega arith
 item_rises (Swept at) slots = omega arith
 item_rises (Drained at) slots = omega arith
 item_rises (Reopened at) slots = raises events.Reopened slots
@@ -130,6 +132,8 @@ pub raises_little : RaisesLittle
 raises_little = record {
   resume = λ counts rs. refl;
   accept = λ at plan. refl;
+  draw = λ at id. refl;
+  fire = λ r. refl;
   next = λ at T. rises_order (place_on (shown T)) (find waits (shown T).open_items) at (shown T);
   answered = λ at run reply T. rises_reply at run reply (shown T) (busy_run run (shown T));
   sweep = λ at T. let h = rises_overrun at (live T) (shown T) in omega (arith, h);

@@ -18,3 +18,8 @@ on_ok (Err e) P h = tt
 pub on_value : {A E : Type 0} (r : Result A E) (P : A → Type 0) (a : A) → IfOk r (λ x. x ≡ a) → P a → IfOk r P
 on_value (Ok x) P a is h = subst P (sym is) h
 on_value (Err e) P a is h = tt
+
+-- what holds on success where something else does
+pub on_more : {A E : Type 0} (r : Result A E) (P Q : Type 0) → (P → Q) → OnOk r P → OnOk r Q
+on_more (Ok a) P Q f h = f h
+on_more (Err e) P Q f h = tt

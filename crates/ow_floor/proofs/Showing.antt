@@ -20,10 +20,10 @@ use Rattle.ow_floor.specs.declared.lists.Berth.{Berth}
 use Rattle.ow_floor.specs.declared.lists.Spot.{Spot}
 use Rattle.ow_floor.specs.declared.runs.Run.{Run}
 use Rattle.ow_floor.specs.View.{begun, is_number, is_of, waits, with_state}
-use Rattle.ow_floor.specs.Trace.{End, Accepted, Answered, Drained, Ended, Opened, Ordered, Prewarming, Removed, Reopened, Resumed, Swept, overrun_of, record_of, slot_count}
+use Rattle.ow_floor.specs.Trace.{End, Accepted, Answered, Drained, Drawn, Ended, Fired, Opened, Ordered, Prewarming, Removed, Reopened, Resumed, Swept, overrun_of, record_of, slot_count}
 use Rattle.ow_floor.specs.Growth.{grow}
 use Rattle.ow_floor.specs.Ends.{IsRunBegun, IsRunLost}
-use Rattle.ow_floor.specs.Store.{Store, IsCell, IsGood, IsSpot, accepted_in, answered_in, at_moment, counted_in, drained_in, ended_in, event_in, freed_in, empty_of, opens, ordered_in, prewarmed_in, reopened_in, resumed_in, run_in, run_put, show, started_in, there}
+use Rattle.ow_floor.specs.Store.{Store, IsCell, IsGood, IsSpot, accepted_in, answered_in, at_moment, counted_in, drained_in, drawn_in, ended_in, event_in, fired_in, freed_in, empty_of, opens, ordered_in, prewarmed_in, reopened_in, resumed_in, run_in, run_put, show, started_in, there}
 use Rattle.ow_floor.proofs.Firsts.{remove_none, update_none}
 use Rattle.ow_floor.proofs.Serving.{within_kept}
 use Rattle.ow_floor.proofs.Slotting.{slots_opened, vacant_held}
@@ -89,6 +89,41 @@ good_accepted R a good =
       paired = two ∙ (ap (λ n. n + 1) good.paired ∙ sym one);
       opened = omega (arith, one, good.opened);
       number = rw (opens_push R.spots R.tasks (record { state = Waiting }) a good.paired) (omega (arith, one, three, good.number));
+      owed = good.owed;
+      pool = good.pool;
+      wants = good.wants;
+    }
+
+-- ---- fires
+
+opens_dead : (ss : List Spot) (ts : List (Option Activation)) (s : Spot) → length ts ≡ length ss → opens (ss ++ s ∷ []) (ts ++ None ∷ []) ≡ opens ss ts
+opens_dead [] [] s same = refl
+opens_dead [] (t ∷ ts) s same = absurd (omega (arith, same))
+opens_dead (x ∷ ss) [] s same = absurd (omega (arith, same))
+opens_dead (x ∷ ss) (None ∷ ts) s same = opens_dead ss ts s (omega (arith, same))
+opens_dead (x ∷ ss) (Some b ∷ ts) s same = ap (λ (os : List Open). record { task = b; state = x.state } ∷ os) (opens_dead ss ts s (omega (arith, same)))
+
+pub show_drawn : (R : Store) (at : ℕ) (id : Id) → show (drawn_in at id R) ≡ grow (Drawn id at) (show R)
+show_drawn R at id = refl
+
+pub good_drawn : (R : Store) (at : ℕ) (id : Id) → IsGood R → IsGood (drawn_in at id R)
+good_drawn R at id good = record { paired = good.paired; opened = good.opened; number = good.number; owed = good.owed; pool = good.pool; wants = good.wants }
+
+pub show_fired : (R : Store) (r : Record) → IsGood R → show (fired_in r R) ≡ grow (Fired r) (show R)
+show_fired R r good =
+    let len : length (R.spots ++ record { state = Waiting } ∷ []) ≡ length R.spots + 1 = length-append R.spots (record { state = Waiting } ∷ []) in
+    let count : length (R.spots ++ record { state = Waiting } ∷ []) - R.marks.opened ≡ length R.spots - R.marks.opened + 1 = ap (λ n. n - R.marks.opened) len ∙ more R.marks.opened (length R.spots) good.opened in
+    rw (opens_dead R.spots R.tasks (record { state = Waiting }) good.paired, count) refl
+
+pub good_fired : (R : Store) (r : Record) → IsGood R → IsGood (fired_in r R)
+good_fired R r good =
+    let one : length (R.spots ++ record { state = Waiting } ∷ []) ≡ length R.spots + 1 = length-append R.spots (record { state = Waiting } ∷ []) in
+    let two : length (R.tasks ++ None ∷ []) ≡ length R.tasks + 1 = length-append R.tasks (None ∷ []) in
+    let three : length (R.ended ++ r ∷ []) ≡ length R.ended + 1 = length-append R.ended (r ∷ []) in
+    record {
+      paired = two ∙ (ap (λ n. n + 1) good.paired ∙ sym one);
+      opened = omega (arith, one, good.opened);
+      number = rw (opens_dead R.spots R.tasks (record { state = Waiting }) good.paired) (omega (arith, one, three, good.number));
       owed = good.owed;
       pool = good.pool;
       wants = good.wants;
@@ -257,7 +292,7 @@ opened_store pool wants = record {
   resumed = [];
   drawn = [];
   blocking = [];
-  marks = record { latest = 0; opened = 0; owed = 0; draining = false };
+  marks = record { latest = 0; opened = 0; owed = 0; draining = false; firing = None };
   pool = pool;
   wants = wants;
 }

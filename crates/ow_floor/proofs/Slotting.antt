@@ -19,7 +19,7 @@ use Rattle.ow_lifecycle.proofs.Standing.{runs_stand}
 use Rattle.ow_floor.specs.declared.answers.Container.{Container}
 use Rattle.ow_floor.specs.declared.runs.Run.{Run}
 use Rattle.ow_floor.specs.View.{begun, is_number, remove_first}
-use Rattle.ow_floor.specs.Trace.{Item, Trace, Opened, Resumed, Accepted, Ordered, Prewarming, Removed, Begun, Answered, Lost, Gone, Ended, Swept, Drained, Reopened, event_of, life, life_by, live, live_run, overrun_of, pool_of, run_count, shown, slot_count, slots, slots_by}
+use Rattle.ow_floor.specs.Trace.{Item, Trace, Opened, Resumed, Accepted, Ordered, Prewarming, Removed, Begun, Answered, Lost, Gone, Ended, Drawn, Fired, Swept, Drained, Reopened, event_of, life, life_by, live, live_run, overrun_of, pool_of, run_count, shown, slot_count, slots, slots_by}
 use Rattle.ow_floor.specs.Growth.{IsEventRight, IsRight}
 use Rattle.ow_floor.specs.Laws.{AreSlotsSound, StandInSlots, bearers, tally}
 use Rattle.ow_floor.proofs.Firsts.{find_passes, remove_none, tally_none, tally_push, tally_removed, tally_some, tally_updated}
@@ -52,6 +52,8 @@ counted (item ∷ T) = of_item item (counted T)
     of_item (Lost run at) e = e
     of_item (Gone slot generation at) e = e
     of_item (Ended end) e = overrun_counts end.ending end.run end.at (life T) ∙ e
+    of_item (Drawn id at) e = e
+    of_item (Fired r) e = e
     of_item (Swept at) e = e
     of_item (Drained at) e = e
     of_item (Reopened at) e = e
@@ -193,6 +195,8 @@ slotted_item (Gone slot generation at) T right sound =
     slotted_of (event_of (Gone slot generation at)) T (Gone slot generation at ∷ T) refl refl right.1 sound (λ m. sound.busy m ∙ sym (busies_gone m slot generation (slots T)))
 slotted_item (Ended e) T right sound =
     slotted_of (event_of (Ended e)) T (Ended e ∷ T) refl refl right.1 sound (λ m. sound.busy m ∙ sym (busies_ended e.ending e.run e.at m (slots T)))
+slotted_item (Drawn id at) T right sound = slotted_of None T (Drawn id at ∷ T) refl refl tt sound sound.busy
+slotted_item (Fired r) T right sound = slotted_of None T (Fired r ∷ T) refl refl tt sound sound.busy
 slotted_item (Swept at) T right sound = slotted_of None T (Swept at ∷ T) refl refl tt sound sound.busy
 slotted_item (Drained at) T right sound = slotted_of None T (Drained at ∷ T) refl refl tt sound sound.busy
 slotted_item (Reopened at) T right sound =
@@ -211,6 +215,8 @@ slots_item (Answered run alive at) T right sound = slots_one (event_of (Answered
 slots_item (Lost run at) T right sound = slots_one (event_of (Lost run at)) T right.1 sound
 slots_item (Gone slot generation at) T right sound = slots_one (event_of (Gone slot generation at)) T right.1 sound
 slots_item (Ended e) T right sound = slots_one (overrun_of e.ending e.run e.at) T right.1 sound
+slots_item (Drawn id at) T right sound = refl
+slots_item (Fired r) T right sound = refl
 slots_item (Swept at) T right sound = refl
 slots_item (Drained at) T right sound = refl
 slots_item (Reopened at) T right sound = slots_one (event_of (Reopened at)) T right.1 sound

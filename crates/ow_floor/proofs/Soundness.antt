@@ -13,22 +13,23 @@ use Rattle.ow_floor.specs.declared.answers.Drain.TheVariants as drains
 use Rattle.ow_floor.specs.declared.runs.Run.{Run}
 use Rattle.ow_records.specs.Records.{is_of_id}
 use Rattle.ow_floor.specs.View.{Shown, waits, carries, begun, ids_of, is_of, is_number, with_state, remove_first, head}
-use Rattle.ow_floor.specs.Trace.{Trace, Item, End, Opened, Resumed, Accepted, Ordered, Prewarming, Removed, Begun, Answered, Lost, Gone, Ended, Swept, Drained, Reopened, slots, slots_after, accepted, accepted_ids, count, ends, records, recorded, resumed, record_of, last, drawn, standing, open_items, run_count, live, live_run, shown}
+use Rattle.ow_floor.specs.Trace.{Trace, Item, End, Opened, Resumed, Accepted, Ordered, Prewarming, Removed, Begun, Answered, Lost, Gone, Ended, Drawn, Fired, Swept, Drained, Reopened, slots, slots_after, accepted, accepted_ids, count, ends, fired, firing, records, recorded, resumed, record_of, last, drawn, standing, open_items, run_count, live, live_run, shown}
 use Rattle.ow_floor.specs.Growth.{grow, grown, open_after, IsRight, AreRight, IsFresh, AreResumable}
-use Rattle.ow_floor.specs.Laws.{AreSlotsSound, times, IsAmong, loads, bearers, tally, IsApart, AreApart, IsParted, IsSound, RunOnce, Stands, Grows}
+use Rattle.ow_floor.specs.Laws.{AreFiresApart, AreSlotsSound, times, IsAmong, loads, bearers, tally, IsApart, AreApart, IsParted, IsSound, RunOnce, Stands, Grows}
 use Rattle.ow_floor.specs.Calls.{drain_answer, AllRecorded}
 use Rattle.ow_floor.proofs.Among.{all_among, known_push, known_more, found_among}
 use Rattle.ow_floor.proofs.Alters.{opens_new, same_id_refl}
 use Rattle.ow_floor.proofs.Apart.{turned}
 use Rattle.ow_floor.proofs.Drawn.{drawn_last, once_put}
+use Rattle.ow_floor.proofs.Fires.{accepted_once, fires_push, firing_accepted, firing_new, times-append}
 use Rattle.ow_floor.proofs.Firsts.{all_more, all_push, all_removed, all_updated, find_none, tally_fewer, tally_none, tally_push, tally_updated, update_none}
-use Rattle.ow_floor.proofs.Tallies.{one_if, eq_of, times-push, ids_of-started, times-removed, times-split, times_once}
+use Rattle.ow_floor.proofs.Tallies.{one_if, eq_of, times-push, ids_of-started, times-removed, times-split}
 use Rattle.ow_floor.proofs.Slotting.{slots_item, slotted_item, slotted_start}
 use Rattle.ow_floor.specs.declared.answers.Container.{Container}
 use Rattle.ow_floor.specs.declared.answers.PrewarmOrder.{PrewarmOrder}
 use Rattle.ow_slots.specs.declared.keys.Key.{Key}
 use Rattle.ow_slots.specs.declared.states.Slot.{Slot}
-use Rattle.ow_floor.proofs.Standing.{open_ended, open_ordered, open_kept, open_left, open_lost, open_begun, open_reopened, head_waits}
+use Rattle.ow_floor.proofs.Standing.{open_ended, open_fired, open_ordered, open_kept, open_left, open_lost, open_begun, open_reopened, head_waits}
 
 -- ---- ids
 
@@ -95,7 +96,7 @@ strange_push a xs n new (r ∷ rs) drawn strange =
 
 pub sound_start : (pool : ℕ) (wants : List Prewarm) → IsSound (Opened pool wants ∷ [])
 unfolding IsDistinct
-sound_start pool wants = record { apart = tt; drawn = tt; ended_drawn = tt; live_drawn = tt; once = λ id. refl; known = tt; one = λ id. omega arith; single = λ run. omega arith; numbered = tt; slotted = slotted_start pool wants; namespaces = tt; resumed = record { drawn = tt; apart = tt; strange = tt } }
+sound_start pool wants = record { apart = tt; drawn = tt; ended_drawn = tt; live_drawn = tt; once = λ id. refl; known = tt; one = λ id. omega arith; single = λ run. omega arith; numbered = tt; slotted = slotted_start pool wants; namespaces = tt; resumed = record { drawn = tt; apart = tt; strange = tt }; fires = record { recorded = record { drawn = tt; apart = tt; strange = tt }; foreign = tt; next = tt } }
 
 sound_accepted : (a : Activation) (T : Trace) → a.id.count ≡ last T a.id.namespace + 1 → AreSlotsSound (Accepted a ∷ T) → IsSound T → IsSound (Accepted a ∷ T)
 sound_accepted a T new slotted sound =
@@ -110,7 +111,8 @@ sound_accepted a T new slotted sound =
           let before = sound.once id in
           let open_more = times-push (λ (o : Open). o.task.id) id (open_items T) (record { task = a; state = Waiting }) in
           let more = times-push (λ (y : Activation). y.id) id (accepted T) a in
-          rw (is_open, open_more, more) (omega (arith, before));
+          let old = times-append id (map (λ (y : Activation). y.id) (accepted T)) (map (λ (r : Record). r.id) (fired T)) in
+          rw (is_open, open_more, times-append id (map (λ (y : Activation). y.id) (accepted T ++ a ∷ [])) (map (λ (r : Record). r.id) (fired T)), more) (omega (arith, before, old));
       known = known_push a (accepted T) (ends T) sound.known;
       one = sound.one;
       single = sound.single;
@@ -122,6 +124,81 @@ sound_accepted a T new slotted sound =
         apart = sound.resumed.apart;
         strange = strange_push a (accepted T) (last T) new (resumed T) sound.resumed.drawn sound.resumed.strange;
       };
+      fires = record {
+        recorded = record {
+          drawn = all_more _ _ (fired T) (λ r le. let up = rises r.id.namespace in omega (arith, up, le)) sound.fires.recorded.drawn;
+          apart = sound.fires.recorded.apart;
+          strange = strange_push a (accepted T) (last T) new (fired T) sound.fires.recorded.drawn sound.fires.recorded.strange;
+        };
+        foreign = sound.fires.foreign;
+        next = firing_accepted (firing T) a (accepted T) (fired T) (resumed T) (last T) (last (Accepted a ∷ T)) (λ y old. new_other a.id y (last T) new old) rises sound.fires.next;
+      };
+    }
+
+-- an id is drawn for a fire
+drawn_rises : (id : Id) (at : ℕ) (T : Trace) (n : ℕ) → id.count ≡ last T id.namespace + 1 → last T n ≤ last (Drawn id at ∷ T) n
+drawn_rises id at T n new = last_at id.namespace n id.count (last T n) (id.namespace == n) refl (λ same. new ∙ ap (λ k. last T k + 1) same)
+
+drawn_here : (id : Id) (at : ℕ) (T : Trace) → id.count ≤ last (Drawn id at ∷ T) id.namespace
+drawn_here id at T =
+    let e : (id.namespace == id.namespace) ≡ true = search (rules, nat_tests) in
+    rw e (omega arith)
+
+sound_drawn : (id : Id) (at : ℕ) (T : Trace) → id.count ≡ last T id.namespace + 1 → AreSlotsSound (Drawn id at ∷ T) → IsSound T → IsSound (Drawn id at ∷ T)
+sound_drawn id at T new slotted sound =
+    let rises : (n : ℕ) → last T n ≤ last (Drawn id at ∷ T) n = λ n. drawn_rises id at T n new in
+    record {
+      apart = sound.apart;
+      drawn = all_more _ _ (accepted T) (λ x le. let up = rises x.id.namespace in omega (arith, up, le)) sound.drawn;
+      ended_drawn = all_more _ _ (records T) (λ x le. let up = rises x.id.namespace in omega (arith, up, le)) sound.ended_drawn;
+      live_drawn = all_more _ _ (live T) (λ x le. let up = rises x.id.namespace in omega (arith, up, le)) sound.live_drawn;
+      once = sound.once;
+      known = sound.known;
+      one = sound.one;
+      single = sound.single;
+      numbered = sound.numbered;
+      slotted = slotted;
+      namespaces = once_put id (drawn T) sound.namespaces;
+      resumed = record {
+        drawn = all_more _ _ (resumed T) (λ r le. let up = rises r.id.namespace in omega (arith, up, le)) sound.resumed.drawn;
+        apart = sound.resumed.apart;
+        strange = sound.resumed.strange;
+      };
+      fires = record {
+        recorded = record {
+          drawn = all_more _ _ (fired T) (λ r le. let up = rises r.id.namespace in omega (arith, up, le)) sound.fires.recorded.drawn;
+          apart = sound.fires.recorded.apart;
+          strange = sound.fires.recorded.strange;
+        };
+        foreign = sound.fires.foreign;
+        next = firing_new id (accepted T) (fired T) (resumed T) (last T) (last (Drawn id at ∷ T)) (λ y old. new_other id y (last T) new old) (drawn_here id at T) (new_apart id (accepted T) (last T) new sound.drawn)
+            sound.fires.recorded.drawn sound.resumed.drawn;
+      };
+    }
+
+-- it is recorded
+sound_fired : (r : Record) (T : Trace) → AreFiresApart (fired T) (Some r.id) (resumed T) (last T) (accepted T) → AreSlotsSound (Fired r ∷ T) → IsSound T → IsSound (Fired r ∷ T)
+sound_fired r T fires slotted sound =
+    let is_open = open_fired r T fires.next.1.0 in
+    record {
+      apart = sound.apart;
+      drawn = sound.drawn;
+      ended_drawn = all_push _ r (records T) fires.next.0 sound.ended_drawn;
+      live_drawn = sound.live_drawn;
+      once = λ id.
+          let before = sound.once id in
+          let more = times-push (λ (x : Record). x.id) id (records T) r in
+          let fired_more = times-push (λ (x : Record). x.id) id (fired T) r in
+          let old = times-append id (map (λ (y : Activation). y.id) (accepted T)) (map (λ (x : Record). x.id) (fired T)) in
+          rw (is_open, more, times-append id (map (λ (y : Activation). y.id) (accepted T)) (map (λ (x : Record). x.id) (fired T ++ r ∷ [])), fired_more) (omega (arith, before, old));
+      known = sound.known;
+      one = sound.one;
+      single = sound.single;
+      numbered = sound.numbered;
+      slotted = slotted;
+      namespaces = sound.namespaces;
+      resumed = sound.resumed;
+      fires = fires_push r (fired T) (resumed T) (last T) (accepted T) fires;
     }
 
 sound_ended : (e : End) (o : Open) (T : Trace) → find (is_of e.task.id) (open_items T) ≡ Some o → e.task ≡ o.task → AreSlotsSound (Ended e ∷ T) → IsSound T → IsSound (Ended e ∷ T)
@@ -148,6 +225,7 @@ sound_ended e o T found is slotted sound =
       slotted = slotted;
       namespaces = sound.namespaces;
       resumed = sound.resumed;
+      fires = sound.fires;
     }
 
 -- the new run is the only one of its activation, and of its number
@@ -186,6 +264,7 @@ sound_ordered r key o T next found is slotted sound =
       slotted = slotted;
       namespaces = sound.namespaces;
       resumed = sound.resumed;
+      fires = sound.fires;
     }
 
 fewer : {X : Type 0} (p q : X → Bool) (xs : List X) → tally q xs ≤ 1 → tally q (remove_first p xs) ≤ 1
@@ -205,6 +284,7 @@ left_answered run alive at T ids slotted sound = record {
   slotted = slotted;
   namespaces = sound.namespaces;
   resumed = sound.resumed;
+  fires = sound.fires;
 }
 
 left_lost : (run at : ℕ) (T : Trace) → ids_of (open_items (Lost run at ∷ T)) ≡ ids_of (open_items T) → AreSlotsSound (Lost run at ∷ T) → IsSound T → IsSound (Lost run at ∷ T)
@@ -221,6 +301,7 @@ left_lost run at T ids slotted sound = record {
   slotted = slotted;
   namespaces = sound.namespaces;
   resumed = sound.resumed;
+  fires = sound.fires;
 }
 
 sound_begun : (run at : ℕ) (T : Trace) → AreSlotsSound (Begun run at ∷ T) → IsSound T → IsSound (Begun run at ∷ T)
@@ -237,10 +318,11 @@ sound_begun run at T slotted sound = record {
   slotted = slotted;
   namespaces = sound.namespaces;
   resumed = sound.resumed;
+  fires = sound.fires;
 }
 
 sound_gone : (slot generation at : ℕ) (T : Trace) → AreSlotsSound (Gone slot generation at ∷ T) → IsSound T → IsSound (Gone slot generation at ∷ T)
-sound_gone slot generation at T slotted sound = record { apart = sound.apart; drawn = sound.drawn; ended_drawn = sound.ended_drawn; live_drawn = sound.live_drawn; once = sound.once; known = sound.known; one = sound.one; single = sound.single; numbered = sound.numbered; slotted = slotted; namespaces = sound.namespaces; resumed = sound.resumed }
+sound_gone slot generation at T slotted sound = record { apart = sound.apart; drawn = sound.drawn; ended_drawn = sound.ended_drawn; live_drawn = sound.live_drawn; once = sound.once; known = sound.known; one = sound.one; single = sound.single; numbered = sound.numbered; slotted = slotted; namespaces = sound.namespaces; resumed = sound.resumed; fires = sound.fires }
 
 sound_prewarming : (o : PrewarmOrder) (at : ℕ) (T : Trace) → AreSlotsSound (Prewarming o at ∷ T) → IsSound T → IsSound (Prewarming o at ∷ T)
 sound_prewarming o at T slotted sound = record {
@@ -256,16 +338,17 @@ sound_prewarming o at T slotted sound = record {
   slotted = slotted;
   namespaces = sound.namespaces;
   resumed = sound.resumed;
+  fires = sound.fires;
 }
 
 sound_removed : (containers : List Container) (at : ℕ) (T : Trace) → AreSlotsSound (Removed containers at ∷ T) → IsSound T → IsSound (Removed containers at ∷ T)
-sound_removed containers at T slotted sound = record { apart = sound.apart; drawn = sound.drawn; ended_drawn = sound.ended_drawn; live_drawn = sound.live_drawn; once = sound.once; known = sound.known; one = sound.one; single = sound.single; numbered = sound.numbered; slotted = slotted; namespaces = sound.namespaces; resumed = sound.resumed }
+sound_removed containers at T slotted sound = record { apart = sound.apart; drawn = sound.drawn; ended_drawn = sound.ended_drawn; live_drawn = sound.live_drawn; once = sound.once; known = sound.known; one = sound.one; single = sound.single; numbered = sound.numbered; slotted = slotted; namespaces = sound.namespaces; resumed = sound.resumed; fires = sound.fires }
 
 sound_swept : (at : ℕ) (T : Trace) → AreSlotsSound (Swept at ∷ T) → IsSound T → IsSound (Swept at ∷ T)
-sound_swept at T slotted sound = record { apart = sound.apart; drawn = sound.drawn; ended_drawn = sound.ended_drawn; live_drawn = sound.live_drawn; once = sound.once; known = sound.known; one = sound.one; single = sound.single; numbered = sound.numbered; slotted = slotted; namespaces = sound.namespaces; resumed = sound.resumed }
+sound_swept at T slotted sound = record { apart = sound.apart; drawn = sound.drawn; ended_drawn = sound.ended_drawn; live_drawn = sound.live_drawn; once = sound.once; known = sound.known; one = sound.one; single = sound.single; numbered = sound.numbered; slotted = slotted; namespaces = sound.namespaces; resumed = sound.resumed; fires = sound.fires }
 
 sound_drained : (at : ℕ) (T : Trace) → AreSlotsSound (Drained at ∷ T) → IsSound T → IsSound (Drained at ∷ T)
-sound_drained at T slotted sound = record { apart = sound.apart; drawn = sound.drawn; ended_drawn = sound.ended_drawn; live_drawn = sound.live_drawn; once = sound.once; known = sound.known; one = sound.one; single = sound.single; numbered = sound.numbered; slotted = slotted; namespaces = sound.namespaces; resumed = sound.resumed }
+sound_drained at T slotted sound = record { apart = sound.apart; drawn = sound.drawn; ended_drawn = sound.ended_drawn; live_drawn = sound.live_drawn; once = sound.once; known = sound.known; one = sound.one; single = sound.single; numbered = sound.numbered; slotted = slotted; namespaces = sound.namespaces; resumed = sound.resumed; fires = sound.fires }
 
 sound_reopened : (at : ℕ) (T : Trace) → open_items T ≡ [] → AreSlotsSound (Reopened at ∷ T) → IsSound T → IsSound (Reopened at ∷ T)
 sound_reopened at T none slotted sound = record {
@@ -283,17 +366,25 @@ sound_reopened at T none slotted sound = record {
   slotted = slotted;
   namespaces = sound.namespaces;
   resumed = sound.resumed;
+  fires = record { recorded = sound.fires.recorded; foreign = sound.fires.foreign; next = tt };
 }
 
 -- nothing was accepted where nothing is open and nothing has ended
-none_accepted : (xs : List Activation) → ((id : Id) → times id (ids_of []) + times id [] ≡ times id (map (λ a. a.id) xs)) → xs ≡ []
-none_accepted [] once = refl
-none_accepted (a ∷ xs) once = let h : 0 ≡ one_if (same_id a.id a.id) + times a.id (map (λ a. a.id) xs) = once a.id in absurd (let own = same_id_refl a.id in let h' : 0 ≡ 1 + times a.id (map (λ a. a.id) xs) = rw own at h in omega (arith, h'))
+none_ids : (xs : List Id) → ((id : Id) → 0 ≡ times id xs) → xs ≡ []
+none_ids [] none = refl
+none_ids (x ∷ xs) none = let h : 0 ≡ one_if (same_id x x) + times x xs = none x in absurd (let own = same_id_refl x in let h' : 0 ≡ 1 + times x xs = rw own at h in omega (arith, h'))
+
+none_accepted : (xs : List Activation) (rs : List Record) → map (λ a. a.id) xs ++ map (λ r. r.id) rs ≡ [] → (xs ≡ []) × (rs ≡ [])
+none_accepted [] [] is = (refl, refl)
+none_accepted [] (r ∷ rs) is = cc
+none_accepted (a ∷ xs) rs is = cc
 
 sound_resumed : (counts : List Id) (rs : List Record) (T : Trace) → IsFresh (shown T) → AreResumable counts rs → AreSlotsSound (Resumed counts rs ∷ T) → IsSound T → IsSound (Resumed counts rs ∷ T)
+unfolding IsDistinct
 sound_resumed counts rs T fresh resumable slotted sound =
-    let none : accepted T ≡ [] = none_accepted (accepted T)
-    (λ id. ap (λ (os : List Open). times id (ids_of os) + times id []) (sym fresh.open_items) ∙ (ap (λ (es : List Record). times id (ids_of (open_items T)) + times id (map (λ e. e.id) es)) (sym fresh.ended) ∙ sound.once id)) in
+    let both = none_accepted (accepted T) (fired T) (none_ids (accepted_ids T)
+    (λ id. ap (λ (os : List Open). times id (ids_of os) + times id []) (sym fresh.open_items) ∙ (ap (λ (es : List Record). times id (ids_of (open_items T)) + times id (map (λ e. e.id) es)) (sym fresh.ended) ∙ sound.once id))) in
+    let none : accepted T ≡ [] = both.0 in
     record {
       apart = sound.apart;
       drawn = rw none tt;
@@ -307,6 +398,11 @@ sound_resumed counts rs T fresh resumable slotted sound =
       slotted = slotted;
       namespaces = resumable.namespaces;
       resumed = record { drawn = resumable.drawn; apart = resumable.apart; strange = rw none (all_more _ _ rs (λ r le. tt) resumable.drawn) };
+      fires = record {
+        recorded = rw both.1 (record { drawn = tt; apart = tt; strange = tt });
+        foreign = rw both.1 (all_more _ _ rs (λ r le. tt) resumable.drawn);
+        next = tt;
+      };
     }
 
 -- ---- each item
@@ -351,6 +447,12 @@ grown_item (Lost run at) T right sound = grown_lost run at (live_run T run) T re
 grown_item (Gone slot generation at) T right sound = (sound_gone slot generation at T (slotted_item (Gone slot generation at) T right sound.slotted) sound, refl)
 grown_item (Ended e) T right sound =
     (sound_ended e right.0.0 T right.0.1 right.0.2 (slotted_item (Ended e) T right sound.slotted) sound, open_ended e right.0.0 T right.0.1 right.0.2 sound)
+grown_item (Drawn id at) T right sound =
+    let new : id.count ≡ last T id.namespace + 1 = right.0 ∙ ap (λ n. n + 1) (drawn_last T id.namespace) in
+    (sound_drawn id at T new (slotted_item (Drawn id at) T right sound.slotted) sound, refl)
+grown_item (Fired r) T right sound =
+    let fires = subst (λ (o : Option Id). AreFiresApart (fired T) o (resumed T) (last T) (accepted T)) right.0 sound.fires in
+    (sound_fired r T fires (slotted_item (Fired r) T right sound.slotted) sound, open_fired r T fires.next.1.0)
 grown_item (Swept at) T right sound = (sound_swept at T (slotted_item (Swept at) T right sound.slotted) sound, refl)
 grown_item (Drained at) T right sound = (sound_drained at T (slotted_item (Drained at) T right sound.slotted) sound, refl)
 grown_item (Reopened at) T right sound =
@@ -381,7 +483,7 @@ grows f v w right is T st =
 -- in a sound trace each accepted id waits, runs or is recorded, once
 pub parted : (T : Trace) → IsSound T → IsParted T
 parted T sound = record {
-  once = λ id. times_once id (accepted T) sound.apart;
+  once = λ id. accepted_once T id sound;
   parts = λ id. rw (times-split id (open_items T)) (sound.once id);
 }
 
@@ -400,7 +502,7 @@ recorded_at T true e sound =
       refl,
       λ id.
           let none = none_open (open_items T) empty id in
-          let most = times_once id (accepted T) sound.apart in
+          let most = accepted_once T id sound in
           let all = sound.once id in
           (omega (arith, none, all), omega (arith, none, all, most)),
     )

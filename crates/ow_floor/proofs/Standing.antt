@@ -13,12 +13,12 @@ use Rattle.ow_slots.specs.declared.keys.Key.{Key}
 use Rattle.ow_records.specs.Records.{is_of_id}
 use Rattle.ow_slots.specs.Slots.{change_first}
 use Rattle.ow_floor.specs.View.{waits, is_waiting, is_of, is_number, carries, with_state, remove_first, begun, head}
-use Rattle.ow_floor.specs.Trace.{Trace, End, Ordered, Begun, Lost, Ended, Reopened, accepted, records, record_of, live, open_items, end_of, carrier, live_run, standing, standing_by, state_by, shown}
-use Rattle.ow_floor.specs.Laws.{loads, IsSound}
+use Rattle.ow_floor.specs.Trace.{Trace, End, Ordered, Begun, Lost, Ended, Fired, Reopened, accepted, records, record_of, live, open_items, end_of, carrier, live_run, standing, standing_by, state_by, shown}
+use Rattle.ow_floor.specs.Laws.{loads, IsApart, IsSound}
 use Rattle.ow_floor.proofs.Alters.{opens, but_at, agree, alter, alter_update, alter_remove, opens_same}
 use Rattle.ow_floor.proofs.Apart.{turned}
 use Rattle.ow_floor.proofs.Tallies.{eq_of}
-use Rattle.ow_floor.proofs.Firsts.{none_tail, or_new, find_push, find_other, none_left, remove_none}
+use Rattle.ow_floor.proofs.Firsts.{all_more, none_tail, or_new, find_push, find_other, none_left, remove_none}
 
 -- ---- what is found stands so
 
@@ -78,6 +78,18 @@ open_ended e o T found is sound =
     let same : e.task.id ≡ o.task.id = ap (λ (a : Activation). a.id) is in
     opens_same (standing (Ended e ∷ T)) (but_at (standing T) o.task.id None) (accepted T) (λ y. standing_ended e T y ∙ ap (λ n. but_at (standing T) n None y) same)
     ∙ (alter (is_of e.task.id) (standing T) None (accepted T) o sound.apart found ∙ alter_remove (is_of e.task.id) (open_items T))
+
+-- ---- behind the record of a fire
+
+record_other : (r : Record) (y : Id) (o : Option Record) → is_of_id y r ≡ false → or_new (is_of_id y) r o ≡ o
+record_other r y None t = rw t refl
+record_other r y (Some x) t = refl
+
+pub open_fired : (r : Record) (T : Trace) → IsApart r.id (accepted T) → open_items (Fired r ∷ T) ≡ open_items T
+open_fired r T apart =
+    agree (standing (Fired r ∷ T)) (standing T) (accepted T)
+    (all_more _ (λ a. standing (Fired r ∷ T) a.id ≡ standing T a.id) (accepted T)
+    (λ a differ. ap (λ (e : Option Record). standing_by e (carrier T a.id)) (find_push (is_of_id a.id) r (records T) ∙ record_other r a.id (end_of T a.id) differ.0)) apart)
 
 -- ---- behind an order
 

@@ -1,5 +1,5 @@
 -- What the calls of a floor answer, and which items they add, the newest first.
-use Rattle.std.specs.Prelude.{◌≡◌, ◌==◌, ◌+◌, ◌-◌, ◌++◌, ◌≤◌, ℕ, Bool, true, false, List, [], ◌∷◌, Option, Some, None, length, if◌then◌else◌, is_some, is_none, nat_lt, ◌&&◌, slice_get, Result, Ok, Err, IsSome}
+use Rattle.std.specs.Prelude.{◌≡◌, ◌==◌, ◌+◌, ◌-◌, ◌++◌, ◌≤◌, ℕ, Bool, true, false, List, [], ◌∷◌, Option, Some, None, length, if◌then◌else◌, is_some, is_none, map, nat_lt, ◌&&◌, slice_get, Result, Ok, Err, IsSome}
 use Rattle.std.specs.List.{find}
 use Rattle.std.specs.Ordering.{is_lt}
 use Rattle.ow_value.specs.Value.{text_cmp}
@@ -8,7 +8,6 @@ use Rattle.ow_traits.specs.declared.replies.RunReply.TheVariants as runs
 use Rattle.ow_records.specs.declared.ids.Id.{Id}
 use Rattle.ow_records.specs.declared.outcomes.Ending.{Ending}
 use Rattle.ow_records.specs.declared.outcomes.Ending.TheVariants.{Replied, Overran, Abandoned}
-use Rattle.ow_records.specs.Outcome.{outcome}
 use Rattle.ow_records.specs.declared.record.Record.{Record}
 use Rattle.ow_records.specs.declared.unrecorded.Unrecorded.{Unrecorded}
 use Rattle.ow_records.specs.Record.{record_of}
@@ -35,6 +34,8 @@ use Rattle.ow_pool.specs.declared.answers.Unplaced.TheVariants as unplaced
 use Rattle.ow_pool.specs.Rules.{place_of}
 use Rattle.ow_floor.specs.declared.answers.Happening.{Happening}
 use Rattle.ow_floor.specs.declared.answers.Happening.TheVariants as happenings
+use Rattle.ow_floor.specs.declared.moves.Moved.{Moved}
+use Rattle.ow_floor.specs.declared.moves.Moved.TheVariants as moves
 use Rattle.ow_floor.specs.declared.answers.Answered.{Answered}
 use Rattle.ow_floor.specs.declared.answers.Answered.TheVariants as answers
 use Rattle.ow_floor.specs.declared.answers.AnswerRefusal.{AnswerRefusal}
@@ -51,18 +52,34 @@ use Rattle.ow_floor.specs.Growth.{AreResumable, IsFresh, grown}
 use Rattle.ow_floor.specs.Owed.{rises}
 use Rattle.ow_floor.specs.Laws.{AreAllRecorded, Grows, IsSound, Stands}
 
--- ---- what is told of items
+-- ---- what moved, and what is told of it
 
--- of an acceptance its id, of an end its id and the code of its response
-abbrev pub happened_by : Item → List Happening
-happened_by (trace.Accepted a) = happenings.Accepted a.id ∷ []
-happened_by (trace.Ended e) = happenings.Recorded e.task.id (outcome e.ending e.task.action.limits).code ∷ []
-happened_by item = []
+-- an acceptance moves its activation, an end its record; of a fire first its id moves and then its record
+abbrev pub moved_by : Item → List Moved
+moved_by (trace.Accepted a) = moves.Accepted a ∷ []
+moved_by (trace.Ended e) = moves.Ended (trace.record_of e) ∷ []
+moved_by (trace.Drawn id at) = moves.Drawn id ∷ []
+moved_by (trace.Fired r) = moves.Fired r ∷ []
+moved_by item = []
 
 -- of items, the earliest first
+abbrev pub moved : Trace → List Moved
+moved [] = []
+moved (item ∷ items) = moved items ++ moved_by item
+
+-- of an acceptance its id is told, of an end its id and the code of its response. A fire is accepted as its id is drawn, and ends as it is recorded
+abbrev pub happening_of : Moved → Happening
+happening_of (moves.Accepted a) = happenings.Accepted a.id
+happening_of (moves.Ended r) = happenings.Recorded r.id r.response.code
+happening_of (moves.Drawn id) = happenings.Accepted id
+happening_of (moves.Fired r) = happenings.Recorded r.id r.response.code
+
+abbrev pub happened_of : List Moved → List Happening
+happened_of ms = map happening_of ms
+
+-- what is told of items
 abbrev pub happened : Trace → List Happening
-happened [] = []
-happened (item ∷ items) = happened items ++ happened_by item
+happened items = happened_of (moved items)
 
 -- ---- acceptance
 
@@ -88,9 +105,19 @@ activation_of at plan = record {
 abbrev pub accept_items : ℕ → Plan → Trace
 accept_items at plan = trace.Accepted (activation_of at plan) ∷ []
 
--- what it tells
+-- what is told of it
 abbrev pub happened_accepted : Id → List Happening
 happened_accepted id = happenings.Accepted id ∷ []
+
+-- ---- fires
+
+-- what `draw` adds
+abbrev pub draw_items : ℕ → Id → Trace
+draw_items at id = trace.Drawn id at ∷ []
+
+-- what `fire` adds
+abbrev pub fire_items : Record → Trace
+fire_items r = trace.Fired r ∷ []
 
 -- ---- orders
 
@@ -237,6 +264,11 @@ abbrev pub answer_by : ℕ → ℕ → RunReply → Shown → Option Run → Opt
 answer_by at run reply v None = None
 answer_by at run reply v (Some r) = Some (answer_run at r reply (recorded_in run v.slots) (find (is_of r.id) v.open_items))
 
+-- at which moment a sweep recorded what the run carries, where one did; none where no slot is busy with the run
+abbrev pub recorded_with : ℕ → Shown → Option Run → Option (Option ℕ)
+recorded_with run v None = None
+recorded_with run v (Some r) = Some (recorded_in run v.slots)
+
 abbrev pub reply_items : ℕ → ℕ → RunReply → Shown → Option Run → Trace
 reply_items at run reply v None = []
 reply_items at run reply v (Some r) = trace.Answered run (leaves_alive reply) at ∷ end_items at (Replied reply) (Some r) (find (is_of r.id) v.open_items)
@@ -245,9 +277,17 @@ reply_items at run reply v (Some r) = trace.Answered run (leaves_alive reply) at
 abbrev pub answer_to : ℕ → ℕ → RunReply → Trace → Option Answered
 answer_to at run reply T = answer_by at run reply (shown T) (busy_run run (shown T))
 
+abbrev pub reply_recorded : ℕ → Trace → Option (Option ℕ)
+reply_recorded run T = recorded_with run (shown T) (busy_run run (shown T))
+
 -- what it adds: the end of what the run carries, and then the reply
 abbrev pub answered_items : ℕ → ℕ → RunReply → Trace → Trace
 answered_items at run reply T = reply_items at run reply (shown T) (busy_run run (shown T))
+
+-- the answer to a reply by these two: none where no slot is busy with the run
+abbrev pub answer_of : ℕ → Option (Option ℕ) → List Happening → Option Answered
+answer_of run None told = None
+answer_of run (Some recorded) told = Some (answered_by run recorded told)
 
 -- the answer by value, which hands a reply back that isn't taken
 abbrev pub answer_or : ℕ → RunReply → Option Answered → Result Answered AnswerRefusal
@@ -369,6 +409,8 @@ pub record KeepSound : Type 0 where
   pub start : (pool : ℕ) (wants : List Prewarm) → IsSound (trace.Opened pool wants ∷ [])
   pub resume : (counts : List Id) (rs : List Record) (T : Trace) → IsFresh (shown T) → AreResumable counts rs → IsSound T → IsSound (resume_items counts rs ++ T)
   pub accept : (at : ℕ) (plan : Plan) (T : Trace) → IsNext plan.id T → IsSound T → IsSound (accept_items at plan ++ T)
+  pub draw : (at : ℕ) (id : Id) (T : Trace) → IsNext id T → IsSound T → IsSound (draw_items at id ++ T)
+  pub fire : (r : Record) (T : Trace) → trace.firing T ≡ Some r.id → IsSound T → IsSound (fire_items r ++ T)
   pub next : (at : ℕ) (T : Trace) → IsSound T → IsSound (next_items at T ++ T)
   pub begun : (at run : ℕ) (T : Trace) → IsSound T → IsSound (begun_items at run T ++ T)
   pub answered : (at run : ℕ) (reply : RunReply) (T : Trace) → IsSound T → IsSound (answered_items at run reply T ++ T)
@@ -382,6 +424,8 @@ pub record KeepSound : Type 0 where
 pub record RaisesLittle : Type 0 where
   pub resume : (counts : List Id) (rs : List Record) → rises (resume_items counts rs) ≡ 0
   pub accept : (at : ℕ) (plan : Plan) → rises (accept_items at plan) ≡ 0
+  pub draw : (at : ℕ) (id : Id) → rises (draw_items at id) ≡ 0
+  pub fire : (r : Record) → rises (fire_items r) ≡ 0
   pub next : (at : ℕ) (T : Trace) → rises (next_items at T) ≤ 3
   pub answered : (at run : ℕ) (reply : RunReply) (T : Trace) → rises (answered_items at run reply T) ≡ 0
   pub sweep : (at : ℕ) (T : Trace) → rises (swept_items at T) ≡ 0

@@ -8,12 +8,11 @@ use Rattle.ow_records.specs.Records.{id_numbers}
 use Rattle.ow_records.specs.declared.outcomes.Ending.{Ending}
 use Rattle.ow_records.specs.declared.outcomes.Ending.TheVariants.{Abandoned, Overran, Replied}
 use Rattle.ow_traits.specs.declared.replies.RunReply.{RunReply}
-use Rattle.ow_records.specs.Outcome.{outcome}
 use Rattle.ow_records.specs.declared.activations.Activation.{Activation}
 use Rattle.ow_floor.specs.declared.activations.Open.{Open}
 use Rattle.ow_floor.specs.declared.answers.Order.{Order}
-use Rattle.ow_floor.specs.declared.answers.Happening.{Happening}
-use Rattle.ow_floor.specs.declared.answers.Happening.TheVariants as happenings
+use Rattle.ow_floor.specs.declared.moves.Moved.{Moved}
+use Rattle.ow_floor.specs.declared.moves.Moved.TheVariants as moves
 use Rattle.ow_floor.specs.declared.by_id.OpenPlace.{OpenPlace}
 use Rattle.ow_floor.specs.declared.lists.Berth.{Berth}
 use Rattle.ow_floor.specs.declared.runs.Run.{Run}
@@ -23,15 +22,15 @@ use Rattle.ow_floor.specs.Growth.{freed, grown}
 use Rattle.ow_lifecycle.specs.Life as lives
 use Rattle.ow_slots.specs.Slots.{IsThere, first_with, change_first}
 use Rattle.ow_slots.specs.State.{IsUnrecorded, runs as is_busy_with}
-use Rattle.ow_floor.specs.Calls.{abandoned_items, end_items, ended_by, happened, is_late, items_on, late_of, order_on, overrun_items, sorted_by_id}
+use Rattle.ow_floor.specs.Calls.{abandoned_items, end_items, ended_by, is_late, items_on, late_of, moved, order_on, overrun_items, sorted_by_id}
 use Rattle.ow_floor.specs.Store.{IsGood, IsSpot, Store, ended_in, event_in, freed_in, opens, run_in, show, there}
 
--- what stands there has ended, and it is told so
-pub record IsEndedAt (at : ℕ) (ending : Ending) (run : Option Run) (place : ℕ) (old new : Store) (h : Happening) : Type 0 where
+-- what stands there has ended, and it is noted that it moved
+pub record IsEndedAt (at : ℕ) (ending : Ending) (run : Option Run) (place : ℕ) (old new : Store) (before after : List Moved) : Type 0 where
   pub task : Activation
   pub here : slice_index_or old.tasks place None ≡ Some task
   pub now : new ≡ ended_in at place (record_of (ended_by at ending run task)) old
-  pub told : h ≡ happenings.Recorded task.id (outcome ending task.action.limits).code
+  pub noted : after ≡ before ++ moves.Ended (record_of (ended_by at ending run task)) ∷ []
 
 -- what the run carries is late and stands there, and no sweep recorded it
 pub record IsLateSpot (at : ℕ) (r : Run) (R : Store) (place : ℕ) : Type 0 where
@@ -39,10 +38,10 @@ pub record IsLateSpot (at : ℕ) (r : Run) (R : Store) (place : ℕ) : Type 0 wh
   pub late : is_late at r spot.item.task ≡ true
   pub unrecorded : IsThere IsUnrecorded (first_with (is_busy_with r.number) R.slots)
 
--- what stands there has overrun, and is told and recorded so
-pub record IsOverrunAt (at : ℕ) (r : Run) (place : ℕ) (old new : Store) (h : Happening) : Type 0 where
+-- what stands there has overrun, which is noted and recorded
+pub record IsOverrunAt (at : ℕ) (r : Run) (place : ℕ) (old new : Store) (before after : List Moved) : Type 0 where
   pub middle : Store
-  pub ended : IsEndedAt at Overran (Some r) place old middle h
+  pub ended : IsEndedAt at Overran (Some r) place old middle before after
   pub now : new ≡ event_in at (lives.Overran r.number at) middle
 
 -- what the run carries is late and stands there, or isn't late
@@ -50,28 +49,28 @@ abbrev pub IsLateEnd : ℕ → Run → Store → Option ℕ → Type 0
 IsLateEnd at r R None = late_of at r (show R) ≡ []
 IsLateEnd at r R (Some place) = IsLateSpot at r R place
 
--- these items were made, and told
-pub record IsMade (items : Trace) (old new : Store) (told : List Happening) : Type 0 where
+-- these items were made, and what moved was noted
+pub record IsMade (items : Trace) (old new : Store) (before after : List Moved) : Type 0 where
   pub shows : show new ≡ grown items (show old)
   pub good : IsGood new
   pub runs : new.runs ≡ old.runs
-  pub tells : told ≡ happened items
+  pub noted : after ≡ before ++ moved items
 
 -- what the run carries has ended by a reply, or had ended before
-pub record IsEndedRun (at : ℕ) (r : Run) (reply : RunReply) (old new : Store) (told : List Happening) : Type 0 where
+pub record IsEndedRun (at : ℕ) (r : Run) (reply : RunReply) (old new : Store) (before after : List Moved) : Type 0 where
   pub shows : show new ≡ grown (end_items at (Replied reply) (Some r) (find (is_of r.id) (opens old.spots old.tasks))) (show old)
   pub good : IsGood new
   pub runs : new.runs ≡ old.runs
   pub slots : new.slots ≡ old.slots
-  pub tells : told ≡ happened (end_items at (Replied reply) (Some r) (find (is_of r.id) (opens old.spots old.tasks)))
+  pub noted : after ≡ before ++ moved (end_items at (Replied reply) (Some r) (find (is_of r.id) (opens old.spots old.tasks)))
 
 -- the end of what this run carries, where it is late
 abbrev pub late_at : ℕ → Option Berth → Store → Trace
 late_at at None R = []
 late_at at (Some b) R = late_of at b.run (show R)
 
-abbrev pub IsSweptOne : ℕ → Option Berth → Store → Store → List Happening → List Happening → Type 0
-IsSweptOne at cell old new before after = (told : List Happening) × IsMade (late_at at cell old) old new told × (after ≡ before ++ told)
+abbrev pub IsSweptOne : ℕ → Option Berth → Store → Store → List Moved → List Moved → Type 0
+IsSweptOne at cell old new before after = IsMade (late_at at cell old) old new before after
 
 abbrev pub sweeps : ℕ → Store → Trace
 sweeps at R = overrun_items at (show R).live (show R)
@@ -105,34 +104,34 @@ ArePlaced ts (p ∷ ps) (o ∷ os) = (p.id ≡ o.task.id) × (slice_index_or ts 
 -- ---- under way
 
 -- these runs are still to be swept
-pub record IsSweeping (at : ℕ) (old now : Store) (cells : List (Option Berth)) (told : List Happening) : Type 0 where
+pub record IsSweeping (at : ℕ) (old now : Store) (cells : List (Option Berth)) (before after : List Moved) : Type 0 where
   pub shows : grown (overrun_items at (there run_in cells) (show now)) (show now) ≡ grown (sweeps at old) (show old)
-  pub tells : told ++ happened (overrun_items at (there run_in cells) (show now)) ≡ happened (sweeps at old)
+  pub noted : after ++ moved (overrun_items at (there run_in cells) (show now)) ≡ before ++ moved (sweeps at old)
   pub runs : now.runs ≡ old.runs
   pub good : IsGood now
 
 -- what is left to be abandoned stands at these places
-pub record IsLeft (at : ℕ) (old now : Store) (ps : List OpenPlace) (told : List Happening) : Type 0 where
+pub record IsLeft (at : ℕ) (old now : Store) (ps : List OpenPlace) (before after : List Moved) : Type 0 where
   pub left : List Open
   pub placed : ArePlaced now.tasks ps left
   pub others : IsDistinct same_open left
   pub apart : IsDistinct same_open (opens now.spots now.tasks)
   pub shows : grown (abandoned_items at left) (show now) ≡ grown (abandons at old) (show old)
-  pub tells : told ++ happened (abandoned_items at left) ≡ happened (abandons at old)
+  pub noted : after ++ moved (abandoned_items at left) ≡ before ++ moved (abandons at old)
 
 -- these places are still to be abandoned, where the ids of all that is open differ
-pub record IsAbandoning (at : ℕ) (old now : Store) (ps : List OpenPlace) (told : List Happening) : Type 0 where
-  pub ends : IsDistinct same_open (opens old.spots old.tasks) → IsLeft at old now ps told
+pub record IsAbandoning (at : ℕ) (old now : Store) (ps : List OpenPlace) (before after : List Moved) : Type 0 where
+  pub ends : IsDistinct same_open (opens old.spots old.tasks) → IsLeft at old now ps before after
   pub size : length now.tasks ≡ length old.tasks
   pub runs : now.runs ≡ old.runs
   pub good : IsGood now
 
-abbrev pub IsAbandonedAt : ℕ → ℕ → Store → Store → List Happening → List Happening → Type 0
-IsAbandonedAt at place old new before after = (h : Happening) × IsEndedAt at Abandoned None place old new h × (after ≡ before ++ h ∷ [])
+abbrev pub IsAbandonedAt : ℕ → ℕ → Store → Store → List Moved → List Moved → Type 0
+IsAbandonedAt at place old new before after = IsEndedAt at Abandoned None place old new before after
 
 -- all has ended as abandoned, where the ids of all that is open differ
-abbrev pub AreAbandoned : ℕ → Store → Store → List Happening → Type 0
-AreAbandoned at old new told = IsDistinct same_open (opens old.spots old.tasks) → IsMade (abandons at old) old new told
+abbrev pub AreAbandoned : ℕ → Store → Store → List Moved → List Moved → Type 0
+AreAbandoned at old new before after = IsDistinct same_open (opens old.spots old.tasks) → IsMade (abandons at old) old new before after
 
 -- what the run carries waits again at its place, or isn't open
 abbrev pub IsFreed : Run → Store → Store → Type 0

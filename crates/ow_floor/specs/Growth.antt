@@ -10,7 +10,7 @@ use Rattle.ow_slots.specs.Slots.{memory_held, change_first}
 use Rattle.ow_lifecycle.specs.Life.{Event}
 use Rattle.ow_lifecycle.specs.Fitting.{IsFit, changed}
 use Rattle.ow_floor.specs.View.{Shown, is_number, is_of, last_of, remove_first, same_namespace, same_record, waits, with_state}
-use Rattle.ow_floor.specs.Trace.{Item, Trace, Opened, Resumed, Accepted, Ordered, Answered, Lost, Ended, Reopened, blocking_after, count_after, draining_after, drawn_after, event_of, live_after, moment_of, pool_after, records_after, resumed_after, run_count_after, slots_after, wants_after}
+use Rattle.ow_floor.specs.Trace.{Item, Trace, Opened, Resumed, Accepted, Ordered, Answered, Lost, Ended, Drawn, Fired, Reopened, blocking_after, count_after, draining_after, drawn_after, event_of, firing_after, live_after, moment_of, pool_after, records_after, resumed_after, run_count_after, slots_after, wants_after}
 
 -- what a lost run carries waits again
 abbrev pub freed : Option Run → List Open → List Open
@@ -37,6 +37,7 @@ grow item v = record {
   runs = run_count_after item v.runs;
   count = count_after item v.count;
   blocking = blocking_after item v.blocking;
+  firing = firing_after item v.firing;
   latest = moment_of item;
   draining = draining_after item v.draining;
   pool = pool_after item v.pool;
@@ -70,7 +71,7 @@ pub record AreResumable (counts : List Id) (rs : List Record) : Type 0 where
   pub drawn : AllByRecursion (λ r. r.id.count ≤ last_of counts r.id.namespace) rs
 
 -- a floor is opened once, first of all, and takes over what may be before anything else happens to an activation; an id is the next of its namespace; a run carries the first that waits; a reply comes from a live run
--- whose activation has ended; what ends is open, and the run that it names is live; at an opening nothing is open
+-- whose activation has ended; what ends is open, and the run that it names is live; the record of a fire has the id that was drawn for it; at an opening nothing is open
 abbrev pub IsItemRight : Item → Shown → Type 0
 IsItemRight (Opened pool wants) v = ⊥
 IsItemRight (Resumed counts rs) v = IsFresh v × AreResumable counts rs
@@ -78,6 +79,8 @@ IsItemRight (Accepted a) v = a.id.count ≡ last_of v.drawn a.id.namespace + 1
 IsItemRight (Ordered r key) v = (o : Open) × (find waits v.open_items ≡ Some o) × (r.id ≡ o.task.id)
 IsItemRight (Answered run alive at) v = (r : Run) × (find (is_number run) v.live ≡ Some r) × (find (is_of r.id) v.open_items ≡ None)
 IsItemRight (Ended e) v = (o : Open) × (find (is_of e.task.id) v.open_items ≡ Some o) × (e.task ≡ o.task) × IsLive e.run v.live
+IsItemRight (Drawn id at) v = id.count ≡ last_of v.drawn id.namespace + 1
+IsItemRight (Fired r) v = v.firing ≡ Some r.id
 IsItemRight (Reopened at) v = v.open_items ≡ []
 IsItemRight item v = Unit {0}
 

@@ -1,5 +1,5 @@
 -- What is true of every trace that the calls of a floor make, and when a floor stands as a trace says.
-use Rattle.std.specs.Prelude.{◌≡◌, ◌⊎◌, ◌+◌, ◌++◌, ◌≤◌, ℕ, Bool, false, List, [], ◌∷◌, if◌then◌else◌, is_some}
+use Rattle.std.specs.Prelude.{◌≡◌, ◌⊎◌, ◌+◌, ◌++◌, ◌≤◌, ℕ, Bool, false, List, [], ◌∷◌, Option, Some, None, if◌then◌else◌, is_some}
 use Rattle.std.specs.List.{AllByRecursion, IsDistinct}
 use Rattle.ow_records.specs.declared.ids.Id.{Id}
 use Rattle.ow_records.specs.Id.{same_id}
@@ -75,9 +75,25 @@ pub record AreResumedApart (rs : List Record) (last : ℕ → ℕ) (xs : List Ac
   pub apart : IsDistinct same_record rs
   pub strange : AllByRecursion (λ r. IsApart r.id xs) rs
 
+-- an id differs from those of these records
+abbrev pub IsStrange : Id → List Record → Type 0
+IsStrange id rs = AllByRecursion (λ r. (same_id id r.id ≡ false) × (same_id r.id id ≡ false)) rs
+
+-- an id that was drawn for a fire is that of no activation, and of no record of a fire or of an earlier run
+abbrev pub IsFiringApart : Option Id → List Record → List Record → (ℕ → ℕ) → List Activation → Type 0
+IsFiringApart None fired resumed last xs = Unit {0}
+IsFiringApart (Some id) fired resumed last xs = (id.count ≤ last id.namespace) × (IsApart id xs × (IsStrange id fired × IsStrange id resumed))
+
+-- ids of fires were drawn, and differ from one another, from those of these activations, and from those of records of an earlier run; so does the id of a
+-- fire that isn't recorded yet
+pub record AreFiresApart (fired : List Record) (firing : Option Id) (resumed : List Record) (last : ℕ → ℕ) (xs : List Activation) : Type 0 where
+  pub recorded : AreResumedApart fired last xs
+  pub foreign : AllByRecursion (λ r. IsStrange r.id fired) resumed
+  pub next : IsFiringApart firing fired resumed last xs
+
 -- no id is accepted twice; counts are drawn upwards, and what has ended or runs was drawn; each accepted id is open or recorded,
 -- once; what has ended was accepted; an activation has one live run at most; live runs have numbers of their own, drawn upwards; one last id is known of each namespace;
--- what was taken over was drawn, and isn't accepted again
+-- what was taken over was drawn, and isn't accepted again; ids of fires are apart
 pub record IsSound (T : Trace) : Type 0 where
   pub apart : AreApart (accepted T)
   pub drawn : AllByRecursion (λ a. a.id.count ≤ last T a.id.namespace) (accepted T)
@@ -91,6 +107,7 @@ pub record IsSound (T : Trace) : Type 0 where
   pub slotted : AreSlotsSound T
   pub namespaces : IsDistinct same_namespace (trace.drawn T)
   pub resumed : AreResumedApart (trace.resumed T) (last T) (accepted T)
+  pub fires : AreFiresApart (trace.fired T) (trace.firing T) (trace.resumed T) (last T) (accepted T)
 
 -- a run is live exactly where a slot is busy with it, and then one is
 abbrev pub StandInSlots : Trace → Type 0

@@ -88,6 +88,7 @@ show R = record {
   runs = length R.runs;
   count = length R.spots - R.marks.opened;
   blocking = R.blocking;
+  firing = R.marks.firing;
   latest = R.marks.latest;
   draining = R.marks.draining;
   pool = R.pool;
@@ -135,7 +136,7 @@ AreGone (suc k) (x ∷ xs) = (x ≡ None) × AreGone k xs
 
 -- ---- what holds of them
 
--- each place of a spot is one of a task; the last opening stands within; each that was accepted is open or recorded; so much is owed;
+-- each place of a spot is one of a task; the last opening stands within; each that was accepted is open or recorded, a fire at once; so much is owed;
 -- the slots are within the pool, and what is wanted ahead has the memory of some action
 pub record IsGood (R : Store) : Type 0 where
   pub paired : length R.tasks ≡ length R.spots
@@ -152,10 +153,13 @@ IsGoodPast (Some R) = IsGood R
 -- ---- changes
 
 abbrev pub with_latest : ℕ → Marks → Marks
-with_latest at m = record { latest = at; opened = m.opened; owed = m.owed; draining = m.draining }
+with_latest at m = record { latest = at; opened = m.opened; owed = m.owed; draining = m.draining; firing = m.firing }
 
 abbrev pub with_owed : ℕ → ℕ → Marks → Marks
-with_owed at owed m = record { latest = at; opened = m.opened; owed = owed; draining = m.draining }
+with_owed at owed m = record { latest = at; opened = m.opened; owed = owed; draining = m.draining; firing = m.firing }
+
+abbrev pub with_firing : ℕ → Option Id → Marks → Marks
+with_firing at firing m = record { latest = at; opened = m.opened; owed = m.owed; draining = m.draining; firing = firing }
 
 -- at this moment
 abbrev pub at_moment : ℕ → Store → Store
@@ -173,6 +177,26 @@ accepted_in a R = record {
   drawn = put_id a.id R.drawn;
   blocking = blocked_by a.id a.until R.blocking;
   marks = with_latest a.at R.marks;
+  pool = R.pool;
+  wants = R.wants;
+}
+
+-- an id is drawn for a fire
+abbrev pub drawn_in : ℕ → Id → Store → Store
+drawn_in at id R = record R { drawn = put_id id R.drawn; marks = with_firing at (Some id) R.marks }
+
+-- the fire is recorded: it takes a place at which nothing stands
+abbrev pub fired_in : Record → Store → Store
+fired_in r R = record {
+  spots = R.spots ++ record { state = Waiting } ∷ [];
+  tasks = R.tasks ++ None ∷ [];
+  runs = R.runs;
+  slots = R.slots;
+  ended = R.ended ++ r ∷ [];
+  resumed = R.resumed;
+  drawn = R.drawn;
+  blocking = R.blocking;
+  marks = with_firing r.span.start None R.marks;
   pool = R.pool;
   wants = R.wants;
 }
@@ -230,10 +254,10 @@ ended_in at place e R = record {
 
 -- these last ids and records are taken over
 abbrev pub resumed_in : List Id → List Record → Store → Store
-resumed_in counts rs R = record R { resumed = rs; drawn = counts; marks = with_latest 0 R.marks }
+resumed_in counts rs R = record R { resumed = rs; drawn = counts; marks = with_firing 0 None R.marks }
 
 abbrev pub drained_in : ℕ → Store → Store
-drained_in at R = record R { marks = record { latest = at; opened = R.marks.opened; owed = R.marks.owed; draining = true } }
+drained_in at R = record R { marks = record { latest = at; opened = R.marks.opened; owed = R.marks.owed; draining = true; firing = R.marks.firing } }
 
 -- as many empty places
 abbrev pub empty_of : {X Y : Type 0} → List X → List (Option Y)
@@ -246,5 +270,5 @@ reopened_in at R = record R {
   runs = empty_of R.runs;
   slots = emptied R.slots;
   blocking = [];
-  marks = record { latest = at; opened = length R.spots; owed = owed (emptied R.slots); draining = false };
+  marks = record { latest = at; opened = length R.spots; owed = owed (emptied R.slots); draining = false; firing = None };
 }

@@ -36,7 +36,8 @@ pub record End : Type 0 where
   pub at : ℕ
 
 -- one thing that happened on a floor; first of all it was opened, with a pool of so many MB and containers that are wanted ahead. Then it may take over the last ids
--- and the records of an earlier run. A reply tells whether the container can be used again
+-- and the records of an earlier run. A reply tells whether the container can be used again. A fire of a trigger is two items, between which stand the
+-- activations that it makes: its id is drawn, and it is recorded
 pub data Item : Type 0 where
   Opened : (pool : ℕ) (wants : List Prewarm) → Item
   Resumed : (counts : List Id) (records : List Record) → Item
@@ -49,6 +50,8 @@ pub data Item : Type 0 where
   Lost : (run at : ℕ) → Item
   Gone : (slot generation at : ℕ) → Item
   Ended : (end : End) → Item
+  Drawn : (id : Id) (at : ℕ) → Item
+  Fired : (fire : Record) → Item
   Swept : (at : ℕ) → Item
   Drained : (at : ℕ) → Item
   Reopened : (at : ℕ) → Item
@@ -68,16 +71,38 @@ abbrev pub accepted : Trace → List Activation
 accepted [] = []
 accepted (item ∷ T) = accepted_after item (accepted T)
 
--- their ids
+abbrev pub fired_after : Item → List Record → List Record
+fired_after (Fired r) rs = rs ++ r ∷ []
+fired_after item rs = rs
+
+-- the records of fires, by their order
+abbrev pub fired : Trace → List Record
+fired [] = []
+fired (item ∷ T) = fired_after item (fired T)
+
+-- the ids of what was accepted: of activations, and of fires
 abbrev pub accepted_ids : Trace → List Id
-accepted_ids T = map (λ a. a.id) (accepted T)
+accepted_ids T = map (λ a. a.id) (accepted T) ++ map (λ r. r.id) (fired T)
+
+abbrev pub firing_after : Item → Option Id → Option Id
+firing_after (Resumed counts rs) firing = None
+firing_after (Drawn id at) firing = Some id
+firing_after (Fired r) firing = None
+firing_after (Reopened at) firing = None
+firing_after item firing = firing
+
+-- the id that was drawn for a fire that isn't recorded yet
+abbrev pub firing : Trace → Option Id
+firing [] = None
+firing (item ∷ T) = firing_after item (firing T)
 
 abbrev pub count_after : Item → ℕ → ℕ
 count_after (Accepted activation) n = n + 1
+count_after (Fired r) n = n + 1
 count_after (Reopened at) n = 0
 count_after item n = n
 
--- how many were accepted since the last opening
+-- how many were accepted since the last opening, fires among them
 abbrev pub count : Trace → ℕ
 count [] = 0
 count (item ∷ T) = count_after item (count T)
@@ -132,9 +157,10 @@ record_of e = leaf_record e.task e.ending (started e.run) (began e.run) e.at
 
 abbrev pub records_after : Item → List Record → List Record
 records_after (Ended end) xs = xs ++ record_of end ∷ []
+records_after (Fired r) xs = xs ++ r ∷ []
 records_after item xs = xs
 
--- the records of what has ended since, by their order
+-- the records of what has ended since and of fires, by their order
 abbrev pub records : Trace → List Record
 records [] = []
 records (item ∷ T) = records_after item (records T)
@@ -148,13 +174,14 @@ abbrev pub resumed : Trace → List Record
 resumed [] = []
 resumed (item ∷ T) = resumed_after item (resumed T)
 
--- all records: those of an earlier run, and those of what has ended since
+-- all records: those of an earlier run, and those since
 abbrev pub all_records : Trace → List Record
 all_records T = resumed T ++ records T
 
 abbrev pub drawn_after : Item → List Id → List Id
 drawn_after (Resumed counts rs) ids = counts
 drawn_after (Accepted a) ids = put_id a.id ids
+drawn_after (Drawn id at) ids = put_id id ids
 drawn_after item ids = ids
 
 -- the last id of each namespace
@@ -165,6 +192,7 @@ drawn (item ∷ T) = drawn_after item (drawn T)
 abbrev pub last_after : Item → ℕ → ℕ → ℕ
 last_after (Resumed counts rs) namespace n = last_of counts namespace
 last_after (Accepted a) namespace n = if a.id.namespace == namespace then a.id.count else n
+last_after (Drawn id at) namespace n = if id.namespace == namespace then id.count else n
 last_after item namespace n = n
 
 -- the last count drawn in a namespace, 0 at first
@@ -243,6 +271,8 @@ moment_of (Answered run alive at) = at
 moment_of (Lost run at) = at
 moment_of (Gone slot generation at) = at
 moment_of (Ended end) = end.at
+moment_of (Drawn id at) = at
+moment_of (Fired r) = r.span.start
 moment_of (Swept at) = at
 moment_of (Drained at) = at
 moment_of (Reopened at) = at
@@ -290,7 +320,7 @@ slots T = slots_of (life T) (slot_count (pool_of T))
 
 -- ---- by filters
 
--- the record of an activation that has ended
+-- the record of what has ended
 abbrev pub end_of : Trace → Id → Option Record
 end_of T id = find (is_of_id id) (records T)
 
@@ -336,7 +366,7 @@ waiting T = ids_of (filter waits (open_items T))
 abbrev pub running : Trace → List Id
 running T = ids_of (filter runs_now (open_items T))
 
--- the ids that are recorded since, by their ends
+-- the ids that are recorded since, by their order
 abbrev pub recorded : Trace → List Id
 recorded T = map (λ e. e.id) (records T)
 
@@ -352,6 +382,7 @@ shown T = record {
   runs = run_count T;
   count = count T;
   blocking = blocking T;
+  firing = firing T;
   latest = latest T;
   draining = is_draining T;
   pool = pool_of T;

@@ -27,8 +27,8 @@ use Rattle.ow_slots.specs.declared.keys.Start.{Start}
 use Rattle.ow_traits.specs.declared.prewarms.Prewarm.{Prewarm}
 
 -- the activations that have not ended, by acceptance; the live runs, by their orders; the slots, by number;
--- the records of the activations that have ended, by their ends, and those that were taken over from an earlier run; the last id of each namespace; how many runs were
--- ordered, those of containers ahead among them; how many were accepted since the last opening; which of these a request waits for; the moment of the newest thing; whether
+-- the records of the activations that have ended and of fires, by their order, and those that were taken over from an earlier run; the last id of each namespace; how many runs were
+-- ordered, those of containers ahead among them; how many were accepted since the last opening; which of these a request waits for; the id of a fire that isn't recorded yet; the moment of the newest thing; whether
 -- it drains; the memory of the pool, in MB, and which containers are wanted ahead
 pub record Shown : Type 0 where
   pub open_items : List Open
@@ -40,6 +40,7 @@ pub record Shown : Type 0 where
   pub runs : ℕ
   pub count : ℕ
   pub blocking : List Blocking
+  pub firing : Option Id
   pub latest : ℕ
   pub draining : Bool
   pub pool : ℕ

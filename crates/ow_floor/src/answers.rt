@@ -1,7 +1,7 @@
 // What the calls of a floor answer.
 ghost use Rattle.std.specs.Prelude.{◌≡◌, ◌↔◌, [], ◌∷◌, IsTrue, IfOk};
 
-use crate::Run;
+use crate::{Moved, Run};
 use ow_records::{Activation, Id, Record};
 use ow_several::copied2;
 use ow_slots::{Start, kind_of};
@@ -294,6 +294,8 @@ impl PlainData for Order {
 }
 
 impl Happened {
+    ghost use Rattle.ow_floor.specs.Calls.{happened_of};
+
     /// Nothing happened. This takes no memory.
     pub fn none() -> Happened
         ensures { result ≡ [] }
@@ -303,12 +305,14 @@ impl Happened {
         }
     }
 
-    /// One thing happened.
-    pub fn one(alloc: Global, happening: Happening) -> Result<Happened, NoMemory>
-        ensures { IfOk result (λ h. h ≡ happening ∷ []) }
+    /// What is told of these moves.
+    pub fn of_moves(alloc: Global, moves: &[Moved]) -> Result<Happened, NoMemory>
+        ensures { IfOk result (λ h. h ≡ happened_of moves.now) }
     {
-        let mut items = Vec::with_capacity(alloc, 1)?;
-        items.push_reserved(happening);
+        let mut items = Vec::with_capacity(alloc, moves.len())?;
+        for moved in moves {
+            items.push(moved.happening())?;
+        }
         Happened::of(items)
     }
 

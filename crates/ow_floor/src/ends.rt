@@ -1,5 +1,5 @@
 // Ends of activations.
-ghost use Rattle.std.specs.Prelude.{◌≡◌, ◌<◌, ◌++◌, ◌∷◌, [], length, None, Some, slice_index_or, ◌↔◌, IsTrue, IfOk, OnOk};
+ghost use Rattle.std.specs.Prelude.{◌≡◌, ◌<◌, ◌++◌, ◌∷◌, [], length, None, Some, slice_index_or, ◌↔◌, IsTrue, OnOk};
 ghost use Rattle.ow_slots.specs.Slots.{IsThere, first_with};
 ghost use Rattle.ow_slots.specs.State.{IsUnrecorded, runs};
 ghost use Rattle.ow_floor.specs.Trace.{began, started};
@@ -9,13 +9,13 @@ ghost use Rattle.ow_floor.specs.Store.{IsGood};
 
 use crate::by_id::places_by_id;
 use crate::lists::Lists;
-use crate::{Happened, Happening, Run};
+use crate::{Moves, Run};
 use ow_records::{Activation, Ending, ReadyRecord, record_of};
 use ow_traits::RunReply;
 use ow_value::{NoMemory, PlainData, Scratch, Shared};
 use std::alloc::Global;
 
-/// Ends what stands at this place. It tells what happened.
+/// Ends what stands at this place.
 pub(crate) fn end_at(
     alloc: Global,
     lists: &mut Lists,
@@ -24,23 +24,22 @@ pub(crate) fn end_at(
     place: usize,
     ending: &Ending,
     run: Option<Run>,
-) -> Result<Happening, NoMemory>
+    moves: &mut Moves,
+) -> Result<(), NoMemory>
     requires place { place < length lists.old.now.tasks }
     requires good { IsGood lists.old.now }
     ensures good { IsGood lists.new.now }
-    ensures made { IfOk result (λ h. IsEndedAt at ending.now run place lists.old.now lists.new.now h) }
+    ensures made { OnOk result (IsEndedAt at ending.now run place lists.old.now lists.new.now moves.old moves.new) }
     ensures past { lists.new.past ≡ lists.old.past }
 {
     let Some(task) = &lists.tasks()[place] else {
         return Err(NoMemory);
     };
     let task = task.get();
-    let id = task.id;
     let record = record_of(alloc, scratch, task, ending, started(run), began(run), at)?;
-    let code = record.response.code();
     let ready = ReadyRecord::new(alloc, record)?;
     lists.end(at, place, ready)?;
-    Ok(Happening::Recorded { id, code })
+    moves.note_ended(alloc, lists.records())
 }
 
 fn is_late(at: u64, run: Run, task: &Activation) -> bool
@@ -103,7 +102,7 @@ fn began(run: Option<Run>) -> Option<u64>
     }
 }
 
-/// What the run carries ends by a reply, unless it has ended before. It tells what happened.
+/// What the run carries ends by a reply, unless it has ended before.
 pub(crate) fn end_run(
     alloc: Global,
     lists: &mut Lists,
@@ -111,19 +110,18 @@ pub(crate) fn end_run(
     at: u64,
     run: Run,
     reply: &RunReply,
-) -> Result<Happened, NoMemory>
+    moves: &mut Moves,
+) -> Result<(), NoMemory>
     requires { IsGood lists.old.now }
     ensures good { IsGood lists.new.now }
-    ensures made { IfOk result (λ told. IsEndedRun at run reply.now lists.old.now lists.new.now told) }
+    ensures made { OnOk result (IsEndedRun at run reply.now lists.old.now lists.new.now moves.old moves.new) }
     ensures past { lists.new.past ≡ lists.old.past }
 {
     let Some(place) = lists.open_place(run.id) else {
-        return Ok(Happened::none());
+        return Ok(());
     };
     let ending = Ending::Replied(reply.copy(alloc)?);
-    let ended = end_at(alloc, lists, scratch, at, place, &ending, Some(run));
-    drop(ending);
-    Happened::one(alloc, ended?)
+    end_at(alloc, lists, scratch, at, place, &ending, Some(run), moves)
 }
 
 // What stands at this place has overrun, and is recorded so in the slot of its run.
@@ -134,14 +132,15 @@ fn end_overrun(
     at: u64,
     place: usize,
     run: Run,
-) -> Result<Happening, NoMemory>
+    moves: &mut Moves,
+) -> Result<(), NoMemory>
     requires good { IsGood lists.old.now }
     requires late { IsLateSpot at run lists.old.now place }
     ensures good { IsGood lists.new.now }
-    ensures made { IfOk result (λ h. IsOverrunAt at run place lists.old.now lists.new.now h) }
+    ensures made { OnOk result (IsOverrunAt at run place lists.old.now lists.new.now moves.old moves.new) }
     ensures past { lists.new.past ≡ lists.old.past }
 {
-    let happening = end_at(
+    end_at(
         alloc,
         lists,
         scratch,
@@ -149,9 +148,10 @@ fn end_overrun(
         place,
         &Ending::Overran,
         Some(run),
+        moves,
     )?;
     lists.overrun(alloc, at, run.number)?;
-    Ok(happening)
+    Ok(())
 }
 
 // What the run at this place carries ends, where it is late.
@@ -161,42 +161,41 @@ fn end_late(
     scratch: &mut Scratch,
     at: u64,
     place: usize,
-    happened: &mut Vec<Happening>,
+    moves: &mut Moves,
 ) -> Result<(), NoMemory>
     requires good { IsGood lists.old.now }
     requires within { place < length lists.old.now.runs }
     ensures good { IsGood lists.new.now }
-    ensures made { OnOk result (IsSweptOne at (slice_index_or lists.old.now.runs place None) lists.old.now lists.new.now happened.old.items happened.new.items) }
+    ensures made { OnOk result (IsSweptOne at (slice_index_or lists.old.now.runs place None) lists.old.now lists.new.now moves.old moves.new) }
     ensures past { lists.new.past ≡ lists.old.past }
 {
     let Some(berth) = lists.runs()[place] else {
         return Ok(());
     };
     if let Some(spot) = late_place(lists, at, berth.run) {
-        let happening = end_overrun(alloc, lists, scratch, at, spot, berth.run)?;
-        happened.push(happening)?;
+        return end_overrun(alloc, lists, scratch, at, spot, berth.run, moves);
     }
     Ok(())
 }
 
-/// Ends what late runs carry, one behind another. It tells what happened.
+/// Ends what late runs carry, one after another.
 pub(crate) fn sweep(
     alloc: Global,
     lists: &mut Lists,
     scratch: &mut Scratch,
     at: u64,
-) -> Result<Vec<Happening>, NoMemory>
+    moves: &mut Moves,
+) -> Result<(), NoMemory>
     requires { IsGood lists.old.now }
     ensures good { IsGood lists.new.now }
-    ensures made { IfOk result (λ hs. IsMade (sweeps at lists.old.now) lists.old.now lists.new.now hs.items) }
+    ensures made { OnOk result (IsMade (sweeps at lists.old.now) lists.old.now lists.new.now moves.old moves.new) }
     ensures past { lists.new.past ≡ lists.old.past }
 {
-    let mut happened = Vec::new(alloc);
     let count = lists.runs().len();
     for i in 0..count {
-        end_late(alloc, lists, scratch, at, i, &mut happened)?;
+        end_late(alloc, lists, scratch, at, i, moves)?;
     }
-    Ok(happened)
+    Ok(())
 }
 
 // What stands at this place ends as abandoned.
@@ -206,17 +205,24 @@ fn abandon_at(
     scratch: &mut Scratch,
     at: u64,
     place: usize,
-    happened: &mut Vec<Happening>,
+    moves: &mut Moves,
 ) -> Result<(), NoMemory>
     requires good { IsGood lists.old.now }
     requires within { place < length lists.old.now.tasks }
     ensures good { IsGood lists.new.now }
-    ensures made { OnOk result (IsAbandonedAt at place lists.old.now lists.new.now happened.old.items happened.new.items) }
+    ensures made { OnOk result (IsAbandonedAt at place lists.old.now lists.new.now moves.old moves.new) }
     ensures past { lists.new.past ≡ lists.old.past }
 {
-    let happening = end_at(alloc, lists, scratch, at, place, &Ending::Abandoned, None)?;
-    happened.push(happening)?;
-    Ok(())
+    end_at(
+        alloc,
+        lists,
+        scratch,
+        at,
+        place,
+        &Ending::Abandoned,
+        None,
+        moves,
+    )
 }
 
 /// What a lost run carries waits again, where it is open. Nothing is held.
@@ -231,22 +237,22 @@ pub(crate) fn free_run(lists: &mut Lists, run: Run)
     }
 }
 
-/// Ends all that is open as abandoned, by its ids. It tells what happened.
+/// Ends all that is open as abandoned, by its ids.
 pub(crate) fn abandon(
     alloc: Global,
     lists: &mut Lists,
     scratch: &mut Scratch,
     at: u64,
-) -> Result<Vec<Happening>, NoMemory>
+    moves: &mut Moves,
+) -> Result<(), NoMemory>
     requires { IsGood lists.old.now }
     ensures good { IsGood lists.new.now }
-    ensures made { IfOk result (λ hs. AreAbandoned at lists.old.now lists.new.now hs.items) }
+    ensures made { OnOk result (AreAbandoned at lists.old.now lists.new.now moves.old moves.new) }
     ensures past { lists.new.past ≡ lists.old.past }
 {
-    let mut happened = Vec::new(alloc);
     let places = places_by_id(alloc, lists.tasks())?;
     for i in 0..places.len() {
-        abandon_at(alloc, lists, scratch, at, places[i].place, &mut happened)?;
+        abandon_at(alloc, lists, scratch, at, places[i].place, moves)?;
     }
-    Ok(happened)
+    Ok(())
 }

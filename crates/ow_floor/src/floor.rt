@@ -10,7 +10,7 @@ ghost use Rattle.ow_floor.specs.Laws.{Grows, Stands};
 ghost use Rattle.ow_traits.specs.Prewarms.{AreWantsSized};
 ghost use Rattle.ow_floor.specs.Collecting.{collected, collected_by, collection_of};
 ghost use Rattle.ow_floor.specs.Owed.{owed, owed_of};
-ghost use Rattle.ow_floor.specs.Calls.{AllRecorded, AnswersSo, GrowsBy, HandsBack, HasWork, abandon_items, abandoned_ends, accept_items, activation_of, answer_to, answered_by, answered_items, begun_answer, begun_items, busy_run, drain_answer, drain_by, gone_answer, gone_items, happened, happened_accepted, is_store_fault, leaves_alive, lost_answer, lost_items, next_items, next_order, record_abandoned, resume_items, sorted_by_id, swept_ends, swept_items, unrecorded_by, unrecorded_in};
+ghost use Rattle.ow_floor.specs.Calls.{AllRecorded, HasWork, abandon_items, accept_items, activation_of, answered_items, begun_answer, begun_items, busy_run, drain_answer, drain_by, draw_items, fire_items, gone_answer, gone_items, leaves_alive, lost_answer, lost_items, moved, next_items, next_order, record_abandoned, reply_recorded, resume_items, sorted_by_id, swept_ends, swept_items, unrecorded_by, unrecorded_in};
 
 use crate::ends::{abandon, end_run, sweep};
 use crate::known::known_tasks;
@@ -19,12 +19,11 @@ use crate::orders::next_order;
 use crate::places::last_of;
 use crate::resuming::{records_of, unrecorded};
 use crate::runs::{begin_run, generation_in, lose_run, recorded_in};
-use crate::{
-    AnswerRefusal, Answered, Collected, Drain, FloorRefusal, Happened, Happening, Order, Plan,
-    Swept,
-};
+use crate::{Collected, Drain, FloorRefusal, Moves, Order, Plan};
 use ow_packages::Effective;
-use ow_records::{Activation, Id, Record, Records, Unrecorded, known_ids, known_records};
+use ow_records::{
+    Activation, Id, ReadyRecord, Record, Records, Unrecorded, known_ids, known_records,
+};
 use ow_traits::{Prewarms, RunReply};
 use ow_value::{NoMemory, Scratch, Shared};
 use std::alloc::Global;
@@ -166,6 +165,15 @@ impl Floor {
         }
     }
 
+    /// Takes back what was done since the hold, which goes on. It takes no memory.
+    pub fn back(&mut self)
+        ensures now { IfSome self.old.before (λ v. self.new.now ≡ v) }
+        ensures free { self.old.before ≡ None → self.new.now ≡ self.old.now }
+        ensures before { self.new.before ≡ self.old.before }
+    {
+        self.lists.back();
+    }
+
     /// Takes over what is known of an earlier run: the last ids of its namespaces, and its records. Nothing has happened to an activation
     /// yet. Without memory both are dropped.
     pub fn resume(
@@ -186,19 +194,49 @@ impl Floor {
         Ok(())
     }
 
-    /// Accepts an activation, which waits from now on. `at` is the moment, in milliseconds. Without
+    /// Accepts an activation, which waits from now on, and notes that it moved. `at` is the moment, in milliseconds. Without
     /// memory the plan is dropped.
-    pub fn accept(&mut self, alloc: Global, at: u64, plan: Plan) -> Result<Happened, NoMemory>
+    pub fn accept_into(
+        &mut self,
+        alloc: Global,
+        at: u64,
+        plan: Plan,
+        moves: &mut Moves,
+    ) -> Result<(), NoMemory>
         requires next { plan.id.count ≡ last_of self.old.now.drawn plan.id.namespace + 1 }
-        ensures told { IfOk result (λ h. h ≡ happened_accepted plan.id) }
+        ensures moved { OnOk result (moves.new ≡ moves.old ++ moved (accept_items at plan)) }
         ensures ok { OnOk result (Grows self.old.now self.new.now (λ T. accept_items at plan)) }
+        ensures firing { OnOk result (self.new.now.firing ≡ self.old.now.firing) }
         ensures before { self.new.before ≡ self.old.before }
     {
-        let id = plan.id;
         let task = Shared::new(alloc, activation_of(at, plan))?;
-        let happened = Happened::one(alloc, Happening::Accepted { id })?;
+        moves.note_accepted(alloc, &task)?;
         self.lists.accept(task)?;
-        Ok(happened)
+        Ok(())
+    }
+
+    /// Draws an id for a fire at this moment, in milliseconds, and notes it. The fire is recorded by `fire`; what is accepted between has later ids.
+    pub fn draw(&mut self, at: u64, id: Id, moves: &mut Moves) -> Result<(), NoMemory>
+        requires next { id.count ≡ last_of self.old.now.drawn id.namespace + 1 }
+        ensures moved { OnOk result (moves.new ≡ moves.old ++ moved (draw_items at id)) }
+        ensures ok { OnOk result (Grows self.old.now self.new.now (λ T. draw_items at id)) }
+        ensures firing { OnOk result (self.new.now.firing ≡ Some id) }
+        ensures before { self.new.before ≡ self.old.before }
+    {
+        self.lists.draw(at, id)?;
+        moves.note_drawn(id)
+    }
+
+    /// Records the fire whose id was drawn last, and notes it. Without memory the record is dropped.
+    pub fn fire(&mut self, alloc: Global, fired: Record, moves: &mut Moves) -> Result<(), NoMemory>
+        requires drawn { self.old.now.firing ≡ Some fired.id }
+        ensures moved { OnOk result (moves.new ≡ moves.old ++ moved (fire_items fired)) }
+        ensures ok { OnOk result (Grows self.old.now self.new.now (λ T. fire_items fired)) }
+        ensures before { self.new.before ≡ self.old.before }
+    {
+        let ready = ReadyRecord::new(alloc, fired)?;
+        self.lists.fire(ready)?;
+        moves.note_fired(alloc, self.lists.records())
     }
 
     /// What is to be done next: what has waited longest runs, containers are removed to make room for it, or, where nothing waits, a container starts
@@ -254,15 +292,18 @@ impl Floor {
         Ok(())
     }
 
-    /// Takes a runner's reply: what the run carries ends, unless a sweep recorded it before. None where no slot is busy with this run.
-    pub fn replied(
+    /// Takes a runner's reply: what the run carries ends, unless a sweep recorded it before. It tells at which moment a sweep did, in milliseconds, where one
+    /// did. None where no slot is busy with this run.
+    pub fn replied_into(
         &mut self,
         alloc: Global,
         at: u64,
         run: u64,
         reply: &RunReply,
-    ) -> Result<Option<Answered>, NoMemory>
-        ensures told { IfOk result (λ answer. (T : Trace) → Stands self.old.now T → answer ≡ answer_to at run reply.now T) }
+        moves: &mut Moves,
+    ) -> Result<Option<Option<u64>>, NoMemory>
+        ensures told { IfOk result (λ recorded. (T : Trace) → Stands self.old.now T → recorded ≡ reply_recorded run T) }
+        ensures moved { OnOk result ((T : Trace) → Stands self.old.now T → moves.new ≡ moves.old ++ moved (answered_items at run reply.now T)) }
         ensures ok { OnOk result (Grows self.old.now self.new.now (λ T. answered_items at run reply.now T)) }
         ensures live { OnErr result ((T : Trace) → Stands self.old.now T → IsSome (busy_run run (shown T))) }
         ensures before { self.new.before ≡ self.old.before }
@@ -276,71 +317,48 @@ impl Floor {
         let Some(berth) = self.lists.runs()[place] else {
             return Ok(None);
         };
-        let happened = end_run(
+        end_run(
             alloc,
             &mut self.lists,
             &mut self.scratch,
             at,
             berth.run,
             reply,
+            moves,
         )?;
-        if self
-            .lists
-            .answer(alloc, at, run, leaves_alive(reply), place)
-            .is_err()
-        {
-            drop(happened);
-            return Err(NoMemory);
-        }
-        Ok(Some(answered_by(run, recorded, happened)))
+        self.lists
+            .answer(alloc, at, run, leaves_alive(reply), place)?;
+        Ok(Some(recorded))
     }
 
-    /// As `replied`, with the reply itself: a refusal hands it back. The floor keeps neither the parameters nor the logs.
-    pub fn answered(
-        &mut self,
-        alloc: Global,
-        at: u64,
-        run: u64,
-        reply: RunReply,
-    ) -> Result<Answered, AnswerRefusal>
-        ensures told { AnswersSo self.old.now at run reply result }
-        ensures ok { GrowsBy self.old.now self.new.now (λ T. answered_items at run reply T) result }
-        ensures refused { IfErr result (λ refusal. HandsBack run reply refusal) }
-        ensures store { IfErr result (λ refusal. is_store_fault refusal ≡ false) }
-        ensures before { self.new.before ≡ self.old.before }
-    {
-        match self.replied(alloc, at, run, &reply) {
-            Ok(Some(answered)) => Ok(answered),
-            Ok(None) => Err(AnswerRefusal::NoRun { run, reply }),
-            Err(NoMemory) => Err(AnswerRefusal::NoMemory(reply)),
-        }
-    }
-
-    /// Ends each activation whose live run is late, by the runs' orders. The runs stay live.
-    pub fn sweep(&mut self, alloc: Global, at: u64) -> Result<Swept, NoMemory>
-        ensures told { IfOk result (λ s. (T : Trace) → Stands self.old.now T → (s.happened ≡ happened (swept_ends at T)) × (s.late ≡ length (swept_ends at T))) }
+    /// Ends each activation whose live run is late, by the runs' orders, and tells how many these are. The runs stay live.
+    pub fn sweep_into(&mut self, alloc: Global, at: u64, moves: &mut Moves) -> Result<u64, NoMemory>
+        ensures late { IfOk result (λ late. (T : Trace) → Stands self.old.now T → late ≡ length (swept_ends at T)) }
+        ensures moved { OnOk result ((T : Trace) → Stands self.old.now T → moves.new ≡ moves.old ++ moved (swept_items at T)) }
         ensures ok { OnOk result (Grows self.old.now self.new.now (λ T. swept_items at T)) }
         ensures before { self.new.before ≡ self.old.before }
     {
-        let happened = sweep(alloc, &mut self.lists, &mut self.scratch, at)?;
+        let before = moves.items().len();
+        sweep(alloc, &mut self.lists, &mut self.scratch, at, moves)?;
         self.lists.note_moment(at);
-        let late = happened.len() as u64;
-        Ok(Swept {
-            happened: Happened::of(happened)?,
-            late,
-        })
+        Ok((moves.items().len() - before) as u64)
     }
 
     /// Ends each open activation as abandoned, by its id. From then on no run is live, no container is there, and it doesn't drain.
-    pub fn abandon(&mut self, alloc: Global, at: u64) -> Result<Happened, NoMemory>
-        ensures told { IfOk result (λ h. (T : Trace) → Stands self.old.now T → h ≡ happened (abandoned_ends at T)) }
+    pub fn abandon_into(
+        &mut self,
+        alloc: Global,
+        at: u64,
+        moves: &mut Moves,
+    ) -> Result<(), NoMemory>
+        ensures moved { OnOk result ((T : Trace) → Stands self.old.now T → moves.new ≡ moves.old ++ moved (abandon_items at T)) }
         ensures ok { OnOk result (Grows self.old.now self.new.now (λ T. abandon_items at T)) }
         ensures recorded { OnOk result ((T : Trace) → Stands self.old.now T → self.new.now.ended ≡ records T ++ map (record_abandoned at) (sorted_by_id (open_items T))) }
         ensures before { self.new.before ≡ self.old.before }
     {
-        let happened = abandon(alloc, &mut self.lists, &mut self.scratch, at)?;
+        abandon(alloc, &mut self.lists, &mut self.scratch, at, moves)?;
         self.lists.reopen(alloc, at)?;
-        Happened::of(happened)
+        Ok(())
     }
 
     /// From now on the floor drains. It tells whether all have ended. It takes no memory.
@@ -385,16 +403,6 @@ fn activation_of(at: u64, plan: Plan) -> Activation
         subject,
         cause,
         until,
-    }
-}
-
-// What is told of a reply to the run: it is late where a sweep recorded what the run carries.
-fn answered_by(run: u64, recorded: Option<u64>, happened: Happened) -> Answered
-    ensures { result ≡ answered_by run recorded happened }
-{
-    match recorded {
-        Some(at) => Answered::Late { run, at },
-        None => Answered::Recorded(happened),
     }
 }
 

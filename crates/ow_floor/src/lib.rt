@@ -11,10 +11,12 @@ mod kept_slots;
 mod known;
 mod laws;
 mod lists;
+mod moves;
 mod orders;
 mod places;
 mod resuming;
 mod runs;
+mod told;
 
 pub use activations::{Open, Plan, State};
 pub use answers::{
@@ -27,4 +29,5 @@ pub use laws::{
     live_runs_stand_in_slots, replies_after_a_sweep_are_late, right_items_keep_traces_sound,
     slots_are_within_the_pool, sound_traces_are_parted, when_drained_all_are_recorded,
 };
+pub use moves::{Moved, Moves};
 pub use runs::Run;

@@ -14,7 +14,7 @@ ghost use Rattle.ow_lifecycle.specs.Life.{Event, Removed};
 ghost use Rattle.ow_lifecycle.specs.Owed.{may_begin, owed, owed_by};
 ghost use Rattle.ow_slots.specs.declared.states.State.TheVariants.{Busy};
 ghost use Rattle.ow_floor.specs.Trace.{slot_count};
-ghost use Rattle.ow_floor.specs.Store.{AreGone, CellOf, IsGood, SpotOf, Store, accepted_in, answered_in, at_moment, drained_in, empty_of, ended_in, event_in, freed_in, ordered_in, prewarmed_in, reopened_in, resumed_in, run_in, run_put, taken_back, with_owed};
+ghost use Rattle.ow_floor.specs.Store.{AreGone, CellOf, IsGood, SpotOf, Store, accepted_in, answered_in, at_moment, drained_in, drawn_in, empty_of, ended_in, event_in, fired_in, freed_in, ordered_in, prewarmed_in, reopened_in, resumed_in, run_in, run_put, taken_back, with_owed};
 
 use crate::kept::Kept;
 use crate::kept_slots::KeptSlots;
@@ -49,13 +49,15 @@ pub(crate) struct Blocking {
     pub(crate) until: u64,
 }
 
-/// The moment of the newest thing, how many were accepted before the last opening, how many entries are owed, and whether it drains.
+/// The moment of the newest thing, how many were accepted before the last opening, how many entries are owed, whether it drains, and the id of a fire that
+/// isn't recorded yet.
 #[derive(Clone, Copy)]
 pub(crate) struct Marks {
     pub(crate) latest: u64,
     pub(crate) opened: usize,
     pub(crate) owed: usize,
     pub(crate) draining: bool,
+    pub(crate) firing: Option<Id>,
 }
 
 /// The lists. They can be held.
@@ -126,12 +128,13 @@ const NO_MARKS: Marks = Marks {
     opened: 0,
     owed: 0,
     draining: false,
+    firing: None,
 };
 
 impl Lists {
     /// Nothing stands in them, and they aren't held. All slots of the pool are vacant.
     pub(crate) fn new(alloc: Global, pool: u32, wants: Prewarms) -> Result<Lists, NoMemory>
-        ensures now { IfOk result (λ l. l.now ≡ record { spots = []; tasks = []; runs = []; slots = replicate (slot_count pool) vacant_slot; ended = []; resumed = []; drawn = []; blocking = []; marks = record { latest = 0; opened = 0; owed = 0; draining = false }; pool = pool; wants = wants }) }
+        ensures now { IfOk result (λ l. l.now ≡ record { spots = []; tasks = []; runs = []; slots = replicate (slot_count pool) vacant_slot; ended = []; resumed = []; drawn = []; blocking = []; marks = record { latest = 0; opened = 0; owed = 0; draining = false; firing = None }; pool = pool; wants = wants }) }
         ensures past { IfOk result (λ l. l.past ≡ None) }
     {
         let slots = KeptSlots::new(alloc, pool / LEAST_MEMORY)?;
@@ -295,6 +298,16 @@ impl Lists {
             self.runs_gone = 0;
         }
         self.held = false;
+    }
+
+    /// They are again what they were at the hold, where they are held, and that goes on. It takes no memory.
+    pub(crate) fn back(&mut self)
+        ensures { self.new ≡ record { now = taken_back self.old.past self.old.now; past = self.old.past } }
+    {
+        if self.held {
+            self.take_back();
+            self.hold();
+        }
     }
 }
 
@@ -464,6 +477,44 @@ impl Lists {
         note_id(&mut self.drawn, held, id);
         note_until(&mut self.blocking, held, id, until);
         self.marks.latest = at;
+        Ok(())
+    }
+
+    /// An id is drawn for a fire at this moment.
+    pub(crate) fn draw(&mut self, at: u64, id: Id) -> Result<(), NoMemory>
+        ensures now { OnOk result (self.new.now ≡ drawn_in at id self.old.now) }
+        ensures err { OnErr result (self.new.now ≡ self.old.now) }
+        ensures past { self.new.past ≡ self.old.past }
+    {
+        make_room(&mut self.drawn, self.held)?;
+        note_id(&mut self.drawn, self.held, id);
+        self.marks.latest = at;
+        self.marks.firing = Some(id);
+        Ok(())
+    }
+
+    /// The fire is recorded. It takes a place at which nothing stands.
+    pub(crate) fn fire(&mut self, ended: ReadyRecord) -> Result<(), NoMemory>
+        ensures now { OnOk result (self.new.now ≡ fired_in ended self.old.now) }
+        ensures err { OnErr result (self.new.now ≡ self.old.now) }
+        ensures past { self.new.past ≡ self.old.past }
+    {
+        let held = self.held;
+        if self.records.reserve().is_err()
+            || make_room(&mut self.tasks, held).is_err()
+            || make_room(&mut self.spots, held).is_err()
+        {
+            drop(ended);
+            return Err(NoMemory);
+        }
+        let spot = Spot {
+            state: State::Waiting,
+        };
+        self.marks.latest = ended.record().span.start();
+        self.marks.firing = None;
+        self.records.add(ended);
+        self.tasks.push(held, None);
+        self.spots.push(held, spot);
         Ok(())
     }
 
@@ -659,6 +710,7 @@ impl Lists {
         self.records_held = records.len();
         self.records = records;
         self.marks.latest = 0;
+        self.marks.firing = None;
     }
 
     /// The moment of the newest thing is this one.
@@ -696,6 +748,7 @@ impl Lists {
         let opened = Marks {
             opened: self.spots.items().len(),
             draining: false,
+            firing: None,
             ..self.marks
         };
         self.marks = marked(self.slots.slots(), opened, at);

@@ -1,5 +1,5 @@
 -- What is posted keeps the hall, and what isn't booked changes nothing.
-use Rattle.std.proofs.Common.{◌≡◌, ◌∙◌, ◌+◌, ◌≤◌, ◌++◌, ℕ, Bool, true, false, List, [], ◌∷◌, Option, Some, None, Result, Ok, Err, length, drop, refl, sym, ap, subst, arith}
+use Rattle.std.proofs.Common.{◌≡◌, ◌∙◌, ◌≤◌, ◌++◌, ℕ, Bool, true, false, List, [], ◌∷◌, Option, Some, None, Result, Ok, Err, length, drop, refl, sym, ap, subst, arith}
 use Rattle.std.proofs.Math.Nat.{le-max_left, max-le, min-le_right}
 use Rattle.ow_traits.specs.declared.replies.RunReply.{RunReply}
 use Rattle.ow_pool.specs.declared.answers.Place.{Place}
@@ -23,6 +23,7 @@ use Rattle.ow_decide.specs.declared.events.Told.TheVariants as told
 use Rattle.ow_hall.specs.declared.posting.Posting.{Posting}
 use Rattle.ow_hall.specs.declared.posting.Posting.TheVariants.{Booked, Quiet, Denied, Unbooked}
 use Rattle.ow_decide.specs.declared.replies.Called.TheVariants as called
+use Rattle.ow_decide.specs.declared.step.FireStep.{FireStep}
 use Rattle.ow_decide.specs.declared.step.Now.{Now}
 use Rattle.ow_decide.specs.declared.step.Step.{Step}
 use Rattle.ow_tenant.specs.Table.{Table}
@@ -31,7 +32,7 @@ use Rattle.ow_decide.specs.declared.waits.Waits.{Waits}
 use Rattle.ow_decide.specs.declared.waits.Waits.TheVariants.{Keep}
 use Rattle.ow_decide.specs.Sight.{Sight}
 use Rattle.ow_decide.specs.Decision.{Decision, adds, all_changed, tells}
-use Rattle.ow_decide.specs.Asking.{Done, Shown as ShownDone, Changed, Invoked, ask_decision, refusal_told, request_done}
+use Rattle.ow_decide.specs.Asking.{Done, Shown as ShownDone, Changed, Fired, Invoked, Quiet as QuietDone, ask_decision, refusal_told, request_done}
 use Rattle.ow_decide.specs.Calling.{call_decision, call_plan}
 use Rattle.ow_decide.specs.Decisions.{decide, is_opening, reply_told, taken_told, wants_memory}
 use Rattle.ow_decide.specs.Opening.{opened_decision, parts_taken}
@@ -51,7 +52,7 @@ use Rattle.ow_decide.specs.Decision.{commits}
 use Rattle.ow_decide.proofs.KeptLaws.{decided_kept}
 use Rattle.ow_hall.specs.Comes.{HoldsBook, HoldsRows, KeptRows, kept_after, kept_of}
 use Rattle.ow_kept.proofs.Quiet.{stands_same}
-use Rattle.ow_hall.proofs.KeepLaws.{leaves_commits, quiet_whole}
+use Rattle.ow_hall.proofs.KeepLaws.{alone_made, leaves_commits, quiet_whole}
 use Rattle.ow_hall.proofs.NoteLaws.{counted_at, noted_at, quiet_at, seen_up_to}
 
 -- ---- what isn't booked changes nothing
@@ -79,6 +80,8 @@ ask_so : (idle : Bool) (at : ℕ) (d : Result Done Reason) → Unbooks idle (ask
 ask_so idle at (Ok (ShownDone value)) = tt
 ask_so idle at (Ok (Changed change value)) = tt
 ask_so idle at (Ok (Invoked plan shows)) = tt
+ask_so idle at (Ok QuietDone) = tt
+ask_so idle at (Ok (Fired items id)) = tt
 ask_so idle at (Err reason) = tells_so idle (refusal_told reason)
 
 call_so : (idle : Bool) (S : Sight) (p : Result Plan Reason) → Unbooks idle (call_decision S p)
@@ -216,7 +219,7 @@ stands_by Unbooked t L new at event told_is stands leaves = left t L new at even
 abbrev pub HasDone : Table → History → ℕ → Event → StateView → Shown → Step → Type 0
 HasDone t B at event old mid step =
     let d = decision t B at event in
-    IsStep step d × IsWhole step.commit d old.keeping (sight t (seen t B) (counted B) at) × Stands mid (d.items ++ (seen t B).trace)
+    IsStep step d × IsWhole step.fire step.commit d old.keeping (sight t (seen t B) (counted B) at) × Stands mid (d.items ++ (seen t B).trace)
 
 pub is_seen : (t : Table) (B : History) (old : StateView) (now : Now) → AreAnswered t B → last_moment B ≤ now.at → IsAt old (seen t B) → now.counted ≡ counted B
     → IsSeen (sight t (seen t B) (counted B) now.at) t old.rows old.counts old.keeping old.floor.now now
@@ -243,7 +246,7 @@ CountsAfter t B at event new = StandsFor new.counts (notes_of ((decision t B at 
 at_after : (t : Table) (B : History) (old new : StateView) (mid : Shown) (at : ℕ) (event : Event) (step : Step) → IsAt old (seen t B)
     → HasDone t B at event old mid step
     → new.floor.now ≡ mid → new.rows ≡ all_changed (changes_of step.change) old.rows → new.waits ≡ waits_after step.waits old.waits → CountsAfter t B at event new
-    → KeepsCommit step.commit old.keeping new.keeping → IsAt new (after (decision t B at event) (seen t B))
+    → KeepsCommit step.fire step.commit old.keeping new.keeping → IsAt new (after (decision t B at event) (seen t B))
 at_after t B old new mid at event step stands done floor rows waits counts kept =
     let s = seen t B in
     record {
@@ -259,7 +262,7 @@ pub answers : (t : Table) (L : Ledger) (old new : StateView) (mid : Shown) (at :
     → last_moment L.entries ≤ at → at ≤ GREATEST_MOMENT → is_opening event ≡ false → new.floor.before ≡ None
     → HasDone t L.entries at event old mid step
     → new.floor.now ≡ mid → new.rows ≡ all_changed (changes_of step.change) old.rows → new.waits ≡ waits_after step.waits old.waits → CountsAfter t L.entries at event new
-    → KeepsCommit step.commit old.keeping new.keeping → (step.told ≡ answer t L.entries at event) × Keeps new t (posted L at event step.told)
+    → KeepsCommit step.fire step.commit old.keeping new.keeping → (step.told ≡ answer t L.entries at event) × Keeps new t (posted L at event step.told)
 answers t L old new mid at event step keeps late most later free done floor rows waits counts kept =
     let stands = at_after t L.entries old new mid at event step keeps.stands done floor rows waits counts kept in
     let un = unbooked (is_idle L.entries) (sight t (seen t L.entries) (counted L.entries) at) event in
@@ -277,13 +280,13 @@ pub noted : (t : Table) (L : Ledger) (old mid put new : StateView) (now : Now) (
     → is_opening event ≡ false → last_moment L.entries ≤ now.at → before ≡ length (all_ended old.floor.now)
     → HasDone t L.entries now.at event old mid.floor.now step
     → KeepsNotes old.counts mid.counts → put.floor.now ≡ mid.floor.now → put.counts ≡ mid.counts
-    → Notes step.invoked now.at (drop before (all_ended put.floor.now)) put.counts new.counts → CountsAfter t L.entries now.at event new
+    → Notes step.fire step.invoked now.at (drop before (all_ended put.floor.now)) put.counts new.counts → CountsAfter t L.entries now.at event new
 noted t L old mid put new now event step before keeps later late count done kept floor counts notes =
     let S = sight t (seen t L.entries) (counted L.entries) now.at in
     let T = (seen t L.entries).trace in
     let there : StandsFor put.counts (notes_of T) = subst (λ (v : CountsView). StandsFor v (notes_of T)) (sym counts) (kept (notes_of T) keeps.stands.counts) in
     let grown : Stands put.floor.now ((decision t L.entries now.at event).items ++ T) = rw floor done.2 in
-    noted_at S event old.floor.now put.floor.now before step.invoked put.counts new.counts later keeps.stands.stands grown count done.0.invoked
+    noted_at S event old.floor.now put.floor.now before step.fire step.invoked put.counts new.counts later keeps.stands.stands grown count done.0.invoked done.0.moves
     (seen_up_to t L.entries now.at keeps.legal.answered late) there notes
 
 -- the ids of what has happened then
@@ -291,13 +294,15 @@ abbrev pub AreIdsAfter : Table → Ledger → ℕ → Event → Type 0
 AreIdsAfter t L at event = AreIds ((decision t L.entries at event).items ++ (seen t L.entries).trace)
 
 -- a beginning, a loss or a going commits nothing
-quiet_done : (t : Table) (B : History) (old : StateView) (mid : Shown) (now : Now) (event : Event) (step : Step) → wants_memory event ≡ false → step.commit ≡ None
+quiet_done : (t : Table) (B : History) (old : StateView) (mid : Shown) (now : Now) (event : Event) (step : Step) → wants_memory event ≡ false → step.fire ≡ None → step.commit ≡ None
     → AreAnswered t B → last_moment B ≤ now.at → IsAt old (seen t B) → now.counted ≡ counted B → Makes old mid t now (λ S. decide S event) step → HasDone t B now.at event old mid step
-quiet_done t B old mid now event step free none answered late stands count makes =
+quiet_done t B old mid now event step free alone none answered late stands count makes =
     let S = sight t (seen t B) (counted B) now.at in
-    let made = makes S (is_seen t B old now answered late stands count) (sym stands.waits) in (
-      record { told = made.0.told; changes = made.0.changes; waits = made.0.waits; invoked = made.0.invoked },
-      quiet_whole S event old.keeping step.commit free none stands.stands.sound stands.keeping made.0.commit,
+    let made = makes S (is_seen t B old now answered late stands count) (sym stands.waits) in
+    let is = alone_made step.fire step.commit (decide S event) old.keeping S alone made.0.commit in (
+      record { told = made.0.told; changes = made.0.changes; waits = made.0.waits; invoked = made.0.invoked; moves = is.0 },
+      subst (λ (f : Option FireStep). IsWhole f step.commit (decide S event) old.keeping S) (sym alone)
+          (quiet_whole S event old.keeping step.commit free none stands.stands.sound stands.keeping is.1),
       made.1,
     )
 
@@ -309,7 +314,7 @@ pub takes : (t : Table) (L : Ledger) (old new : StateView) (now : Now) (event : 
 takes t L old new now event taken at keeps count same free before makes rest counts keeping =
     let late = subst (λ (m : ℕ). last_moment L.entries ≤ m) (sym same) (not_before L.entries at) in
     let most = subst (λ (m : ℕ). m ≤ GREATEST_MOMENT) (sym same) (not_after t L.entries at keeps.legal) in
-    let done = quiet_done t L.entries old new.floor.now now event (telling (taken_told taken)) free refl keeps.legal.answered late keeps.stands count makes in
+    let done = quiet_done t L.entries old new.floor.now now event (telling (taken_told taken)) free refl refl keeps.legal.answered late keeps.stands count makes in
     let quiet = quiet_at (sight t (seen t L.entries) (counted L.entries) now.at) event old.counts new.counts free counts keeps.stands.counts in
     let both = answers t L old new new.floor.now now.at event (telling (taken_told taken)) keeps late most (later_free event free) before done refl rest.0 rest.1 quiet
     (λ rs T stands. subst (λ (v : KeepingView). StandsForKept v rs T) (sym keeping) stands) in

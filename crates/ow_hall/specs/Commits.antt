@@ -1,17 +1,20 @@
 -- What is committed to the store, for private clauses.
-use Rattle.std.specs.Prelude.{◌≡◌, ◌≢◌, Bool, true, false, List, [], ℕ, Option, Some, None, Result, Ok, Err}
+use Rattle.std.specs.Prelude.{◌≢◌, Bool, true, false, List, [], Option, Some, None, Result, Ok, Err}
 use Rattle.ow_traits.specs.Telling.{Telling}
 use Rattle.ow_traits.specs.Keeper.{KeepsCause}
 use Rattle.ow_traits.specs.declared.change_list.Change.{Change}
 use Rattle.ow_traits.specs.declared.keepers.KeeperError.{KeeperError}
 use Rattle.ow_traits.specs.declared.keepers.KeeperError.TheVariants.{Failed, NoMemory}
 use Rattle.ow_kept.specs.Keeping.{CommitView}
+use Rattle.ow_decide.specs.declared.step.FireStep.{FireStep}
 use Rattle.ow_hall.specs.Comes.{Holds, Refuses}
 use Rattle.ow_hall.specs.Ledger.{Ledger, faulted}
 
-abbrev pub changes_in : Option CommitView → List Change
-changes_in None = []
-changes_in (Some c) = c.changes
+-- of a fire, or else of another step
+abbrev pub changes_in : Option FireStep → Option CommitView → List Change
+changes_in (Some fire) commit = fire.commit.changes
+changes_in None None = []
+changes_in None (Some c) = c.changes
 
 abbrev pub refused : KeeperError → Result (Unit {0}) KeeperError
 refused e = Err e

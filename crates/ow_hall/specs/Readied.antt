@@ -76,7 +76,7 @@ pub record IsOpenedOver {P : Type 0} (telling : P → Telling) (old new : P) (t 
 -- the commit was made
 pub record IsKeptBy (r : Ready) (o : Opened) : Type 0 where
   pub beside : IsBeside r.opened.state o.state
-  pub keeping : KeepsCommit (Some r.commit) r.opened.state.keeping o.state.keeping
+  pub keeping : KeepsCommit None (Some r.commit) r.opened.state.keeping o.state.keeping
   pub book : o.book ≡ r.opened.book
 
 -- it was not, and the store holds what it held

@@ -21,7 +21,7 @@ use crate::posting::Posting;
 use crate::refusals::SweepRefusal;
 use crate::state::HallState;
 use crate::store_answer::StoreAnswer;
-use ow_decide::{Called, Event, HallCollected, Now, Reply, Step, Told, taken_told};
+use ow_decide::{Called, Event, FireStep, HallCollected, Now, Reply, Step, Told, taken_told};
 use ow_floor::{AnswerRefusal, Answered, Drain, FloorRefusal, Happened, Order, Swept};
 use ow_http::Request;
 use ow_kept::Commit;
@@ -29,7 +29,7 @@ use ow_names::FullName;
 use ow_records::Id;
 use ow_several::{copied2, kept_beside};
 use ow_tenant::Tenants;
-use ow_traits::{Keeper, KeeperError, RunReply};
+use ow_traits::{Changes, Keeper, KeeperError, RunReply};
 use ow_value::{NoMemory, Params, PlainData, Shared};
 use std::alloc::Global;
 use std::marker::Model;
@@ -325,7 +325,7 @@ impl<P: Keeper + Drop> Hall<P> {
             self.state.settle(false);
             return Err(Undone { event, failed });
         };
-        if let Err(error) = commit(alloc, &mut self.store, &step.commit) {
+        if let Err(error) = commit(alloc, &mut self.store, &step.fire, &step.commit) {
             drop((step, copied, kept));
             self.state.settle(false);
             let failed = self.book.note_uncommitted(error);
@@ -338,10 +338,11 @@ impl<P: Keeper + Drop> Hall<P> {
             waits,
             invoked,
             commit,
+            fire,
         } = step;
         self.state.apply(change, waits);
-        self.state.note(invoked, now.at, before);
-        self.state.keep(commit);
+        self.state.note(&fire, invoked, now.at, before);
+        self.state.keep(fire, commit);
         self.book.post(now.at, event, copied, bytes);
         Ok((told, kept))
     }
@@ -361,22 +362,33 @@ impl<P: Keeper + Drop> Hall<P> {
     }
 }
 
-// Commits what is to be committed, if anything, by one commit. Where nothing changes of what is kept, the store isn't asked.
-#[tactic(auto, using(crate::proofs::KeepLaws::commits_to))]
+// Commits what is to be committed of a fire, or else of another step, if anything.
 fn commit<P: Keeper>(
     alloc: Global,
     store: &mut P,
+    fire: &Option<FireStep>,
     commit: &Option<Commit>,
 ) -> Result<(), KeeperError>
-    ensures { CommitsTo P.telling (changes_in commit.now) store.old store.new result }
+    ensures { CommitsTo P.telling (changes_in fire.now commit.now) store.old store.new result }
 {
-    let Some(commit) = commit else {
-        return Ok(());
-    };
-    if commit.changes().is_empty() {
+    if let Some(fire) = fire {
+        return commit_all(alloc, store, fire.commit.changes());
+    }
+    match commit {
+        Some(commit) => commit_all(alloc, store, commit.changes()),
+        None => Ok(()),
+    }
+}
+
+// Commits changes by one commit. Where nothing changes of what is kept, the store isn't asked.
+#[tactic(auto, using(crate::proofs::KeepLaws::commits_to))]
+fn commit_all<P: Keeper>(alloc: Global, store: &mut P, changes: &Changes) -> Result<(), KeeperError>
+    ensures { CommitsTo P.telling changes.now store.old store.new result }
+{
+    if changes.is_empty() {
         return Ok(());
     }
-    store.commit(alloc, commit.changes())
+    store.commit(alloc, changes)
 }
 
 /// Why a runner's reply isn't taken, which is handed back.

@@ -273,7 +273,7 @@ impl Ready {
             failed,
         } = opened;
         let mut state = state;
-        state.keep(Some(commit));
+        state.keep(None, Some(commit));
         Opened {
             state,
             book,

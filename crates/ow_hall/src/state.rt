@@ -15,7 +15,7 @@ ghost use Rattle.ow_hall.specs.State.{CommitsEnds, Does, HasRoomOf, KeepsCommit,
 ghost use Rattle.ow_tenant.specs.Table.{Table};
 
 use ow_counts::Counts;
-use ow_decide::{Event, Now, Step, Wait, Waits, step_for, take};
+use ow_decide::{Event, FireStep, Now, Step, Wait, Waits, step_for, take};
 use ow_floor::{Floor, FloorRefusal};
 use ow_keep::known_entities;
 use ow_kept::{Commit, Keeping};
@@ -117,8 +117,8 @@ impl HallState {
         take(&mut self.floor, now, event)
     }
 
-    /// Does what is decided at an event, and holds it, with all that is to be committed of it. There is room then for the note of an
-    /// invocation. Without memory all is as before.
+    /// Does what is decided at an event, and holds it, with all that is to be committed of it. There is room then for the notes of a
+    /// fire, or for that of an invocation. Without memory all is as before.
     pub(crate) fn attempt(
         &mut self,
         alloc: Global,
@@ -132,7 +132,7 @@ impl HallState {
         ensures held { OnOk result (self.new.floor.before ≡ Some self.old.floor.now) }
         ensures place { IfOk result (λ s. HasPlace s.change self.new.row_room) }
         ensures room { OnOk result ((1 ≤ self.new.wait_room) × (1 ≤ self.new.keeping.room)) }
-        ensures counter { IfOk result (λ s. HasRoomOf s.invoked self.new.counts) }
+        ensures counter { IfOk result (λ s. HasRoomOf s.fire s.invoked self.new.counts) }
         ensures rest { (self.new.rows ≡ self.old.rows) × (self.new.waits ≡ self.old.waits) }
         ensures counts { KeepsNotes self.old.counts self.new.counts }
         ensures kept { StaysKept self.old.keeping self.new.keeping }
@@ -183,26 +183,67 @@ impl HallState {
         }
     }
 
-    /// Notes for the limits that an activation was accepted, which is charged to a namespace, where no other caused it, and which have
-    /// ended behind the first so many. This takes no memory.
-    pub(crate) fn note(&mut self, invoked: Option<EntityName>, at: u64, before: usize)
-        requires room { HasRoomOf invoked self.old.counts }
+    /// Notes for the limits what a fire did, if there is one. Else it notes that an activation was accepted, which is charged to a
+    /// namespace, where no other caused it, and which have ended after the first `before`. This takes no memory.
+    pub(crate) fn note(
+        &mut self,
+        fire: &Option<FireStep>,
+        invoked: Option<EntityName>,
+        at: u64,
+        before: usize,
+    )
+        requires room { HasRoomOf fire.now invoked self.old.counts }
         requires ends { before ≤ length (all_ended self.old.floor.now) }
-        ensures counts { Notes invoked at (drop before (all_ended self.old.floor.now)) self.old.counts self.new.counts }
+        ensures counts { Notes fire.now invoked at (drop before (all_ended self.old.floor.now)) self.old.counts self.new.counts }
         ensures floor { self.new.floor ≡ self.old.floor }
         ensures rest { (self.new.rows ≡ self.old.rows) × (self.new.waits ≡ self.old.waits) }
         ensures keeping { self.new.keeping ≡ self.old.keeping }
     {
-        note_invoked(&mut self.counts, invoked, at);
-        note_ends(&mut self.counts, &self.floor.records().items()[before..]);
+        match fire {
+            Some(fire) => {
+                drop(invoked);
+                self.counts.note_moves(fire.moves.items());
+            }
+            None => {
+                note_invoked(&mut self.counts, invoked, at);
+                note_ends(&mut self.counts, &self.floor.records().items()[before..]);
+            }
+        }
     }
 }
 
 impl HallState {
-    /// What was committed is kept. This takes no memory.
-    pub(crate) fn keep(&mut self, commit: Option<Commit>)
+    /// What was committed of a fire is kept, or else of another step. This takes no memory.
+    pub(crate) fn keep(&mut self, fire: Option<FireStep>, commit: Option<Commit>)
         requires { 1 ≤ self.old.keeping.room }
-        ensures keeping { KeepsCommit commit self.old.keeping self.new.keeping }
+        ensures keeping { KeepsCommit fire commit self.old.keeping self.new.keeping }
+        ensures floor { self.new.floor ≡ self.old.floor }
+        ensures rest { (self.new.rows ≡ self.old.rows) × (self.new.waits ≡ self.old.waits) }
+        ensures counts { self.new.counts ≡ self.old.counts }
+    {
+        match fire {
+            Some(fire) => {
+                drop(commit);
+                self.follow(fire);
+            }
+            None => self.keep_alone(commit),
+        }
+    }
+
+    fn follow(&mut self, fire: FireStep)
+        ensures keeping { KeepsCommit (Some fire) None self.old.keeping self.new.keeping }
+        ensures floor { self.new.floor ≡ self.old.floor }
+        ensures rest { (self.new.rows ≡ self.old.rows) × (self.new.waits ≡ self.old.waits) }
+        ensures counts { self.new.counts ≡ self.old.counts }
+    {
+        let FireStep { moves, commit } = fire;
+        drop(moves);
+        self.keeping.follow(commit);
+    }
+
+    fn keep_alone(&mut self, commit: Option<Commit>)
+        requires { 1 ≤ self.old.keeping.room }
+        ensures keeping { KeepsCommit None commit self.old.keeping self.new.keeping }
         ensures floor { self.new.floor ≡ self.old.floor }
         ensures rest { (self.new.rows ≡ self.old.rows) × (self.new.waits ≡ self.old.waits) }
         ensures counts { self.new.counts ≡ self.old.counts }
@@ -233,7 +274,7 @@ impl HallState {
         self.floor.hold();
     }
 
-    // A step, with what is committed of all that has ended in it.
+    // A step, with what is committed of all that has ended in it. A fire has that already.
     fn whole_step(
         &mut self,
         alloc: Global,
@@ -243,21 +284,25 @@ impl HallState {
     ) -> Result<Step, NoMemory>
         requires memory { wants_memory event.now ≡ true }
         requires later { is_opening event.now ≡ false }
+        requires held { self.old.floor.before ≡ Some self.old.floor.now }
         ensures ok { IfOk result (Does self.old self.new.floor.now tenants.now now (λ S. decide S event.now)) }
         ensures place { IfOk result (λ s. HasPlace s.change self.new.row_room) }
         ensures before { self.new.floor.before ≡ self.old.floor.before }
         ensures rest { (self.new.rows ≡ self.old.rows) × (self.new.waits ≡ self.old.waits) × (self.new.wait_room ≡ self.old.wait_room) }
-        ensures counter { IfOk result (λ s. HasRoomOf s.invoked self.new.counts) }
+        ensures counter { IfOk result (λ s. HasRoomOf s.fire s.invoked self.new.counts) }
         ensures counts { KeepsNotes self.old.counts self.new.counts }
         ensures keeping { self.new.keeping ≡ self.old.keeping }
     {
         let before = self.ended();
         let step = self.counted_step(alloc, tenants, now, event)?;
+        if step.fire.is_some() {
+            return Ok(step);
+        }
         let ends = behind(self.floor.records().items(), before);
         with_ends(alloc, &self.keeping, ends, step)
     }
 
-    // A step, with room for the note of an invocation.
+    // A step, with room for the notes of a fire, or for that of an invocation.
     fn counted_step(
         &mut self,
         alloc: Global,
@@ -267,16 +312,17 @@ impl HallState {
     ) -> Result<Step, NoMemory>
         requires memory { wants_memory event.now ≡ true }
         requires later { is_opening event.now ≡ false }
+        requires held { self.old.floor.before ≡ Some self.old.floor.now }
         ensures ok { IfOk result (Makes self.old self.new.floor.now tenants.now now (λ S. decide S event.now)) }
         ensures place { IfOk result (λ s. HasPlace s.change self.new.row_room) }
         ensures before { self.new.floor.before ≡ self.old.floor.before }
         ensures rest { (self.new.rows ≡ self.old.rows) × (self.new.waits ≡ self.old.waits) × (self.new.wait_room ≡ self.old.wait_room) }
-        ensures counter { IfOk result (λ s. HasRoomOf s.invoked self.new.counts) }
+        ensures counter { IfOk result (λ s. HasRoomOf s.fire s.invoked self.new.counts) }
         ensures counts { KeepsNotes self.old.counts self.new.counts }
         ensures keeping { self.new.keeping ≡ self.old.keeping }
     {
         let step = self.step(alloc, tenants, now, event)?;
-        let Ok(()) = reserve_for(&mut self.counts, alloc, &step.invoked) else {
+        let Ok(()) = reserve_for(&mut self.counts, alloc, &step.fire, &step.invoked) else {
             drop(step);
             return Err(NoMemory);
         };
@@ -292,6 +338,7 @@ impl HallState {
     ) -> Result<Step, NoMemory>
         requires memory { wants_memory event.now ≡ true }
         requires later { is_opening event.now ≡ false }
+        requires held { self.old.floor.before ≡ Some self.old.floor.now }
         ensures ok { IfOk result (Makes self.old self.new.floor.now tenants.now now (λ S. decide S event.now)) }
         ensures place { IfOk result (λ s. HasPlace s.change self.new.row_room) }
         ensures before { self.new.floor.before ≡ self.old.floor.before }
@@ -329,6 +376,7 @@ fn with_ends(
     step: Step,
 ) -> Result<Step, NoMemory>
     ensures same { IfOk result (λ s. (s.told ≡ step.told) × (s.change ≡ step.change) × (s.waits ≡ step.waits) × (s.invoked ≡ step.invoked)) }
+    ensures fire { IfOk result (λ s. s.fire ≡ step.fire) }
     ensures commit { IfOk result (λ s. CommitsEnds keeping.now ends.now step.commit s.commit) }
 {
     if ends.is_empty() {
@@ -343,6 +391,7 @@ fn with_ends(
         change,
         waits,
         invoked,
+        fire,
         ..
     } = step;
     Ok(Step {
@@ -351,17 +400,34 @@ fn with_ends(
         waits,
         invoked,
         commit: Some(commit),
+        fire,
     })
 }
 
-// Makes room for the note of an invocation that is charged to a namespace, if any.
+// Makes room for the notes of a fire, if there is one, or else for that of an invocation.
 fn reserve_for(
+    counts: &mut Counts,
+    alloc: Global,
+    fire: &Option<FireStep>,
+    invoked: &Option<EntityName>,
+) -> Result<(), NoMemory>
+    ensures keeps { KeepsNotes counts.old counts.new }
+    ensures room { OnOk result (HasRoomOf fire.now invoked.now counts.new) }
+{
+    match fire {
+        Some(fire) => counts.reserve_moves(alloc, fire.moves.items()),
+        None => reserve_alone(counts, alloc, invoked),
+    }
+}
+
+// Makes room for the note of an invocation that is charged to a namespace, if any.
+fn reserve_alone(
     counts: &mut Counts,
     alloc: Global,
     invoked: &Option<EntityName>,
 ) -> Result<(), NoMemory>
     ensures keeps { KeepsNotes counts.old counts.new }
-    ensures room { OnOk result (HasRoomOf invoked.now counts.new) }
+    ensures room { OnOk result (HasRoomOf None invoked.now counts.new) }
 {
     match invoked {
         Some(namespace) => counts.reserve(alloc, namespace),
@@ -371,7 +437,7 @@ fn reserve_for(
 
 // Notes an invocation that is charged to a namespace, if any.
 fn note_invoked(counts: &mut Counts, invoked: Option<EntityName>, at: u64)
-    requires { HasRoomOf invoked counts.old }
+    requires { HasRoomOf None invoked counts.old }
     ensures { NotesInvoked invoked at counts.old counts.new }
 {
     if let Some(namespace) = invoked {

@@ -5,7 +5,7 @@ use ow_hall::{Book, Entries, Entry, Hall};
 use ow_http::{Answer, Read, Request, read_request, write_reply};
 use ow_names::{EntityName, FullName, read_name, resolve};
 use ow_tenant::Tenants;
-use ow_traits::{MemoryKeeper, MemorySource, RunReply};
+use ow_traits::{MemoryKeeper, MemorySource, Rows, RunReply};
 use ow_value::{Lines, Params, Str};
 use std::alloc::Global;
 use std::test::Fail;
@@ -39,7 +39,7 @@ GET /api/v1/namespaces/_/actions||200 OK|[{"annotations":[],"name":"hello","name
 GET /api/v1/namespaces/_/actions?limit=201||400 Bad Request|{"code":39,"error":"The query value limit is wrong."}
 GET /api/v1/namespaces/whisk.system/actions/hello||403 Forbidden|{"code":24,"error":"The namespace is not granted."}
 GET /api/v1/namespaces/whisk.system/actions?limit=201||403 Forbidden|{"code":24,"error":"The namespace is not granted."}
-GET /api/v1/namespaces/_/triggers||404 Not Found|{"code":36,"error":"There is no such route."}
+GET /api/v1/namespaces/_/triggers||200 OK|[]
 PUT /api/v1/namespaces/_/actions/other||400 Bad Request|{"code":9,"error":"The field exec is missing."}
 PUT /api/v1/namespaces/_/actions/hello|{"exec":1}|400 Bad Request|{"code":10,"error":"The field exec has a wrong type."}
 PUT /api/v1/namespaces/_/actions/hello?overwrite=true|HELLO|200 OK|SECOND
@@ -47,9 +47,9 @@ DELETE /api/v1/namespaces/guest/actions/hello||200 OK|SECOND
 DELETE /api/v1/namespaces/guest/actions/hello||404 Not Found|{"code":14,"error":"The resource does not exist."}
 "#;
 
-// What a full book still takes, and what it doesn't.
+// What a full book doesn't take.
 const WHEN_FULL: &str =
-    r#"GET /api/v1/namespaces/_/triggers||404 Not Found|{"code":36,"error":"There is no such route."}
+    r#"GET /api/v1/namespaces/_/triggers||503 Service Unavailable|{"code":33,"error":"The book is full."}
 POST /api/v1/namespaces/_/actions/hello||503 Service Unavailable|{"code":33,"error":"The book is full."}
 GET /api/v1/namespaces/_/actions/hello||503 Service Unavailable|{"code":33,"error":"The book is full."}
 "#;
@@ -77,9 +77,16 @@ pub(crate) fn office(alloc: Global) -> Result<Office, Fail> {
 
 // An office over the table of these rows.
 pub(crate) fn office_of(alloc: Global, rows: &str) -> Result<Office, Fail> {
+    office_over(alloc, rows, &[])
+}
+
+// The same over a store whose calls of these numbers fail, its load being 0 and the commit of the opening 1.
+pub(crate) fn office_over(alloc: Global, rows: &str, failing: &[u64]) -> Result<Office, Fail> {
     let mut source = MemorySource::new(rows.as_bytes().to_vec(alloc)?, Vec::new(alloc));
     let tenants = Tenants::read(alloc, &mut source)?;
-    match Hall::start(alloc, MemoryKeeper::new(alloc), tenants, 0) {
+    let failing = failing.to_vec(alloc)?;
+    let store = MemoryKeeper::holding(Rows::new(alloc), failing);
+    match Hall::start(alloc, store, tenants, 0) {
         Ok(hall) => Ok(hall),
         Err(_) => Err("not opened")?,
     }
@@ -216,12 +223,12 @@ fn fills(alloc: Global, hall: &mut Office) -> Result<bool, Fail> {
     Ok((over, last, next) == (503, 404, 503) && counted == 1_073_741_874)
 }
 
-// Whether a full book takes what is read before it, and what no request or call brings.
+// Whether a full book takes no request, and takes what no request or call brings.
 fn takes_when_full(alloc: Global, hall: &mut Office) -> Result<bool, Fail> {
     let filled = fills(alloc, hall)?;
     let hold = all_hold(alloc, hall, WHEN_FULL)?;
     let ordered = ordered(alloc, hall, 0)?;
-    Ok(filled && hold && ordered == 0 && hall.book().entries().len() == 4)
+    Ok(filled && hold && ordered == 0 && hall.book().entries().len() == 3)
 }
 
 #[test]

@@ -22,7 +22,7 @@ const ROWS: &str =
     r#"0 -|GET /api/v1/namespaces||401 Unauthorized|{"code":23,"error":"The key is unknown."}
 0 none|GET /api/v1/namespaces||401 Unauthorized|{"code":23,"error":"The key is unknown."}
 0 K1|GET /api/v1/namespaces||401 Unauthorized|{"code":23,"error":"The key is unknown."}
-0 -|GET /api/v1/namespaces/_/triggers||404 Not Found|{"code":36,"error":"There is no such route."}
+0 -|GET /api/v1/namespaces/_/triggers||401 Unauthorized|{"code":23,"error":"The key is unknown."}
 0 -|PUT /api/v1/namespaces/other/actions/hello|[|401 Unauthorized|{"code":23,"error":"The key is unknown."}
 0 none|PUT /api/v1/namespaces/other/actions/hello|[|401 Unauthorized|{"code":23,"error":"The key is unknown."}
 0|GET /api/v1/namespaces||200 OK|["guest"]
@@ -88,6 +88,8 @@ const OWN: &str =
 const BESIDE: &str = r#"0 k2|PUT /api/v1/namespaces/_/packages/p|{"publish":true}|200 OK|
 0 k2|PUT /api/v1/namespaces/_/actions/p/hello|HELLO|200 OK|
 0 k2|PUT /api/v1/namespaces/_/actions/hello|HELLO|200 OK|
+0 k2|PUT /api/v1/namespaces/_/triggers/t||200 OK|
+0 k2|PUT /api/v1/namespaces/_/rules/r|{"trigger":"/_/t","action":"/_/hello"}|200 OK|
 0 k2|POST /api/v1/namespaces/_/actions/hello||202 Accepted|{"activationId":"00000000000000020000000000000001"}
 0|next||run 1|
 0|answer 1|{"other":1}|recorded|
@@ -104,6 +106,9 @@ GET /api/v1/namespaces/_/packages/p
 GET /api/v1/namespaces/_/actions
 GET /api/v1/namespaces/_/actions/hello
 GET /api/v1/namespaces/_/actions/p/hello
+GET /api/v1/namespaces/_/triggers
+GET /api/v1/namespaces/_/rules
+GET /api/v1/namespaces/other/triggers/t
 GET /api/v1/namespaces/_/activations
 GET /api/v1/namespaces/_/activations/00000000000000010000000000000001
 GET /api/v1/namespaces/_/activations/00000000000000010000000000000001/result

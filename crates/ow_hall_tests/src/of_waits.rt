@@ -100,6 +100,9 @@ fn number_of(text: &str) -> u64 {
 // Whether an answer has this status and this body, where one is given.
 fn is_shown(alloc: Global, answer: &Answer, row: &Row) -> Result<bool, Fail> {
     let reply = written(alloc, answer)?;
+    if row.status == "204 No Content" {
+        return Ok(reply.as_slice() == b"HTTP/1.1 204 No Content\r\n\r\n".as_slice());
+    }
     if row.shown.is_empty() {
         return Ok(answer.status == 200 && row.status == "200 OK");
     }

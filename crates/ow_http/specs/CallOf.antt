@@ -1,5 +1,5 @@
 -- What a request calls for, or why it is no call.
-use Rattle.std.specs.Prelude.{ℕ, List, [], ◌∷◌, false, codes, Option, Some, None, Result, Ok, Err}
+use Rattle.std.specs.Prelude.{ℕ, List, [], ◌∷◌, Bool, false, codes, Option, Some, None, Result, Ok, Err}
 use Rattle.ow_value.specs.Value.{V, Pairs, object, no_members}
 use Rattle.ow_value.specs.Field.{pairs_in}
 use Rattle.ow_value.specs.Nesting.{most_nested}
@@ -9,6 +9,7 @@ use Rattle.ow_names.specs.Name.{first_fault}
 use Rattle.ow_names.specs.Path.{named_in}
 use Rattle.ow_names.specs.declared.full.FullName.{FullName}
 use Rattle.ow_entity.specs.Body.{entity_of}
+use Rattle.ow_entity.specs.Status.{status_in}
 use Rattle.ow_entity.specs.declared.field_name.FieldName.TheVariants as fields
 use Rattle.ow_entity.specs.declared.kinds.EntityKind.{EntityKind}
 use Rattle.ow_entity.specs.declared.kinds.EntityKind.TheVariants as kinds
@@ -16,7 +17,7 @@ use Rattle.ow_entity.specs.declared.refusal.EntityRefusal.TheVariants.{WrongType
 use Rattle.ow_entity.specs.declared.rows.Draft.{Draft}
 use Rattle.ow_http.specs.declared.call.Call.{Call}
 use Rattle.ow_http.specs.declared.call_kind.CallKind.{CallKind}
-use Rattle.ow_http.specs.declared.call_kind.CallKind.TheVariants.{ListEntities, ListActivations, PutEntity, Invoke}
+use Rattle.ow_http.specs.declared.call_kind.CallKind.TheVariants.{ListEntities, ListActivations, PutEntity, Invoke, Fire, SetRule}
 use Rattle.ow_http.specs.declared.call_refusal.CallRefusal.{CallRefusal}
 use Rattle.ow_http.specs.declared.call_refusal.CallRefusal.TheVariants.{BadQuery, BadName, BadValue, BadEntity}
 use Rattle.ow_http.specs.declared.route.Route.{Route}
@@ -92,16 +93,28 @@ body_params body = do
   value ← as_call (λ v. v) BadValue (body_value body)
   members_in value
 
--- the parameters of an invocation
+-- the parameters of an invocation or a fire
 abbrev pub params_of : CallKind → List ℕ → Result Pairs CallRefusal
 params_of Invoke body = body_params body
+params_of Fire body = body_params body
 params_of kind body = Ok []
+
+-- whether the rule is to be active
+abbrev pub body_status : List ℕ → Result (Option Bool) CallRefusal
+body_status body = do
+  value ← as_call (λ v. v) BadValue (body_value body)
+  as_call Some BadEntity (status_in value)
+
+-- the status to which a rule is set
+abbrev pub active_of : CallKind → List ℕ → Result (Option Bool) CallRefusal
+active_of SetRule body = body_status body
+active_of kind body = Ok None
 
 -- ---- the call
 
--- what is called for, without what the query tells
-abbrev pub bare_call : CallKind → Option FullName → Option Draft → Pairs → Call
-bare_call kind name draft params = record {
+-- what is called for, without the values of the query
+abbrev pub bare_call : CallKind → Option FullName → Option Draft → Pairs → Option Bool → Call
+bare_call kind name draft params active = record {
   kind = kind;
   name = name;
   overwrite = false;
@@ -111,7 +124,7 @@ bare_call kind name draft params = record {
   limit = 0;
   draft = draft;
   params = params;
-  active = None;
+  active = active;
 }
 
 abbrev pub paged_call : List Pair → Call → Call
@@ -131,7 +144,8 @@ call_of_kind home kind p = do
   name ← name_of home p.route
   draft ← draft_of kind name p.body
   params ← params_of kind p.body
-  Ok (filled_call kind p.query (bare_call kind name draft params))
+  active ← active_of kind p.body
+  Ok (filled_call kind p.query (bare_call kind name draft params active))
 
 -- the query is looked at first, then the names of the path, then the body
 abbrev pub call_of : List ℕ → Parts → Result Call CallRefusal

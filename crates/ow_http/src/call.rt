@@ -27,9 +27,9 @@ pub struct Call {
     pub limit: u64,
     /// The entity that the body of a put gives.
     pub draft: Option<Draft>,
-    /// The parameters that the body of an invocation gives.
+    /// The parameters that the body of an invocation or a fire gives.
     pub params: Params,
-    /// Whether a rule is to be active. No kind has it yet.
+    /// Whether a rule is to be active, by the body that sets its status.
     pub active: Option<bool>,
 }
 

@@ -1,7 +1,7 @@
 // Requests as calls.
 ghost use Rattle.std.specs.Prelude.{◌≡◌, ◌≢◌, Ok, Err, MatchResult, option_copied};
 ghost use Rattle.ow_value.specs.View.{view};
-ghost use Rattle.ow_http.specs.CallOf.{bare_call, body_draft, body_params, body_value, call_of, checked_query, draft_of, filled_call, members_in, name_of, package_for, params_of};
+ghost use Rattle.ow_http.specs.CallOf.{active_of, bare_call, body_draft, body_params, body_status, body_value, call_of, checked_query, draft_of, filled_call, members_in, name_of, package_for, params_of};
 ghost use Rattle.ow_http.specs.Request.{parts_of};
 
 use crate::call::Call;
@@ -10,7 +10,7 @@ use crate::call_refusal::CallRefusal;
 use crate::request::Request;
 use crate::route::Route;
 use crate::values::{first_wrong, flag_of, limit_of, skip_of};
-use ow_entity::{Draft, EntityKind, EntityRefusal, FieldName, read_entity};
+use ow_entity::{Draft, EntityKind, EntityRefusal, FieldName, read_entity, read_status};
 use ow_names::{EntityName, FullName, NameRefusal, check_name, named_in};
 use ow_several::kept_beside;
 use ow_value::{Bytes, Params, PlainData, Str, Val, ValueRefusal, read_val};
@@ -28,8 +28,9 @@ pub fn read_call(alloc: Global, request: &Request, home: &EntityName) -> Result<
     let name = name_of(alloc, &request.route, home)?;
     let draft = draft_of(alloc, kind, &name, body);
     let (name, draft) = kept_beside(name, draft)?;
-    let ((name, draft), params) = kept_beside((name, draft), params_of(alloc, kind, body))?;
-    Ok(filled_call(kind, name, draft, params, query))
+    let given = kept_beside((name, draft), params_of(alloc, kind, body))?;
+    let (((name, draft), params), active) = kept_beside(given, active_of(alloc, kind, body))?;
+    Ok(filled_call(kind, name, draft, params, active, query))
 }
 
 fn check_query(alloc: Global, kind: CallKind, query: &[(Str, Str)]) -> Result<(), CallRefusal>
@@ -49,9 +50,10 @@ fn filled_call(
     name: Option<FullName>,
     draft: Option<Draft>,
     params: Params,
+    active: Option<bool>,
     query: &[(Str, Str)],
 ) -> Call
-    ensures { result ≡ filled_call kind query.now (bare_call kind name draft params) }
+    ensures { result ≡ filled_call kind query.now (bare_call kind name draft params active) }
 {
     let mut call = Call {
         kind,
@@ -63,7 +65,7 @@ fn filled_call(
         limit: 0,
         draft,
         params,
-        active: None,
+        active,
     };
     match kind {
         CallKind::ListEntities(_) | CallKind::ListActivations => {
@@ -167,13 +169,13 @@ fn body_draft(
     }
 }
 
-// The parameters of an invocation.
+// The parameters of an invocation or a fire.
 fn params_of(alloc: Global, kind: CallKind, body: &[u8]) -> Result<Params, CallRefusal>
     ensures { MatchResult result (λ ps. params_of kind body.now ≡ Ok ps)
         (λ e. e ≢ CallRefusal.NoMemory → params_of kind body.now ≡ Err e) }
 {
     match kind {
-        CallKind::Invoke => body_params(alloc, body),
+        CallKind::Invoke | CallKind::Fire => body_params(alloc, body),
         _ => Ok(Params::new()),
     }
 }
@@ -186,6 +188,32 @@ fn body_params(alloc: Global, body: &[u8]) -> Result<Params, CallRefusal>
         Ok(value) => members_in(value),
         Err(ValueRefusal::NoMemory) => Err(CallRefusal::NoMemory),
         Err(e) => Err(CallRefusal::BadValue(e)),
+    }
+}
+
+// The status to which a rule is set.
+fn active_of(alloc: Global, kind: CallKind, body: &[u8]) -> Result<Option<bool>, CallRefusal>
+    ensures { MatchResult result (λ b. active_of kind body.now ≡ Ok b)
+        (λ e. e ≢ CallRefusal.NoMemory → active_of kind body.now ≡ Err e) }
+{
+    match kind {
+        CallKind::SetRule => body_status(alloc, body),
+        _ => Ok(None),
+    }
+}
+
+fn body_status(alloc: Global, body: &[u8]) -> Result<Option<bool>, CallRefusal>
+    ensures { MatchResult result (λ b. body_status body.now ≡ Ok b)
+        (λ e. e ≢ CallRefusal.NoMemory → body_status body.now ≡ Err e) }
+{
+    let value = match body_value(alloc, body) {
+        Ok(value) => value,
+        Err(ValueRefusal::NoMemory) => return Err(CallRefusal::NoMemory),
+        Err(e) => return Err(CallRefusal::BadValue(e)),
+    };
+    match read_status(&value) {
+        Ok(active) => Ok(Some(active)),
+        Err(e) => Err(CallRefusal::BadEntity(e)),
     }
 }
 

@@ -114,10 +114,20 @@ fn push_call(alloc: Global, out: &mut String, call: &Call) -> Result<(), Fail> {
     push_number(alloc, out, call.skip)?;
     push_number(alloc, out, call.limit)?;
     push_flag(out, call.draft.is_some())?;
-    push_params(alloc, out, &call.params)
+    push_params(alloc, out, &call.params)?;
+    push_status(out, call.active)
 }
 
-// The parameters behind a space, where there are any.
+// The status to which a rule is set, where there is one.
+fn push_status(out: &mut String, active: Option<bool>) -> Result<(), Fail> {
+    match active {
+        Some(true) => push_text(out, "active"),
+        Some(false) => push_text(out, "inactive"),
+        None => Ok(()),
+    }
+}
+
+// The parameters after a space, where there are any.
 fn push_params(alloc: Global, out: &mut String, params: &Params) -> Result<(), Fail> {
     if params.is_empty() {
         return Ok(());
@@ -162,7 +172,7 @@ fn told(alloc: Global, refusal: &CallRefusal) -> Result<String, Fail> {
     Ok(out)
 }
 
-// What a refusal names, behind a space.
+// The query value or the field that a refusal names, after a space.
 fn push_named(out: &mut String, refusal: &CallRefusal) -> Result<(), Fail> {
     match refusal {
         CallRefusal::BadQuery { name } => push_text(out, name.as_str()),
@@ -177,8 +187,8 @@ fn push_text(out: &mut String, text: &str) -> Result<(), Fail> {
     Ok(())
 }
 
-// A request's method and path, its body behind a space, and what it calls for: the name, `overwrite`, `blocking`,
-// `result`, `skip`, `limit`, whether there is a draft, and the parameters where there are any. Or the number of the refusal, and what it names.
+// A request's method and path, its body after a space, and what it calls for: the name, `overwrite`, `blocking`,
+// `result`, `skip`, `limit`, whether there is a draft, and the parameters and the status where there are any. Or the number of the refusal, and the field that it names.
 const CALLS: &str = "GET /_/actions  -> none false false false 0 30 false
 GET /_/actions?limit=0  -> none false false false 0 200 false
 GET /_/actions?limit=200&skip=4294967295  -> none false false false 4294967295 200 false
@@ -227,7 +237,31 @@ POST /_/actions/n [] -> 10 body
 POST /_/actions/n null -> 10 body
 POST /_/actions/n?result=1&blocking=2 [ -> 39 result
 POST /_/actions/%20 [ -> 6
-POST /_/triggers/n [ -> /guest/n false false false 0 0 false
+PUT /_/triggers/n {\"parameters\":[{\"key\":\"a\",\"value\":1}]} -> /guest/n false false false 0 0 true
+PUT /_/triggers/n?overwrite=true  -> /guest/n true false false 0 0 true
+PUT /_/triggers/n {\"parameters\":{},\"publish\":1} -> 10 parameters
+PUT /_/rules/n {\"trigger\":\"t\",\"action\":\"/_/p/a\"} -> /guest/n false false false 0 0 true
+PUT /_/rules/n {\"parameters\":1,\"status\":2} -> /guest/n false false false 0 0 true
+PUT /_/rules/n {\"annotations\":1,\"publish\":2,\"trigger\":3} -> 10 annotations
+PUT /_/rules/n {\"publish\":null,\"trigger\":3} -> 10 publish
+PUT /_/rules/n {\"trigger\":null,\"action\":\"\"} -> 10 trigger
+PUT /_/rules/n {\"trigger\":\"t\",\"action\":\"\"} -> 4
+PUT /_/rules/n {\"trigger\":\"t\",\"action\":2} -> 10 action
+PUT /_/rules/n {\"trigger\":\"p//t\",\"action\":2} -> 8
+POST /_/triggers/n  -> /guest/n false false false 0 0 false
+POST /_/triggers/n {\"a\":1} -> /guest/n false false false 0 0 false {\"a\":1}
+POST /_/triggers/n [ -> 1
+POST /_/triggers/n?blocking=2 {\"a\":1.5} -> 2
+POST /_/triggers/n [] -> 10 body
+POST /_/rules/n {\"status\":\"active\"} -> /guest/n false false false 0 0 false active
+POST /_/rules/n {\"status\":\"inactive\",\"a\":1} -> /guest/n false false false 0 0 false inactive
+POST /_/rules/n  -> 9
+POST /_/rules/n [ -> 1
+POST /_/rules/n {\"status\":true} -> 10 status
+POST /_/rules/n {\"status\":null} -> 10 status
+POST /_/rules/n {\"status\":\"Active\"} -> 11
+POST /_/rules/n [] -> 10 body
+DELETE /_/rules/n [ -> /guest/n false false false 0 0 false
 ";
 
 #[test]

@@ -24,7 +24,7 @@ use Rattle.ow_tables.specs.Contents.{Change}
 use Rattle.ow_tenant.specs.Table.{Table}
 use Rattle.ow_tenant.specs.Tenants.{holder_of}
 use Rattle.ow_tenant.specs.declared.entries.Holder.{Holder}
-use Rattle.ow_decide.specs.Asking.{Done, Shown, Changed, Invoked, act_done, IsOfView, ReadsChangeNothing, ask_decision, at_once, request_done}
+use Rattle.ow_decide.specs.Asking.{Done, Shown, Changed, Invoked, Quiet, Fired, act_done, IsOfView, ReadsChangeNothing, ask_decision, at_once, request_done}
 use Rattle.ow_decide.specs.Decision.{Decision, all_changed}
 use Rattle.ow_decide.specs.Decisions.{decide}
 use Rattle.ow_decide.specs.Reasons.{book_full}
@@ -47,7 +47,7 @@ abbrev steps_of : Sight → Parts → Result Done Reason
 steps_of S p = or_else (act_of p.route p.method) no_route >>= (λ (a : Act). room_for S p.size >>= (λ (u : Unit {0}). asker S.tenants p.key >>= (λ (k : Holder). act_done S k a p)))
 
 -- a request that has an act is looked at in this order: the route, the room, the key, and then the act
-in_order : (S : Sight) (r : Route) (method : Verb) (key : Option (List ℕ)) (query : List Pair) (raw : List ℕ) (headers : List Pair) (body : List ℕ) (size : ℕ) (close : Bool) (act : Act)
+pub in_order : (S : Sight) (r : Route) (method : Verb) (key : Option (List ℕ)) (query : List Pair) (raw : List ℕ) (headers : List Pair) (body : List ℕ) (size : ℕ) (close : Bool) (act : Act)
     → act_of r method ≡ Some act → request_done S (parts_with r method key query raw headers body size close) ≡ steps_of S (parts_with r method key query raw headers body size close)
 in_order S (route.Web namespace inside name rest) method key query raw headers body size close act is = cc
 in_order S r method key query raw headers body size close act is = refl
@@ -83,6 +83,8 @@ keeps_so : (at : ℕ) (d : Result Done Reason) → (ask_decision at d).items ≡
 keeps_so at (Ok (Shown value)) none = refl
 keeps_so at (Ok (Changed change value)) none = refl
 keeps_so at (Ok (Invoked plan shows)) none = cc
+keeps_so at (Ok Quiet) none = refl
+keeps_so at (Ok (Fired items id)) none = refl
 keeps_so at (Err reason) none = refl
 
 abbrev made : List Change → Trace → Waits → Seen → Seen

@@ -8,7 +8,6 @@ use Rattle.ow_records.specs.Records.{id_key, sorted_by}
 use Rattle.ow_records.specs.declared.record.Record.{Record}
 use Rattle.ow_floor.specs.Trace.{Trace, all_records, records, resumed}
 use Rattle.ow_reads.specs.View.{View, is_visible_record, view_over, visible_rows}
-use Rattle.ow_tables.specs.Contents.{Change}
 use Rattle.ow_tenant.specs.Table.{Table}
 use Rattle.ow_tenant.specs.Tenants.{holder_of}
 use Rattle.ow_tenant.specs.declared.entries.Holder.{Holder}
@@ -17,6 +16,7 @@ use Rattle.ow_decide.proofs.NotedLaws.{records_more}
 use Rattle.ow_hall.specs.History.{History, counted, decision, seen, sight}
 use Rattle.ow_hall.proofs.KeepLaws.{StayResumed, stay_resumed}
 use Rattle.ow_isolation.specs.Unseen.{IsUnseen, UnseenLeaves}
+use Rattle.ow_isolation.proofs.HiddenRows.{all_stay}
 
 none_seen : (h : Holder) (rs : List Record) → AllByRecursion (λ r. is_visible_record h.rights r ≡ false) rs → filter (is_visible_record h.rights) rs ≡ []
 none_seen h [] hidden = refl
@@ -34,15 +34,15 @@ seen_more h rs more hidden =
     filter-append (is_visible_record h.rights) rs more
     ∙ (ap (λ (xs : List Record). filter (is_visible_record h.rights) rs ++ xs) (none_seen h more hidden) ∙ append-nil (filter (is_visible_record h.rights) rs))
 
-abbrev with_records : List Row → List Record → Holder → View
-with_records rows shown h = record { home = h.home; subject = h.subject; rights = h.rights; rows = visible_rows h.rights rows; records = sorted_by id_key shown }
+abbrev with_seen : List Row → List Record → Holder → View
+with_seen shown ended h = record { home = h.home; subject = h.subject; rights = h.rights; rows = shown; records = sorted_by id_key ended }
 
-view_stays : (rows : List Row) (T : Trace) (h : Holder) (d : Decision) → StayResumed d.items T → IsUnseen h d
+view_stays : (rows : List Row) (T : Trace) (h : Holder) (d : Decision) → StayResumed d.items T → IsUnseen h rows d
     → view_over (all_changed d.changes rows) (all_records (d.items ++ T)) h ≡ view_over rows (all_records T) h
 view_stays rows T h d stay unseen =
-    ap (λ (cs : List Change). view_over (all_changed cs rows) (all_records (d.items ++ T)) h) unseen.unchanged
-    ∙ ap (λ (xs : List Record). with_records rows xs h)
-    (ap (λ (xs : List Record). filter (is_visible_record h.rights) xs) (all_more d.items T stay) ∙ seen_more h (all_records T) (records d.items) unseen.hidden)
+    ap (λ (shown : List Row). with_seen shown (filter (is_visible_record h.rights) (all_records (d.items ++ T))) h) (all_stay h d.changes rows unseen.changes)
+    ∙ ap (λ (xs : List Record). with_seen (visible_rows h.rights rows) xs h)
+    (ap (λ (xs : List Record). filter (is_visible_record h.rights) xs) (all_more d.items T stay) ∙ seen_more h (all_records T) (records d.items) unseen.records)
 
 map_so : {X Y : Type 0} (f g : X → Y) (o : Option X) (x : X) → o ≡ Some x → f x ≡ g x → option_map f o ≡ option_map g o
 map_so f g o x is same = ap (option_map f) is ∙ (ap (λ y. Some y) same ∙ sym (ap (option_map g) is))

@@ -1,23 +1,66 @@
 -- Events that the holder of a key doesn't see.
-use Rattle.std.specs.Prelude.{◌≡◌, ℕ, List, [], ◌∷◌, false, Option, Some}
+use Rattle.std.specs.Prelude.{◌≡◌, ℕ, List, [], ◌∷◌, Bool, true, false, Option, Some}
 use Rattle.std.specs.List.{AllByRecursion}
+use Rattle.ow_entity.specs.Row.{kind_of, name_of}
+use Rattle.ow_entity.specs.declared.rows.Row.{Row}
+use Rattle.ow_entity.specs.declared.rows.Row.TheVariants as rows
 use Rattle.ow_floor.specs.Trace.{records}
-use Rattle.ow_reads.specs.View.{is_visible_record}
+use Rattle.ow_http.specs.declared.request.Request.{Request}
+use Rattle.ow_names.specs.Path.{home}
+use Rattle.ow_reads.specs.Acts.{act_of}
+use Rattle.ow_reads.specs.Reading.{namespace_of}
+use Rattle.ow_reads.specs.View.{is_visible_record, may_read}
+use Rattle.ow_reads.specs.declared.acts.Act.TheVariants.{Fires}
+use Rattle.ow_tables.specs.Contents.{Change}
+use Rattle.ow_tables.specs.Rows.{changed, is_row}
 use Rattle.ow_decide.specs.Decision.{Decision}
 use Rattle.ow_decide.specs.Decisions.{is_opening}
-use Rattle.ow_hall.specs.History.{History, decision}
+use Rattle.ow_decide.specs.declared.events.Event.TheVariants as events
+use Rattle.ow_hall.specs.History.{History, decision, seen}
 use Rattle.ow_hall.specs.declared.entry.Entry.{Entry}
 use Rattle.ow_tenant.specs.Table.{Table}
 use Rattle.ow_tenant.specs.Tenants.{holder_of}
 use Rattle.ow_tenant.specs.declared.entries.Holder.{Holder}
 use Rattle.ow_isolation.specs.Views.{view_after}
 
--- a decision changes no row, and each record that it adds is of a namespace in which the holder may not read
-pub record IsUnseen (h : Holder) (d : Decision) : Type 0 where
-  pub unchanged : d.changes ≡ []
-  pub hidden : AllByRecursion (λ r. is_visible_record h.rights r ≡ false) (records d.items)
+-- ---- changes of rules and triggers
+
+-- the row is a rule or a trigger, which no package shows
+abbrev pub stands_apart : Row → Bool
+stands_apart (rows.Rule r) = true
+stands_apart (rows.Trigger t) = true
+stands_apart r = false
+
+-- the holder may not read in the namespace of the row
+abbrev pub IsHidden : Holder → Row → Type 0
+IsHidden h r = may_read h.rights (name_of r).namespace ≡ false
+
+-- the change is of a rule or a trigger that the holder may not read, instead of one that it may not read, or of none
+pub record IsUnseenChange (h : Holder) (rs : List Row) (c : Change) : Type 0 where
+  pub apart : stands_apart c.row ≡ true
+  pub hidden : IsHidden h c.row
+  pub before : AllByRecursion (λ r. is_row (kind_of c.row) (name_of c.row) r ≡ true → IsHidden h r) rs
+
+-- so is each of these, made one after another
+abbrev pub AreUnseenChanges : Holder → List Row → List Change → Type 0
+AreUnseenChanges h rs [] = Unit {0}
+AreUnseenChanges h rs (c ∷ cs) = IsUnseenChange h rs c × AreUnseenChanges h (changed c rs) cs
+
+-- ---- events
+
+-- over these rows a decision changes only such rules and triggers, and each record that it adds, of a fire too, is of a namespace in which the holder may not
+-- read
+pub record IsUnseen (h : Holder) (rs : List Row) (d : Decision) : Type 0 where
+  pub changes : AreUnseenChanges h rs d.changes
+  pub records : AllByRecursion (λ r. is_visible_record h.rights r ≡ false) (records d.items)
 
 -- the entry of such an event, other than an opening, leaves what the holder may see
 abbrev pub UnseenLeaves : Table → History → Type 0
-UnseenLeaves t B = (e : Entry) (key : Option (List ℕ)) (h : Holder) → holder_of key t ≡ Some h → is_opening e.event ≡ false → IsUnseen h (decision t B e.at e.event)
+UnseenLeaves t B = (e : Entry) (key : Option (List ℕ)) (h : Holder) → holder_of key t ≡ Some h → is_opening e.event ≡ false → IsUnseen h (seen t B).rows (decision t B e.at e.event)
+    → view_after t (e ∷ B) key ≡ view_after t B key
+
+-- a fire, in a namespace in which the holder may not read, leaves what the holder may see; `_` is the own namespace of the key that fires
+abbrev pub FiresLeave : Table → History → Type 0
+FiresLeave t B = (e : Entry) (r : Request) (key : Option (List ℕ)) (firing h : Holder) → e.event ≡ events.Asked r → act_of r.route r.method ≡ Some Fires
+    → holder_of r.key t ≡ Some firing → holder_of key t ≡ Some h → may_read h.rights (home firing.home (namespace_of r.route)) ≡ false
     → view_after t (e ∷ B) key ≡ view_after t B key

@@ -1,7 +1,7 @@
 // Isolation of reads. The contracts are the laws; the functions call those that they rest on.
 ghost use Rattle.ow_isolation.specs.Lists.{HallsAnswerAlike, LogsAnswerAlike};
 ghost use Rattle.ow_isolation.specs.Reads.{AnswersOfView, LeavesAll, LeavesHalls, LeavesViews, RepliesOfView};
-ghost use Rattle.ow_isolation.specs.Unseen.{UnseenLeaves};
+ghost use Rattle.ow_isolation.specs.Unseen.{FiresLeave, UnseenLeaves};
 ghost use Rattle.ow_hall.specs.History.{History};
 ghost use Rattle.ow_tenant.specs.Table.{Table};
 
@@ -47,7 +47,13 @@ pub fn halls_answer_alike<P: Keeper, Q: Keeper>()
     reads_change_nothing();
 }
 
-/// An event that changes no entity, and ends only activations of namespaces in which a key may not read, leaves the key's view.
+/// An event that changes only rules and triggers of namespaces in which a key may not read, and ends only activations of such namespaces,
+/// leaves the key's view: a change of a rule's status, for one.
 pub fn unseen_events_leave_views()
     ensures { (t : Table) (B : History) → UnseenLeaves t B }
+{}
+
+/// A fire leaves the view of each key that may not read in the namespace of the trigger, whether it is refused or not.
+pub fn unseen_fires_leave_views()
+    ensures { (t : Table) (B : History) → FiresLeave t B }
 {}

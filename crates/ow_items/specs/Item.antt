@@ -25,6 +25,8 @@ count_key namespace = codes "count/" ++ hex_16 namespace
 abbrev pub row_kind : EntityRow → List ℕ
 row_kind (rows.Action a) = codes "action"
 row_kind (rows.Package p) = codes "package"
+row_kind (rows.Rule r) = codes "rule"
+row_kind (rows.Trigger t) = codes "trigger"
 
 abbrev pub entity_key : EntityRow → List ℕ
 entity_key r = codes "row/" ++ (row_kind r ++ full_text (name_of r))

@@ -34,6 +34,8 @@ fn row_kind(row: &Row) -> &'static str
     match row {
         Row::Action(_) => "action",
         Row::Package(_) => "package",
+        Row::Rule(_) => "rule",
+        Row::Trigger(_) => "trigger",
     }
 }
 

@@ -8,11 +8,14 @@ use Rattle.ow_value.specs.Text.{compact}
 use Rattle.ow_value.proofs.Back.{reading-compact}
 use Rattle.ow_names.specs.FullName.{full_text, IsFullName}
 use Rattle.ow_names.specs.declared.full.FullName.{FullName}
-use Rattle.ow_entity.specs.Written.{action_value, package_value, row_value}
+use Rattle.ow_entity.specs.Status.{status_in}
+use Rattle.ow_entity.specs.Written.{action_value, package_value, row_value, rule_value, trigger_value}
 use Rattle.ow_entity.specs.declared.actions.Action.{Action}
 use Rattle.ow_entity.specs.declared.kinds.EntityKind.TheVariants as kinds
 use Rattle.ow_entity.specs.declared.packages.Package.{Package}
 use Rattle.ow_entity.specs.declared.rows.Row.TheVariants as rows
+use Rattle.ow_entity.specs.declared.rules.Rule.{Rule}
+use Rattle.ow_entity.specs.declared.triggers.Trigger.{Trigger}
 use Rattle.ow_entity.proofs.BackLaws.{reads_back}
 use Rattle.ow_records.specs.Known.{IsId, IsKnownUnrecorded}
 use Rattle.ow_records.specs.RecordIn.{record_from}
@@ -26,16 +29,17 @@ use Rattle.ow_tables.specs.Builtin.{is_builtin}
 use Rattle.ow_items.specs.Item.{item_key, item_text, open_value}
 use Rattle.ow_items.specs.declared.item.Item.{Item}
 use Rattle.ow_items.specs.declared.item.Item.TheVariants.{Version, Count, Row, Open, Done}
-use Rattle.ow_keep.specs.Allowed.{is_binding, is_entity, is_version, stands_alone}
-use Rattle.ow_keep.specs.EntityIn.{entity_from, entity_with as entity_made}
+use Rattle.ow_keep.specs.Allowed.{is_binding, is_entity, is_version, is_written, stands_alone}
+use Rattle.ow_keep.specs.EntityIn.{at_status, entity_from, entity_with as entity_made}
 use Rattle.std.specs.Result.{result_ok}
 use Rattle.ow_keep.specs.ItemIn.{count_with, entity_with, item_from}
 use Rattle.ow_keep.specs.Kept.{MayStand}
-use Rattle.ow_keep.specs.Known.{IsItem, IsKnownAction, IsKnownPackage}
+use Rattle.ow_keep.specs.Known.{IsItem, IsKnownAction, IsKnownPackage, IsKnownRule, IsKnownTrigger}
 use Rattle.ow_keep.specs.OpenIn.{full_name_of, open_from, open_with}
 use Rattle.ow_items.specs.Sorted.{Entries}
 use Rattle.ow_keep.proofs.Packages.{package_back}
-use Rattle.ow_keep.proofs.Values.{action_is, open_is, package_is, record_is}
+use Rattle.ow_keep.proofs.Rules.{rule_back, status_back, trigger_back}
+use Rattle.ow_keep.proofs.Values.{action_is, open_is, package_is, record_is, rule_is, trigger_is}
 
 -- ---- an activation that has not ended
 
@@ -60,12 +64,21 @@ open_back u h = open_by u u.binding u.cause h.binding h.cause h
 -- ---- an entity
 
 action_back : (a : Action) → IsKnownAction a → entity_from kinds.Action a.name (action_value a) ≡ Some (rows.Action a)
-action_back a h = λ i. entity_made (version_back a.version h.version i) (reads_back a h.notes.rises h.params.rises h.fits i)
+action_back a h = λ i. option_and_then (at_status (status_in (action_value a))) (entity_made (version_back a.version h.version i) (reads_back a h.notes.rises h.params.rises h.fits i))
 
 entity_back : (p : Package) → IsKnownPackage p → is_entity (rows.Package p) ≡ true → entity_from kinds.Package p.name (package_value p) ≡ Some (rows.Package p)
 entity_back p h e =
     let bound = (and_parts (stands_alone p.name) (is_binding p.name.namespace p.binding) (and_parts (is_version p.version) (stands_alone p.name && is_binding p.name.namespace p.binding) e).1).1 in
-    λ i. entity_made (version_back p.version h.version i) (package_back p h.notes.rises h.params.rises h.fit_notes h.fit_params h.binding bound i)
+    λ i. option_and_then (at_status (status_in (package_value p))) (entity_made (version_back p.version h.version i) (package_back p h.notes.rises h.params.rises h.fit_notes h.fit_params h.binding bound i))
+
+rule_from : (r : Rule) → IsKnownRule r → is_entity (rows.Rule r) ≡ true → entity_from kinds.Rule r.name (rule_value r) ≡ Some (rows.Rule r)
+rule_from r h e =
+    let joined = is_written r.name.namespace r.trigger && is_written r.name.namespace r.action in
+    let a = (and_parts (stands_alone r.name) joined (and_parts (is_version r.version) (stands_alone r.name && joined) e).1).1 in
+    λ i. option_and_then (at_status (status_back r.active i)) (entity_made (version_back r.version h.version i) (rule_back r h a i))
+
+trigger_from : (t : Trigger) → IsKnownTrigger t → entity_from kinds.Trigger t.name (trigger_value t) ≡ Some (rows.Trigger t)
+trigger_from t h = λ i. option_and_then (at_status (status_in (trigger_value t))) (entity_made (version_back t.version h.version i) (trigger_back t h i))
 
 -- ---- an item
 
@@ -82,6 +95,12 @@ item_back all (Row (rows.Action a)) h s =
 item_back all (Row (rows.Package p)) h s =
     (λ i. entity_with kinds.Package (full_name_back p.name h.name i) (value_back (package_value p) 100 (package_is p h) s.shallow (omega arith) i))
     ∙ ap (option_map Row) (entity_back p h (and_parts (is_entity (rows.Package p)) (not (is_builtin (rows.Package p))) s.allowed).0)
+item_back all (Row (rows.Rule r)) h s =
+    (λ i. entity_with kinds.Rule (full_name_back r.name h.name i) (value_back (rule_value r) 100 (rule_is r h) s.shallow (omega arith) i))
+    ∙ ap (option_map Row) (rule_from r h (and_parts (is_entity (rows.Rule r)) (not (is_builtin (rows.Rule r))) s.allowed).0)
+item_back all (Row (rows.Trigger t)) h s =
+    (λ i. entity_with kinds.Trigger (full_name_back t.name h.name i) (value_back (trigger_value t) 100 (trigger_is t h) s.shallow (omega arith) i))
+    ∙ ap (option_map Row) (trigger_from t h)
 item_back all (Open u) h s =
     ap (λ o. option_map Open (option_and_then open_from o)) (value_back (open_value u) 100 (open_is u h) s.shallow (omega arith))
     ∙ ap (option_map Open) (open_back u h)

@@ -2,6 +2,7 @@ pub mod Deep
 pub mod Goods
 pub mod Values
 pub mod Packages
+pub mod Rules
 pub mod Back
 pub mod Whole
 pub mod Exact

@@ -106,7 +106,9 @@ entity_order : (place s : List ℕ) → MayOrder (entity_of place s)
 entity_order [] s = tt
 entity_order (byte ∷ place) s =
     by_test (byte == 97) _ _ (entities_order kinds.Action (full_name_of (drop 5 place)) (value_of s))
-    (by_test (byte == 112) _ _ (entities_order kinds.Package (full_name_of (drop 6 place)) (value_of s)) tt)
+    (by_test (byte == 112) _ _ (entities_order kinds.Package (full_name_of (drop 6 place)) (value_of s))
+    (by_test (byte == 114) _ _ (entities_order kinds.Rule (full_name_of (drop 3 place)) (value_of s))
+    (by_test (byte == 116) _ _ (entities_order kinds.Trigger (full_name_of (drop 6 place)) (value_of s)) tt)))
 
 span_order : (start end : ℕ) (b : Bool) → nat_le start end ≡ b → IfSome (cond b (Some (record { start = start; end = end })) None) (λ (s : SpanView). s.start ≤ s.end)
 span_order start end true e = grind (arith, nat_tests)

@@ -23,17 +23,20 @@ use Rattle.ow_names.proofs.NameLaws.{IsName-utf8}
 use Rattle.ow_entity.specs.Exec.{exec_code}
 use Rattle.ow_entity.specs.FitAction.{IsFitLimits}
 use Rattle.ow_entity.specs.Pairs.{pair_value, pairs_value}
-use Rattle.ow_entity.specs.Written.{action_value, binding_value, exec_value, limits_value, package_value, shown_namespace, shown_version}
+use Rattle.ow_entity.specs.Written.{action_value, binding_value, exec_value, limits_value, package_value, rule_value, shown_namespace, shown_version, trigger_value}
 use Rattle.ow_entity.specs.declared.actions.Action.{Action}
 use Rattle.ow_entity.specs.declared.bounds.Limits.{Limits}
 use Rattle.ow_entity.specs.declared.exec.Exec.{Exec}
 use Rattle.ow_entity.specs.declared.exec.Exec.TheVariants.{Plain, Program}
+use Rattle.ow_entity.specs.Status.{status_text}
 use Rattle.ow_entity.specs.declared.packages.Package.{Package}
+use Rattle.ow_entity.specs.declared.rules.Rule.{Rule}
+use Rattle.ow_entity.specs.declared.triggers.Trigger.{Trigger}
 use Rattle.ow_records.specs.Id.{id_text, hex_16}
 use Rattle.ow_records.specs.Known.{AreNotes, IsKnown, IsKnownUnrecorded, IsResponse}
 use Rattle.ow_records.specs.Notes.{kind_text}
 use Rattle.ow_records.specs.Response.{ResponseView}
-use Rattle.ow_records.specs.Written.{record_value, record_members, response_value, status_text}
+use Rattle.ow_records.specs.Written.{record_value, record_members, response_value, status_text as word_of_code}
 use Rattle.ow_records.specs.WrittenNotes.{kind_note, limits_note, mark_note, moment_note, name_note, notes_value, path_text, word_note}
 use Rattle.ow_records.specs.declared.ids.Id.{Id}
 use Rattle.ow_records.specs.declared.notes.ExecKind.{ExecKind}
@@ -43,7 +46,7 @@ use Rattle.ow_records.specs.declared.record.Record.{Record}
 use Rattle.ow_records.specs.declared.unrecorded.Unrecorded.{Unrecorded}
 use Rattle.ow_records.proofs.Sorting.{is_less}
 use Rattle.ow_items.specs.Item.{open_members, open_value}
-use Rattle.ow_keep.specs.Known.{IsKnownAction, IsKnownPackage}
+use Rattle.ow_keep.specs.Known.{IsKnownAction, IsKnownPackage, IsKnownRule, IsKnownTrigger}
 
 -- ---- texts that are written out
 
@@ -167,6 +170,32 @@ package_is p h = named (
     ∷ (codes "version", text (shown_version p.version))
     ∷ []) refl (pairs_are p.notes h.notes, (binding_are p.binding h.binding, (IsName-utf8 p.name.name h.name.name, (shown_utf8 p.name.namespace p.name.package h.name.inside h.name.namespace, (pairs_are p.params h.params, (tt, (version_utf8 p.version h.version, tt)))))))
 
+active_utf8 : (active : Bool) → IsUtf8 (status_text active)
+active_utf8 true = ascii (codes "active") refl
+active_utf8 false = ascii (codes "inactive") refl
+
+pub rule_is : (r : Rule) → IsKnownRule r → IsValue (rule_value r)
+rule_is r h = named (
+    (codes "action", text (full_text r.action))
+    ∷ (codes "annotations", pairs_value r.notes)
+    ∷ (codes "name", text r.name.name)
+    ∷ (codes "namespace", text (shown_namespace r.name.namespace r.name.package))
+    ∷ (codes "publish", boolean r.publish)
+    ∷ (codes "status", text (status_text r.active))
+    ∷ (codes "trigger", text (full_text r.trigger))
+    ∷ (codes "version", text (shown_version r.version))
+    ∷ []) refl (full_utf8 r.action h.action, (pairs_are r.notes h.notes, (IsName-utf8 r.name.name h.name.name, (shown_utf8 r.name.namespace r.name.package h.name.inside h.name.namespace, (tt, (active_utf8 r.active, (full_utf8 r.trigger h.trigger, (version_utf8 r.version h.version, tt))))))))
+
+pub trigger_is : (t : Trigger) → IsKnownTrigger t → IsValue (trigger_value t)
+trigger_is t h = named (
+    (codes "annotations", pairs_value t.notes)
+    ∷ (codes "name", text t.name.name)
+    ∷ (codes "namespace", text (shown_namespace t.name.namespace t.name.package))
+    ∷ (codes "parameters", pairs_value t.params)
+    ∷ (codes "publish", boolean t.publish)
+    ∷ (codes "version", text (shown_version t.version))
+    ∷ []) refl (pairs_are t.notes h.notes, (IsName-utf8 t.name.name h.name.name, (shown_utf8 t.name.namespace t.name.package h.name.inside h.name.namespace, (pairs_are t.params h.params, (tt, (version_utf8 t.version h.version, tt))))))
+
 -- ---- parts of records
 
 digits_utf8 : (n : ℕ) → IsUtf8 (hex_16 n)
@@ -180,7 +209,7 @@ kind_utf8 : (k : ExecKind) → IsUtf8 (kind_text k)
 kind_utf8 exec_kinds.Plain = ascii (codes "plain:1") refl
 kind_utf8 exec_kinds.Program = ascii (codes "program:1") refl
 
-status_utf8 : (code : ℕ) → IsUtf8 (status_text code)
+status_utf8 : (code : ℕ) → IsUtf8 (word_of_code code)
 status_utf8 zero = ascii (codes "success") refl
 status_utf8 (suc zero) = ascii (codes "application error") refl
 status_utf8 (suc (suc zero)) = ascii (codes "action developer error") refl
@@ -240,7 +269,7 @@ notes_are n h = list_is _
 response_is : (r : ResponseView) → IsResponse r → IsValue (response_value r)
 response_is r h = named (
     (codes "result", object (members_of r.result))
-    ∷ (codes "status", text (status_text r.code))
+    ∷ (codes "status", text (word_of_code r.code))
     ∷ (codes "statusCode", whole (pos r.code))
     ∷ (codes "success", boolean (r.code == 0))
     ∷ []) refl (IsValue-object r.result h.result, (status_utf8 r.code, (small r.code 3 h.code (omega arith), (tt, tt))))

@@ -81,10 +81,16 @@ abbrev pub is_binding : List ℕ → Option FullName → Bool
 is_binding here None = true
 is_binding here (Some bound) = stands_alone bound && bytes_eq (home here bound.namespace) bound.namespace
 
--- packages stand in no packages
+-- the name's text, read in this namespace, is the name again, which excludes the namespace `_`
+abbrev pub is_written : List ℕ → FullName → Bool
+is_written here n = bytes_eq (home here n.namespace) n.namespace
+
+-- packages, rules and triggers lie in no package
 abbrev pub is_entity : EntityRow → Bool
 is_entity (rows.Action a) = is_version a.version
 is_entity (rows.Package p) = is_version p.version && (stands_alone p.name && is_binding p.name.namespace p.binding)
+is_entity (rows.Rule r) = is_version r.version && (stands_alone r.name && (is_written r.name.namespace r.trigger && is_written r.name.namespace r.action))
+is_entity (rows.Trigger t) = is_version t.version && stands_alone t.name
 
 -- what is asked of an activation that has not ended, whatever the other rows are
 abbrev pub is_fit_open : Unrecorded → Bool

@@ -40,6 +40,8 @@ entity_of [] s = None
 entity_of (byte ∷ place) s =
     if byte == 97 then entity_with kinds.Action (full_name_of (drop 5 place)) (value_of s)
     else if byte == 112 then entity_with kinds.Package (full_name_of (drop 6 place)) (value_of s)
+    else if byte == 114 then entity_with kinds.Rule (full_name_of (drop 3 place)) (value_of s)
+    else if byte == 116 then entity_with kinds.Trigger (full_name_of (drop 6 place)) (value_of s)
     else None
 
 -- by the first byte of the key, and what is behind the prefix

@@ -8,6 +8,8 @@ use Rattle.ow_entity.specs.Fit.{IsFitPairs}
 use Rattle.ow_entity.specs.FitAction.{IsFitAction}
 use Rattle.ow_entity.specs.declared.actions.Action.{Action}
 use Rattle.ow_entity.specs.declared.packages.Package.{Package}
+use Rattle.ow_entity.specs.declared.rules.Rule.{Rule}
+use Rattle.ow_entity.specs.declared.triggers.Trigger.{Trigger}
 use Rattle.ow_entity.specs.declared.rows.Row.{Row as EntityRow}
 use Rattle.ow_entity.specs.declared.rows.Row.TheVariants as rows
 use Rattle.ow_records.specs.Known.{IsKnown, IsKnownUnrecorded}
@@ -31,9 +33,27 @@ pub record IsKnownPackage (p : Package) : Type 0 where
   pub fit_notes : IsFitPairs p.notes
   pub binding : IfSome p.binding IsFullName
 
+pub record IsKnownRule (r : Rule) : Type 0 where
+  pub name : IsFullName r.name
+  pub version : r.version < 2 ^ 32
+  pub notes : IsObject r.notes
+  pub fit_notes : IsFitPairs r.notes
+  pub trigger : IsFullName r.trigger
+  pub action : IsFullName r.action
+
+pub record IsKnownTrigger (t : Trigger) : Type 0 where
+  pub name : IsFullName t.name
+  pub version : t.version < 2 ^ 32
+  pub params : IsObject t.params
+  pub notes : IsObject t.notes
+  pub fit_params : IsFitPairs t.params
+  pub fit_notes : IsFitPairs t.notes
+
 abbrev pub IsKnownEntity : EntityRow → Type 0
 IsKnownEntity (rows.Action a) = IsKnownAction a
 IsKnownEntity (rows.Package p) = IsKnownPackage p
+IsKnownEntity (rows.Rule r) = IsKnownRule r
+IsKnownEntity (rows.Trigger t) = IsKnownTrigger t
 
 abbrev pub IsItem : Item → Type 0
 IsItem Version = Unit {0}

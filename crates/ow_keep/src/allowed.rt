@@ -7,9 +7,9 @@ ghost use Rattle.ow_value.specs.View.{view};
 ghost use Rattle.ow_names.specs.Path.{home};
 ghost use Rattle.ow_entity.specs.declared.rows.Row.TheVariants as rows;
 ghost use Rattle.ow_items.specs.declared.item.Item.TheVariants as items;
-ghost use Rattle.ow_keep.specs.Allowed.{are_durations, has_record, is_allowed, is_binding, is_called, is_cause, is_confirmed, is_drawn, is_duration, is_entity, is_moment, is_reached, is_row_of, stands_alone};
+ghost use Rattle.ow_keep.specs.Allowed.{are_durations, has_record, is_allowed, is_binding, is_called, is_cause, is_confirmed, is_drawn, is_duration, is_entity, is_moment, is_reached, is_row_of, is_written, stands_alone};
 
-use ow_entity::{Package, Row, write_entity};
+use ow_entity::{Package, Row, Rule, Trigger, write_entity};
 use ow_items::{Item, count_key, count_row, done_key, entity_key, open_row};
 use ow_names::{EntityName, FullName};
 use ow_records::{Id, Notes, Record, Unrecorded, write_record};
@@ -240,7 +240,25 @@ fn is_entity(entity: &Row) -> bool
     match entity {
         Row::Action(action) => 1 <= action.get().version,
         Row::Package(bundle) => is_package(bundle.get()),
+        Row::Rule(rule) => is_rule(rule.get()),
+        Row::Trigger(trigger) => is_trigger(trigger.get()),
     }
+}
+
+fn is_rule(rule: &Rule) -> bool
+    ensures { result ≡ is_entity (rows.Rule rule.now) }
+{
+    let here = &rule.name.namespace;
+    let alone = stands_alone(&rule.name);
+    let trigger = is_written(here, &rule.trigger);
+    let action = is_written(here, &rule.action);
+    1 <= rule.version && (alone && (trigger && action))
+}
+
+fn is_trigger(trigger: &Trigger) -> bool
+    ensures { result ≡ is_entity (rows.Trigger trigger.now) }
+{
+    1 <= trigger.version && stands_alone(&trigger.name)
 }
 
 fn is_package(bundle: &Package) -> bool
@@ -256,14 +274,14 @@ fn is_binding(here: &EntityName, binding: &Option<FullName>) -> bool
 {
     match binding {
         None => true,
-        Some(bound) => stands_alone(bound) && stands_for_itself(here, &bound.namespace),
+        Some(bound) => stands_alone(bound) && is_written(here, bound),
     }
 }
 
-// Whether the namespace is what its text is for one who stands in `here`.
-fn stands_for_itself(here: &EntityName, namespace: &EntityName) -> bool
-    ensures { result ≡ bytes_eq (home here.now namespace.now) namespace.now }
+// Whether the name's text, read in this namespace, is the name again.
+fn is_written(here: &EntityName, name: &FullName) -> bool
+    ensures { result ≡ is_written here.now name.now }
 {
-    let text = namespace.as_str();
+    let text = name.namespace.as_str();
     text != "_" || here.as_str() == text
 }

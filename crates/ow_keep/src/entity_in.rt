@@ -2,16 +2,17 @@
 ghost use Rattle.std.specs.Prelude.{◌≡◌, ◌≢◌, Ok, Err, MatchResult, IfOk};
 ghost use Rattle.ow_value.specs.View.{view};
 ghost use Rattle.ow_entity.specs.Finish.{row_of_body};
+ghost use Rattle.ow_entity.specs.Status.{status_in};
 ghost use Rattle.ow_entity.specs.declared.rows.Row.TheVariants as rows;
-ghost use Rattle.ow_keep.specs.EntityIn.{at_version, entity_from};
+ghost use Rattle.ow_keep.specs.EntityIn.{at_status, at_version, entity_from};
 
-use ow_entity::{EntityKind, EntityRefusal, Row, finish, read_entity};
+use ow_entity::{EntityKind, EntityRefusal, Row, Rule, finish, read_entity, read_status};
 use ow_names::FullName;
 use ow_records::version_in;
 use ow_value::{NoMemory, PlainData, Shared, Val};
 use std::alloc::Global;
 
-/// The entity that the value makes as a body, at the version that the value tells.
+/// The entity that the value makes as a body, with the version and the status that are members of the value.
 pub(crate) fn entity_from(
     alloc: Global,
     kind: EntityKind,
@@ -27,7 +28,7 @@ pub(crate) fn entity_from(
         return Ok(None);
     };
     match row_of_body(alloc, kind, name, value) {
-        Ok(row) => Ok(Some(at_version(alloc, version, &row)?)),
+        Ok(row) => at_status(alloc, value, at_version(alloc, version, &row)?),
         Err(EntityRefusal::NoMemory) => Err(NoMemory),
         Err(_) => Ok(None),
     }
@@ -62,5 +63,36 @@ fn at_version(alloc: Global, version: u32, row: &Row) -> Result<Row, NoMemory>
             copied.version = version;
             Ok(Row::Package(Shared::new(alloc, copied)?))
         }
+        Row::Rule(rule) => {
+            let mut copied = rule.get().copy(alloc)?;
+            copied.version = version;
+            Ok(Row::Rule(Shared::new(alloc, copied)?))
+        }
+        Row::Trigger(trigger) => {
+            let mut copied = trigger.get().copy(alloc)?;
+            copied.version = version;
+            Ok(Row::Trigger(Shared::new(alloc, copied)?))
+        }
     }
+}
+
+// A rule with the status in the value; any other entity as it is.
+fn at_status(alloc: Global, value: &Val, row: Row) -> Result<Option<Row>, NoMemory>
+    ensures { IfOk result (λ r. r ≡ at_status (status_in (view value.now)) row) }
+{
+    match row {
+        Row::Rule(rule) => rule_at_status(alloc, value, rule.get()),
+        other => Ok(Some(other)),
+    }
+}
+
+fn rule_at_status(alloc: Global, value: &Val, rule: &Rule) -> Result<Option<Row>, NoMemory>
+    ensures { IfOk result (λ r. r ≡ at_status (status_in (view value.now)) (rows.Rule rule.now)) }
+{
+    let Ok(active) = read_status(value) else {
+        return Ok(None);
+    };
+    let mut copied = rule.copy(alloc)?;
+    copied.active = active;
+    Ok(Some(Row::Rule(Shared::new(alloc, copied)?)))
 }

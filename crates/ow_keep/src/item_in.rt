@@ -102,6 +102,14 @@ fn entity_item(
             let name = rest.get(6..).unwrap_or(&[]);
             entity_with(alloc, scratch, EntityKind::Package, name, text)
         }
+        b'r' => {
+            let name = rest.get(3..).unwrap_or(&[]);
+            entity_with(alloc, scratch, EntityKind::Rule, name, text)
+        }
+        b't' => {
+            let name = rest.get(6..).unwrap_or(&[]);
+            entity_with(alloc, scratch, EntityKind::Trigger, name, text)
+        }
         _ => Ok(None),
     }
 }

@@ -8,9 +8,9 @@ ghost use Rattle.ow_entity.specs.Exec.{exec_code};
 ghost use Rattle.ow_entity.specs.Fit.{IsFitPairs};
 ghost use Rattle.ow_entity.specs.FitAction.{IsFitExec, IsFitLimits};
 ghost use Rattle.ow_items.specs.declared.item.Item.TheVariants as items;
-ghost use Rattle.ow_keep.specs.Known.{IsItem, IsKnownAction, IsKnownEntity, IsKnownPackage};
+ghost use Rattle.ow_keep.specs.Known.{IsItem, IsKnownAction, IsKnownEntity, IsKnownPackage, IsKnownRule, IsKnownTrigger};
 
-use ow_entity::{Action, EntityParams, Exec, Limits, Package, Row};
+use ow_entity::{Action, EntityParams, Exec, Limits, Package, Row, Rule, Trigger};
 use ow_items::Item;
 use ow_names::FullName;
 use ow_records::{known_record, known_unrecorded};
@@ -39,6 +39,8 @@ pub fn known_entity(row: &Row)
     match row {
         Row::Action(action) => known_action(action.get()),
         Row::Package(bundle) => known_package(bundle.get()),
+        Row::Rule(rule) => known_rule(rule.get()),
+        Row::Trigger(trigger) => known_trigger(trigger.get()),
     }
 }
 
@@ -72,6 +74,25 @@ fn known_package(bundle: &Package)
     known_pairs(&bundle.params);
     known_pairs(&bundle.notes);
     known_binding(&bundle.binding);
+}
+
+fn known_rule(rule: &Rule)
+    ensures { IsKnownRule rule.now }
+{
+    known_name(&rule.name);
+    known_version(rule.version);
+    known_pairs(&rule.notes);
+    known_name(&rule.trigger);
+    known_name(&rule.action);
+}
+
+fn known_trigger(trigger: &Trigger)
+    ensures { IsKnownTrigger trigger.now }
+{
+    known_name(&trigger.name);
+    known_version(trigger.version);
+    known_pairs(&trigger.params);
+    known_pairs(&trigger.notes);
 }
 
 fn known_name(name: &FullName)

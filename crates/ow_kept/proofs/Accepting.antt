@@ -5,7 +5,7 @@ use Rattle.ow_entity.specs.declared.rows.Row.{Row}
 use Rattle.ow_floor.specs.declared.activations.Open.{Open}
 use Rattle.ow_floor.specs.declared.activations.State.TheVariants.{Waiting}
 use Rattle.ow_floor.specs.Laws.{IsSound, times}
-use Rattle.ow_floor.specs.Trace.{Accepted, Trace, accepted, accepted_ids, all_records, drawn, last, open_items, shown}
+use Rattle.ow_floor.specs.Trace.{Accepted, Trace, all_records, drawn, last, open_items, shown}
 use Rattle.ow_floor.specs.View.{Shown, ids_of, last_of, put_id}
 use Rattle.ow_floor.specs.Growth.{grow}
 use Rattle.ow_floor.proofs.Drawn.{drawn_last}
@@ -22,7 +22,7 @@ use Rattle.ow_kept.specs.Keeping.{AreIds, last_bytes, row_bytes}
 use Rattle.ow_kept.specs.Kept.{count_item, entries, is_kept, kept, unrecorded}
 use Rattle.ow_kept.specs.Laws.{AcceptancesAreKept}
 use Rattle.ow_kept.proofs.Counting.{counted}
-use Rattle.ow_kept.proofs.Ids.{all_both, all_put, kept_ids, lacks_open, new_nowhere, nowhere}
+use Rattle.ow_kept.proofs.Ids.{all_both, all_put, kept_ids, lacks_open, new_known, nowhere}
 use Rattle.ow_kept.proofs.RowLaws.{made_so}
 use Rattle.ow_kept.proofs.Sections.{count_put, entries_are, open_of, open_put, sections}
 use Rattle.ow_kept.proofs.Weights.{count_text, count_weighs, open_text, put_bytes}
@@ -46,7 +46,7 @@ accepted_open a T next sound =
 
 pub lacks_new : (a : Activation) (T : Trace) → a.id.count ≡ last T a.id.namespace + 1 → IsSound T → AllByRecursion (λ u. same_id a.id u.id ≡ false) (unrecorded T)
 lacks_new a T next sound =
-    let fresh : times a.id (accepted_ids T) ≡ 0 = new_nowhere a.id (accepted T) (last T) next sound.drawn in
+    let fresh = new_known a.id T next sound in
     let once = sound.once a.id in
     let none : times a.id (ids_of (open_items T)) ≡ 0 = omega (arith, fresh, once) in
     nowhere (λ (u : Unrecorded). u.id) a.id (unrecorded T) (ap (times a.id) (kept_ids (open_items T)) ∙ none)

@@ -17,7 +17,7 @@ use Rattle.ow_floor.proofs.Alters.{same_id_refl}
 use Rattle.ow_floor.proofs.Apart.{all_both as paired}
 use Rattle.ow_floor.proofs.Drawn.{drawn_last}
 use Rattle.ow_floor.proofs.Firsts.{all_more}
-use Rattle.ow_floor.proofs.Tallies.{times_once}
+use Rattle.ow_floor.proofs.Fires.{accepted_once}
 use Rattle.ow_items.specs.declared.item.Item.{Item}
 use Rattle.ow_items.specs.declared.item.Item.TheVariants as items
 use Rattle.ow_items.specs.Item.{count_key, done_key, item_key, item_row, item_text}
@@ -183,7 +183,7 @@ module _ (rs : List Row) (T : Trace) (sound : IsSound T) (small : AreCountsSmall
   no_record_there : (id : Id) → IsId id → 1 ≤ times id (ids_of (open_items T)) → has_record (kept rs T) id ≡ false
   no_record_there id h some =
       let parts = sound.once id in
-      let most = times_once id (accepted T) sound.apart in
+      let most = accepted_once T id sound in
       let accepted_here : 1 ≤ times id (accepted_ids T) = omega (arith, parts, some) in
       let unrecorded_here : times id (recorded T) ≡ 0 = omega (arith, parts, some, most) in
       let differ = all_both _ (resumed T) (records T) (no_resumed id T sound accepted_here) (nowhere (λ (r : Record). r.id) id (records T) unrecorded_here) in

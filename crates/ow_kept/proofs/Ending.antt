@@ -1,16 +1,17 @@
--- What is committed of ends makes what is kept behind them.
+-- What is committed of ends makes what is kept after them.
 use Rattle.std.proofs.Common.{◌≡◌, ◌+◌, ◌≤◌, ℕ, Bool, true, false, cond, List, [], ◌∷◌, filter, find, map, Some, refl, sym, ap, ◌∙◌, subst, arith, append_assoc}
 use Rattle.std.specs.List.{AllByRecursion}
 use Rattle.ow_entity.specs.declared.rows.Row.{Row}
 use Rattle.ow_traits.specs.declared.change_list.Change.{Change}
 use Rattle.ow_traits.specs.declared.change_list.Change.TheVariants.{Drop as Dropped}
 use Rattle.ow_floor.specs.declared.activations.Open.{Open}
-use Rattle.ow_floor.specs.Laws.{IsApart, IsSound, times}
-use Rattle.ow_floor.specs.Trace.{End, Trace, Ended, accepted, accepted_ids, all_records, drawn, open_items, record_of, recorded, records, resumed}
+use Rattle.ow_floor.specs.Laws.{IsSound, times}
+use Rattle.ow_floor.specs.Trace.{End, Trace, Ended, accepted_ids, all_records, drawn, open_items, record_of, recorded, records, resumed}
 use Rattle.ow_floor.specs.View.{ids_of, is_of, remove_first}
 use Rattle.ow_floor.proofs.Alters.{same_id_refl}
 use Rattle.ow_floor.proofs.Apart.{turned}
-use Rattle.ow_floor.proofs.Tallies.{eq_of, times-removed, times_once}
+use Rattle.ow_floor.proofs.Fires.{accepted_once, known_once}
+use Rattle.ow_floor.proofs.Tallies.{eq_of, times-removed}
 use Rattle.ow_floor.proofs.Firsts.{find_passes}
 use Rattle.ow_items.specs.declared.item.Item.TheVariants as items
 use Rattle.ow_items.specs.Bytes.{bytes_of, weight, weight_at}
@@ -26,7 +27,6 @@ use Rattle.ow_kept.proofs.Places.{drop_behind, drop_nothing, dropped}
 use Rattle.ow_kept.proofs.RowLaws.{made_so}
 use Rattle.ow_kept.proofs.Sections.{done_of, done_put, entries_are, open_dropped, open_of, sections}
 use Rattle.ow_kept.proofs.Weights.{done_text, drop_bytes, open_text, open_weighs, put_bytes}
-use Rattle.ow_records.specs.declared.activations.Activation.{Activation}
 use Rattle.ow_records.specs.declared.ids.Id.{Id}
 use Rattle.ow_records.specs.declared.record.Record.{Record}
 use Rattle.ow_records.specs.declared.unrecorded.Unrecorded.{Unrecorded}
@@ -91,23 +91,9 @@ of_found P p o (x ∷ os) found all = found_by P p o x os (p x) refl found all.0
 
 -- ---- one end
 
--- what was taken over is of no activation that was accepted here
-strange_nowhere : (id : Id) (xs : List Activation) → IsApart id xs → times id (map (λ (a : Activation). a.id) xs) ≡ 0
-strange_nowhere id [] h = refl
-strange_nowhere id (a ∷ xs) h = let rest = strange_nowhere id xs h.1 in rw h.0.0 (omega (arith, rest))
-
-strange_by : (id x : Id) (xs : List Activation) (b : Bool) → same_id id x ≡ b → IsApart x xs → 1 ≤ times id (map (λ (a : Activation). a.id) xs) → b ≡ false
-strange_by id x xs true e h there =
-    let none : times id (map (λ (a : Activation). a.id) xs) ≡ 0 = subst (λ (y : Id). times y (map (λ (a : Activation). a.id) xs) ≡ 0) (sym (eq_of id x e)) (strange_nowhere x xs h) in
-    absurd (omega (arith, none, there))
-strange_by id x xs false e h there = refl
-
-strangers : (id : Id) (rs : List Record) (xs : List Activation) → AllByRecursion (λ r. IsApart r.id xs) rs → 1 ≤ times id (map (λ (a : Activation). a.id) xs) → AllByRecursion (λ r. same_id id r.id ≡ false) rs
-strangers id [] xs h there = tt
-strangers id (r ∷ rs) xs h there = (strange_by id r.id xs (same_id id r.id) refl h.0 there, strangers id rs xs h.1 there)
-
+-- what was taken over is of no id that was accepted here
 pub no_resumed : (id : Id) (T : Trace) → IsSound T → 1 ≤ times id (accepted_ids T) → AllByRecursion (λ r. same_id id r.id ≡ false) (resumed T)
-no_resumed id T sound there = strangers id (resumed T) (accepted T) sound.resumed.strange there
+no_resumed id T sound there = let once = known_once T id sound in nowhere (λ (r : Record). r.id) id (resumed T) (omega (arith, once, there))
 
 pub record Stood (id : Id) (T : Trace) : Type 0 where
   pub once : times id (ids_of (open_items T)) ≤ 1
@@ -120,7 +106,7 @@ stood id o T found sound =
     let more : times id (ids_of (open_items T)) ≡ times id (ids_of (remove_first (is_of id) (open_items T))) + cond (same_id id o.task.id) 1 0 = times-removed (is_of id) id (open_items T) o found in
     let one : ◌≡◌ {A = ℕ} (cond (same_id id o.task.id) 1 0) 1 = ap (λ b. cond b 1 0) it in
     let parts = sound.once id in
-    let most = times_once id (accepted T) sound.apart in
+    let most = accepted_once T id sound in
     record { once = omega (arith, parts, most); accepted = omega (arith, more, one, parts); unrecorded = omega (arith, more, one, parts, most) }
 
 -- what is made of what is kept, how many bytes it has less and more then, and that the ids are those of activations

@@ -9,7 +9,7 @@ use Rattle.ow_floor.specs.declared.activations.State.TheVariants.{Waiting, Runni
 use Rattle.ow_floor.specs.declared.runs.Run.{Run}
 use Rattle.ow_floor.specs.Growth.{AreRight, IsRight, freed, grown, open_after}
 use Rattle.ow_floor.specs.Laws.{IsSound, times}
-use Rattle.ow_floor.specs.Trace.{End, Item, Trace, Opened, Resumed, Accepted, Ordered, Prewarming, Removed, Begun, Answered, Lost, Gone, Ended, Swept, Drained, Reopened, all_records, drawn, live, open_items, record_of, records, shown}
+use Rattle.ow_floor.specs.Trace.{End, Item, Trace, Opened, Resumed, Accepted, Ordered, Prewarming, Removed, Begun, Answered, Lost, Gone, Ended, Drawn, Fired, Swept, Drained, Reopened, all_records, drawn, live, open_items, record_of, records, shown}
 use Rattle.ow_slots.specs.Slots.{change_first}
 use Rattle.ow_floor.specs.View.{Shown, ids_of, is_number, is_of, remove_first, waits, with_state}
 use Rattle.ow_floor.proofs.Apart.{turned}
@@ -37,7 +37,7 @@ use Rattle.ow_records.specs.Unrecorded.{unrecorded_of}
 
 -- ---- nothing ends
 
-same_open : (p : Open → Bool) (q : State) (os : List Open) → of_open (change_first p (with_state q) os) ≡ of_open os
+pub same_open : (p : Open → Bool) (q : State) (os : List Open) → of_open (change_first p (with_state q) os) ≡ of_open os
 unfolding change_first
 same_open p q [] = refl
 same_open p q (o ∷ os) = at (p o) (same_open p q os)
@@ -46,7 +46,7 @@ same_open p q (o ∷ os) = at (p o) (same_open p q os)
     at true rest = refl
     at false rest = ap (λ us. unrecorded_of o.task ∷ us) rest
 
-same_freed : (r : Option Run) (os : List Open) → of_open (freed r os) ≡ of_open os
+pub same_freed : (r : Option Run) (os : List Open) → of_open (freed r os) ≡ of_open os
 same_freed None os = refl
 same_freed (Some r) os = same_open (is_of r.id) Waiting os
 
@@ -78,7 +78,7 @@ opens_of T = map open_bytes (unrecorded T)
 abbrev pub kept_times : Id → Trace → ℕ
 kept_times id T = times id (map (λ (u : Unrecorded). u.id) (unrecorded T))
 
-opens_removed : (id : Id) (os : List Open) → map open_bytes (of_open (remove_first (is_of id) os)) ≡ remove_first (kept_of id) (map open_bytes (of_open os))
+pub opens_removed : (id : Id) (os : List Open) → map open_bytes (of_open (remove_first (is_of id) os)) ≡ remove_first (kept_of id) (map open_bytes (of_open os))
 unfolding remove_first
 opens_removed id [] = refl
 opens_removed id (o ∷ os) = at (same_id o.task.id id) (opens_removed id os)
@@ -126,7 +126,7 @@ pub record GoesBy (rs : List Row) (ends : List Record) (T U : Trace) : Type 0 wh
   pub opens : opens_of U ≡ without_ended (map (λ r. r.id) ends) (opens_of T)
   pub left : (id : Id) → 1 ≤ kept_times id U → (1 ≤ kept_times id T) × (bytes_at id (opens_of U) ≡ bytes_at id (opens_of T))
 
-quiet : (rs : List Row) (item : Item) (T : Trace) → unrecorded (item ∷ T) ≡ unrecorded T → drawn (item ∷ T) ≡ drawn T → all_records (item ∷ T) ≡ all_records T → AreIds T → GoesBy rs [] T (item ∷ T)
+pub quiet : (rs : List Row) (item : Item) (T : Trace) → unrecorded (item ∷ T) ≡ unrecorded T → drawn (item ∷ T) ≡ drawn T → all_records (item ∷ T) ≡ all_records T → AreIds T → GoesBy rs [] T (item ∷ T)
 quiet rs item T is_open is_drawn is_ended ids = record {
   goes = stays rs item T is_open is_drawn is_ended ids;
   opens = ap (map open_bytes) is_open;
@@ -192,6 +192,8 @@ item_goes : (rs : List Row) (item : Item) (T : Trace) → unrecorded (item ∷ T
 item_goes rs (Opened pool wants) T is_open right later sound ids = absurd right.0
 item_goes rs (Resumed counts taken) T is_open right later sound ids = absurd later
 item_goes rs (Accepted a) T is_open right later sound ids = absurd later
+item_goes rs (Drawn id at) T is_open right later sound ids = absurd later
+item_goes rs (Fired r) T is_open right later sound ids = absurd later
 item_goes rs (Ended e) T is_open right later sound ids = one_ended rs T e right.0.0 right.0.1 is_open sound ids
 item_goes rs (Ordered run key) T is_open right later sound ids = quiet rs (Ordered run key) T (is_open ∙ same_open waits (Running run.number) (open_items T)) refl refl ids
 item_goes rs (Lost run at) T is_open right later sound ids = quiet rs (Lost run at) T (is_open ∙ same_freed (find (is_number run) (live T)) (open_items T)) refl refl ids
@@ -228,6 +230,8 @@ without_append (id ∷ xs) ys os = without_append xs ys (remove_first (kept_of i
 
 records_then : (item : Item) (items : Trace) → records (item ∷ items) ≡ records items ++ records (item ∷ [])
 records_then (Ended e) items = refl
+records_then (Fired r) items = refl
+records_then (Drawn id at) items = sym (append-nil (records items))
 records_then (Opened pool wants) items = sym (append-nil (records items))
 records_then (Resumed counts taken) items = sym (append-nil (records items))
 records_then (Accepted a) items = sym (append-nil (records items))
@@ -259,6 +263,8 @@ ends_there rs (Ended e) U T right later sound left =
 ends_there rs (Opened pool wants) U T right later sound left = refl
 ends_there rs (Resumed counts taken) U T right later sound left = refl
 ends_there rs (Accepted a) U T right later sound left = refl
+ends_there rs (Drawn id at) U T right later sound left = refl
+ends_there rs (Fired r) U T right later sound left = absurd later
 ends_there rs (Ordered run key) U T right later sound left = refl
 ends_there rs (Prewarming order at) U T right later sound left = refl
 ends_there rs (Removed containers at) U T right later sound left = refl
@@ -290,7 +296,7 @@ two_go rs xs ys T U W a b same = record {
       (before.0, here.1 ∙ before.1);
 }
 
-one_right : (item : Item) (U : Trace) (v : Shown) → shown U ≡ v → IsRight item v → AreRight (item ∷ []) (shown U)
+pub one_right : (item : Item) (U : Trace) (v : Shown) → shown U ≡ v → IsRight item v → AreRight (item ∷ []) (shown U)
 one_right item U v is right = (subst (λ (w : Shown). IsRight item w) (sym is) right, tt)
 
 pub ends_go : (rs : List Row) (items T : Trace) → AreRight items (shown T) → AreLater items → IsSound T → AreIds T → GoesBy rs (records items) T (items ++ T)

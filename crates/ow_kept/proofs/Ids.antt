@@ -2,8 +2,10 @@
 use Rattle.std.proofs.Common.{◌≡◌, ◌==◌, ◌+◌, ◌≤◌, ℕ, Bool, true, false, cond, List, [], ◌∷◌, ◌++◌, map, refl, ap, arith}
 use Rattle.std.specs.List.{AllByRecursion}
 use Rattle.ow_floor.specs.declared.activations.Open.{Open}
-use Rattle.ow_floor.specs.Laws.{times}
+use Rattle.ow_floor.specs.Laws.{IsSound, times}
+use Rattle.ow_floor.specs.Trace.{Trace, accepted, accepted_ids, fired, last}
 use Rattle.ow_floor.specs.View.{ids_of, put_id, is_in}
+use Rattle.ow_floor.proofs.Fires.{times-append}
 use Rattle.ow_floor.proofs.Soundness.{apart_at}
 use Rattle.ow_items.specs.Item.{done_key, open_key}
 use Rattle.ow_items.specs.Lists.{Lacks}
@@ -17,13 +19,21 @@ use Rattle.ow_records.specs.Id.{same_id}
 use Rattle.ow_records.specs.Known.{IsId}
 use Rattle.ow_records.specs.Unrecorded.{unrecorded_of}
 
--- an id that is behind the last of its namespace is none that was drawn
-pub new_nowhere : (x : Id) (xs : List Activation) (n : ℕ → ℕ) → x.count ≡ n x.namespace + 1 → AllByRecursion (λ a. a.id.count ≤ n a.id.namespace) xs → times x (map (λ a. a.id) xs) ≡ 0
-new_nowhere x [] n new drawn = refl
-new_nowhere x (a ∷ xs) n new drawn =
-    let here : same_id x a.id ≡ false = apart_at x a.id (x.namespace == a.id.namespace) n refl new drawn.0 in
-    let rest = new_nowhere x xs n new drawn.1 in
+-- an id that comes after the last of its namespace is none that was drawn
+new_nowhere : {X : Type 0} (f : X → Id) (x : Id) (xs : List X) (n : ℕ → ℕ) → x.count ≡ n x.namespace + 1 → AllByRecursion (λ y. (f y).count ≤ n (f y).namespace) xs → times x (map f xs) ≡ 0
+new_nowhere f x [] n new drawn = refl
+new_nowhere f x (y ∷ xs) n new drawn =
+    let here : same_id x (f y) ≡ false = apart_at x (f y) (x.namespace == (f y).namespace) n refl new drawn.0 in
+    let rest = new_nowhere f x xs n new drawn.1 in
     rw here (omega (arith, rest))
+
+-- nor one that was accepted
+pub new_known : (x : Id) (T : Trace) → x.count ≡ last T x.namespace + 1 → IsSound T → times x (accepted_ids T) ≡ 0
+new_known x T new sound =
+    let both = times-append x (map (λ a. a.id) (accepted T)) (map (λ r. r.id) (fired T)) in
+    let one = new_nowhere (λ (a : Activation). a.id) x (accepted T) (last T) new sound.drawn in
+    let two = new_nowhere (λ (r : Record). r.id) x (fired T) (last T) new sound.fires.recorded.drawn in
+    omega (arith, both, one, two)
 
 none_by : (b : Bool) (n : ℕ) → cond b 1 0 + n ≡ 0 → (b ≡ false) × (n ≡ 0)
 none_by true n e = absurd (omega (arith, e))

@@ -51,5 +51,17 @@ count_other m n hm hn differ = other (hex_16 m) (hex_16 n) (numbers_are m n hm h
 pub row_keys : (r x : Row) → is_eq (text_cmp (item_key (items.Row r)) (item_key (items.Row x))) ≡ is_eq (text_cmp (key_of r) (key_of x))
 row_keys (rows.Action a) (rows.Action b) = refl
 row_keys (rows.Action a) (rows.Package q) = refl
+row_keys (rows.Action a) (rows.Rule s) = refl
+row_keys (rows.Action a) (rows.Trigger u) = refl
 row_keys (rows.Package p) (rows.Action b) = refl
 row_keys (rows.Package p) (rows.Package q) = refl
+row_keys (rows.Package p) (rows.Rule s) = refl
+row_keys (rows.Package p) (rows.Trigger u) = refl
+row_keys (rows.Rule r) (rows.Action b) = refl
+row_keys (rows.Rule r) (rows.Package q) = refl
+row_keys (rows.Rule r) (rows.Rule s) = refl
+row_keys (rows.Rule r) (rows.Trigger u) = refl
+row_keys (rows.Trigger t) (rows.Action b) = refl
+row_keys (rows.Trigger t) (rows.Package q) = refl
+row_keys (rows.Trigger t) (rows.Rule s) = refl
+row_keys (rows.Trigger t) (rows.Trigger u) = refl

@@ -18,5 +18,6 @@ pub mod Resuming
 pub mod Allowing
 pub mod Shallow
 pub mod Standing
+pub mod Moving
 pub mod Loops
 pub mod Removing

@@ -3,8 +3,8 @@ use Rattle.std.proofs.Common.{◌≡◌, List, [], ◌∷◌, ◌++◌, map, sym
 use Rattle.ow_entity.specs.declared.rows.Row.{Row}
 use Rattle.ow_floor.specs.Growth.{AreRight}
 use Rattle.ow_floor.specs.Laws.{IsSound}
-use Rattle.ow_floor.specs.Trace.{Trace, Opened, Resumed, Accepted, Ordered, Prewarming, Removed, Begun, Answered, Lost, Gone, Ended, Swept, Drained, Reopened, accepted, records, shown}
-use Rattle.ow_kept.specs.Keeping.{AreLater, CommitView, KeepingView, StandsAfter, StandsForKept, done_bytes, ended_bytes, keeping_after, with_opened, without_ended}
+use Rattle.ow_floor.specs.Trace.{Trace, Opened, Resumed, Accepted, Ordered, Prewarming, Removed, Begun, Answered, Lost, Gone, Ended, Drawn, Fired, Swept, Drained, Reopened, accepted, records, shown}
+use Rattle.ow_kept.specs.Keeping.{AreLater, CommitView, FollowingView, KeepingView, StandsAfter, StandsFollowing, StandsForKept, done_bytes, ended_bytes, keeping_after, with_opened, without_ended}
 use Rattle.ow_kept.proofs.Endings.{ends_go, opens_of}
 use Rattle.ow_records.specs.declared.record.Record.{Record}
 
@@ -13,6 +13,8 @@ later_accepted [] later = refl
 later_accepted (Opened pool wants ∷ items) later = later_accepted items later.1
 later_accepted (Resumed counts taken ∷ items) later = absurd later.0
 later_accepted (Accepted a ∷ items) later = absurd later.0
+later_accepted (Drawn id at ∷ items) later = absurd later.0
+later_accepted (Fired r ∷ items) later = absurd later.0
 later_accepted (Ordered run key ∷ items) later = later_accepted items later.1
 later_accepted (Prewarming order at ∷ items) later = later_accepted items later.1
 later_accepted (Removed containers at ∷ items) later = later_accepted items later.1
@@ -49,3 +51,7 @@ after_same c v w rs T bytes opens stands = record { bytes = stands.bytes; opens 
 -- once the commit is kept
 pub kept_stands : (c : CommitView) (v w : KeepingView) → w.bytes ≡ c.bytes → w.opens ≡ (keeping_after c v).opens → (rs : List Row) (T : Trace) → StandsAfter c v rs T → StandsForKept w rs T
 kept_stands c v w bytes opens rs T stands = stands_same (keeping_after c v) w rs T bytes opens stands
+
+-- once what follows is kept
+pub follow_stands : (c : FollowingView) (w : KeepingView) → w.bytes ≡ c.bytes → w.opens ≡ c.opens → (rs : List Row) (T : Trace) → StandsFollowing c rs T → StandsForKept w rs T
+follow_stands c w bytes opens rs T stands = record { bytes = bytes ∙ stands.bytes; opens = opens ∙ stands.opens; ids = stands.ids }

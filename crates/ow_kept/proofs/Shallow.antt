@@ -16,9 +16,11 @@ use Rattle.ow_traits.specs.declared.replies.RunReply.{RunReply}
 use Rattle.ow_traits.specs.declared.replies.RunReply.TheVariants.{Answer, Exit, NoStart, Fault}
 use Rattle.ow_records.specs.Outcome.{failure, of_reading, of_reply, of_value, outcome}
 use Rattle.ow_records.specs.Response.{ResponseView}
+use Rattle.ow_records.specs.Fire.{trigger_record}
 use Rattle.ow_records.specs.Unrecorded.{abandoned_record}
 use Rattle.ow_records.specs.Written.{record_members, record_value}
 use Rattle.ow_records.specs.WrittenNotes.{kind_note, limits_note, mark_note, moment_note, name_note, notes_value, word_note}
+use Rattle.ow_records.specs.declared.fires.Fire.{Fire}
 use Rattle.ow_records.specs.declared.ids.Id.{Id}
 use Rattle.ow_records.specs.declared.notes.ExecKind.{ExecKind}
 use Rattle.ow_records.specs.declared.notes.Notes.{Notes}
@@ -149,3 +151,6 @@ ends_shallow e = record_shallow (record_of e) (outcome_shallow e.ending e.task.a
 
 pub abandoned_shallow : (u : Unrecorded) (at : ℕ) → is_shallow (items.Done (abandoned_record u at)) ≡ true
 abandoned_shallow u at = record_shallow (abandoned_record u at) (outcome_shallow Abandoned u.limits)
+
+pub fires_shallow : (f : Fire) (lines : List (List ℕ)) → depth (object (members_of f.params)) ≤ most_nested → is_shallow (items.Done (trigger_record f lines)) ≡ true
+fires_shallow f lines h = record_shallow (trigger_record f lines) h

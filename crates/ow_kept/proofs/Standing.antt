@@ -18,7 +18,7 @@ use Rattle.ow_kept.specs.Commits.{accept_changes, end_changes, put_of, row_chang
 use Rattle.ow_kept.specs.Opening.{AreNotBuiltin, abandoned, opened_trace, opening_changes, opens_bytes}
 use Rattle.ow_keep.specs.Split.{HoldsItems, Parts}
 use Rattle.ow_kept.specs.declared.commit.OpenBytes.{OpenBytes}
-use Rattle.ow_kept.specs.Keeping.{AreLater, CommitView, KeepingView, StandsAfter, StandsForKept, bytes_less, bytes_more, done_bytes, ended_bytes, last_bytes, old_bytes, open_bytes, row_bytes, with_opened, without_ended}
+use Rattle.ow_kept.specs.Keeping.{AreLater, CommitView, FollowingView, KeepingView, StandsAfter, StandsFollowing, StandsForKept, bytes_less, bytes_more, done_bytes, ended_bytes, last_bytes, old_bytes, open_bytes, row_bytes, with_opened, without_ended}
 use Rattle.ow_kept.specs.Kept.{is_kept, kept, unrecorded}
 use Rattle.ow_kept.proofs.Accepting.{accept_ids, accept_weighs, accepted_open, acceptances_kept}
 use Rattle.ow_kept.proofs.Endings.{ends_go, ends_kept, opens_of}
@@ -40,7 +40,7 @@ use Rattle.ow_tables.specs.Rows.{changed as rows_changed, found, resumed, with_r
 
 -- ---- an acceptance
 
-opens_append : (us : List Unrecorded) (u : Unrecorded) → map open_bytes (us ++ u ∷ []) ≡ map open_bytes us ++ open_bytes u ∷ []
+pub opens_append : (us : List Unrecorded) (u : Unrecorded) → map open_bytes (us ++ u ∷ []) ≡ map open_bytes us ++ open_bytes u ∷ []
 opens_append [] u = refl
 opens_append (x ∷ us) u = ap (λ os. open_bytes x ∷ os) (opens_append us u)
 
@@ -235,3 +235,24 @@ opening_done all p at c cs0 cs1 cs2 n0 n1 n2 none sorted start empty version fir
     let bytes : c.bytes ≡ n2 = ap (λ (x : CommitView). x.bytes) is in
     let total : c.bytes + (weight_at (item_key items.Version) all + opens_bytes p.unrecorded) ≡ bytes_of all + (row_bytes items.Version + done_bytes (abandoned at p.unrecorded)) = omega (arith, bytes, start, first, second) in
     record { changes = changes; stands = opening_stands c all p at total (ap (λ (x : CommitView). x.opened) is) (ap (λ (x : CommitView). x.ended) is ∙ nothing) sorted }
+
+-- ---- what follows from a change of the rows
+
+pub record IsFollowingChange (v : KeepingView) (t : TableChange) (old : Option Row) (c : FollowingView) : Type 0 where
+  pub changes : c.changes ≡ row_changes t
+  pub bytes : (rs : List Row) (T : Trace) → StandsForKept v rs T → old ≡ found (kind_of t.row) (name_of t.row) rs → c.bytes ≡ bytes_of (changed c.changes (kept rs T))
+  pub stands : (rs : List Row) (T : Trace) → StandsForKept v rs T → old ≡ found (kind_of t.row) (name_of t.row) rs → StandsFollowing c (rows_changed t rs) T
+
+pub following_change_done : (v : KeepingView) (t : TableChange) (old : Option Row) (c : FollowingView) (cs0 cs1 : List Change) (n0 n1 : ℕ) (os : List OpenBytes) → n0 ≡ v.bytes → cs0 ≡ [] → cs1 ≡ cs0 ++ row_changes t
+    → n1 + bytes_less t old ≡ n0 + bytes_more t → os ≡ v.opens → c ≡ record { changes = cs1; bytes = n1; opens = os } → IsFollowingChange v t old c
+following_change_done v t old c cs0 cs1 n0 n1 os start empty gathered sum copied is =
+    let d = changing_done v t old (made cs1 n1 None []) cs0 cs1 n0 n1 [] start empty gathered sum refl refl in
+    let changes_are = ap (λ (x : FollowingView). x.changes) is in
+    let bytes_are = ap (λ (x : FollowingView). x.bytes) is in
+    record {
+      changes = changes_are ∙ d.changes;
+      bytes = λ rs T stands same. bytes_are ∙ (d.bytes rs T stands same ∙ ap (λ (cs : List Change). bytes_of (changed cs (kept rs T))) (sym changes_are));
+      stands = λ rs T stands same.
+          let s = d.stands rs T stands same in
+          record { bytes = bytes_are ∙ s.bytes; opens = ap (λ (x : FollowingView). x.opens) is ∙ (copied ∙ s.opens); ids = s.ids };
+    }

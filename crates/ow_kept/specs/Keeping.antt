@@ -1,8 +1,10 @@
 -- What is known of the kept rows beside floor and rows: how many bytes they have, and which of these are of each activation that has not ended.
-use Rattle.std.specs.Prelude.{◌≡◌, ◌==◌, ◌≤◌, ◌+◌, ◌++◌, ◌∷◌, [], ℕ, Bool, List, length, map, if◌then◌else◌, Option, Some, None}
+use Rattle.std.specs.Prelude.{◌≡◌, ◌==◌, ◌≤◌, ◌+◌, ◌-◌, ◌++◌, ◌∷◌, [], ℕ, Bool, List, length, map, if◌then◌else◌, Option, Some, None}
 use Rattle.std.specs.List.{AllByRecursion}
 use Rattle.ow_entity.specs.declared.rows.Row.{Row}
-use Rattle.ow_floor.specs.Trace.{Accepted, Item as FloorItem, Resumed, Trace, all_records, drawn}
+use Rattle.ow_floor.specs.Trace.{Accepted, Drawn, Fired, Item as FloorItem, Resumed, Trace, all_records, drawn}
+use Rattle.ow_floor.specs.declared.moves.Moved.{Moved}
+use Rattle.ow_floor.specs.declared.moves.Moved.TheVariants as moves
 use Rattle.ow_floor.specs.View.{remove_first}
 use Rattle.ow_items.specs.declared.item.Item.{Item}
 use Rattle.ow_items.specs.declared.item.Item.TheVariants as items
@@ -15,6 +17,7 @@ use Rattle.ow_records.specs.declared.record.Record.{Record}
 use Rattle.ow_records.specs.declared.unrecorded.Unrecorded.{Unrecorded}
 use Rattle.ow_records.specs.Id.{same_id}
 use Rattle.ow_records.specs.Known.{IsId}
+use Rattle.ow_records.specs.Unrecorded.{unrecorded_of}
 use Rattle.ow_tables.specs.Builtin.{is_builtin}
 use Rattle.ow_tables.specs.Contents.{Change as TableChange}
 use Rattle.ow_traits.specs.declared.change_list.Change.{Change}
@@ -121,11 +124,70 @@ HasRoomFor c v = HasRoomIn v.room c.opened
 
 -- ---- what comes later than an acceptance
 
--- the item accepts no activation, and takes over nothing of an earlier run
+-- the item accepts no activation, is of no fire, and takes over nothing of an earlier run
 abbrev pub IsLater : FloorItem → Type 0
 IsLater (Accepted a) = ⊥
 IsLater (Resumed counts rs) = ⊥
+IsLater (Drawn id at) = ⊥
+IsLater (Fired r) = ⊥
 IsLater item = Unit {0}
 
 abbrev pub AreLater : Trace → Type 0
 AreLater items = AllByRecursion IsLater items
+
+-- ---- what follows from moves
+
+-- changes that are to be committed; how many bytes all kept rows have then; of each activation that has not ended then its id and those of its row
+pub record FollowingView : Type 0 where
+  pub changes : List Change
+  pub bytes : ℕ
+  pub opens : List OpenBytes
+
+-- the bytes that a move takes from the kept rows, over the activations that have not ended
+abbrev pub less_of : Moved → List OpenBytes → ℕ
+less_of (moves.Accepted a) os = last_bytes a.id.namespace (a.id.count - 1)
+less_of (moves.Ended r) os = bytes_at r.id os
+less_of (moves.Drawn id) os = last_bytes id.namespace (id.count - 1)
+less_of (moves.Fired r) os = 0
+
+-- and those that it adds
+abbrev pub more_of : Moved → ℕ
+more_of (moves.Accepted a) = row_bytes (items.Count a.id.namespace a.id.count) + row_bytes (items.Open (unrecorded_of a))
+more_of (moves.Ended r) = row_bytes (items.Done r)
+more_of (moves.Drawn id) = row_bytes (items.Count id.namespace id.count)
+more_of (moves.Fired r) = row_bytes (items.Done r)
+
+-- what has not ended after a move
+abbrev pub opens_moved : Moved → List OpenBytes → List OpenBytes
+opens_moved (moves.Accepted a) os = os ++ open_bytes (unrecorded_of a) ∷ []
+opens_moved (moves.Ended r) os = remove_first (is_of r.id) os
+opens_moved m os = os
+
+-- a number of bytes and what has not ended, before and after one move
+pub record FollowsOne (m : Moved) (n : ℕ) (os : List OpenBytes) (after : ℕ) (left : List OpenBytes) : Type 0 where
+  pub bytes : after + less_of m os ≡ n + more_of m
+  pub opens : left ≡ opens_moved m os
+
+-- and after all of these, the earliest first
+abbrev pub Follows : List Moved → ℕ → List OpenBytes → ℕ → List OpenBytes → Type 0
+Follows [] bytes os after left = (after ≡ bytes) × (left ≡ os)
+Follows (m ∷ ms) bytes os after left = (n : ℕ) × (us : List OpenBytes) × (FollowsOne m bytes os n us × Follows ms n us after left)
+
+-- its ids are those of activations
+abbrev pub IsKnownMove : Moved → Type 0
+IsKnownMove (moves.Accepted a) = IsId a.id
+IsKnownMove (moves.Ended r) = IsId r.id
+IsKnownMove (moves.Drawn id) = IsId id
+IsKnownMove (moves.Fired r) = IsId r.id
+
+-- the item takes over nothing of an earlier run
+abbrev pub IsOwn : FloorItem → Type 0
+IsOwn (Resumed counts rs) = ⊥
+IsOwn item = Unit {0}
+
+abbrev pub AreOwn : Trace → Type 0
+AreOwn items = AllByRecursion IsOwn items
+
+-- once it is kept, it stands as what is kept of these rows and this trace
+abbrev pub StandsFollowing : FollowingView → List Row → Trace → Type 0
+StandsFollowing c rs T = StandsForKept (record { bytes = c.bytes; opens = c.opens; room = 0 }) rs T

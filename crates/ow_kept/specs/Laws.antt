@@ -1,12 +1,13 @@
 -- Laws of what is kept.
 use Rattle.std.specs.Prelude.{◌≡◌, ◌+◌, ◌++◌, List, [], ◌∷◌}
-use Rattle.std.specs.List.{flat_map}
+use Rattle.std.specs.List.{AllByRecursion, flat_map}
 use Rattle.ow_entity.specs.declared.rows.Row.{Row}
 use Rattle.ow_floor.specs.Growth.{AreRight}
 use Rattle.ow_floor.specs.Laws.{IsSound}
 use Rattle.ow_floor.specs.Trace.{Accepted, Trace, last, records, shown}
-use Rattle.ow_kept.specs.Commits.{accept_changes, end_changes, row_changes}
-use Rattle.ow_kept.specs.Keeping.{AreIds, AreLater, KeepingView, StandsForKept}
+use Rattle.ow_floor.specs.Calls.{moved}
+use Rattle.ow_kept.specs.Commits.{accept_changes, changes_of, end_changes, row_changes}
+use Rattle.ow_kept.specs.Keeping.{AreIds, AreLater, AreOwn, IsKnownMove, KeepingView, StandsForKept}
 use Rattle.ow_kept.specs.Kept.{kept}
 use Rattle.ow_records.specs.declared.activations.Activation.{Activation}
 use Rattle.ow_records.specs.Known.{IsId}
@@ -32,3 +33,8 @@ EndsAreKept = (rs : List Row) (T items : Trace) → IsSound T → AreIds T → A
 -- where nothing ends and nothing is accepted, what stood for what is kept stands for it
 abbrev pub QuietItemsAreKept : Type 0
 QuietItemsAreKept = (v : KeepingView) (rs : List Row) (T items : Trace) → StandsForKept v rs T → IsSound T → AreRight items (shown T) → AreLater items → records items ≡ [] → StandsForKept v rs (items ++ T)
+
+-- what is committed of moves makes what is kept after their items
+abbrev pub MovesAreKept : Type 0
+MovesAreKept = (rs : List Row) (T items : Trace) → IsSound T → AreIds T → AreRight items (shown T) → AreOwn items → AllByRecursion IsKnownMove (moved items)
+    → changed (flat_map changes_of (moved items)) (kept rs T) ≡ kept rs (items ++ T)

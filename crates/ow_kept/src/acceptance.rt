@@ -32,7 +32,7 @@ pub(crate) fn accept(
 }
 
 // How many bytes the row of the last count of a namespace has.
-fn last_bytes(alloc: Global, namespace: u64, last: u64) -> Result<u64, NoMemory>
+pub(crate) fn last_bytes(alloc: Global, namespace: u64, last: u64) -> Result<u64, NoMemory>
     ensures { IfOk result (λ n. n ≡ last_bytes namespace last) }
 {
     if last == 0 {

@@ -29,7 +29,8 @@ pub(crate) fn end_all(
     Ok(())
 }
 
-fn end(
+/// The activation has ended with this record.
+pub(crate) fn end(
     alloc: Global,
     gathered: &mut Gathered,
     opens: &[OpenBytes],
@@ -77,7 +78,8 @@ pub(crate) fn remove_all(opens: &mut Vec<OpenBytes>, ids: &[Id])
     }
 }
 
-fn remove(opens: &mut Vec<OpenBytes>, id: Id)
+/// The activation has ended.
+pub(crate) fn remove(opens: &mut Vec<OpenBytes>, id: Id)
     ensures { opens.new.items ≡ remove_first (is_of id) opens.old.items }
 {
     if let Some(place) = place(opens, id) {

@@ -12,8 +12,9 @@ ghost use Rattle.ow_records.specs.declared.activations.Activation.{Activation};
 ghost use Rattle.ow_records.specs.Unrecorded.{unrecorded_of};
 ghost use Rattle.ow_tables.specs.Rows.{changed as rows_changed, found, resumed};
 ghost use Rattle.ow_traits.specs.Changes.{changed};
-ghost use Rattle.ow_kept.specs.Commits.{accept_changes, end_changes, row_changes};
-ghost use Rattle.ow_kept.specs.Keeping.{AreLater, HasRoomFor, HasRoomIn, KeepingView, StandsAfter, StandsForKept, keeping_after, with_opened};
+ghost use Rattle.ow_floor.specs.Calls.{moved};
+ghost use Rattle.ow_kept.specs.Commits.{accept_changes, changes_of, end_changes, row_changes};
+ghost use Rattle.ow_kept.specs.Keeping.{AreLater, AreOwn, HasRoomFor, HasRoomIn, KeepingView, StandsAfter, StandsFollowing, StandsForKept, keeping_after, with_opened};
 ghost use Rattle.ow_kept.specs.Kept.{kept};
 ghost use Rattle.ow_kept.specs.Opening.{AreNotBuiltin, opened_trace, opening_changes};
 ghost use Rattle.ow_keep.specs.Split.{HoldsItems, parts_of};
@@ -23,10 +24,12 @@ ghost use Rattle.ow_traits.specs.declared.prewarms.Prewarm.{Prewarm};
 use crate::acceptance::accept;
 use crate::commit::{Commit, OpenBytes};
 use crate::ends::{end_all, ids_of, remove_all};
+use crate::following::{Following, follow_all};
 use crate::gathered::Gathered;
 use crate::openings::{abandon_all, bytes_of, put_version};
 use crate::table_rows::change;
 use ow_entity::Row;
+use ow_floor::Moved;
 use ow_keep::Kept;
 use ow_records::{Record, Unrecorded, known_id};
 use ow_tables::Ready;
@@ -137,6 +140,52 @@ impl Keeping {
         Ok(commit)
     }
 
+    /// What is committed of all that moved, in its order, whatever else happened that isn't kept.
+    pub fn following(&self, alloc: Global, moves: &[Moved]) -> Result<Following, NoMemory>
+        ensures changes { IfOk result (λ c. c.changes ≡ flat_map changes_of moves.now) }
+        ensures bytes { IfOk result (λ c. (rs : List Row) (T items : Trace) → StandsForKept self.now rs T → IsSound T → AreRight items (shown T)
+            → AreOwn items → moves.now ≡ moved items → c.bytes ≡ bytes_of (changed c.changes (kept rs T))) }
+        ensures stands { IfOk result (λ c. (rs : List Row) (T items : Trace) → StandsForKept self.now rs T → IsSound T → AreRight items (shown T)
+            → AreOwn items → moves.now ≡ moved items → StandsFollowing c rs (items ++ T)) }
+    {
+        let mut gathered = Gathered::new(alloc, self.bytes());
+        let mut opens = copied(alloc, self.opens())?;
+        follow_all(alloc, &mut gathered, &mut opens, moves)?;
+        let following = gathered.following(opens)?;
+        Ok(following)
+    }
+
+    /// What is committed where this change of the rows is made, as `changing` has it.
+    pub fn following_change(
+        &self,
+        alloc: Global,
+        old: Option<&Row>,
+        ready: &Ready,
+    ) -> Result<Following, NoMemory>
+        ensures changes { IfOk result (λ c. c.changes ≡ row_changes ready.now) }
+        ensures bytes { IfOk result (λ c. (rs : List Row) (T : Trace) → StandsForKept self.now rs T
+            → option_copied old.entry ≡ found (kind_of ready.now.row) (name_of ready.now.row) rs → c.bytes ≡ bytes_of (changed c.changes (kept rs T))) }
+        ensures stands { IfOk result (λ c. (rs : List Row) (T : Trace) → StandsForKept self.now rs T
+            → option_copied old.entry ≡ found (kind_of ready.now.row) (name_of ready.now.row) rs → StandsFollowing c (rows_changed ready.now rs) T) }
+    {
+        let mut gathered = Gathered::new(alloc, self.bytes());
+        let opens = copied(alloc, self.opens())?;
+        change(alloc, &mut gathered, old, ready)?;
+        let following = gathered.following(opens)?;
+        Ok(following)
+    }
+
+    /// What follows was made. This takes no memory.
+    pub fn follow(&mut self, following: Following)
+        ensures bytes { self.new.bytes ≡ following.bytes }
+        ensures opens { self.new.opens ≡ following.opens }
+        ensures stands { (rs : List Row) (T : Trace) → StandsFollowing following rs T → StandsForKept self.new rs T }
+    {
+        let Following { bytes, opens, .. } = following;
+        self.bytes = bytes;
+        self.opens = opens;
+    }
+
     /// Makes room for one more activation that has not ended.
     pub fn reserve(&mut self) -> Result<(), NoMemory>
         ensures bytes { self.new.bytes ≡ self.old.bytes }
@@ -171,6 +220,14 @@ impl Keeping {
     {
         &self.opens
     }
+}
+
+fn copied(alloc: Global, opens: &[OpenBytes]) -> Result<Vec<OpenBytes>, NoMemory>
+    ensures { IfOk result (λ os. os.items ≡ opens.now) }
+{
+    let mut copy = Vec::new(alloc);
+    copy.extend_from_slice(opens)?;
+    Ok(copy)
 }
 
 // With what has not ended, where something was accepted.

@@ -1,8 +1,8 @@
 // What is true of what is kept. The functions do nothing: their contracts are the laws.
 ghost use Rattle.ow_kept.specs.Fit.{KeptIsAllowed};
-ghost use Rattle.ow_kept.specs.Laws.{AcceptancesAreKept, ChangesOfRowsAreKept, EndsAreKept, QuietItemsAreKept};
+ghost use Rattle.ow_kept.specs.Laws.{AcceptancesAreKept, ChangesOfRowsAreKept, EndsAreKept, MovesAreKept, QuietItemsAreKept};
 ghost use Rattle.ow_kept.specs.Opening.{HeldRowsAreNotBuiltin, MayBeResumed, OpeningsAreKept, ResumedIdsAreKnown};
-ghost use Rattle.ow_kept.specs.Shallow.{AbandonedAreShallow, EndsAreShallow, OpensAreShallow};
+ghost use Rattle.ow_kept.specs.Shallow.{AbandonedAreShallow, EndsAreShallow, FiresAreShallow, OpensAreShallow};
 
 /// What is committed of an acceptance makes what is kept behind it.
 #[tactic(auto, using(crate::proofs::Accepting::acceptances_kept))]
@@ -20,6 +20,12 @@ pub fn changes_of_rows_are_kept()
 #[tactic(auto, using(crate::proofs::Endings::ends_kept))]
 pub fn ends_are_kept()
     ensures { EndsAreKept }
+{}
+
+/// What is committed of moves, in their order, makes what is kept after them.
+#[tactic(auto, using(crate::proofs::Moving::moves_kept))]
+pub fn moves_are_kept()
+    ensures { MovesAreKept }
 {}
 
 /// Where nothing is accepted and nothing ends, what is known of the kept rows stands for what is kept behind it.
@@ -40,11 +46,12 @@ pub fn kept_rows_may_be_resumed()
     ensures entities { HeldRowsAreNotBuiltin }
 {}
 
-/// No row of an activation nests deeper than it is read back, ended or not.
+/// No row of an activation nests deeper than it is read back, ended or not; nor does one of a fire whose parameters don't.
 pub fn rows_of_activations_are_shallow()
     ensures opened { OpensAreShallow }
     ensures ended { EndsAreShallow }
     ensures abandoned { AbandonedAreShallow }
+    ensures fired { FiresAreShallow }
 {}
 
 /// What is kept is allowed at the next opening, and read as what it is of, where each item by itself is fit to be kept.

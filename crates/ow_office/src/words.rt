@@ -54,8 +54,8 @@ request has a known key, and only actions of whisk.system can be called.
 
   namespace,NUMBER,NAME,PERMINUTE,CONCURRENT,FIRES
                      a namespace, its number from 1, how many activations it may start in a minute,
-                     and how many may be under way at once: 120 and 100 where these are empty. FIRES
-                     is a number for triggers, which are not there yet, or empty
+                     how many may be under way at once, and how many triggers may be fired in a
+                     minute: 120, 100 and 60 where these are empty
   key,KEY,SUBJECT,NAMESPACE,,
                      requests whose header X-Whisk-Key has KEY are that subject's, and may do all in
                      the namespace

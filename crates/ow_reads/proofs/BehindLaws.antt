@@ -31,6 +31,10 @@ row_form rs l None e = refl
 row_form rs l (Some (rows.Action a)) e = refl
 row_form rs l (Some (rows.Package p)) e =
     let h = kind_is kinds.Action l (rows.Package p) (find_passes (is_row kinds.Action l) (rows.Package p) rs e) in cc
+row_form rs l (Some (rows.Rule x)) e =
+    let h = kind_is kinds.Action l (rows.Rule x) (find_passes (is_row kinds.Action l) (rows.Rule x) rs e) in cc
+row_form rs l (Some (rows.Trigger x)) e =
+    let h = kind_is kinds.Action l (rows.Trigger x) (find_passes (is_row kinds.Action l) (rows.Trigger x) rs e) in cc
 
 abbrev row_of : Effective → Row
 row_of e = rows.Action e.action

@@ -16,7 +16,7 @@ use Rattle.ow_entity.specs.Written.{summary_value}
 use Rattle.ow_packages.specs.Access.{package_of}
 use Rattle.ow_tables.specs.Rows.{AreRows, kind_place, listing, stands_in}
 use Rattle.ow_records.specs.declared.record.Record.{Record}
-use Rattle.ow_http.specs.CallOf.{as_call, bare_call, call_of_kind, checked_query, draft_of, filled_call, name_of as name_of_path, package_for, params_of}
+use Rattle.ow_http.specs.CallOf.{active_of, as_call, bare_call, call_of_kind, checked_query, draft_of, filled_call, name_of as name_of_path, package_for, params_of}
 use Rattle.ow_http.specs.CallKind.{kind_of}
 use Rattle.ow_http.specs.Pair.{Pair}
 use Rattle.ow_http.specs.Parts.{Parts}
@@ -145,8 +145,9 @@ path_name here kind p c n is name_is =
     let m = then_by (name_of_path here p.route) _ c q.2 in
     let d = then_by (draft_of kind m.0 p.body) _ c m.2 in
     let ps = then_by (params_of kind p.body) _ c d.2 in
-    let made : filled_call kind p.query (bare_call kind m.0 d.0 ps.0) ≡ c = cc in
-    let same : m.0 ≡ Some n = sym (filled_name kind p.query (bare_call kind m.0 d.0 ps.0)) ∙ (ap (λ (x : Call). x.name) made ∙ name_is) in
+    let a = then_by (active_of kind p.body) _ c ps.2 in
+    let made : filled_call kind p.query (bare_call kind m.0 d.0 ps.0 a.0) ≡ c = cc in
+    let same : m.0 ≡ Some n = sym (filled_name kind p.query (bare_call kind m.0 d.0 ps.0 a.0)) ∙ (ap (λ (x : Call). x.name) made ∙ name_is) in
     m.1 ∙ ap Ok same
 
 -- ---- what a shared package grants

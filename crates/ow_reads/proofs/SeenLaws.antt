@@ -111,6 +111,8 @@ as_one : (o : Option Row) (p : Package) → as_package o ≡ Some p → o ≡ So
 as_one None p is = cc
 as_one (Some (rows.Action a)) p is = cc
 as_one (Some (rows.Package q)) p is = let h : q ≡ p = cc in ap (λ (x : Package). Some (rows.Package x)) h
+as_one (Some (rows.Rule r)) p is = cc
+as_one (Some (rows.Trigger t)) p is = cc
 
 seen_at : (rights : ByText Rights) (rs : List Row) (kind : EntityKind) (n : FullName) → AreRows rs → found kind n (visible_rows rights rs) ≡ kept (is_visible rights rs) (found kind n rs)
 seen_at rights rs kind n ordered = found_kept (key kind n) (is_visible rights rs) rs ordered
@@ -302,16 +304,17 @@ effective_seen rights rs m t p name ordered lies is opened binds named =
 abbrev chosen : Option FullName → Option Row → Option Row → Option Row
 chosen target behind stands = if is_some target then behind else stands
 
-own_action : (rights : ByText Rights) (rs : List Row) (name : FullName) → AreRows rs → may_read rights name.namespace ≡ true → IsNamed rs kinds.Action name
-    → found kinds.Action name (visible_rows rights rs) ≡ found kinds.Action name rs
-own_action rights rs name ordered reads named = seen_if rights rs kinds.Action name ordered (λ r at.
-    visible_own rights rs r (ap (λ (x : FullName). may_read rights x.namespace) (named_at rs kinds.Action name r named at) ∙ reads))
+-- what stands in a namespace that may be read is seen as it stands
+own_seen : (rights : ByText Rights) (rs : List Row) (kind : EntityKind) (name : FullName) → AreRows rs → may_read rights name.namespace ≡ true → IsNamed rs kind name
+    → found kind name (visible_rows rights rs) ≡ found kind name rs
+own_seen rights rs kind name ordered reads named = seen_if rights rs kind name ordered (λ r at.
+    visible_own rights rs r (ap (λ (x : FullName). may_read rights x.namespace) (named_at rs kind name r named at) ∙ reads))
 
 action_by : (rights : ByText Rights) (rs : List Row) (name : FullName) (o : Option FullName) → AreRows rs → package_of name ≡ o → (may_read rights name.namespace || is_shared_at rs o) ≡ true
     → IsPackageNamed rs o → IsNamed rs kinds.Action (bound_name name (target_of rs o))
     → chosen (target_of (visible_rows rights rs) o) (action_behind (visible_rows rights rs) name) (found kinds.Action name (visible_rows rights rs))
     ≡ chosen (target_of rs o) (action_behind rs name) (found kinds.Action name rs)
-action_by rights rs name None ordered lies opened package_named named = own_action rights rs name ordered (only_left _ opened) named
+action_by rights rs name None ordered lies opened package_named named = own_seen rights rs kinds.Action name ordered (only_left _ opened) named
 action_by rights rs name (Some m) ordered lies opened package_named named = by_row (package_at (standing rs) m) refl
   where
     binding_of : Option Package → Option FullName
@@ -338,7 +341,7 @@ action_by rights rs name (Some m) ordered lies opened package_named named = by_r
         let none : package_at (standing (visible_rows rights rs)) m ≡ None = seen_either (λ (x : Option Package). x ≡ None) rights rs m ordered e refl in
         let reads : may_read rights name.namespace ≡ true = only_left _ (ap (λ (x : Option Package). may_read rights name.namespace || is_shared x) (sym e) ∙ opened) in
         let own : IsNamed rs kinds.Action name = subst (λ (x : Option FullName). IsNamed rs kinds.Action (bound_name name x)) (ap binding_of e) named in
-        rw (none, e) (own_action rights rs name ordered reads own)
+        rw (none, e) (own_seen rights rs kinds.Action name ordered reads own)
     by_row (Some p) e =
         let stands = as_one (found kinds.Package m rs) p e in
         let called : p.name ≡ m = named_at rs kinds.Package m (rows.Package p) package_named stands in
@@ -357,48 +360,52 @@ open_package rights rs name p opened named stands =
 package_visible : (rights : ByText Rights) (rs : List Row) (name : FullName) (r : Row) → IsOpenTo rights rs kinds.Package name → IsNamed rs kinds.Package name → found kinds.Package name rs ≡ Some r → is_visible rights rs r ≡ true
 package_visible rights rs name (rows.Action a) opened named stands =
     let h = kind_is kinds.Package name (rows.Action a) (find_passes (is_row kinds.Package name) (rows.Action a) rs stands) in cc
+package_visible rights rs name (rows.Rule x) opened named stands =
+    let h = kind_is kinds.Package name (rows.Rule x) (find_passes (is_row kinds.Package name) (rows.Rule x) rs stands) in cc
+package_visible rights rs name (rows.Trigger x) opened named stands =
+    let h = kind_is kinds.Package name (rows.Trigger x) (find_passes (is_row kinds.Package name) (rows.Trigger x) rs stands) in cc
 package_visible rights rs name (rows.Package p) opened named stands =
     visible_inside rights rs name p (rows.Package p) stands (open_package rights rs name p opened named stands) (or_left _ _ (same_bytes (key kinds.Package p.name)))
-
-no_rule : (name : FullName) (r : Row) → is_row kinds.Rule name r ≡ true → ⊥
-no_rule name (rows.Action a) is = let h = kind_is kinds.Rule name (rows.Action a) is in cc
-no_rule name (rows.Package p) is = let h = kind_is kinds.Rule name (rows.Package p) is in cc
-
-no_trigger : (name : FullName) (r : Row) → is_row kinds.Trigger name r ≡ true → ⊥
-no_trigger name (rows.Action a) is = let h = kind_is kinds.Trigger name (rows.Action a) is in cc
-no_trigger name (rows.Package p) is = let h = kind_is kinds.Trigger name (rows.Package p) is in cc
 
 row_seen : (rights : ByText Rights) (rs : List Row) (kind : EntityKind) (name : FullName) → AreRows rs → IsOpenTo rights rs kind name → AreNamed rs kind name
     → row_read (visible_rows rights rs) kind name ≡ row_read rs kind name
 row_seen rights rs kinds.Action name ordered opened named = action_by rights rs name (package_of name) ordered refl opened named.0 named.1
 row_seen rights rs kinds.Package name ordered opened named = seen_if rights rs kinds.Package name ordered (λ r at. package_visible rights rs name r opened named at)
-row_seen rights rs kinds.Rule name ordered opened named = seen_if rights rs kinds.Rule name ordered (λ r at. absurd (no_rule name r (find_passes (is_row kinds.Rule name) r rs at)))
-row_seen rights rs kinds.Trigger name ordered opened named = seen_if rights rs kinds.Trigger name ordered (λ r at. absurd (no_trigger name r (find_passes (is_row kinds.Trigger name) r rs at)))
+row_seen rights rs kinds.Rule name ordered opened named = own_seen rights rs kinds.Rule name ordered (only_left _ opened) named
+row_seen rights rs kinds.Trigger name ordered opened named = own_seen rights rs kinds.Trigger name ordered (only_left _ opened) named
 
 -- how it is shown
 
-is_action : (rs ss : List Row) (name : FullName) (r : Row) → found kinds.Action name rs ≡ Some r → shown_row ss r ≡ shown_row rs r
-is_action rs ss name (rows.Action a) at = refl
-is_action rs ss name (rows.Package p) at =
-    let h = kind_is kinds.Action name (rows.Package p) (find_passes (is_row kinds.Action name) (rows.Package p) rs at) in cc
+-- a row that isn't a package is shown alone
+shown_alone : (rs ss : List Row) (kind : EntityKind) (name : FullName) (r : Row) → (kind_place kind == 1) ≡ false → found kind name rs ≡ Some r → shown_row ss r ≡ shown_row rs r
+shown_alone rs ss kind name (rows.Action a) other at = refl
+shown_alone rs ss kind name (rows.Rule x) other at = refl
+shown_alone rs ss kind name (rows.Trigger x) other at = refl
+shown_alone rs ss kind name (rows.Package p) other at =
+    let h = kind_is kind name (rows.Package p) (find_passes (is_row kind name) (rows.Package p) rs at) in
+    let g : (1 == 1) ≡ false = subst (λ (k : ℕ). (k == 1) ≡ false) h other in cc
 
 called_action : (rs ss : List Row) (o : Option Effective) (r : Row) → option_map (λ (x : Effective). rows.Action x.action) o ≡ Some r → shown_row ss r ≡ shown_row rs r
 called_action rs ss None r at = cc
 called_action rs ss (Some e) (rows.Action a) at = refl
 called_action rs ss (Some e) (rows.Package p) at = cc
+called_action rs ss (Some e) (rows.Rule x) at = refl
+called_action rs ss (Some e) (rows.Trigger x) at = refl
 
 action_shown : (rs ss : List Row) (name : FullName) (r : Row) (b : Bool) → (if b then action_behind rs name else found kinds.Action name rs) ≡ Some r → shown_row ss r ≡ shown_row rs r
 action_shown rs ss name r true at = called_action rs ss (effective (standing rs) name name.namespace) r at
-action_shown rs ss name r false at = is_action rs ss name r at
+action_shown rs ss name r false at = shown_alone rs ss kinds.Action name r refl at
 
 shown_so : (rights : ByText Rights) (rs : List Row) (kind : EntityKind) (name : FullName) (r : Row) → AreRows rs → IsOpenTo rights rs kind name → AreNamed rs kind name → row_read rs kind name ≡ Some r
     → shown_row (visible_rows rights rs) r ≡ shown_row rs r
 shown_so rights rs kinds.Action name r ordered opened named at = action_shown rs (visible_rows rights rs) name r (is_some (target_of rs (package_of name))) at
 shown_so rights rs kinds.Package name (rows.Action a) ordered opened named at = refl
+shown_so rights rs kinds.Package name (rows.Rule x) ordered opened named at = refl
+shown_so rights rs kinds.Package name (rows.Trigger x) ordered opened named at = refl
 shown_so rights rs kinds.Package name (rows.Package p) ordered opened named at =
     ap (λ (vs : List V). shown_with vs (rows.Package p)) (shown_seen rights rs name p ordered at (open_package rights rs name p opened named at))
-shown_so rights rs kinds.Rule name r ordered opened named at = absurd (no_rule name r (find_passes (is_row kinds.Rule name) r rs at))
-shown_so rights rs kinds.Trigger name r ordered opened named at = absurd (no_trigger name r (find_passes (is_row kinds.Trigger name) r rs at))
+shown_so rights rs kinds.Rule name r ordered opened named at = shown_alone rs (visible_rows rights rs) kinds.Rule name r refl at
+shown_so rights rs kinds.Trigger name r ordered opened named at = shown_alone rs (visible_rows rights rs) kinds.Trigger name r refl at
 
 -- what is shown of a row, where there is one
 abbrev pub option_shown : List Row → Option Row → Option V

@@ -1,5 +1,5 @@
 -- What a request is to do, where that is served yet, and whether it is granted.
-use Rattle.std.specs.Prelude.{◌||◌, List, Bool, true, false, not, Option, Some, None, Result, Ok, if◌then◌else◌}
+use Rattle.std.specs.Prelude.{◌||◌, List, not, Option, Some, None, Result, Ok}
 use Rattle.ow_entity.specs.declared.kinds.EntityKind.{EntityKind}
 use Rattle.ow_entity.specs.declared.kinds.EntityKind.TheVariants as kinds
 use Rattle.ow_entity.specs.declared.rows.Row.{Row}
@@ -9,7 +9,7 @@ use Rattle.ow_http.specs.Parts.{Parts}
 use Rattle.ow_http.specs.Steps.{◌>>=◌}
 use Rattle.ow_http.specs.declared.call.Call.{Call}
 use Rattle.ow_http.specs.declared.call_kind.CallKind.{CallKind}
-use Rattle.ow_http.specs.declared.call_kind.CallKind.TheVariants.{ListNamespaces, ListEntities, GetEntity, PutEntity, DeleteEntity, Invoke, ListActivations, GetActivation}
+use Rattle.ow_http.specs.declared.call_kind.CallKind.TheVariants.{ListNamespaces, ListEntities, GetEntity, PutEntity, DeleteEntity, Invoke, Fire, SetRule, ListActivations, GetActivation}
 use Rattle.ow_http.specs.declared.reason.Reason.{Reason}
 use Rattle.ow_http.specs.declared.route.Route.{Route}
 use Rattle.ow_http.specs.declared.verb.Verb.{Verb}
@@ -17,7 +17,7 @@ use Rattle.ow_tenant.specs.declared.entries.Holder.{Holder}
 use Rattle.ow_tenant.specs.declared.rights.Right.{Right}
 use Rattle.ow_tenant.specs.declared.rights.Right.TheVariants.{Read, Write, Invoke as InvokeRight}
 use Rattle.ow_reads.specs.declared.acts.Act.{Act}
-use Rattle.ow_reads.specs.declared.acts.Act.TheVariants.{Reads, Puts, Removes, Invokes}
+use Rattle.ow_reads.specs.declared.acts.Act.TheVariants.{Reads, Puts, Removes, Invokes, Fires, Sets}
 use Rattle.ow_reads.specs.declared.acts.Reading.{Reading}
 use Rattle.ow_reads.specs.declared.acts.Reading.TheVariants.{Namespaces, Rows, Row as OneRow, Activations, Activation}
 use Rattle.ow_reads.specs.Reading.{is_opened, namespace_of, or_call_reason, read_kind}
@@ -25,26 +25,22 @@ use Rattle.ow_reads.specs.Reasons.{not_granted}
 use Rattle.ow_reads.specs.Steps.{unless}
 use Rattle.ow_reads.specs.Tenants.{may}
 
--- entities of this kind are served yet
-abbrev pub is_served : EntityKind → Bool
-is_served kinds.Action = true
-is_served kinds.Package = true
-is_served kind = false
-
 -- what a call of this kind reads, where it is served yet
 abbrev pub reading_in : CallKind → Option Reading
-reading_in (ListEntities kind) = if is_served kind then Some (Rows kind) else None
-reading_in (GetEntity kind) = if is_served kind then Some (OneRow kind) else None
+reading_in (ListEntities kind) = Some (Rows kind)
+reading_in (GetEntity kind) = Some (OneRow kind)
 reading_in ListNamespaces = Some Namespaces
 reading_in ListActivations = Some Activations
 reading_in (GetActivation part) = Some (Activation part)
 reading_in kind = None
 
--- what it is to do, where it is served yet: entities are put and deleted, and actions invoked
+-- what it is to do: entities are put and deleted, actions invoked, triggers fired, and rules set
 abbrev pub change_in : CallKind → Option Act
-change_in (PutEntity kind) = if is_served kind then Some Puts else None
-change_in (DeleteEntity kind) = if is_served kind then Some (Removes kind) else None
+change_in (PutEntity kind) = Some Puts
+change_in (DeleteEntity kind) = Some (Removes kind)
 change_in Invoke = Some Invokes
+change_in Fire = Some Fires
+change_in SetRule = Some Sets
 change_in kind = None
 
 abbrev pub reads_or : Option Reading → Option Act → Option Act
@@ -59,7 +55,7 @@ act_of r method = act_in (kind_of r method)
 
 -- ---- what is granted
 
--- the kind of the entity that is shown alone or invoked
+-- the kind of the entity that is shown alone or invoked; no shared package grants a fire
 abbrev pub opened_kind : Act → Option EntityKind
 opened_kind (Reads reading) = read_kind reading
 opened_kind Invokes = Some kinds.Action
@@ -71,6 +67,8 @@ right_for (Reads reading) = Read
 right_for Puts = Write
 right_for (Removes kind) = Write
 right_for Invokes = InvokeRight
+right_for Fires = InvokeRight
+right_for Sets = Write
 
 -- who asks has that right, or what is wanted is granted by a shared package; the list of namespaces is granted to each key. A read's answer
 -- rests on `Reading.read_grant`, over what may be seen, which grants the same: these cases are for private clauses

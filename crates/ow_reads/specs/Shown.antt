@@ -15,13 +15,13 @@ with_member other name value = other
 
 -- what is shown of the actions that are called by the name of a package
 abbrev pub actions_of : List Row → Row → List V
-actions_of rs (rows.Action a) = []
 actions_of rs (rows.Package p) = shown_actions p rs
+actions_of rs r = []
 
 -- a row, with what is shown of the actions where it is a package
 abbrev pub shown_with : List V → Row → V
-shown_with actions (rows.Action a) = row_value (rows.Action a)
 shown_with actions (rows.Package p) = with_member (row_value (rows.Package p)) (codes "actions") (list (items_of actions))
+shown_with actions r = row_value r
 
 -- a row, over the rows that stand
 abbrev pub shown_row : List Row → Row → V

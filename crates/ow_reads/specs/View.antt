@@ -49,8 +49,8 @@ is_bound rs from (Some target) r = is_some (reached_package (standing rs) target
 
 -- a package that whoever asks may see shows itself and its actions, and a binding the package that it binds and the actions of that
 abbrev pub is_shown_by : ByText Rights → List Row → Row → Row → Bool
-is_shown_by rights rs (rows.Action a) r = false
 is_shown_by rights rs (rows.Package p) r = is_open rights p && (belongs_to p.name r || is_bound rs p.name.namespace p.binding r)
+is_shown_by rights rs other r = false
 
 -- ---- what is seen
 

@@ -1,6 +1,6 @@
 // What a request is to do.
-ghost use Rattle.std.specs.Prelude.{◌≡◌, Some, None, if◌then◌else◌};
-ghost use Rattle.ow_reads.specs.Acts.{act_in, act_of, change_in, is_served, opened_kind, reading_in, right_for};
+ghost use Rattle.std.specs.Prelude.{◌≡◌};
+ghost use Rattle.ow_reads.specs.Acts.{act_in, act_of, change_in, opened_kind, reading_in, right_for};
 ghost use Rattle.ow_reads.specs.Reading.{read_kind};
 
 use ow_entity::EntityKind;
@@ -22,7 +22,7 @@ pub enum Reading {
     Activation(Part),
 }
 
-/// A read, a change of the rows, or an invocation.
+/// A read, a change of the rows, an invocation, or a fire.
 #[derive(Clone, Copy, Debug, PartialEq, Eq)]
 pub enum Act {
     /// Something is shown.
@@ -33,6 +33,10 @@ pub enum Act {
     Removes(EntityKind),
     /// An action is invoked.
     Invokes,
+    /// A trigger is fired.
+    Fires,
+    /// A rule is set active or inactive.
+    Sets,
 }
 
 impl Act {
@@ -42,8 +46,8 @@ impl Act {
     {
         match self {
             Act::Reads(_) => Right::Read,
-            Act::Puts | Act::Removes(_) => Right::Write,
-            Act::Invokes => Right::Invoke,
+            Act::Puts | Act::Removes(_) | Act::Sets => Right::Write,
+            Act::Invokes | Act::Fires => Right::Invoke,
         }
     }
 
@@ -86,22 +90,12 @@ fn act_in(kind: CallKind) -> Option<Act>
     }
 }
 
-// Whether entities of this kind are served yet.
-fn is_served(kind: EntityKind) -> bool
-    ensures { result ≡ is_served kind }
-{
-    match kind {
-        EntityKind::Action | EntityKind::Package => true,
-        _ => false,
-    }
-}
-
 fn reading_in(kind: CallKind) -> Option<Reading>
     ensures { result ≡ reading_in kind }
 {
     match kind {
-        CallKind::ListEntities(kind) => served(kind, Reading::Rows(kind)),
-        CallKind::GetEntity(kind) => served(kind, Reading::Row(kind)),
+        CallKind::ListEntities(kind) => Some(Reading::Rows(kind)),
+        CallKind::GetEntity(kind) => Some(Reading::Row(kind)),
         CallKind::ListNamespaces => Some(Reading::Namespaces),
         CallKind::ListActivations => Some(Reading::Activations),
         CallKind::GetActivation(part) => Some(Reading::Activation(part)),
@@ -113,16 +107,11 @@ fn change_in(kind: CallKind) -> Option<Act>
     ensures { result ≡ change_in kind }
 {
     match kind {
-        CallKind::PutEntity(kind) => served(kind, Act::Puts),
-        CallKind::DeleteEntity(kind) => served(kind, Act::Removes(kind)),
+        CallKind::PutEntity(_) => Some(Act::Puts),
+        CallKind::DeleteEntity(kind) => Some(Act::Removes(kind)),
         CallKind::Invoke => Some(Act::Invokes),
+        CallKind::Fire => Some(Act::Fires),
+        CallKind::SetRule => Some(Act::Sets),
         _ => None,
     }
-}
-
-// This, where entities of the kind are served.
-fn served<T: Copy>(kind: EntityKind, value: T) -> Option<T>
-    ensures { result ≡ if is_served kind then Some value else None }
-{
-    if is_served(kind) { Some(value) } else { None }
 }

@@ -16,7 +16,7 @@ pub fn shown_row(alloc: Global, tables: &Tables, row: &Row) -> Result<Val, NoMem
 {
     let actions = match row {
         Row::Package(bundle) => tables.actions_of(alloc, bundle.get())?,
-        Row::Action(_) => Vals::new(),
+        _ => Vals::new(),
     };
     shown_with(alloc, actions, row)
 }
@@ -27,7 +27,7 @@ pub fn shown_once_put(alloc: Global, tables: &Tables, row: &Row) -> Result<Val, 
 {
     let actions = match row {
         Row::Package(bundle) => tables.actions_once_put(alloc, bundle.get())?,
-        Row::Action(_) => Vals::new(),
+        _ => Vals::new(),
     };
     shown_with(alloc, actions, row)
 }
@@ -36,8 +36,8 @@ fn shown_with(alloc: Global, actions: Vals, row: &Row) -> Result<Val, NoMemory>
     ensures { IfOk result (λ v. view v ≡ shown_with actions row.now) }
 {
     match row {
-        Row::Action(_) => write_entity(alloc, row),
         Row::Package(_) => with_actions(alloc, write_entity(alloc, row)?, actions),
+        _ => write_entity(alloc, row),
     }
 }
 

@@ -1,4 +1,5 @@
 pub mod FieldsIn
+pub mod Fire
 pub mod Id
 pub mod Known
 pub mod Laws

@@ -5,6 +5,7 @@ mod abandonment;
 mod activations;
 mod digits;
 mod fields_in;
+mod fires;
 mod ids;
 mod known;
 mod laws;
@@ -29,6 +30,7 @@ mod written_notes;
 pub use abandonment::abandoned;
 pub use activations::Activation;
 pub use fields_in::{cause_in, id_in, lines_in, name_in, number_in, path_in, text_in, version_in};
+pub use fires::{Fire, trigger_record};
 pub use ids::Id;
 pub use known::{
     known_activation, known_id, known_ids, known_record, known_records, known_unrecorded,

@@ -19,7 +19,7 @@ use Rattle.ow_reopen.specs.Lasting.{AreWritable, IsLastingRow}
 use Rattle.ow_reopen.proofs.Each.{all_found}
 use Rattle.ow_tenant.proofs.HomeLaws.{some_if, some_mapped, some_then}
 
-found_lasts : (p : Row → Bool) (rs : List Row) → AreWritable rs → IfSome (find p rs) IsLastingRow
+pub found_lasts : (p : Row → Bool) (rs : List Row) → AreWritable rs → IfSome (find p rs) IsLastingRow
 found_lasts p rs all = IfSome_then (find p rs) (all_found IsLastingRow p rs all) (λ r h. h.0)
 
 abbrev IsGoodAction : Action → Type 0
@@ -32,10 +32,14 @@ as_action_good : (o : Option Row) → IfSome o IsLastingRow → IfSome (as_actio
 as_action_good None h = tt
 as_action_good (Some (rows.Action a)) h = h.lasts.fit
 as_action_good (Some (rows.Package p)) h = tt
+as_action_good (Some (rows.Rule r)) h = tt
+as_action_good (Some (rows.Trigger t)) h = tt
 
 as_package_good : (o : Option Row) → IfSome o IsLastingRow → IfSome (as_package o) IsGoodPackage
 as_package_good None h = tt
 as_package_good (Some (rows.Action a)) h = tt
+as_package_good (Some (rows.Rule r)) h = tt
+as_package_good (Some (rows.Trigger t)) h = tt
 as_package_good (Some (rows.Package p)) h =
     (and_parts (stands_alone p.name) (is_binding p.name.namespace p.binding) (and_parts (is_version p.version) (stands_alone p.name && is_binding p.name.namespace p.binding) h.lasts.fit).1).0
 

@@ -6,7 +6,7 @@ use Rattle.ow_floor.specs.declared.activations.Open.{Open}
 use Rattle.ow_floor.specs.declared.activations.State.{State}
 use Rattle.ow_floor.specs.declared.runs.Run.{Run}
 use Rattle.ow_floor.specs.Laws.{IsAmong, IsSound}
-use Rattle.ow_floor.specs.Trace.{End, Item, Trace, Resumed, Accepted, Ended, accepted, accepted_after, all_records, began, drawn, drawn_after, ends, ends_after, open_of as opened, record_of, records, records_after, resumed, resumed_after, standing, started}
+use Rattle.ow_floor.specs.Trace.{End, Item, Trace, Resumed, Accepted, Drawn, Ended, Fired, accepted, accepted_after, all_records, began, drawn, drawn_after, ends, ends_after, fired, fired_after, open_of as opened, record_of, records, records_after, resumed, resumed_after, standing, started}
 use Rattle.ow_floor.proofs.Among.{all_among}
 use Rattle.ow_floor.proofs.Apart.{all_both as paired}
 use Rattle.ow_floor.proofs.Firsts.{all_more}
@@ -38,6 +38,7 @@ AreCounted ids = AllByRecursion (λ (id : Id). 1 ≤ id.count) ids
 counted : (item : Item) (ids : List Id) → IsEarly item → AreCounted ids → AreCounted (drawn_after item ids)
 counted (Resumed counts rs) ids h all = h.0
 counted (Accepted a) ids h all = all_put (λ (id : Id). 1 ≤ id.count) a.id ids h.counted all
+counted (Drawn id at) ids h all = all_put (λ (id : Id). 1 ≤ id.count) id ids h all
 counted item ids h all = all
 
 all_counted : (T : Trace) → AreEarly T → AreCounted (drawn T)
@@ -104,19 +105,28 @@ all_ended : (T : Trace) → AreEarly T → AllByRecursion IsEarlyEnd (ends T)
 all_ended [] early = tt
 all_ended (item ∷ T) early = ended item (ends T) early.0 (all_ended T early.1)
 
--- what holds of the record of each end holds of the records
+shot : (item : Item) (rs : List Record) → IsEarly item → AreLasting rs → AreLasting (fired_after item rs)
+shot (Fired r) rs h all = all_both (λ r. IsLasting (items.Done r)) rs (r ∷ []) all (h, tt)
+shot item rs h all = all
+
+all_fired : (T : Trace) → AreEarly T → AreLasting (fired T)
+all_fired [] early = tt
+all_fired (item ∷ T) early = shot item (fired T) early.0 (all_fired T early.1)
+
+-- what holds of the record of each end, and of each fire, holds of the records
 module _ (P : Record → Type 0) where
   abbrev OfEnds : List End → Type 0
   OfEnds es = AllByRecursion (λ e. P (record_of e)) es
 
-  recorded : (item : Item) (es : List End) (rs : List Record) → OfEnds (ends_after item es) → (OfEnds es → AllByRecursion P rs) → AllByRecursion P (records_after item rs)
-  recorded (Ended e) es rs all rest =
-      all_both P rs (record_of e ∷ []) (rest (first_of (λ e. P (record_of e)) es (e ∷ []) all)) ((rest_of (λ e. P (record_of e)) es (e ∷ []) all).0, tt)
-  recorded item es rs all rest = rest all
+  recorded : (item : Item) (es : List End) (fs rs : List Record) → OfEnds (ends_after item es) → AllByRecursion P (fired_after item fs) → (OfEnds es → AllByRecursion P fs → AllByRecursion P rs) → AllByRecursion P (records_after item rs)
+  recorded (Ended e) es fs rs all fires rest =
+      all_both P rs (record_of e ∷ []) (rest (first_of (λ e. P (record_of e)) es (e ∷ []) all) fires) ((rest_of (λ e. P (record_of e)) es (e ∷ []) all).0, tt)
+  recorded (Fired r) es fs rs all fires rest = all_both P rs (r ∷ []) (rest all (first_of P fs (r ∷ []) fires)) ((rest_of P fs (r ∷ []) fires).0, tt)
+  recorded item es fs rs all fires rest = rest all fires
 
-  all_recorded : (T : Trace) → OfEnds (ends T) → AllByRecursion P (records T)
-  all_recorded [] all = tt
-  all_recorded (item ∷ T) all = recorded item (ends T) (records T) all (λ h. all_recorded T h)
+  all_recorded : (T : Trace) → OfEnds (ends T) → AllByRecursion P (fired T) → AllByRecursion P (records T)
+  all_recorded [] all fires = tt
+  all_recorded (item ∷ T) all fires = recorded item (ends T) (fired T) (records T) all fires (λ h k. all_recorded T h k)
 
 start_early : (accepted : ℕ) (ending : Ending) (run : Option Run) → accepted ≤ GREATEST_MOMENT → IfSome run IsDue → start_of accepted ending (started run) ≤ GREATEST_MOMENT
 start_early accepted (Replied reply) None h k = h
@@ -164,7 +174,7 @@ records_last T sound early =
     all_recorded (λ r. IsLasting (items.Done r)) T
     (all_more (λ e. IsAmong e.task (accepted T) × IsEarlyEnd e) (λ e. IsLasting (items.Done (record_of e))) (ends T)
     (λ e h. end_lasts e (all_among IsTimely e.task (accepted T) h.0 (all_timely T early)) h.1)
-    (paired (λ e. IsAmong e.task (accepted T)) IsEarlyEnd (ends T) sound.known (all_ended T early)))
+    (paired (λ e. IsAmong e.task (accepted T)) IsEarlyEnd (ends T) sound.known (all_ended T early))) (all_fired T early)
 
 -- ---- all of it
 

@@ -4,6 +4,7 @@ pub mod Bodies
 pub mod Names
 pub mod RowsLaws
 pub mod Callees
+pub mod Fires
 pub mod TraceLaws
 pub mod KeptLaws
 pub mod BookLaws

@@ -10,10 +10,11 @@ use Rattle.ow_names.specs.Path.{home, named, named_in, of_full_text, of_local, o
 use Rattle.ow_names.specs.declared.full.FullName.{FullName}
 use Rattle.ow_names.specs.declared.refusal.NameRefusal.{NameRefusal}
 use Rattle.ow_names.proofs.NameLaws.{name_if_no_fault}
-use Rattle.ow_entity.specs.Body.{action_draft, draft_of, draft_unless, entity_of, first_refusal, package_draft}
+use Rattle.ow_entity.specs.Body.{action_draft, draft_of, draft_unless, entity_of, first_refusal, package_draft, rule_draft, trigger_draft}
 use Rattle.ow_entity.specs.Chain.{and_then, result_map}
-use Rattle.ow_entity.specs.Finish.{action_made, action_over, finished_row, new_action, as_action, as_package, package_made, package_over, row_of_body}
+use Rattle.ow_entity.specs.Finish.{action_made, action_over, as_action, as_package, as_rule, as_trigger, finished_row, new_action, new_rule, package_made, package_over, row_of_body, rule_made, rule_over, trigger_made, trigger_over}
 use Rattle.ow_entity.specs.Row.{draft_name, name_of}
+use Rattle.ow_entity.specs.Status.{status_in}
 use Rattle.ow_entity.specs.declared.actions.Action.{Action}
 use Rattle.ow_entity.specs.declared.actions.ActionDraft.{ActionDraft}
 use Rattle.ow_entity.specs.declared.exec.Exec.{Exec}
@@ -27,12 +28,16 @@ use Rattle.ow_entity.specs.declared.rows.Draft.{Draft}
 use Rattle.ow_entity.specs.declared.rows.Draft.TheVariants as drafts
 use Rattle.ow_entity.specs.declared.rows.Row.{Row}
 use Rattle.ow_entity.specs.declared.rows.Row.TheVariants as rows
+use Rattle.ow_entity.specs.declared.rules.Rule.{Rule}
+use Rattle.ow_entity.specs.declared.rules.RuleDraft.{RuleDraft}
+use Rattle.ow_entity.specs.declared.triggers.Trigger.{Trigger}
+use Rattle.ow_entity.specs.declared.triggers.TriggerDraft.{TriggerDraft}
 use Rattle.ow_traits.specs.Rows.{text_of}
 use Rattle.ow_items.specs.Sorted.{Entries}
 use Rattle.ow_items.specs.declared.item.Item.{Item}
 use Rattle.ow_items.specs.declared.item.Item.TheVariants as items
 use Rattle.ow_keep.specs.Allowed.{confirmed, is_confirmed, item_at}
-use Rattle.ow_keep.specs.EntityIn.{entity_from, entity_with}
+use Rattle.ow_keep.specs.EntityIn.{at_status, entity_from, entity_with}
 use Rattle.ow_keep.specs.ItemIn.{count_with, entity_of as item_of, entity_with as item_with, item_by, item_from, value_of}
 use Rattle.ow_keep.specs.Judged.{gathered, judged, or_key, versioned}
 use Rattle.ow_keep.specs.OpenIn.{full_name_of}
@@ -129,12 +134,29 @@ package_named : (d : PackageDraft) (o : Option Package) → IfOk (package_made d
 package_named d None = refl
 package_named d (Some old) = ok_unless (λ (p : Package). p.name ≡ d.name) _ LastVersion (package_over d old (old.version + 1)) refl
 
+new_rule_named : (d : RuleDraft) (trigger action : Option FullName) → IfOk (new_rule d trigger action) (λ (r : Rule). r.name ≡ d.name)
+new_rule_named d None action = tt
+new_rule_named d (Some trigger) None = tt
+new_rule_named d (Some trigger) (Some action) = refl
+
+rule_named : (d : RuleDraft) (o : Option Rule) → IfOk (rule_made d o) (λ (r : Rule). r.name ≡ d.name)
+rule_named d None = new_rule_named d d.trigger d.action
+rule_named d (Some old) = ok_unless (λ (r : Rule). r.name ≡ d.name) _ LastVersion (rule_over d old (old.version + 1)) refl
+
+trigger_named : (d : TriggerDraft) (o : Option Trigger) → IfOk (trigger_made d o) (λ (t : Trigger). t.name ≡ d.name)
+trigger_named d None = refl
+trigger_named d (Some old) = ok_unless (λ (t : Trigger). t.name ≡ d.name) _ LastVersion (trigger_over d old (old.version + 1)) refl
+
 pub finished_named : (d : Draft) (old : Option Row) → IfOk (finished_row d old) (λ (r : Row). name_of r ≡ draft_name d)
 unfolding finished_row
 finished_named (drafts.Action d) old =
     mapped (λ (a : Action). a.name ≡ d.name) (λ (r : Row). name_of r ≡ d.name) rows.Action (action_made d (as_action old)) (λ a e. e) (action_named d (as_action old))
 finished_named (drafts.Package d) old =
     mapped (λ (p : Package). p.name ≡ d.name) (λ (r : Row). name_of r ≡ d.name) rows.Package (package_made d (as_package old)) (λ p e. e) (package_named d (as_package old))
+finished_named (drafts.Rule d) old =
+    mapped (λ (r : Rule). r.name ≡ d.name) (λ (r : Row). name_of r ≡ d.name) rows.Rule (rule_made d (as_rule old)) (λ r e. e) (rule_named d (as_rule old))
+finished_named (drafts.Trigger d) old =
+    mapped (λ (t : Trigger). t.name ≡ d.name) (λ (r : Row). name_of r ≡ d.name) rows.Trigger (trigger_made d (as_trigger old)) (λ t e. e) (trigger_named d (as_trigger old))
 
 draft_by : (P : Draft → Type 0) (o : Option EntityRefusal) (d : Draft) → P d → IfOk (draft_unless o d) P
 draft_by P None d h = h
@@ -143,8 +165,8 @@ draft_by P (Some e) d h = tt
 draft_named : (kind : EntityKind) (name : FullName) (body : V) → IfOk (draft_of kind name body) (λ (d : Draft). draft_name d ≡ name)
 draft_named kinds.Action name body = draft_by (λ (d : Draft). draft_name d ≡ name) (first_refusal kinds.Action name.namespace body) (action_draft name body) refl
 draft_named kinds.Package name body = draft_by (λ (d : Draft). draft_name d ≡ name) (first_refusal kinds.Package name.namespace body) (package_draft name body) refl
-draft_named kinds.Rule name body = tt
-draft_named kinds.Trigger name body = tt
+draft_named kinds.Rule name body = draft_by (λ (d : Draft). draft_name d ≡ name) (first_refusal kinds.Rule name.namespace body) (rule_draft name body) refl
+draft_named kinds.Trigger name body = draft_by (λ (d : Draft). draft_name d ≡ name) (first_refusal kinds.Trigger name.namespace body) (trigger_draft name body) refl
 
 pub entity_named : (kind : EntityKind) (name : FullName) (body : V) → IfOk (entity_of kind name body) (λ (d : Draft). draft_name d ≡ name)
 unfolding entity_of
@@ -167,10 +189,20 @@ at_named : (name : FullName) (o : Option ℕ) (made : Result Row EntityRefusal) 
 at_named name None made h = tt
 at_named name (Some version) (Ok (rows.Action a)) h = h
 at_named name (Some version) (Ok (rows.Package p)) h = h
+at_named name (Some version) (Ok (rows.Rule r)) h = h
+at_named name (Some version) (Ok (rows.Trigger t)) h = h
 at_named name (Some version) (Err e) h = tt
 
+status_named : (name : FullName) (status : Result Bool EntityRefusal) (r : Row) → name_of r ≡ name → IfSome (at_status status r) (λ (x : Row). name_of x ≡ name)
+status_named name status (rows.Action a) h = h
+status_named name status (rows.Package p) h = h
+status_named name (Ok active) (rows.Rule r) h = h
+status_named name (Err e) (rows.Rule r) h = tt
+status_named name status (rows.Trigger t) h = h
+
 from_named : (kind : EntityKind) (name : FullName) (v : V) → IfSome (entity_from kind name v) (λ (r : Row). name_of r ≡ name)
-from_named kind name v = at_named name (version_in (codes "version") v) (row_of_body kind name v) (row_named kind name v)
+from_named kind name v = some_then (λ (r : Row). name_of r ≡ name) (λ (r : Row). name_of r ≡ name) (at_status (status_in v)) (entity_with (version_in (codes "version") v) (row_of_body kind name v))
+    (status_named name (status_in v)) (at_named name (version_in (codes "version") v) (row_of_body kind name v) (row_named kind name v))
 
 -- an item whose name, if it is of a row, is one by its parts
 abbrev pub IsNamedItem : Item → Type 0
@@ -186,11 +218,11 @@ row_item kind (Some name) (Some v) h =
 place_item : (place s : List ℕ) → IfSome (item_of place s) IsNamedItem
 place_item [] s = tt
 place_item (byte ∷ place) s =
-    some_if IsNamedItem (byte == 97) (item_with kinds.Action (full_name_of (drop 5 place)) (value_of s))
-    (cond (byte == 112) (item_with kinds.Package (full_name_of (drop 6 place)) (value_of s)) None)
-    (row_item kinds.Action (full_name_of (drop 5 place)) (value_of s) (full_read (drop 5 place)))
-    (some_if IsNamedItem (byte == 112) (item_with kinds.Package (full_name_of (drop 6 place)) (value_of s)) None
-    (row_item kinds.Package (full_name_of (drop 6 place)) (value_of s) (full_read (drop 6 place))) tt)
+    some_if IsNamedItem (byte == 97) _ _ (row_item kinds.Action (full_name_of (drop 5 place)) (value_of s) (full_read (drop 5 place)))
+    (some_if IsNamedItem (byte == 112) _ _ (row_item kinds.Package (full_name_of (drop 6 place)) (value_of s) (full_read (drop 6 place)))
+    (some_if IsNamedItem (byte == 114) _ _ (row_item kinds.Rule (full_name_of (drop 3 place)) (value_of s) (full_read (drop 3 place)))
+    (some_if IsNamedItem (byte == 116) (item_with kinds.Trigger (full_name_of (drop 6 place)) (value_of s)) None
+    (row_item kinds.Trigger (full_name_of (drop 6 place)) (value_of s) (full_read (drop 6 place))) tt)))
 
 count_item : (namespace count : Option ℕ) → IfSome (count_with namespace count) IsNamedItem
 count_item None count = tt

@@ -17,7 +17,7 @@ use Rattle.ow_names.specs.declared.full.FullName.{FullName}
 use Rattle.ow_names.specs.declared.refusal.NameRefusal.{NameRefusal}
 use Rattle.ow_names.proofs.PathLaws.{full_text-inj}
 use Rattle.ow_entity.specs.Body.{entity_of}
-use Rattle.ow_entity.specs.Finish.{finished_row}
+use Rattle.ow_entity.specs.Finish.{as_rule, finished_row}
 use Rattle.ow_entity.specs.Row.{draft_kind, draft_name, name_of}
 use Rattle.ow_entity.specs.Written.{row_value}
 use Rattle.ow_entity.specs.declared.kinds.EntityKind.{EntityKind}
@@ -25,10 +25,12 @@ use Rattle.ow_entity.specs.declared.kinds.EntityKind.TheVariants as kinds
 use Rattle.ow_entity.specs.declared.refusal.EntityRefusal.{EntityRefusal}
 use Rattle.ow_entity.specs.declared.rows.Draft.{Draft}
 use Rattle.ow_entity.specs.declared.rows.Row.{Row}
+use Rattle.ow_entity.specs.declared.rows.Row.TheVariants as rows
+use Rattle.ow_entity.specs.declared.rules.Rule.{Rule}
 use Rattle.ow_floor.specs.Trace.{Trace}
 use Rattle.ow_floor.specs.declared.activations.Plan.{Plan}
 use Rattle.ow_http.specs.CallKind.{entity_kind, kind_of as call_kind}
-use Rattle.ow_http.specs.CallOf.{as_call, bare_call, body_draft, body_value, call_of_kind, checked, checked_query, draft_of, filled_call, name_of as path_name, package_for, params_of}
+use Rattle.ow_http.specs.CallOf.{active_of, as_call, bare_call, body_draft, body_value, call_of_kind, checked, checked_query, draft_of, filled_call, name_of as path_name, package_for, params_of}
 use Rattle.ow_http.specs.Pair.{Pair}
 use Rattle.ow_http.specs.Parts.{Parts}
 use Rattle.ow_http.specs.Request.{parts_of}
@@ -53,9 +55,12 @@ use Rattle.ow_keep.proofs.Whole.{judged-sound}
 use Rattle.ow_keep.proofs.Deep.{of_data, whole_within}
 use Rattle.ow_kept.specs.Opening.{resumed_records}
 use Rattle.ow_kept.proofs.Knowing.{picked}
+use Rattle.ow_rules.specs.Status.{has_status, status_change, with_status}
 use Rattle.ow_tables.specs.Builtin.{builtin, is_builtin}
 use Rattle.ow_tables.specs.Refusal.{old_row}
-use Rattle.ow_tables.specs.Rows.{is_row, key, key_of, with_row, without}
+use Rattle.ow_tables.specs.Joined.{rule_at}
+use Rattle.ow_tables.specs.Contents.{Change}
+use Rattle.ow_tables.specs.Rows.{changed, found, is_row, key, key_of, standing, with_row, without}
 use Rattle.ow_tables.proofs.BuiltinLaws.{echo_full, utils_full}
 use Rattle.ow_value.specs.ByText.{ByText, value_at}
 use Rattle.ow_tenant.specs.Table.{Table, AreHomes}
@@ -78,6 +83,7 @@ use Rattle.ow_reopen.specs.Bodies.{RowsOfBodies}
 use Rattle.ow_reopen.specs.RowsKept.{IsPlaced}
 use Rattle.ow_reopen.specs.Lasting.{AreWritable, IsLasting, IsLastingRow}
 use Rattle.ow_reopen.specs.Laws.{RowsLast}
+use Rattle.ow_reopen.proofs.Callees.{found_lasts}
 use Rattle.ow_reopen.proofs.Each.{all_found}
 use Rattle.ow_reopen.proofs.Names.{IsNamedItem, after, after_any, entity_named, finished_named, judged_items, named_in_full}
 
@@ -159,7 +165,7 @@ module _ {D : Type 0} (value : D → Option V) where
 reading_within : (limit : ℕ) (s : List ℕ) → IsWithin limit (reading limit s)
 reading_within limit s = data_is_within whole_of limit (json_of s)
 
-body_within : (body : List ℕ) → IsWithin most_nested (body_value body)
+pub body_within : (body : List ℕ) → IsWithin most_nested (body_value body)
 body_within [] = omega arith
 body_within (b ∷ bs) = reading_within most_nested (b ∷ bs)
 
@@ -189,7 +195,7 @@ IsPathName kind o = IfSome o (λ name. IsFullName name × IsPlacedBy kind name)
 abbrev IsGivenCall : Call → Type 0
 IsGivenCall c = IsGivenSome c.draft
 
-called : {A B E : Type 0} (M : A → Type 0) (N : B → Type 0) (ok : A → B) (err : E → CallRefusal) (r : Result A E) → ((x : A) → M x → N (ok x)) → IfOk r M → IfOk (as_call ok err r) N
+pub called : {A B E : Type 0} (M : A → Type 0) (N : B → Type 0) (ok : A → B) (err : E → CallRefusal) (r : Result A E) → ((x : A) → M x → N (ok x)) → IfOk r M → IfOk (as_call ok err r) N
 called M N ok err (Ok x) f h = f x h
 called M N ok err (Err e) f h = tt
 
@@ -229,8 +235,8 @@ in_alone here namespace name =
 in_placed : (here namespace : List ℕ) (kind : EntityKind) (inside : Option (List ℕ)) (name : List ℕ) → IfOk (named_in here namespace (package_for kind inside) name) (IsPlaced kind)
 in_placed here namespace kinds.Action inside name = any_ok (named_in here namespace inside name)
 in_placed here namespace kinds.Package inside name = in_alone here namespace name
-in_placed here namespace kinds.Rule inside name = any_ok (named_in here namespace None name)
-in_placed here namespace kinds.Trigger inside name = any_ok (named_in here namespace None name)
+in_placed here namespace kinds.Rule inside name = in_alone here namespace name
+in_placed here namespace kinds.Trigger inside name = in_alone here namespace name
 
 placed_by : (kind : EntityKind) (method : Verb) (name : FullName) → IsPlaced kind name → IsPlacedBy (entity_kind kind method) name
 placed_by kind verb.Get name h = tt
@@ -267,7 +273,8 @@ call_given here p h =
     after_any IsGivenCall (checked_query kind p.query) _ (λ right.
     after (IsPathName kind) IsGivenCall (path_name here p.route) _ (path_full here p.route p.method h) (λ name full.
     after IsGivenSome IsGivenCall (draft_of kind name p.body) _ (draft_given kind name p.body full) (λ draft given.
-    after_any IsGivenCall (params_of kind p.body) _ (λ params. filled_given kind p.query (bare_call kind name draft params) given))))
+    after_any IsGivenCall (params_of kind p.body) _ (λ params.
+    after_any IsGivenCall (active_of kind p.body) _ (λ active. filled_given kind p.query (bare_call kind name draft params active) given)))))
 
 -- ---- the row that a draft is put over
 
@@ -300,6 +307,27 @@ holder_home t (Some key) homes = values_all (λ (h : Holder). IsName h.home) key
 asker_home : (t : Table) (key : Option (List ℕ)) → AreHomes t → IfOk (asker t key) (λ (h : Holder). IsName h.home)
 asker_home t key homes = some_or_else (λ (h : Holder). IsName h.home) (holder_of key t) _ (holder_home t key homes)
 
+-- ---- the status of a rule
+
+as_rule_good : (o : Option Row) → IfSome o IsLastingRow → IfSome (as_rule o) (λ (r : Rule). IsLastingRow (rows.Rule r))
+as_rule_good None h = tt
+as_rule_good (Some (rows.Action a)) h = tt
+as_rule_good (Some (rows.Package p)) h = tt
+as_rule_good (Some (rows.Rule r)) h = h
+as_rule_good (Some (rows.Trigger t)) h = tt
+
+rule_good : (name : FullName) (r : Rule) (rs : List Row) → AreWritable rs → rule_at (standing rs) name ≡ Some r → IsLastingRow (rows.Rule r)
+rule_good name r rs all is =
+    subst (λ (o : Option Rule). IfSome o (λ x. IsLastingRow (rows.Rule x))) is (as_rule_good (found kinds.Rule name rs) (found_lasts (is_row kinds.Rule name) rs all))
+
+set_lasts : (r : Rule) (active : Bool) → IsLastingRow (rows.Rule r) → IsLastingRow (rows.Rule (with_status active r))
+unfolding row_value
+set_lasts r active h = record { lasts = record { shallow = h.lasts.shallow; fit = h.lasts.fit }; named = h.named }
+
+set_so : (r : Rule) (active : Bool) (c : Change) (b : Bool) → cond b None (Some (put_of (rows.Rule (with_status active r)))) ≡ Some c → put_of (rows.Rule (with_status active r)) ≡ c
+set_so r active c true is = cc
+set_so r active c false is = cc
+
 -- ---- what is done
 
 module _ (core : RowsOfBodies) (S : Sight) (all : AreWritable S.rows) where
@@ -318,9 +346,15 @@ module _ (core : RowsOfBodies) (S : Sight) (all : AreWritable S.rows) where
   removed_good : (kind : EntityKind) (name : FullName) → AreWritable (without kind name S.rows)
   removed_good kind name = picked IsLastingRow (λ (r : Row). not (is_row kind name r)) S.rows all
 
+  -- a rule that is set lasts as it did: its status changes neither how deep it nests nor the names in it
+  set_good : (name : FullName) (r : Rule) (active : Bool) (c : Change) → rule_at (standing S.rows) name ≡ Some r → status_change r active ≡ Some c → AreWritable (changed c S.rows)
+  set_good name r active c stands is =
+      subst (λ (x : Change). AreWritable (changed x S.rows)) (set_so r active c (has_status active r) is)
+      (all_with IsLastingRow (rows.Rule (with_status active r)) S.rows (set_lasts r active (rule_good name r S.rows all stands)) all)
+
   asked_rows : (p : Parts) → AreHomes S.tenants → AreWritable (all_changed (ask_decision S.moment (request_done S p)).changes S.rows)
   asked_rows p homes =
-      request_rows S p (λ (h : Holder). IsName h.home) IsGivenCall AreWritable (asker_home S.tenants p.key homes) (λ h home. call_given h.home p home) all put_good removed_good
+      request_rows S p (λ (h : Holder). IsName h.home) IsGivenCall AreWritable (asker_home S.tenants p.key homes) (λ h home. call_given h.home p home) all put_good removed_good set_good
 
   called_rows : (r : Result Plan Reason) → AreWritable (all_changed (call_decision S r).changes S.rows)
   called_rows (Ok plan) = all

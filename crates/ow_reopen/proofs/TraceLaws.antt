@@ -1,5 +1,5 @@
 -- What happened stays within the greatest moment behind what is decided, and what is taken over may be read again.
-use Rattle.std.proofs.Common.{◌≡◌, ◌≤◌, ◌+◌, ◌++◌, ◌&&◌, ℕ, Bool, true, false, List, [], ◌∷◌, max, nat_le, not, option_and_then, Option, Some, None, Result, Ok, Err, IfSome, refl, sym, ap, ◌∙◌, subst, arith}
+use Rattle.std.proofs.Common.{◌≡◌, ◌≤◌, ◌+◌, ◌++◌, ◌&&◌, ℕ, Bool, true, false, List, [], ◌∷◌, max, nat_le, not, option_and_then, Option, Some, None, Result, Ok, Err, IfOk, IfSome, refl, sym, ap, ◌∙◌, subst, arith}
 use Rattle.std.specs.List.{AllByRecursion}
 use Rattle.std.proofs.Math.Nat.{max-le}
 use Rattle.std.proofs.lemmas.Bool.{and_from, and_parts, le-leb, leb-true}
@@ -9,10 +9,9 @@ use Rattle.ow_records.specs.declared.record.Record.{Record}
 use Rattle.ow_records.specs.declared.unrecorded.Unrecorded.{Unrecorded}
 use Rattle.ow_records.specs.Unrecorded.{abandoned_record}
 use Rattle.ow_traits.specs.Rows.{text_of}
-use Rattle.ow_floor.specs.declared.activations.Open.{Open}
 use Rattle.ow_floor.specs.declared.runs.Run.{Run}
 use Rattle.ow_floor.specs.View.{begun, is_number}
-use Rattle.ow_floor.specs.Trace.{Accepted, Answered, Begun, Ended, Item, Lost, Ordered, Reopened, Resumed, Trace, last, live, live_after}
+use Rattle.ow_floor.specs.Trace.{Accepted, Answered, Begun, Drawn, Ended, Fired, Item, Lost, Ordered, Reopened, Resumed, Trace, last, live, live_after}
 use Rattle.ow_floor.proofs.Firsts.{all_push, all_removed, all_updated}
 use Rattle.ow_items.specs.Item.{count_key}
 use Rattle.ow_items.specs.Sorted.{Entries}
@@ -32,17 +31,19 @@ use Rattle.ow_kept.proofs.Picking.{counts_picked, dones_picked, each_picked, ope
 use Rattle.ow_decide.specs.declared.events.Event.{Event}
 use Rattle.ow_decide.specs.declared.events.Event.TheVariants as events
 use Rattle.ow_decide.specs.Sight.{Sight}
-use Rattle.ow_decide.specs.Asking.{Done}
 use Rattle.ow_decide.specs.Opening.{are_resumable, is_fresh, opened_decision, parts_taken, taken_if}
 use Rattle.ow_decide.specs.Decisions.{decide}
-use Rattle.ow_decide.specs.Chain.{AreSteps, IsAccepted, IsOneOf, IsStep}
+use Rattle.ow_decide.specs.Chain.{AreSteps, IsAccepted, IsFired, IsOneOf, IsStep}
 use Rattle.ow_decide.proofs.ChainLaws.{all_one_of, decided_steps}
 use Rattle.ow_entity.specs.declared.actions.Action.{Action}
+use Rattle.ow_http.specs.declared.call.Call.{Call}
+use Rattle.ow_http.specs.declared.call_refusal.CallRefusal.{CallRefusal}
 use Rattle.ow_names.specs.declared.full.FullName.{FullName}
 use Rattle.ow_records.specs.declared.activations.Activation.{Activation}
 use Rattle.ow_reopen.specs.Lasting.{AreEarly, AreWritable, IsDue, IsEarly, IsLasting, IsTimely}
 use Rattle.ow_reopen.specs.Laws.{TracesLast}
 use Rattle.ow_reopen.proofs.Callees.{callee_good}
+use Rattle.ow_reopen.proofs.Fires.{IsShallowCall, call_shallow, fire_lasts, trigger_good}
 
 -- ---- ids that were drawn
 
@@ -91,6 +92,15 @@ timely S a T small all now ok = record {
       ∙ callee_good S.rows all ok.callee.callee.0 ok.callee.callee.1.0 ok.callee.called ok.callee.callee.1.1));
 }
 
+fired : (S : Sight) (r : Record) (T : Trace) → S.moment ≤ GREATEST_MOMENT → AreWritable S.rows → IsFired S r T → IsLasting (items.Done r)
+fired S r T small all ok =
+    let shot = ok.shot in
+    let given = subst (λ (x : Result Call CallRefusal). IfOk x IsShallowCall) shot.called (call_shallow shot.home shot.parts) in
+    let now : ok.fire.at ≡ S.moment = shot.at in
+    subst (λ (x : Record). IsLasting (items.Done x)) (sym ok.made)
+    (fire_lasts shot.trigger shot.call.params ok.fire ok.lines (trigger_good shot.name shot.trigger S.rows all shot.row) given shot.version shot.params (omega (arith, small, now))
+    (subst (λ (x : Record). 1 ≤ x.id.count) ok.made ok.counted))
+
 run_due : (S : Sight) (r : Option Run) → IfSome r (λ x. IsOneOf x (live S.trace)) → AllByRecursion IsDue (live S.trace) → IfSome r IsDue
 run_due S None one due = tt
 run_due S (Some r) one due = all_one_of IsDue r (live S.trace) one due
@@ -102,6 +112,8 @@ early_step S (Ordered r key) T small all due step =
 early_step S (Begun run at) T small all due step = let now : at ≡ S.moment = step.at in omega (arith, small, now)
 early_step S (Ended e) T small all due step = (let now : e.at ≡ S.moment = step.at in omega (arith, small, now), run_due S e.run step.is.live due)
 early_step S (Resumed counts rs) T small all due step = absurd step.is
+early_step S (Drawn id at) T small all due step = above id.count (last T id.namespace) step.is
+early_step S (Fired r) T small all due step = fired S r T small all step.is
 early_step S item T small all due step = tt
 
 early_steps : (S : Sight) (items : Trace) → S.moment ≤ GREATEST_MOMENT → AreWritable S.rows → AllByRecursion IsDue (live S.trace) → AreSteps S items → AreEarly items

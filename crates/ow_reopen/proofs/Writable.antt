@@ -1,4 +1,4 @@
--- The row that a body makes nests no deeper than is read, and its binding names a package.
+-- The row that a body makes nests no deeper than is read, and the names in it are read back as they are.
 use Rattle.std.proofs.Common.{◌≡◌, ◌≤◌, ◌==◌, ◌+◌, ◌&&◌, ℕ, suc, max, List, [], ◌∷◌, map, codes, Bool, true, false, cond, nat_lt, IfSome, IfOk, unwrap_or, Option, Some, None, option_map, option_and_then, Result, Ok, Err, Ordering, Less, Equal, Greater, refl, sym, ap, subst, arith}
 use Rattle.std.specs.BTreeMap.{is_at}
 use Rattle.std.specs.List.{AllByRecursion}
@@ -14,17 +14,17 @@ use Rattle.ow_value.specs.Nesting.{most_nested}
 use Rattle.ow_value.specs.Value.{V, Pairs, null, boolean, whole, text, list, object, Items, no_items, item, Members, no_members, member, depth, items_depth, items_of, members_depth, text_cmp}
 use Rattle.ow_value.specs.declared.measure.TheConstants.{MEGABYTE}
 use Rattle.ow_names.specs.Name.{first_fault}
-use Rattle.ow_names.specs.Path.{home, named, named_in, or_fault}
+use Rattle.ow_names.specs.Path.{home, named, named_in, of_parts, or_fault, parts, resolved}
 use Rattle.ow_names.specs.declared.full.FullName.{FullName}
 use Rattle.ow_names.specs.declared.refusal.NameRefusal.{NameRefusal}
-use Rattle.ow_entity.specs.Body.{action_draft, binding_field, binding_given, binding_in, bound_in, draft_of, draft_unless, entity_of, first_refusal, or_bad_name, package_draft, text_field}
+use Rattle.ow_entity.specs.Body.{action_draft, binding_field, binding_given, binding_in, bound_in, draft_of, draft_unless, entity_of, first_refusal, name_field, name_given, or_bad_name, package_draft, rule_draft, text_field, trigger_draft}
 use Rattle.ow_entity.specs.Chain.{and_then, result_map}
 use Rattle.ow_entity.specs.FieldName.{field_name}
-use Rattle.ow_entity.specs.Finish.{action_made, action_over, default_action, default_package, finished_row, new_action, as_action, as_package, package_made, package_over}
+use Rattle.ow_entity.specs.Finish.{action_made, action_over, as_action, as_package, as_rule, as_trigger, default_action, default_package, default_rule, default_trigger, finished_row, new_action, new_rule, package_made, package_over, rule_made, rule_over, trigger_made, trigger_over}
 use Rattle.ow_entity.specs.Pairs.{pair_of, pair_value, pair_with, pairs_field, pairs_given, pairs_listed, pairs_of_list, pairs_size, with_pairs}
 use Rattle.ow_entity.specs.PlainCode.{name_count}
 use Rattle.ow_entity.specs.Row.{name_of}
-use Rattle.ow_entity.specs.Written.{action_value, binding_value, package_value, row_value}
+use Rattle.ow_entity.specs.Written.{action_value, binding_value, package_value, row_value, rule_value, trigger_value}
 use Rattle.ow_entity.specs.declared.actions.Action.{Action}
 use Rattle.ow_entity.specs.declared.actions.ActionDraft.{ActionDraft}
 use Rattle.ow_entity.specs.declared.exec.Exec.{Exec}
@@ -41,7 +41,11 @@ use Rattle.ow_entity.specs.declared.rows.Draft.{Draft}
 use Rattle.ow_entity.specs.declared.rows.Draft.TheVariants as drafts
 use Rattle.ow_entity.specs.declared.rows.Row.{Row}
 use Rattle.ow_entity.specs.declared.rows.Row.TheVariants as rows
-use Rattle.ow_keep.specs.Allowed.{is_binding, is_version, stands_alone}
+use Rattle.ow_entity.specs.declared.rules.Rule.{Rule}
+use Rattle.ow_entity.specs.declared.rules.RuleDraft.{RuleDraft}
+use Rattle.ow_entity.specs.declared.triggers.Trigger.{Trigger}
+use Rattle.ow_entity.specs.declared.triggers.TriggerDraft.{TriggerDraft}
+use Rattle.ow_keep.specs.Allowed.{is_binding, is_version, is_written, stands_alone}
 use Rattle.ow_reopen.specs.RowsKept.{IsPlaced, IsWritable}
 
 -- ---- what holds of what is made, if anything is made
@@ -91,7 +95,7 @@ field_within name n (object ms) h = found_within name n ms (omega arith)
 -- ---- how deep the values of pairs nest that a body lists
 
 -- no value nests deeper
-abbrev AreWithin : ℕ → Pairs → Type 0
+abbrev pub AreWithin : ℕ → Pairs → Type 0
 AreWithin n ps = AllByRecursion (λ (p : List ℕ × V). depth p.1 ≤ n) ps
 
 pair_within : (n : ℕ) (key value : Option V) → IfSome value (λ (w : V). depth w ≤ n) → IfSome (pair_with key value) (λ (p : List ℕ × V). depth p.1 ≤ n)
@@ -121,7 +125,7 @@ put_by Less n a b c f g h = f
 put_by Equal n a b c f g h = g
 put_by Greater n a b c f g h = h
 
-with_within : (n : ℕ) (qs : Pairs) (k : List ℕ) (v : V) → AreWithin n qs → depth v ≤ n → AreWithin n (with_pair qs k v)
+pub with_within : (n : ℕ) (qs : Pairs) (k : List ℕ) (v : V) → AreWithin n qs → depth v ≤ n → AreWithin n (with_pair qs k v)
 with_within n [] k v h d = (d, tt)
 with_within n (q ∷ qs) k v h d =
     put_by (text_cmp k q.0) n ((k, v) ∷ q ∷ qs) ((q.0, v) ∷ qs) (q ∷ with_pair qs k v) (d, h) (d, h.1) (h.0, with_within n qs k v h.1 d)
@@ -173,24 +177,24 @@ home_twice here namespace = home_by here namespace (bytes_eq namespace (codes "_
 home_bound : (here namespace name : List ℕ) → IsBound here (record { namespace = home here namespace; «package» = None; name = name })
 home_bound here namespace name = (bytes_eq-Decides (home here (home here namespace)) (home here namespace)).1 (home_twice here namespace)
 
-or_bound : (here : List ℕ) (o : Option NameRefusal) (r : Result FullName NameRefusal) → IfOk r (IsBound here) → IfOk (or_fault o r) (IsBound here)
-or_bound here None r h = h
-or_bound here (Some e) r h = tt
+or_holds : (P : FullName → Type 0) (o : Option NameRefusal) (r : Result FullName NameRefusal) → IfOk r P → IfOk (or_fault o r) P
+or_holds P None r h = h
+or_holds P (Some e) r h = tt
 
 named_bound : (here namespace name : List ℕ) → IfOk (named_in here namespace None name) (IsBound here)
 named_bound here namespace name =
-    or_bound here (first_fault namespace) (named (home here namespace) None name)
-    (or_bound here (first_fault name) (Ok (record { namespace = home here namespace; «package» = None; name = name })) (home_bound here namespace name))
+    or_holds (IsBound here) (first_fault namespace) (named (home here namespace) None name)
+    (or_holds (IsBound here) (first_fault name) (Ok (record { namespace = home here namespace; «package» = None; name = name })) (home_bound here namespace name))
 
-or_bad_bound : (here : List ℕ) (r : Result FullName NameRefusal) → IfOk r (IsBound here) → IfOk (or_bad_name r) (IsBound here)
-or_bad_bound here (Ok name) h = h
-or_bad_bound here (Err e) h = tt
+or_bad_holds : (P : FullName → Type 0) (r : Result FullName NameRefusal) → IfOk r P → IfOk (or_bad_name r) P
+or_bad_holds P (Ok name) h = h
+or_bad_holds P (Err e) h = tt
 
 bound_bound : (here : List ℕ) (v : V) → IfOk (bound_in here v) (IsBound here)
 bound_bound here v =
     after (IsBound here) (text_field fields.BoundNamespace v) (λ (namespace : List ℕ). and_then (text_field fields.BoundName v) (λ (name : List ℕ). or_bad_name (named_in here namespace None name)))
     (λ (namespace : List ℕ). after (IsBound here) (text_field fields.BoundName v) (λ (name : List ℕ). or_bad_name (named_in here namespace None name))
-    (λ (name : List ℕ). or_bad_bound here (named_in here namespace None name) (named_bound here namespace name)))
+    (λ (name : List ℕ). or_bad_holds (IsBound here) (named_in here namespace None name) (named_bound here namespace name)))
 
 none_or_bound : (here : List ℕ) (b : Bool) (r : Result FullName EntityRefusal) → IfOk r (IsBound here) → IfOk (cond b (Ok None) (result_map Some r)) (λ (o : Option FullName). is_binding here o ≡ true)
 none_or_bound here true r h = refl
@@ -210,6 +214,52 @@ given_bound here (Some (object ms)) =
 binding_bound : (here : List ℕ) (body : V) → IfSome (result_unwrap_or (binding_field here body) None) (λ (b : Option FullName). is_binding here b ≡ true)
 binding_bound here body = unwrapped (λ (b : Option FullName). is_binding here b ≡ true) (binding_field here body) (given_bound here (field (codes "binding") body))
 
+-- ---- what a body names
+
+-- what is named stands in the namespace that it has here
+abbrev IsWritten : List ℕ → FullName → Type 0
+IsWritten here n = is_written here n ≡ true
+
+home_own : (here : List ℕ) → home here here ≡ here
+home_own here = either_same (bytes_eq here (codes "_")) here
+
+named_written : (here namespace : List ℕ) (inside : Option (List ℕ)) (name : List ℕ) → home here namespace ≡ namespace → IfOk (named namespace inside name) (IsWritten here)
+named_written here namespace None name same =
+    or_holds (IsWritten here) (first_fault name) (Ok (record { namespace = namespace; «package» = None; name = name })) ((bytes_eq-Decides (home here namespace) namespace).1 same)
+named_written here namespace (Some p) name same =
+    or_holds (IsWritten here) (first_fault p) (or_fault (first_fault name) (Ok (record { namespace = namespace; «package» = Some p; name = name })))
+    (or_holds (IsWritten here) (first_fault name) (Ok (record { namespace = namespace; «package» = Some p; name = name })) ((bytes_eq-Decides (home here namespace) namespace).1 same))
+
+in_written : (here namespace : List ℕ) (inside : Option (List ℕ)) (name : List ℕ) → IfOk (named_in here namespace inside name) (IsWritten here)
+in_written here namespace inside name =
+    or_holds (IsWritten here) (first_fault namespace) (named (home here namespace) inside name) (named_written here (home here namespace) inside name (home_twice here namespace))
+
+-- each of the four forms
+parts_written : (here : List ℕ) (ps : List (List ℕ)) → IfOk (of_parts here ps) (IsWritten here)
+parts_written here [] = tt
+parts_written here (name ∷ []) = named_written here here None name (home_own here)
+parts_written here ([] ∷ name ∷ []) = tt
+parts_written here ((b ∷ bs) ∷ name ∷ []) = named_written here here (Some (b ∷ bs)) name (home_own here)
+parts_written here ([] ∷ namespace ∷ name ∷ []) = in_written here namespace None name
+parts_written here ((b ∷ bs) ∷ namespace ∷ name ∷ []) = tt
+parts_written here ([] ∷ namespace ∷ p ∷ name ∷ []) = in_written here namespace (Some p) name
+parts_written here ((b ∷ bs) ∷ namespace ∷ p ∷ name ∷ []) = tt
+parts_written here ([] ∷ namespace ∷ p ∷ name ∷ other ∷ ps) = tt
+parts_written here ((b ∷ bs) ∷ namespace ∷ p ∷ name ∷ other ∷ ps) = tt
+
+given_written : (name : FieldName) (here : List ℕ) (o : Option V) → IfOk (name_given name here o) (λ (g : Option FullName). IfSome g (IsWritten here))
+given_written name here None = tt
+given_written name here (Some null) = tt
+given_written name here (Some (boolean b)) = tt
+given_written name here (Some (whole z)) = tt
+given_written name here (Some (text s)) =
+    some_mapped (IsWritten here) (or_bad_name (resolved here s)) (or_bad_holds (IsWritten here) (resolved here s) (parts_written here (parts s)))
+given_written name here (Some (list vs)) = tt
+given_written name here (Some (object ms)) = tt
+
+field_written : (name : FieldName) (here : List ℕ) (body : V) → IfSome (result_unwrap_or (name_field name here body) None) (IsWritten here)
+field_written name here body = unwrapped (IsWritten here) (name_field name here body) (given_written name here (field (field_name name) body))
+
 -- ---- drafts
 
 record IsActionDraft (n : ℕ) (d : ActionDraft) : Type 0 where
@@ -223,9 +273,24 @@ record IsPackageDraft (n : ℕ) (name : FullName) (d : PackageDraft) : Type 0 wh
   notes : IfSome d.notes (AreWithin n)
   binding : IfSome d.binding (λ (b : Option FullName). is_binding name.namespace b ≡ true)
 
+record IsRuleDraft (n : ℕ) (name : FullName) (d : RuleDraft) : Type 0 where
+  name_is : d.name ≡ name
+  alone : stands_alone name ≡ true
+  notes : IfSome d.notes (AreWithin n)
+  trigger : IfSome d.trigger (IsWritten name.namespace)
+  action : IfSome d.action (IsWritten name.namespace)
+
+record IsTriggerDraft (n : ℕ) (name : FullName) (d : TriggerDraft) : Type 0 where
+  name_is : d.name ≡ name
+  alone : stands_alone name ≡ true
+  params : IfSome d.params (AreWithin n)
+  notes : IfSome d.notes (AreWithin n)
+
 abbrev IsGoodDraft : ℕ → FullName → Draft → Type 0
 IsGoodDraft n name (drafts.Action d) = IsActionDraft n d
 IsGoodDraft n name (drafts.Package d) = IsPackageDraft n name d
+IsGoodDraft n name (drafts.Rule d) = IsRuleDraft n name d
+IsGoodDraft n name (drafts.Trigger d) = IsTriggerDraft n name d
 
 draft_by : (n : ℕ) (name : FullName) (o : Option EntityRefusal) (d : Draft) → IsGoodDraft n name d → IfOk (draft_unless o d) (IsGoodDraft n name)
 draft_by n name None d h = h
@@ -243,8 +308,19 @@ drafts_good n kinds.Package name body placed h = draft_by n name (first_refusal 
   notes = pairs_within fields.Annotations n body h;
   binding = binding_bound name.namespace body;
 })
-drafts_good n kinds.Rule name body placed h = tt
-drafts_good n kinds.Trigger name body placed h = tt
+drafts_good n kinds.Rule name body placed h = draft_by n name (first_refusal kinds.Rule name.namespace body) (rule_draft name body) (record {
+  name_is = refl;
+  alone = placed;
+  notes = pairs_within fields.Annotations n body h;
+  trigger = field_written fields.Trigger name.namespace body;
+  action = field_written fields.Action name.namespace body;
+})
+drafts_good n kinds.Trigger name body placed h = draft_by n name (first_refusal kinds.Trigger name.namespace body) (trigger_draft name body) (record {
+  name_is = refl;
+  alone = placed;
+  params = pairs_within fields.Parameters n body h;
+  notes = pairs_within fields.Annotations n body h;
+})
 
 bodies_good : (n : ℕ) (kind : EntityKind) (name : FullName) (body : V) → IsPlaced kind name → depth body ≤ suc (suc (suc n)) → IfOk (entity_of kind name body) (IsGoodDraft n name)
 unfolding entity_of
@@ -270,9 +346,26 @@ record IsGoodPackage (n : ℕ) (name : FullName) (p : Package) : Type 0 where
   notes : AreWithin n p.notes
   binding : is_binding name.namespace p.binding ≡ true
 
+record IsGoodRule (n : ℕ) (name : FullName) (r : Rule) : Type 0 where
+  name_is : r.name ≡ name
+  alone : stands_alone name ≡ true
+  version : is_version r.version ≡ true
+  notes : AreWithin n r.notes
+  trigger : IsWritten name.namespace r.trigger
+  action : IsWritten name.namespace r.action
+
+record IsGoodTrigger (n : ℕ) (name : FullName) (t : Trigger) : Type 0 where
+  name_is : t.name ≡ name
+  alone : stands_alone name ≡ true
+  version : is_version t.version ≡ true
+  params : AreWithin n t.params
+  notes : AreWithin n t.notes
+
 abbrev IsGoodRow : ℕ → FullName → Row → Type 0
 IsGoodRow n name (rows.Action a) = IsGoodAction n a
 IsGoodRow n name (rows.Package p) = IsGoodPackage n name p
+IsGoodRow n name (rows.Rule r) = IsGoodRule n name r
+IsGoodRow n name (rows.Trigger t) = IsGoodTrigger n name t
 
 -- versions are counted on from 1
 next_version : (n : ℕ) → is_version (n + 1) ≡ true
@@ -313,20 +406,81 @@ packages_good n name d (Some old) h k =
     unless (IsGoodPackage n name) _ LastVersion (package_over d old (old.version + 1))
     (package_over_good n name d old (old.version + 1) h (next_version old.version) before.params before.notes before.binding)
 
+rule_over_good : (n : ℕ) (name : FullName) (d : RuleDraft) (old : Rule) (version : ℕ) → IsRuleDraft n name d → is_version version ≡ true → AreWithin n old.notes
+    → IsWritten name.namespace old.trigger → IsWritten name.namespace old.action → IsGoodRule n name (rule_over d old version)
+rule_over_good n name d old version h counted notes trigger action = record {
+  name_is = h.name_is;
+  alone = h.alone;
+  version = counted;
+  notes = over (AreWithin n) d.notes old.notes h.notes notes;
+  trigger = over (IsWritten name.namespace) d.trigger old.trigger h.trigger trigger;
+  action = over (IsWritten name.namespace) d.action old.action h.action action;
+}
+
+new_rule_good : (n : ℕ) (name : FullName) (d : RuleDraft) (trigger action : Option FullName) → IsRuleDraft n name d → IfSome trigger (IsWritten name.namespace) → IfSome action (IsWritten name.namespace)
+    → IfOk (new_rule d trigger action) (IsGoodRule n name)
+new_rule_good n name d None action h t a = tt
+new_rule_good n name d (Some trigger) None h t a = tt
+new_rule_good n name d (Some trigger) (Some action) h t a = rule_over_good n name d (default_rule d.name trigger action) FIRST_VERSION h refl tt t a
+
+rules_good : (n : ℕ) (name : FullName) (d : RuleDraft) (o : Option Rule) → IsRuleDraft n name d → IfSome o (IsGoodRule n name) → IfOk (rule_made d o) (IsGoodRule n name)
+rules_good n name d None h k = new_rule_good n name d d.trigger d.action h h.trigger h.action
+rules_good n name d (Some old) h k =
+    let before : IsGoodRule n name old = k in
+    unless (IsGoodRule n name) _ LastVersion (rule_over d old (old.version + 1))
+    (rule_over_good n name d old (old.version + 1) h (next_version old.version) before.notes before.trigger before.action)
+
+trigger_over_good : (n : ℕ) (name : FullName) (d : TriggerDraft) (old : Trigger) (version : ℕ) → IsTriggerDraft n name d → is_version version ≡ true → AreWithin n old.params → AreWithin n old.notes
+    → IsGoodTrigger n name (trigger_over d old version)
+trigger_over_good n name d old version h counted params notes = record {
+  name_is = h.name_is;
+  alone = h.alone;
+  version = counted;
+  params = over (AreWithin n) d.params old.params h.params params;
+  notes = over (AreWithin n) d.notes old.notes h.notes notes;
+}
+
+triggers_good : (n : ℕ) (name : FullName) (d : TriggerDraft) (o : Option Trigger) → IsTriggerDraft n name d → IfSome o (IsGoodTrigger n name) → IfOk (trigger_made d o) (IsGoodTrigger n name)
+triggers_good n name d None h k = trigger_over_good n name d (default_trigger d.name) FIRST_VERSION h refl tt tt
+triggers_good n name d (Some old) h k =
+    let before : IsGoodTrigger n name old = k in
+    unless (IsGoodTrigger n name) _ LastVersion (trigger_over d old (old.version + 1))
+    (trigger_over_good n name d old (old.version + 1) h (next_version old.version) before.params before.notes)
+
 old_action_good : (n : ℕ) (name : FullName) (o : Option Row) → IfSome o (IsGoodRow n name) → IfSome (as_action o) (IsGoodAction n)
 old_action_good n name None h = tt
 old_action_good n name (Some (rows.Action a)) h = h
 old_action_good n name (Some (rows.Package p)) h = tt
+old_action_good n name (Some (rows.Rule r)) h = tt
+old_action_good n name (Some (rows.Trigger t)) h = tt
 
 old_package_good : (n : ℕ) (name : FullName) (o : Option Row) → IfSome o (IsGoodRow n name) → IfSome (as_package o) (IsGoodPackage n name)
 old_package_good n name None h = tt
 old_package_good n name (Some (rows.Action a)) h = tt
 old_package_good n name (Some (rows.Package p)) h = h
+old_package_good n name (Some (rows.Rule r)) h = tt
+old_package_good n name (Some (rows.Trigger t)) h = tt
+
+old_rule_good : (n : ℕ) (name : FullName) (o : Option Row) → IfSome o (IsGoodRow n name) → IfSome (as_rule o) (IsGoodRule n name)
+old_rule_good n name None h = tt
+old_rule_good n name (Some (rows.Action a)) h = tt
+old_rule_good n name (Some (rows.Package p)) h = tt
+old_rule_good n name (Some (rows.Rule r)) h = h
+old_rule_good n name (Some (rows.Trigger t)) h = tt
+
+old_trigger_good : (n : ℕ) (name : FullName) (o : Option Row) → IfSome o (IsGoodRow n name) → IfSome (as_trigger o) (IsGoodTrigger n name)
+old_trigger_good n name None h = tt
+old_trigger_good n name (Some (rows.Action a)) h = tt
+old_trigger_good n name (Some (rows.Package p)) h = tt
+old_trigger_good n name (Some (rows.Rule r)) h = tt
+old_trigger_good n name (Some (rows.Trigger t)) h = h
 
 rows_good : (n : ℕ) (name : FullName) (d : Draft) (old : Option Row) → IsGoodDraft n name d → IfSome old (IsGoodRow n name) → IfOk (finished_row d old) (IsGoodRow n name)
 unfolding finished_row
 rows_good n name (drafts.Action d) old h k = mapped (IsGoodAction n) (IsGoodRow n name) rows.Action (action_made d (as_action old)) (λ a g. g) (actions_good n d (as_action old) h (old_action_good n name old k))
 rows_good n name (drafts.Package d) old h k = mapped (IsGoodPackage n name) (IsGoodRow n name) rows.Package (package_made d (as_package old)) (λ p g. g) (packages_good n name d (as_package old) h (old_package_good n name old k))
+rows_good n name (drafts.Rule d) old h k = mapped (IsGoodRule n name) (IsGoodRow n name) rows.Rule (rule_made d (as_rule old)) (λ r g. g) (rules_good n name d (as_rule old) h (old_rule_good n name old k))
+rows_good n name (drafts.Trigger d) old h k = mapped (IsGoodTrigger n name) (IsGoodRow n name) rows.Trigger (trigger_made d (as_trigger old)) (λ t g. g) (triggers_good n name d (as_trigger old) h (old_trigger_good n name old k))
 
 -- ---- how deep rows nest
 
@@ -345,12 +499,18 @@ within_nested : (n : ℕ) (ps : Pairs) → nested ps ≤ suc n → AreWithin n p
 within_nested n [] h = tt
 within_nested n (p ∷ ps) h = (omega arith, within_nested n ps (omega arith))
 
--- what is written of an action or of a package, by how deep its notes, its parameters and its binding nest
+-- what is written of a row, by how deep its notes, its parameters and its binding nest
 abbrev action_depth : ℕ → ℕ → ℕ
 action_depth notes params = suc (max (suc notes) (max 1 (max 1 (max 0 (max 0 (max (suc params) (max 0 (max 0 0))))))))
 
 abbrev package_depth : ℕ → ℕ → ℕ → ℕ
 package_depth notes binding params = suc (max (suc notes) (max binding (max 0 (max 0 (max (suc params) (max 0 (max 0 0)))))))
+
+abbrev rule_depth : ℕ → ℕ
+rule_depth notes = suc (max 0 (max (suc notes) (max 0 (max 0 (max 0 (max 0 (max 0 (max 0 0))))))))
+
+abbrev trigger_depth : ℕ → ℕ → ℕ
+trigger_depth notes params = suc (max (suc notes) (max 0 (max 0 (max (suc params) (max 0 (max 0 0))))))
 
 action_within : (n notes params : ℕ) → notes ≤ suc n → params ≤ suc n → action_depth notes params ≤ suc (suc (suc n))
 action_within n notes params h k = omega arith
@@ -364,12 +524,24 @@ package_within n notes binding params e h k = omega arith
 package_parts : (n notes binding params : ℕ) → package_depth notes binding params ≤ suc (suc (suc n)) → (notes ≤ suc n) × (params ≤ suc n)
 package_parts n notes binding params h = (omega arith, omega arith)
 
+rule_within : (n notes : ℕ) → notes ≤ suc n → rule_depth notes ≤ suc (suc (suc n))
+rule_within n notes h = omega arith
+
+rule_parts : (n notes : ℕ) → rule_depth notes ≤ suc (suc (suc n)) → notes ≤ suc n
+rule_parts n notes h = omega arith
+
+trigger_within : (n notes params : ℕ) → notes ≤ suc n → params ≤ suc n → trigger_depth notes params ≤ suc (suc (suc n))
+trigger_within n notes params h k = omega arith
+
+trigger_parts : (n notes params : ℕ) → trigger_depth notes params ≤ suc (suc (suc n)) → (notes ≤ suc n) × (params ≤ suc n)
+trigger_parts n notes params h = (omega arith, omega arith)
+
 binding_depth : (o : Option FullName) → depth (binding_value o) ≡ 1
 binding_depth None = refl
 binding_depth (Some bound) = refl
 
 -- the values of pairs nest three less deep than a body that lists them, or than a row that is written of them
-abbrev most_within : ℕ
+abbrev pub most_within : ℕ
 most_within = 97
 
 action_written : (a : Action) → IsGoodAction most_within a → depth (action_value a) ≤ most_nested
@@ -389,6 +561,20 @@ package_read p h =
     let parts = package_parts most_within (nested p.notes) (depth (binding_value p.binding)) (nested p.params) h in
     (within_nested most_within p.params parts.1, within_nested most_within p.notes parts.0)
 
+rule_written : (r : Rule) → AreWithin most_within r.notes → depth (rule_value r) ≤ most_nested
+rule_written r notes = rule_within most_within (nested r.notes) (nested_within most_within r.notes notes)
+
+rule_read : (r : Rule) → depth (rule_value r) ≤ most_nested → AreWithin most_within r.notes
+rule_read r h = within_nested most_within r.notes (rule_parts most_within (nested r.notes) h)
+
+trigger_written : (t : Trigger) → AreWithin most_within t.params → AreWithin most_within t.notes → depth (trigger_value t) ≤ most_nested
+trigger_written t params notes = trigger_within most_within (nested t.notes) (nested t.params) (nested_within most_within t.notes notes) (nested_within most_within t.params params)
+
+pub trigger_read : (t : Trigger) → depth (trigger_value t) ≤ most_nested → AreWithin most_within t.params × AreWithin most_within t.notes
+trigger_read t h =
+    let parts = trigger_parts most_within (nested t.notes) (nested t.params) h in
+    (within_nested most_within t.params parts.1, within_nested most_within t.notes parts.0)
+
 -- ---- a row that is writable, as what it holds
 
 good_from : (name : FullName) (r : Row) → IsWritable r → name_of r ≡ name → IsGoodRow most_within name r
@@ -406,6 +592,28 @@ good_from name (rows.Package p) h e =
       notes = parts.1;
       binding = subst (λ (m : FullName). is_binding m.namespace p.binding ≡ true) e named.1;
     }
+good_from name (rows.Rule r) h e =
+    let counted = and_parts (is_version r.version) (stands_alone r.name && (is_written r.name.namespace r.trigger && is_written r.name.namespace r.action)) h.entity in
+    let named = and_parts (stands_alone r.name) (is_written r.name.namespace r.trigger && is_written r.name.namespace r.action) counted.1 in
+    let joins = and_parts (is_written r.name.namespace r.trigger) (is_written r.name.namespace r.action) named.1 in
+    record {
+      name_is = e;
+      alone = subst (λ (m : FullName). stands_alone m ≡ true) e named.0;
+      version = counted.0;
+      notes = rule_read r (leb-true (depth (rule_value r)) most_nested h.shallow);
+      trigger = subst (λ (m : FullName). IsWritten m.namespace r.trigger) e joins.0;
+      action = subst (λ (m : FullName). IsWritten m.namespace r.action) e joins.1;
+    }
+good_from name (rows.Trigger t) h e =
+    let parts = trigger_read t (leb-true (depth (trigger_value t)) most_nested h.shallow) in
+    let counted = and_parts (is_version t.version) (stands_alone t.name) h.entity in
+    record {
+      name_is = e;
+      alone = subst (λ (m : FullName). stands_alone m ≡ true) e counted.1;
+      version = counted.0;
+      params = parts.0;
+      notes = parts.1;
+    }
 
 writable_from : (name : FullName) (r : Row) → IsGoodRow most_within name r → IsWritable r
 unfolding row_value
@@ -415,6 +623,18 @@ writable_from name (rows.Package p) h = record {
   entity = and_from (is_version p.version) (stands_alone p.name && is_binding p.name.namespace p.binding) h.version
       (and_from (stands_alone p.name) (is_binding p.name.namespace p.binding) (subst (λ (m : FullName). stands_alone m ≡ true) (sym h.name_is) h.alone)
       (subst (λ (m : FullName). is_binding m.namespace p.binding ≡ true) (sym h.name_is) h.binding));
+}
+writable_from name (rows.Rule r) h = record {
+  shallow = le-leb (depth (rule_value r)) most_nested (rule_written r h.notes);
+  entity = and_from (is_version r.version) (stands_alone r.name && (is_written r.name.namespace r.trigger && is_written r.name.namespace r.action)) h.version
+      (and_from (stands_alone r.name) (is_written r.name.namespace r.trigger && is_written r.name.namespace r.action) (subst (λ (m : FullName). stands_alone m ≡ true) (sym h.name_is) h.alone)
+      (and_from (is_written r.name.namespace r.trigger) (is_written r.name.namespace r.action)
+      (subst (λ (m : FullName). IsWritten m.namespace r.trigger) (sym h.name_is) h.trigger)
+      (subst (λ (m : FullName). IsWritten m.namespace r.action) (sym h.name_is) h.action)));
+}
+writable_from name (rows.Trigger t) h = record {
+  shallow = le-leb (depth (trigger_value t)) most_nested (trigger_written t h.params h.notes);
+  entity = and_from (is_version t.version) (stands_alone t.name) h.version (subst (λ (m : FullName). stands_alone m ≡ true) (sym h.name_is) h.alone);
 }
 
 old_good : (name : FullName) (o : Option Row) → IfSome o (λ (r : Row). IsWritable r × (name_of r ≡ name)) → IfSome o (IsGoodRow most_within name)

@@ -4,7 +4,7 @@ use Rattle.std.specs.List.{AllByRecursion}
 use Rattle.ow_names.specs.FullName.{IsFullName}
 use Rattle.ow_entity.specs.Row.{name_of}
 use Rattle.ow_entity.specs.declared.rows.Row.{Row}
-use Rattle.ow_floor.specs.Trace.{Item, Trace, Accepted, Begun, Ended, Ordered, Resumed}
+use Rattle.ow_floor.specs.Trace.{Item, Trace, Accepted, Begun, Drawn, Ended, Fired, Ordered, Resumed}
 use Rattle.ow_floor.specs.declared.runs.Run.{Run}
 use Rattle.ow_items.specs.declared.item.Item.{Item as KeptItem}
 use Rattle.ow_items.specs.declared.item.Item.TheVariants as items
@@ -43,12 +43,15 @@ pub record IsDue (r : Run) : Type 0 where
   pub ordered : r.at ≤ GREATEST_MOMENT
   pub began : IfSome r.begun (λ at. at ≤ GREATEST_MOMENT)
 
--- what is accepted, ordered, begun or ended is within the greatest moment, and so is what was taken over
+-- what is accepted, ordered, begun or ended is within the greatest moment, and so is what was taken over; an id that is drawn for a fire counts from 1, and its
+-- record may be kept
 abbrev pub IsEarly : Item → Type 0
 IsEarly (Accepted a) = IsTimely a
 IsEarly (Ordered r key) = IsDue r
 IsEarly (Begun run at) = at ≤ GREATEST_MOMENT
 IsEarly (Ended e) = (e.at ≤ GREATEST_MOMENT) × IfSome e.run IsDue
+IsEarly (Drawn id at) = 1 ≤ id.count
+IsEarly (Fired r) = IsLasting (items.Done r)
 IsEarly (Resumed counts rs) = AllByRecursion (λ id. 1 ≤ id.count) counts × AllByRecursion (λ r. IsLasting (items.Done r)) rs
 IsEarly item = Unit {0}
 

@@ -13,14 +13,12 @@ use Rattle.ow_entity.specs.declared.rows.Row.{Row}
 use Rattle.ow_items.specs.declared.item.Item.TheVariants as items
 use Rattle.ow_keep.specs.Allowed.{is_entity, is_shallow, stands_alone}
 
--- a package is named outside packages
+-- packages, rules and triggers are named outside packages
 abbrev pub IsPlaced : EntityKind → FullName → Type 0
 IsPlaced kinds.Action name = Unit {0}
-IsPlaced kinds.Package name = stands_alone name ≡ true
-IsPlaced kinds.Rule name = Unit {0}
-IsPlaced kinds.Trigger name = Unit {0}
+IsPlaced kind name = stands_alone name ≡ true
 
--- a row of an entity that is read back as it was written, as far as its nesting and its binding go
+-- a row of an entity that is read back as it was written, as far as its nesting and the names in it go
 pub record IsWritable (r : Row) : Type 0 where
   pub shallow : is_shallow (items.Row r) ≡ true
   pub entity : is_entity r ≡ true

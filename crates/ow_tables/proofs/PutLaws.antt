@@ -29,6 +29,8 @@ no_action : (name : FullName) (p : Package) (x : Row) → key_of (entities.Packa
 unfolding first_of_key
 no_action name p (entities.Action a) e = absurd (omega (arith, ap first_of_key e))
 no_action name p (entities.Package q) e = refl
+no_action name p (entities.Rule r) e = refl
+no_action name p (entities.Trigger t) e = refl
 
 pub actions_stay : (name : FullName) (p : Package) (xs : List Row) → actions_in name (with_row (entities.Package p) xs) ≡ actions_in name xs
 actions_stay name p [] = refl

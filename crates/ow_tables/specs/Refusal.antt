@@ -22,6 +22,7 @@ use Rattle.ow_tables.specs.declared.refusal.TableRefusal.{TableRefusal}
 use Rattle.ow_tables.specs.declared.refusal.TableRefusal.TheVariants.{NotFound, BindsABinding, Exists, NotEmpty, Entity, NoMemory}
 use Rattle.ow_tables.specs.Rows.{found, standing}
 use Rattle.ow_tables.specs.Inside.{holds_actions}
+use Rattle.ow_tables.specs.Joined.{rule_at, joined_refusal}
 
 abbrev pub table_refusal_number : TableRefusal → ℕ
 table_refusal_number NoMemory = 0
@@ -57,6 +58,11 @@ binds_refusal (Some p) = if is_some p.binding then Some BindsABinding else None
 abbrev pub unfillable : Option Package → Option TableRefusal
 unfillable None = Some NotFound
 unfillable (Some p) = binds_refusal (Some p)
+
+-- a rule joins what its namespace lacks: its trigger, or an action that the namespace can call
+abbrev pub rule_refusal : Draft → List Row → Option TableRefusal
+rule_refusal (drafts.Rule d) rows = joined_refusal (standing rows) d (rule_at (standing rows) d.name)
+rule_refusal draft rows = None
 
 -- nothing can be put into the package of the name in which a draft lies
 abbrev pub package_refusal : Option FullName → List Row → Option TableRefusal
@@ -100,7 +106,8 @@ old_row draft rows = found (draft_kind draft) (draft_name draft) rows
 -- the first refusal of a put, in this order
 abbrev pub put_refusal : Draft → Bool → List Row → Option TableRefusal
 put_refusal draft overwrite rows = first_some (
-    package_refusal (package_of (draft_name draft)) rows
+    rule_refusal draft rows
+    ∷ package_refusal (package_of (draft_name draft)) rows
     ∷ target_refusal (target_of draft) (draft_name draft).namespace rows
     ∷ exists_refusal overwrite (old_row draft rows)
     ∷ finish_refusal draft (old_row draft rows)

@@ -17,6 +17,7 @@ pub fn is_builtin(row: &Row) -> bool
     match row {
         Row::Action(_) => is_echo(name),
         Row::Package(_) => is_utils(name),
+        Row::Rule(_) | Row::Trigger(_) => false,
     }
 }
 

@@ -4,6 +4,7 @@
 //! which may be refused and takes all the memory, and is made then, which does neither.
 mod builtin;
 mod inside;
+mod joined;
 mod listing;
 mod ready;
 mod refusal;
@@ -11,6 +12,7 @@ mod row_order;
 mod tables;
 
 pub use builtin::is_builtin;
+pub use joined::rule_at;
 pub use ready::Ready;
 pub use refusal::TableRefusal;
 pub use tables::Tables;

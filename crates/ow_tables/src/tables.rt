@@ -1,5 +1,5 @@
 // The rows of the entities that stand.
-ghost use Rattle.std.specs.Prelude.{◌≡◌, ◌≢◌, ◌≤◌, ◌+◌, is_some, length, map, Option, List, [], ◌∷◌, true, false, Some, None, Ok, IfOk, OnOk, IfErr, OnErr, MatchResult};
+ghost use Rattle.std.specs.Prelude.{◌≡◌, ◌≢◌, ◌≤◌, ◌+◌, is_some, length, map, filter, Option, List, [], ◌∷◌, true, false, Some, None, Ok, IfOk, OnOk, IfErr, OnErr, MatchResult};
 ghost use Rattle.std.specs.Result.{result_err};
 ghost use Rattle.std.specs.Option.{option_copied};
 ghost use Rattle.ow_names.specs.declared.full.FullName.{FullName};
@@ -12,13 +12,14 @@ ghost use Rattle.ow_entity.specs.Written.{package_entry};
 ghost use Rattle.ow_packages.specs.Access.{package_at, package_of, reached_package};
 ghost use Rattle.ow_tables.specs.declared.refusal.TableRefusal.{TableRefusal};
 ghost use Rattle.ow_tables.specs.Builtin.{builtin};
-ghost use Rattle.ow_tables.specs.Rows.{AreRows, standing, found, found_after, with_row, resumed, changed, listing};
+ghost use Rattle.ow_tables.specs.Rows.{AreRows, standing, found, found_after, with_row, resumed, changed, listing, stands_in};
 ghost use Rattle.ow_tables.specs.Inside.{actions_behind, shown_actions};
-ghost use Rattle.ow_tables.specs.Refusal.{package_refusal, target_of, target_refusal, exists_refusal, finish_refusal, bound_refusal, holding_refusal, old_row, put_refusal, remove_refusal};
+ghost use Rattle.ow_tables.specs.Refusal.{package_refusal, target_of, target_refusal, exists_refusal, finish_refusal, bound_refusal, holding_refusal, old_row, put_refusal, rule_refusal, remove_refusal};
 
 use crate::builtin::{echo, utils};
 use crate::inside::{actions_in, holds_actions};
-use crate::listing::listing;
+use crate::joined::{check_joined, rule_at};
+use crate::listing::{listing, part};
 use crate::ready::Ready;
 use crate::refusal::TableRefusal;
 use crate::row_order::{order, place};
@@ -87,6 +88,20 @@ impl Tables {
         })
     }
 
+    /// Makes the row ready to be stored as it is. This takes all the memory that the change needs.
+    pub fn prepare_row(&mut self, row: Row) -> Result<Ready, NoMemory>
+        ensures ready { IfOk result (λ r. r ≡ record { row = row; removes = false }) }
+        ensures rows { self.new.rows ≡ self.old.rows }
+        ensures room { OnOk result (1 ≤ self.new.room) }
+        ensures unchanged { OnErr result (self.new ≡ self.old) }
+    {
+        self.make_room(1)?;
+        Ok(Ready {
+            row,
+            removes: false,
+        })
+    }
+
     /// Makes the row of the kind and the name ready to be taken out.
     pub fn prepare_remove(
         &mut self,
@@ -138,6 +153,13 @@ impl Tables {
         ensures { result.now ≡ self.now.rows }
     {
         &self.rows
+    }
+
+    /// The rows of the kind in the namespace, in packages too, lent, in their order.
+    pub fn rows_in(&self, kind: EntityKind, namespace: &EntityName) -> &[Row]
+        ensures { result.now ≡ filter (stands_in kind namespace.now) self.now.rows }
+    {
+        part(&self.rows, kind, namespace)
     }
 
     /// Makes known that the rows stand in order, none twice.
@@ -228,6 +250,17 @@ impl Tables {
     {
         self.rows.reserve(count)?;
         Ok(())
+    }
+
+    // That a rule's trigger is in its namespace, and its action can be called from there.
+    fn check_joined(&self, alloc: Global, draft: &Draft) -> Result<(), TableRefusal>
+        ensures { MatchResult result (λ _. rule_refusal draft.now self.now.rows ≡ None)
+            (λ e. e ≢ TableRefusal.NoMemory → rule_refusal draft.now self.now.rows ≡ Some e) }
+    {
+        match draft {
+            Draft::Rule(draft) => check_joined(alloc, self, draft, rule_at(self, &draft.name)),
+            _ => Ok(()),
+        }
     }
 
     // That the package in which the name lies, if any, stands and is no binding.
@@ -326,14 +359,16 @@ impl Tables {
         }
     }
 
-    // That the draft can lie where it is to lie, and bind what it is to bind.
+    // That the draft can join what it is to join, lie where it is to lie, and bind what it is to bind.
     fn check_put(&self, alloc: Global, draft: &Draft) -> Result<(), TableRefusal>
+        ensures joined { OnOk result (rule_refusal draft.now self.now.rows ≡ None) }
         ensures place { OnOk result (package_refusal (package_of (draft_name draft.now)) self.now.rows ≡ None) }
         ensures target { OnOk result (target_refusal (target_of draft.now) (draft_name draft.now).namespace self.now.rows ≡ None) }
         ensures refused { IfErr result (λ e. e ≢ TableRefusal.NoMemory → (rest : List (Option TableRefusal))
-            → first_some (package_refusal (package_of (draft_name draft.now)) self.now.rows
+            → first_some (rule_refusal draft.now self.now.rows ∷ package_refusal (package_of (draft_name draft.now)) self.now.rows
             ∷ target_refusal (target_of draft.now) (draft_name draft.now).namespace self.now.rows ∷ rest) ≡ Some e) }
     {
+        self.check_joined(alloc, draft)?;
         self.check_package(alloc, draft.name())?;
         self.check_target(draft)
     }
@@ -423,10 +458,10 @@ fn target_of(draft: &Draft) -> Option<&FullName>
     ensures { option_copied result ≡ target_of draft.now }
 {
     match draft {
-        Draft::Action(_) => None,
         Draft::Package(draft) => match &draft.binding {
             Some(Some(target)) => Some(target),
             Some(None) | None => None,
         },
+        _ => None,
     }
 }

@@ -30,18 +30,18 @@ impl Window {
         }
     }
 
-    /// Makes room for that many invocations, and for a fire.
+    /// Makes room for that many invocations and as many fires.
     pub(crate) fn reserve(&mut self, count: u32) -> Result<(), NoMemory>
         ensures stands { (notes : Notes) (namespace : List ℕ) → Stands namespace self.old notes → Stands namespace self.new notes }
         ensures keeps { (n f : ℕ) → HasRoom n f self.old → HasRoom n f self.new }
-        ensures room { OnOk result (HasRoom count 1 self.new) }
+        ensures room { OnOk result (HasRoom count count self.new) }
         ensures running { self.new.running ≡ self.old.running }
     {
         if u64::MAX - self.running < u64::from(count) {
             return Err(NoMemory);
         }
         self.invocations.reserve(count as usize)?;
-        self.fires.reserve(1)
+        self.fires.reserve(count as usize)
     }
 
     /// One more invocation.

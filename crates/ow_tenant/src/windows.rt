@@ -83,6 +83,16 @@ impl Windows {
         Ok(())
     }
 
+    /// How many invocations of the namespace there were in the last minute.
+    pub fn minute(&self, namespace: &EntityName, now: u64) -> u64
+        ensures { (notes : Notes) → StandsAs self.now notes → latest notes ≤ now → result ≡ minute notes namespace.now now }
+    {
+        match self.windows.find(namespace.as_str().as_bytes()) {
+            Some(window) => window.invocations.count(now) as u64,
+            None => 0,
+        }
+    }
+
     /// How many invocations of the namespace have not ended.
     pub fn concurrent(&self, namespace: &EntityName) -> u64
         ensures notes { (notes : Notes) → StandsAs self.now notes → result ≡ concurrent notes namespace.now }
@@ -105,7 +115,7 @@ impl Windows {
         self.reserve_many(alloc, namespace, 1)
     }
 
-    /// Makes room for that many `note`s and one `note_fire`.
+    /// Makes room for that many `note`s and as many `note_fire`s.
     pub fn reserve_many(
         &mut self,
         alloc: Global,
@@ -116,7 +126,7 @@ impl Windows {
         ensures others { KeepsOthers namespace.now self.old self.new }
         ensures keeps { (n f : ℕ) → HasRoomIn namespace.now n f self.old → HasRoomIn namespace.now n f self.new }
         ensures running { (window_of namespace.now self.new).running ≡ (window_of namespace.now self.old).running }
-        ensures room { OnOk result (HasRoomIn namespace.now count 1 self.new) }
+        ensures room { OnOk result (HasRoomIn namespace.now count count self.new) }
     {
         if self.windows.find(namespace.as_str().as_bytes()).is_none() {
             return self.start(alloc, namespace, count);
@@ -134,7 +144,7 @@ impl Windows {
         ensures others { KeepsOthers namespace.now self.old self.new }
         ensures keeps { (n f : ℕ) → HasRoomIn namespace.now n f self.old → HasRoomIn namespace.now n f self.new }
         ensures running { (window_of namespace.now self.new).running ≡ (window_of namespace.now self.old).running }
-        ensures room { OnOk result (HasRoomIn namespace.now count 1 self.new) }
+        ensures room { OnOk result (HasRoomIn namespace.now count count self.new) }
     {
         let mut window = Window::new(alloc);
         window.reserve(count)?;
@@ -207,15 +217,6 @@ impl Windows {
 }
 
 impl Windows {
-    fn minute(&self, namespace: &EntityName, now: u64) -> u64
-        ensures { (notes : Notes) → StandsAs self.now notes → latest notes ≤ now → result ≡ minute notes namespace.now now }
-    {
-        match self.windows.find(namespace.as_str().as_bytes()) {
-            Some(window) => window.invocations.count(now) as u64,
-            None => 0,
-        }
-    }
-
     fn fires(&self, namespace: &EntityName, now: u64) -> u64
         ensures { (notes : Notes) → StandsAs self.now notes → latest notes ≤ now → result ≡ fires notes namespace.now now }
     {

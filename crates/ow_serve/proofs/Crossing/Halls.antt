@@ -12,6 +12,7 @@ use Rattle.ow_hall.below.ow_records.specs.contracts.records.Records as Records
 use Rattle.ow_hall.below.ow_slots.specs.contracts.slots.Slots as Slots
 use Rattle.ow_hall.below.ow_records.specs.contracts.activations.Activation as Activation
 use Rattle.ow_floor.specs.contracts.kept_slots.KeptSlots as KeptSlots
+use Rattle.ow_floor.specs.contracts.lists.Marks as Marks
 use Rattle.ow_floor.specs.contracts.lists.Lists as Lists
 use Rattle.ow_floor.specs.contracts.floor.Floor as Floor
 use Rattle.ow_hall.below.ow_counts.specs.contracts.counts.Counts as Counts
@@ -60,8 +61,11 @@ activation_sync = search (values, action_sync) depth 50 fits 20000
 kept_slots_send : IsSend (KeptSlots.the_field).row
 kept_slots_send = search (values, slots_send) depth 50 fits 20000
 
+marks_send : IsSend (Marks.the_field).row
+marks_send = search values depth 50 fits 20000
+
 lists_send : IsSend (Lists.the_field).row
-lists_send = search (values, kept_send, activation_send, activation_sync, records_send, kept_slots_send) depth 50 fits 20000
+lists_send = search (values, marks_send, kept_send, activation_send, activation_sync, records_send, kept_slots_send) depth 50 fits 20000
 
 floor_send : IsSend (Floor.the_field).row
 floor_send = search (values, lists_send) depth 50 fits 20000

@@ -1,4 +1,4 @@
-use Rattle.ow_counts.proofs.Noting.{concurrent_noted, ended_were_invoked, minute_noted}
+use Rattle.ow_counts.proofs.Noting.{concurrent_noted, ended_were_invoked, fires_noted, minute_noted}
 use Rattle.ow_counts.proofs.laws.notes_count_what_happened.Goals as goal
 
 pub returns-clause-minute : goal.returns-clause-minute
@@ -9,3 +9,6 @@ returns-clause-concurrent c = concurrent_noted
 
 pub returns-clause-ended : goal.returns-clause-ended
 returns-clause-ended c = ended_were_invoked
+
+pub returns-clause-fires : goal.returns-clause-fires
+returns-clause-fires c = fires_noted

@@ -6,7 +6,7 @@ use Rattle.ow_floor.proofs.ends.abandon.Goals as goal
 
 pub loop-i-init : goal.loop-i-init
 loop-i-init c = record {
-  made = rw c.new-happened.ensures.items (abandoning_start c.args.at c.args.lists.now.now c.in_ok-places.places.items c.requires (rw (← c.tasks.ensures) c.in_ok-places.ensures));
+  made = abandoning_start c.args.at c.args.lists.now.now c.in_ok-places.places.items c.args.moves.now c.requires (rw (← c.tasks.ensures) c.in_ok-places.ensures);
   past = refl;
 }
 
@@ -17,13 +17,13 @@ abandon_at-requires-clause-within c =
 
 pub loop-i-preserved : goal.loop-i-preserved
 loop-i-preserved c =
-    let one = subst (λ (p : OpenPlace). IsAbandonedAt c.args.at p.place c.loop-i.lists.now c.abandon_at.new.lists.now c.loop-i.happened.items c.abandon_at.new.happened.items) c.index.ensures c.in_ok-abandon_at.ensures.made in
+    let one = subst (λ (p : OpenPlace). IsAbandonedAt c.args.at p.place c.loop-i.lists.now c.abandon_at.new.lists.now c.loop-i.moves c.abandon_at.new.moves) c.index.ensures c.in_ok-abandon_at.ensures.made in
     record {
-      made = abandons_at c.args.at c.args.lists.now.now c.loop-i.lists.now c.abandon_at.new.lists.now c.in_ok-places.places.items c.loop-i.i c.index.result.now c.loop-i.happened.items c.abandon_at.new.happened.items
+      made = abandons_at c.args.at c.args.lists.now.now c.loop-i.lists.now c.abandon_at.new.lists.now c.in_ok-places.places.items c.loop-i.i c.index.result.now c.args.moves.now c.loop-i.moves c.abandon_at.new.moves
           (omega arith) c.abandon_at.ensures.good one c.loop-i.invariant.made;
       past = c.abandon_at.ensures.past ∙ c.loop-i.invariant.past;
     }
 
 pub returns-clause-made : goal.returns-clause-made
 returns-clause-made c =
-    abandoning_end c.args.at c.args.lists.now.now c.loop-i.lists.now c.in_ok-places.places.items c.loop-i.i c.loop-i.happened.items (omega arith) c.loop-i.invariant.made
+    abandoning_end c.args.at c.args.lists.now.now c.loop-i.lists.now c.in_ok-places.places.items c.loop-i.i c.args.moves.now c.loop-i.moves (omega arith) c.loop-i.invariant.made

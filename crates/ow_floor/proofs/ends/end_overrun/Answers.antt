@@ -8,13 +8,13 @@ use Rattle.ow_floor.proofs.ends.end_overrun.Goals as goal
 
 pub overrun-requires : goal.overrun-requires
 overrun-requires c =
-    subst (λ ss. IsThere IsUnrecorded (first_with (runs c.args.run.number) ss)) (sym (ap (λ R. R.slots) c.in_ok-happening.ensures.made.now)) c.requires.late.unrecorded
+    subst (λ ss. IsThere IsUnrecorded (first_with (runs c.args.run.number) ss)) (sym (ap (λ R. R.slots) c.in_ok-end_at.ensures.made.now)) c.requires.late.unrecorded
 
 pub returns-clause-good : goal.returns-clause-good
 returns-clause-good c =
     let event = lives.Overran c.args.run.number c.args.at in
     rw c.in_ok-overrun.ensures.now
-    (good_event c.end_at.new.lists.now c.args.at event (within_kept event c.end_at.new.lists.now.slots c.end_at.new.lists.now.pool refl c.in_ok-happening.ensures.good.pool) c.in_ok-happening.ensures.good)
+    (good_event c.end_at.new.lists.now c.args.at event (within_kept event c.end_at.new.lists.now.slots c.end_at.new.lists.now.pool refl c.in_ok-end_at.ensures.good.pool) c.in_ok-end_at.ensures.good)
 
 pub returns-clause-made : goal.returns-clause-made
-returns-clause-made c = record { middle = c.end_at.new.lists.now; ended = c.in_ok-happening.ensures.made; now = c.in_ok-overrun.ensures.now }
+returns-clause-made c = record { middle = c.end_at.new.lists.now; ended = c.in_ok-end_at.ensures.made; now = c.in_ok-overrun.ensures.now }

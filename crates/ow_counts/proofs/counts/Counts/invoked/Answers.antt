@@ -1,12 +1,22 @@
-use Rattle.std.proofs.Common.{◌+◌, ap, subst, sym}
+use Rattle.std.proofs.Common.{◌+◌, ap, subst, sym, arith}
 use Rattle.ow_value.specs.ByText.{ByText}
-use Rattle.ow_tenant.specs.Windows.{StandsAs}
+use Rattle.ow_tenant.specs.Windows.{HasRoomIn, StandsAs, window_of}
 use Rattle.ow_tenant.specs.declared.window.Window.{Window}
 use Rattle.ow_counts.specs.View.{CountsView}
 use Rattle.ow_counts.proofs.Keeping.{keeps_invoked}
+use Rattle.ow_counts.proofs.Moving.{all_rooms, fewer_fires}
 use Rattle.ow_counts.proofs.counts.Counts.invoked.Goals as goal
 
-pub returns : goal.returns
-returns c ns later h =
+pub returns-clause-notes : goal.returns-clause-notes
+returns-clause-notes c ns later h =
     let inside = subst (λ (ws : ByText Window). StandsAs ws ns) (sym (ap (λ (v : CountsView). v.windows) c.self.view_is)) h.windows in
     keeps_invoked c.args.self.now _ c.args.namespace.now c.args.at ns (c.note.ensures.notes ns later inside) (ap (λ (v : CountsView). v.busy + 1) c.self.view_is) h
+
+pub returns-clause-room : goal.returns-clause-room
+returns-clause-room c name n h =
+    let inside = subst (λ (ws : ByText Window). HasRoomIn name (n + 1) (n + 1) ws) (sym (ap (λ (v : CountsView). v.windows) c.self.view_is)) h in
+    all_rooms c.args.namespace.now c.self.inside.windows c.note.new.self (n + 1) n (omega arith) c.note.ensures.others
+    (λ room. fewer_fires n (window_of c.args.namespace.now c.note.new.self) (c.note.ensures.room n (n + 1) room)) name inside
+
+pub returns-clause-busy : goal.returns-clause-busy
+returns-clause-busy c = ap (λ (v : CountsView). v.busy + 1) c.self.view_is

@@ -11,9 +11,22 @@ use Rattle.ow_desk.proofs.receipts.Receipts.ask.Goals as goal
 pub reply_in-requires : goal.reply_in-requires
 reply_in-requires g c = subst (λ (t : Told). IsSome (reply_in t)) (sym c.in-Ok.ensures.received.comes.0) (ask_replies _ _)
 
+pub returns-in_err-failed-clause-received : goal.returns-in_err-failed-clause-received
+returns-in_err-failed-clause-received g c =
+    (Wants, wants_of c.from_residual.result c.from_residual.ensures.0, nothing_received g.P.Keeper.telling c.args.desk.now c.args.at (events.Asked c.args.request.now) c.args.self.now.notes c.args.self.now.notes refl)
+
+pub returns-in_err-copy-clause-received : goal.returns-in_err-copy-clause-received
+returns-in_err-copy-clause-received g c =
+    (Wants, wants_of c.from_residual-in_err-copy.result c.from_residual-in_err-copy.ensures.0, nothing_received g.P.Keeper.telling c.args.desk.now c.args.at (events.Asked c.args.request.now) c.args.self.now.notes c.args.self.now.notes refl)
+
+pub returns-in_err-request-clause-received : goal.returns-in_err-request-clause-received
+returns-in_err-request-clause-received g c =
+    (Wants, wants_of c.from_residual-in_err-request.result c.from_residual-in_err-request.ensures.0, nothing_received g.P.Keeper.telling c.args.desk.now c.args.at (events.Asked c.args.request.now) c.args.self.now.notes c.args.self.now.notes refl)
+
 pub returns-in_err-failed-clause-called : goal.returns-in_err-failed-clause-called
 returns-in_err-failed-clause-called g c =
-    let received : (o : Outcome) × Replies c.from_residual.result o × IsReceived g.P.Keeper.telling c.args.desk.now c.args.desk.now c.args.at (events.Asked c.args.request.now) o c.args.self.now.notes c.args.self.now.notes = search rules in
+    let received : (o : Outcome) × Replies c.from_residual.result o × IsReceived g.P.Keeper.telling c.args.desk.now c.args.desk.now c.args.at (events.Asked c.args.request.now) o c.args.self.now.notes c.args.self.now.notes =
+    (Wants, wants_of c.from_residual.result c.from_residual.ensures.0, nothing_received g.P.Keeper.telling c.args.desk.now c.args.at (events.Asked c.args.request.now) c.args.self.now.notes c.args.self.now.notes refl) in
     reply_was_called g.P.Keeper.telling c.args.desk.now c.args.desk.now c.args.at (events.Asked c.args.request.now) c.from_residual.result c.args.self.now.notes c.args.self.now.notes received
 
 pub returns-in_err-copy-clause-called : goal.returns-in_err-copy-clause-called

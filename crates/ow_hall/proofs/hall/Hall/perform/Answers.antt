@@ -36,7 +36,7 @@ note-requires-clause-ends g c =
 
 pub note-requires-clause-room : goal.note-requires-clause-room
 note-requires-clause-room g c =
-    subst (λ (v : CountsView). HasRoomOf c.in-Ok.step.invoked v) (sym (c.apply.ensures.counts ∙ c.settle-2.ensures.counts)) c.in-Ok.ensures.counter
+    subst (λ (v : CountsView). HasRoomOf c.in-Ok.step.fire c.in-Ok.step.invoked v) (sym (c.apply.ensures.counts ∙ c.settle-2.ensures.counts)) c.in-Ok.ensures.counter
 
 pub keep-requires : goal.keep-requires
 keep-requires g c =
@@ -78,7 +78,7 @@ invariant_of-self-2 g c =
     let noted_so = noted t L old mid put c.note.new.self now event step c.ended-before.result c.self.invariant.0 c.requires.later late c.ended-before.ensures done c.in-Ok.ensures.counts made
     (c.apply.ensures.counts ∙ c.settle-2.ensures.counts) c.note.ensures.counts in
     let counts = subst (λ (v : CountsView). StandsFor v (notes_of T)) (sym c.keep.ensures.counts) noted_so in
-    let kept : KeepsCommit step.commit old.keeping new.keeping = kept_over step.commit old.keeping mid.keeping c.note.new.self.keeping new.keeping c.in-Ok.ensures.kept
+    let kept : KeepsCommit step.fire step.commit old.keeping new.keeping = kept_over step.fire step.commit old.keeping mid.keeping c.note.new.self.keeping new.keeping c.in-Ok.ensures.kept
     (c.note.ensures.keeping ∙ (c.apply.ensures.keeping ∙ c.settle-2.ensures.keeping)) c.keep.ensures.keeping in
     let both = answers t L old new mid.floor.now at event step c.self.invariant.0 late most c.requires.later free done floor rows waits counts kept in
     let post = c.post.ensures.ledger ∙ (ap (λ (l : Ledger). posted l at event c.in-Ok-prepare.copied) c.in-Ok-prepare.ensures.ledger
@@ -87,7 +87,7 @@ invariant_of-self-2 g c =
     c.in-Ok-prepare.ensures.ledger c.in-Ok-prepare.ensures.told c.post.ensures.room in
     let room = room_left t L at c.self.inside.book.room c.prepare.new.book.room c.post.new.self.room (owed T) c.in-Ok-prepare.bytes event step.told
     c.self.invariant.1 c.in-Ok-prepare.ensures.keeps used (c.in-Ok-prepare.ensures.ready T done.2) refl in
-    let store = committed g.P.Keeper.telling step.commit (commits (decision t L.entries at event)) c.self.inside.store c.commit.new.store done.1.changes c.in_default-commit.ensures in
+    let store = committed g.P.Keeper.telling step.fire step.commit (commits (decision t L.entries at event)) c.self.inside.store c.commit.new.store done.1.changes c.in_default-commit.ensures in
     let holds = held_posted (g.P.Keeper.telling c.self.inside.store).rows (g.P.Keeper.telling c.commit.new.store).rows t L old at event step.told c.requires.later c.self.invariant.0
     (kept (all_changed (decision t L.entries at event).changes (seen t L.entries).rows) T done.1.stands).ids both.0
     (held g.P.Keeper.telling (commits (decision t L.entries at event)) c.self.inside.store c.commit.new.store store) c.self.invariant.2 in (
@@ -109,7 +109,7 @@ returns-clause-comes g c =
     c.self.invariant.0.stands c.counted.ensures c.in-Ok.ensures.ok in
     let post = c.post.ensures.ledger ∙ (ap (λ (l : Ledger). posted l at event c.in-Ok-prepare.copied) c.in-Ok-prepare.ensures.ledger
     ∙ ap (posted L at event) c.in-Ok-prepare.ensures.told) in
-    let store = committed g.P.Keeper.telling c.in-Ok.step.commit (commits (decision t L.entries at event)) c.self.inside.store c.commit.new.store done.1.changes c.in_default-commit.ensures in
+    let store = committed g.P.Keeper.telling c.in-Ok.step.fire c.in-Ok.step.commit (commits (decision t L.entries at event)) c.self.inside.store c.commit.new.store done.1.changes c.in_default-commit.ensures in
     subst (λ (h : HallView _). (told ≡ answer h.tenants h.ledger.entries (at_hall h c.args.at) event) × (c.post.new.self.ledger ≡ posted h.ledger (at_hall h c.args.at) event told) × (t ≡ h.tenants)
     × Holds g.P.Keeper.telling (commits (decided h c.args.at event)) h.store c.commit.new.store)
     c.self.view_is (
@@ -150,4 +150,4 @@ returns-in-Err-clause-comes g c =
     (subst (λ (h : HallView _). Comes g.P.Keeper.telling h (record { tenants = t; ledger = c.note_uncommitted-failed.new.self.ledger; store = c.commit.new.store }) c.args.at event (undone (is_fault error)))
     c.self.view_is
     (undone_comes g.P.Keeper.telling (record { tenants = t; ledger = L; store = c.self.inside.store })
-    (record { tenants = t; ledger = c.note_uncommitted-failed.new.self.ledger; store = c.commit.new.store }) c.args.at event c.in-Ok.step.commit error made c.in-Err.ensures ledger refl))
+    (record { tenants = t; ledger = c.note_uncommitted-failed.new.self.ledger; store = c.commit.new.store }) c.args.at event c.in-Ok.step.fire c.in-Ok.step.commit error made c.in-Err.ensures ledger refl))

@@ -41,4 +41,4 @@ pub returns-clause-room : goal.returns-clause-room
 returns-clause-room c =
     let n = c.args.namespace.now in
     let put = put-at n c.in_ok-text.text c.args.self.now c.self.inside.windows c.put.new.self c.reserve.new.self (c.in_ok-text.ensures ∙ c.as_str.ensures.value) c.self.view_is c.in_ok-put.ensures.ok in
-    subst (HasRoom c.args.count 1) (sym (closed-window n c.args.self.now c.put.new.self c.reserve.new.self put)) c.in_ok-reserve.ensures.room
+    subst (HasRoom c.args.count c.args.count) (sym (closed-window n c.args.self.now c.put.new.self c.reserve.new.self put)) c.in_ok-reserve.ensures.room

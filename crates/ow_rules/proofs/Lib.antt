@@ -1,0 +1,2 @@
+pub mod FireLaws
+pub mod JoinLaws

@@ -1,0 +1,3 @@
+pub mod Status
+pub mod Fired
+pub mod Joins
