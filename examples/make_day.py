@@ -8,6 +8,8 @@
     python3 examples/make_day.py tuesday > examples/tuesday.day
     python3 examples/make_day.py web > examples/web.day
     python3 examples/make_day.py rules > examples/rules.day
+    python3 examples/make_day.py sequences > examples/sequences.day
+    python3 examples/make_day.py conductors > examples/conductors.day
 
 Each request is counted in bytes, with its head's lines ended by CR LF. Standard library only.
 """
@@ -61,18 +63,25 @@ def web(method, path, body="", *headers):
     return statement("\r\n".join([*head, "", ""]).encode() + data)
 
 
+def plain(*cases):
+    """An action of these cases, each a pair of its `when` and its `give`."""
+    code = {"cases": [{"when": when, "give": give} for when, give in cases]}
+    return {"exec": {"kind": "plain:1", "code": json.dumps(code, separators=(",", ":"))}}
+
+
 def hello():
     """An action that greets, whatever it is given."""
-    cases = {"cases": [{"when": {}, "give": {"greeting": "Hello"}}]}
-    code = json.dumps(cases, separators=(",", ":"))
-    return {"exec": {"kind": "plain:1", "code": code}}
+    return plain(({}, {"greeting": "Hello"}))
 
 
 def every():
     """An action that gives back all that it is given."""
-    cases = {"cases": [{"when": {}, "give": {"$all": True}}]}
-    code = json.dumps(cases, separators=(",", ":"))
-    return {"exec": {"kind": "plain:1", "code": code}}
+    return plain(({}, {"$all": True}))
+
+
+def sequence(*names):
+    """An action that calls these actions one after the other."""
+    return {"exec": {"kind": "sequence", "components": list(names)}}
 
 
 def exported(code, values=(), **annotations):
@@ -296,6 +305,77 @@ RULES = [
     say("end"),
 ]
 
+# A shop: `find` knows one item, `bill` writes a bill of what it is given. A sequence calls both, and ends at an error; another one
+# contains it, and names an action that isn't there.
+TEA, INK = {"item": "tea"}, {"item": "ink"}
+SMALL = {"limits": {"memory": 128}}
+FIND = plain((TEA, {"item": "tea", "cents": 250}), ({}, {"error": "There is no such item."})) | SMALL
+BILL = plain(({}, {"bill": {"$all": True}})) | SMALL
+SHOP = [ask("PUT", "/find", FIND), ask("PUT", "/bill", BILL)]
+ECHO = "/whisk.system/utils/echo"
+SEQUENCES = [
+    *SHOP,
+    ask("PUT", "/order", sequence("find", "bill")),
+    ask("POST", "/order?blocking=true&result=true", TEA),
+    say("turn"),
+    say("turn"),
+    say(f"collect {FIRST}"),
+    ask("GET", f"/{FIRST}", of="activations"),
+    ask("GET", f"/{SECOND}", of="activations"),
+    ask("POST", "/order?blocking=true&result=true", INK),
+    say("turn"),
+    say("collect " + ID % 4),
+    ask("GET", "/" + ID % 4 + "/logs", of="activations"),
+    ask("PUT", "/lunch", sequence("order", "gone")),
+    say('call /guest/lunch {"item":"tea"}'),
+    say("turn"),
+    say("turn"),
+    ask("GET", "/" + ID % 6, of="activations"),
+    ask("PUT", "/order?overwrite=true", sequence("find", "lunch")),
+    ask("PUT", "/long", sequence(*["find"] * 51)),
+    ask("PUT", VISIT, of="triggers"),
+    ask("PUT", GREET_RULE, {"trigger": "visit", "action": "order"}, of="rules"),
+    ask("POST", VISIT, TEA, of="triggers"),
+    say("turn"),
+    say("turn"),
+    ask("GET", "?limit=4", of="activations"),
+    say("drain"),
+    say("end"),
+]
+
+# The same shop by a conductor: it decides after each component what comes next, also after an error. Then a conductor that names an
+# action that isn't there, and one in a sequence.
+ASKED, FOUND, BILLED = {}, {"step": "found"}, {"step": "billed"}
+SELL = plain((BILLED, {"params": {"bill": {"$": "bill"}}}),
+             ({"error": "There is no such item."}, {"params": {"sorry": {"$": "error"}}}),
+             (FOUND, {"action": "bill", "params": {"cents": {"$": "cents"}}, "state": BILLED}),
+             (ASKED, {"action": "find", "params": {"item": {"$": "item"}}, "state": FOUND}))
+LOST = plain(({"error": "The component does not exist."}, {"params": {"told": {"$all": True}}}), ({}, {"action": "gone", "state": {"tried": 1}}))
+CONDUCTOR = {"annotations": pairs(conductor=True), **SMALL}
+CONDUCTORS = [
+    *SHOP,
+    ask("PUT", "/sell", SELL | CONDUCTOR),
+    ask("POST", "/sell?blocking=true&result=true", TEA),
+    *[say("turn")] * 5,
+    say(f"collect {FIRST}"),
+    ask("GET", f"/{FIRST}", of="activations"),
+    ask("GET", f"/{SECOND}", of="activations"),
+    ask("GET", f"/{THIRD}", of="activations"),
+    say('call /guest/sell {"item":"ink"}'),
+    *[say("turn")] * 3,
+    ask("GET", "/" + ID % 7 + "/result", of="activations"),
+    ask("PUT", "/lost", LOST | CONDUCTOR),
+    say("call /guest/lost {}"),
+    *[say("turn")] * 2,
+    ask("GET", "/" + ID % 11 + "/result", of="activations"),
+    ask("PUT", "/both", sequence(ECHO, "sell")),
+    say('call /guest/both {"item":"tea"}'),
+    *[say("turn")] * 6,
+    ask("GET", "/" + ID % 14, of="activations"),
+    say("drain"),
+    say("end"),
+]
+
 DAYS = {
     "actions": ACTIONS,
     "blocking": BLOCKING,
@@ -305,6 +385,8 @@ DAYS = {
     "tuesday": TUESDAY,
     "web": WEB,
     "rules": RULES,
+    "sequences": SEQUENCES,
+    "conductors": CONDUCTORS,
 }
 
 if __name__ == "__main__":

@@ -413,7 +413,9 @@ WRONG_PATHS = [("_/actions?limit=201", 39), ("_/rules?skip=-1", 39), ("_/trigger
                ("_/packages/%ff", 6), ("_/activations/1", 14), ("_/activations/" + "f" * 32, 14), ("_/actions/p/none", 14), ("_/rules/none", 14)]
 WRONG_BODIES = [(b"{", 1), (b"\xff", 1), (b'{"a":"\x01"}', 1), (b'{"a":"\\ud800"}', 1), (b"[" * 9_000, 1), (b'{"a":1.5}', 2), (b'{"a":1e3}', 2),
                 (b'{"a":-0}', 2), (b'{"a":1e999}', 1), (b'{"a":18446744073709551616}', 2), (b'{"a":' * 101 + b"1" + b"}" * 101, 3), (b"[]", 10),
-                (b'{"exec":7}', 10), (b'{"exec":{"kind":"nodejs:20","code":""}}', 12), (b'{"exec":{"kind":"sequence","components":[]}}', 12),
+                (b'{"exec":7}', 10), (b'{"exec":{"kind":"nodejs:20","code":""}}', 12), (b'{"exec":{"kind":"sequence","components":[]}}', 11),
+                (b'{"exec":{"kind":"sequence","components":["a",7]}}', 10), (b'{"exec":{"kind":"sequence","components":["a/b/c"]}}', 8),
+                (b'{"exec":{"kind":"sequence","components":["%s"]}}' % b'","'.join([b"a"] * 51), 19),
                 (b'{"exec":{"kind":"plain:1","code":"x"}}', 10), (EXEC + b',"limits":{"timeout":99}}', 11), (EXEC + b',"publish":1}', 10),
                 (EXEC + b',"parameters":{}}', 10), (EXEC + b',"annotations":[{"key":1,"value":1}]}', 10), (b'{"exec":{"kind":"plain:1"}}', 9)]
 

@@ -15,7 +15,8 @@ TEXTS = {
     9: (400, r"The field \w+ is missing."), 10: (400, r"The field \w+ has a wrong type."), 11: (400, r"The field \w+ is out of range."),
     12: (400, "The kind is unknown."), 13: (413, "The value has too many bytes."), 14: (404, "The resource does not exist."),
     15: (400, "The package is a binding."), 16: (400, r"The parameter [^\0]* is fixed."), 17: (409, "The resource exists."),
-    18: (400, "The version cannot be raised."), 21: (409, "The package holds actions."), 23: (401, "The key is unknown."),
+    18: (400, "The version cannot be raised."), 19: (400, "The sequence has more than 50 actions."),
+    20: (400, "The sequence contains itself."), 21: (409, "The package holds actions."), 23: (401, "The key is unknown."),
     24: (403, "The namespace is not granted."), 25: (429, r"Too many invocations in the last minute: \d+ of \d+."),
     26: (429, r"Too many concurrent activations: \d+ of \d+."), 27: (429, r"Too many fires in the last minute: \d+ of \d+."),
     31: (503, "The store failed."), 32: (503, "The office is draining."), 33: (503, "The book is full."), 34: (503, "The store is full."),
@@ -371,7 +372,7 @@ def first_refusal(request, holder, shared):
 # What may come after that: numbers, and statuses without a number.
 ENTITY_FAULTS = {4, 5, 6, 7, 8, 9, 10, 11, 12, 13}
 AFTER = {
-    ("entity", "GET"): ({14}, {200}), ("entity", "PUT"): (ENTITY_FAULTS | {14, 15, 17, 18}, {200}), ("entity", "DELETE"): ({14, 15, 21}, {200}),
+    ("entity", "GET"): ({14}, {200}), ("entity", "PUT"): (ENTITY_FAULTS | {14, 15, 17, 18, 19, 20}, {200}), ("entity", "DELETE"): ({14, 15, 21}, {200}),
     ("action", "POST"): ({13, 14, 16, 25, 26, 46}, {200, 202, 502}), ("trigger", "POST"): ({13, 14, 27}, {202, 204}),
     ("rule", "POST"): ({14}, {200}), ("list", "GET"): (set(), {200}), ("namespaces", "GET"): (set(), {200}),
     ("activations", "GET"): (set(), {200}), ("activation", "GET"): ({14}, {200})}

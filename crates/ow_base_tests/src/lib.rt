@@ -4,6 +4,8 @@
 #[cfg(test)]
 mod held;
 #[cfg(test)]
+mod of_composites;
+#[cfg(test)]
 mod of_kept_rows;
 #[cfg(test)]
 mod of_names;

@@ -4,7 +4,7 @@ use ow_items::{Item, row_text};
 use ow_keep::{KeepRefusal, kept_items};
 use ow_traits::Rows;
 use ow_value::{NoMemory, Str};
-use std::alloc::Global;
+use std::alloc::{AllocError, Global};
 use std::test::Fail;
 
 const VERSION: (&str, &str) = ("version", "1");
@@ -109,8 +109,74 @@ const SPACED: (&str, &str) = (
     r#"{"annotations": [],"binding":{},"name":"tools","namespace":"guest","parameters":[],"publish":false,"version":"0.0.1"}"#,
 );
 
+const COUNT_OF_FOUR: (&str, &str) = ("count/0000000000000001", "4");
+
+const SEQUENCE: (&str, &str) = (
+    "row/action/guest/tools/both",
+    r#"{"annotations":[],"exec":{"components":["/guest/tools/hi","/whisk.system/utils/echo","/guest/tools/hi"],"kind":"sequence"},"limits":{"logs":10,"memory":256,"timeout":60000},"name":"both","namespace":"guest/tools","parameters":[],"publish":false,"version":"0.0.1"}"#,
+);
+
+// A put reads `_` as the namespace of the sequence, so no component is written with it.
+const HOME_COMPONENT: (&str, &str) = (
+    "row/action/guest/tools/both",
+    r#"{"annotations":[],"exec":{"components":["/guest/tools/hi","/_/hi"],"kind":"sequence"},"limits":{"logs":10,"memory":256,"timeout":60000},"name":"both","namespace":"guest/tools","parameters":[],"publish":false,"version":"0.0.1"}"#,
+);
+
+const NO_COMPONENT: (&str, &str) = (
+    "row/action/guest/tools/both",
+    r#"{"annotations":[],"exec":{"components":[],"kind":"sequence"},"limits":{"logs":10,"memory":256,"timeout":60000},"name":"both","namespace":"guest/tools","parameters":[],"publish":false,"version":"0.0.1"}"#,
+);
+
+const OPEN_SEQUENCE: (&str, &str) = (
+    "open/00000000000000010000000000000001",
+    r#"{"activationId":"00000000000000010000000000000001","at":0,"form":"sequence","kind":"sequence","limits":{"logs":10,"memory":256,"timeout":60000},"namespace":"guest","path":"guest/tools/both","subject":"office","version":"0.0.1"}"#,
+);
+
+const OPEN_CONDUCTOR: (&str, &str) = (
+    "open/00000000000000010000000000000002",
+    r#"{"activationId":"00000000000000010000000000000002","at":0,"cause":"00000000000000010000000000000001","form":"conductor","kind":"plain:1","limits":{"logs":10,"memory":256,"timeout":60000},"namespace":"guest","path":"guest/tools/hi","subject":"office","version":"0.0.1"}"#,
+);
+
+const OPEN_RUN: (&str, &str) = (
+    "open/00000000000000010000000000000004",
+    r#"{"activationId":"00000000000000010000000000000004","at":0,"cause":"00000000000000010000000000000002","form":"leaf","kind":"plain:1","limits":{"logs":10,"memory":256,"timeout":60000},"namespace":"guest","path":"guest/tools/hi","subject":"office","version":"0.0.1"}"#,
+);
+
+// The record of a sequence in another, with the ids of its children as its logs.
+const DONE_SEQUENCE: (&str, &str) = (
+    "done/00000000000000010000000000000003",
+    r#"{"activationId":"00000000000000010000000000000003","annotations":[{"key":"causedBy","value":"sequence"},{"key":"kind","value":"sequence"},{"key":"limits","value":{"logs":10,"memory":256,"timeout":60000}},{"key":"path","value":"guest/tools/both"}],"cause":"00000000000000010000000000000001","duration":7,"end":12,"logs":["00000000000000010000000000000004"],"name":"both","namespace":"guest","response":{"result":{},"status":"success","statusCode":0,"success":true},"start":5,"subject":"anna","version":"0.0.1"}"#,
+);
+
+// Each activation is that of a sequence exactly where its action is a sequence.
+const SEQUENCE_OF_CODE: (&str, &str) = (
+    "open/00000000000000010000000000000001",
+    r#"{"activationId":"00000000000000010000000000000001","at":0,"form":"sequence","kind":"plain:1","limits":{"logs":10,"memory":256,"timeout":60000},"namespace":"guest","path":"guest/tools/hi","subject":"office","version":"0.0.1"}"#,
+);
+
+const LEAF_OF_SEQUENCE: (&str, &str) = (
+    "open/00000000000000010000000000000001",
+    r#"{"activationId":"00000000000000010000000000000001","at":0,"form":"leaf","kind":"sequence","limits":{"logs":10,"memory":256,"timeout":60000},"namespace":"guest","path":"guest/tools/both","subject":"office","version":"0.0.1"}"#,
+);
+
+const OTHER_FORM: (&str, &str) = (
+    "open/00000000000000010000000000000001",
+    r#"{"activationId":"00000000000000010000000000000001","at":0,"form":"tree","kind":"plain:1","limits":{"logs":10,"memory":256,"timeout":60000},"namespace":"guest","path":"guest/tools/hi","subject":"office","version":"0.0.1"}"#,
+);
+
+const NO_FORM: (&str, &str) = (
+    "open/00000000000000010000000000000001",
+    r#"{"activationId":"00000000000000010000000000000001","at":0,"kind":"plain:1","limits":{"logs":10,"memory":256,"timeout":60000},"namespace":"guest","path":"guest/tools/hi","subject":"office","version":"0.0.1"}"#,
+);
+
+// Counts of causes begin with 1.
+const NO_CAUSE: (&str, &str) = (
+    "open/00000000000000010000000000000001",
+    r#"{"activationId":"00000000000000010000000000000001","at":0,"cause":"00000000000000010000000000000000","form":"leaf","kind":"plain:1","limits":{"logs":10,"memory":256,"timeout":60000},"namespace":"guest","path":"guest/tools/hi","subject":"office","version":"0.0.1"}"#,
+);
+
 // Rows, and the key of the first bad one, or none.
-const CASES: [(&[(&str, &str)], &str); 23] = [
+const CASES: [(&[(&str, &str)], &str); 32] = [
     (&[], ""),
     (&[VERSION], ""),
     (&[COUNT, DONE, OPEN, ACTION, PACKAGE, VERSION], ""),
@@ -143,6 +209,40 @@ const CASES: [(&[(&str, &str)], &str); 23] = [
     (&[INSIDE, VERSION], "row/trigger/guest/p/t"),
     (&[UNMADE, VERSION], "row/trigger/guest/t"),
     (&[VERSION, ("zzz", "1")], "zzz"),
+    (&[SEQUENCE, VERSION], ""),
+    (&[HOME_COMPONENT, VERSION], "row/action/guest/tools/both"),
+    (&[NO_COMPONENT, VERSION], "row/action/guest/tools/both"),
+    (
+        &[
+            COUNT_OF_FOUR,
+            DONE_SEQUENCE,
+            OPEN_SEQUENCE,
+            OPEN_CONDUCTOR,
+            OPEN_RUN,
+            VERSION,
+        ],
+        "",
+    ),
+    (
+        &[COUNT, SEQUENCE_OF_CODE, VERSION],
+        "open/00000000000000010000000000000001",
+    ),
+    (
+        &[COUNT, LEAF_OF_SEQUENCE, VERSION],
+        "open/00000000000000010000000000000001",
+    ),
+    (
+        &[COUNT, OTHER_FORM, VERSION],
+        "open/00000000000000010000000000000001",
+    ),
+    (
+        &[COUNT, NO_FORM, VERSION],
+        "open/00000000000000010000000000000001",
+    ),
+    (
+        &[COUNT, NO_CAUSE, VERSION],
+        "open/00000000000000010000000000000001",
+    ),
 ];
 
 fn put(alloc: Global, rows: &mut Rows, key: &str, text: &str) -> Result<(), NoMemory> {
@@ -220,5 +320,27 @@ fn first_wrong(alloc: Global) -> Result<Option<usize>, Fail> {
 #[test]
 fn kept_rows_are_read_as_items(rt: HostRuntime) -> Result<(), Fail> {
     assert_eq!(rt; first_wrong(rt.alloc())?, None);
+    Ok(())
+}
+
+// The text of a sequence of one component more than so many.
+fn sequence_of(alloc: Global, count: usize) -> Result<String, AllocError> {
+    let more = "\"/guest/tools/hi\",".repeat(alloc, count)?;
+    format!(in alloc;
+        "{{\"annotations\":[],\"exec\":{{\"components\":[{more}\"/guest/tools/hi\"],\"kind\":\"sequence\"}},\"limits\":{{\"logs\":10,\"memory\":256,\"timeout\":60000}},\"name\":\"both\",\"namespace\":\"guest/tools\",\"parameters\":[],\"publish\":false,\"version\":\"0.0.1\"}}"
+    )
+}
+
+// How many components a sequence has beside one, and the key of the first bad row, or none.
+const LENGTHS: [(usize, &str); 2] = [(49, ""), (50, "row/action/guest/tools/both")];
+
+#[test]
+fn a_kept_sequence_has_fifty_components_at_most(rt: HostRuntime) -> Result<(), Fail> {
+    let alloc = rt.alloc();
+    for (count, bad) in LENGTHS.iter() {
+        let text = sequence_of(alloc, *count)?;
+        let pairs = [("row/action/guest/tools/both", text.as_str()), VERSION];
+        assert!(rt; is_told(alloc, &pairs, bad)?);
+    }
     Ok(())
 }

@@ -3,8 +3,8 @@ use crate::held::{boxed, equals, held, holds};
 use ow_entity::{Action, EntityKind, EntityRefusal, Limits, Row, finish, read_entity};
 use ow_names::{EntityName, FullName, read_name, resolve};
 use ow_records::{
-    Activation, Ending, Id, ReadyRecord, Record, Records, Response, outcome, record_of, write_logs,
-    write_record, write_response,
+    Activation, Ending, Form, Id, ReadyRecord, Record, Records, Response, Role, outcome, record_of,
+    write_logs, write_record, write_response,
 };
 use ow_traits::RunReply;
 use ow_value::{
@@ -74,13 +74,13 @@ fn line(alloc: Global) -> Result<Lines, NoMemory> {
     Lines::from_vec(lines)
 }
 
-// Whether an equal one is made of it.
-fn equals_copy<T: PlainData + Drop>(alloc: Global, value: &T) -> Result<bool, NoMemory> {
+/// Whether an equal one is made of it.
+pub(crate) fn equals_copy<T: PlainData + Drop>(alloc: Global, value: &T) -> Result<bool, NoMemory> {
     let copied = value.copy(alloc)?;
     Ok(copied.same(value))
 }
 
-// The text of what was written.
+/// The text of what was written.
 pub(crate) fn text_of(alloc: Global, written: Result<Val, NoMemory>) -> Result<String, Fail> {
     let written = boxed(alloc, written)?;
     let text = write_val(alloc, &written)?;
@@ -294,6 +294,11 @@ fn activation(
         subject,
         cause: None,
         until: None,
+        form: Form::Leaf,
+        role: Role::Alone,
+        top: id,
+        depth: 0,
+        own: Params::new(),
     })
 }
 
@@ -370,7 +375,8 @@ fn annotate(alloc: Global, kept: &mut Record) -> Result<(), NoMemory> {
     Ok(())
 }
 
-const SECOND: Id = Id {
+/// The id of the second activation.
+pub(crate) const SECOND: Id = Id {
     namespace: 1,
     count: 2,
 };

@@ -1,5 +1,5 @@
 // What is kept for the counts.
-ghost use Rattle.std.specs.Prelude.{◌≡◌, ◌≤◌, ◌<◌, ◌∷◌, ◌+◌, ◌-◌, ◌++◌, ◌^◌, [], ℕ, List, IfOk, OnOk, count_by};
+ghost use Rattle.std.specs.Prelude.{◌≡◌, ◌≤◌, ◌<◌, ◌∷◌, ◌+◌, ◌-◌, ◌++◌, [], ℕ, List, IfOk, OnOk, count_by};
 ghost use Rattle.ow_floor.specs.Calls.{moved};
 ghost use Rattle.ow_floor.specs.Trace.{Trace};
 ghost use Rattle.ow_floor.specs.Laws.{IsSound};
@@ -100,17 +100,6 @@ impl Counts {
         }
     }
 
-    /// Makes room for one more invocation of the namespace.
-    pub fn reserve(&mut self, alloc: Global, namespace: &EntityName) -> Result<(), NoMemory>
-        ensures notes { (notes : Notes) → StandsFor self.old notes → StandsFor self.new notes }
-        ensures room { OnOk result (HasRoomFor namespace.now 1 self.new) }
-    {
-        if self.busy == u64::MAX {
-            return Err(NoMemory);
-        }
-        self.windows.reserve(alloc, namespace)
-    }
-
     /// Makes room for the notes of all that moved.
     pub fn reserve_moves(&mut self, alloc: Global, moves: &[Moved]) -> Result<(), NoMemory>
         ensures notes { (notes : Notes) → StandsFor self.old notes → StandsFor self.new notes }
@@ -123,38 +112,6 @@ impl Counts {
             return Err(NoMemory);
         }
         reserve_all(self, alloc, moves, count)
-    }
-
-    /// An invocation that is charged to the namespace was accepted at the moment, which is none before the latest. It takes no
-    /// memory.
-    pub fn invoked(&mut self, namespace: &EntityName, at: u64)
-        requires { HasRoomFor namespace.now 1 self.old }
-        ensures notes { (notes : Notes) → latest notes ≤ at → StandsFor self.old notes → StandsFor self.new (invoked namespace.now at ∷ notes) }
-        ensures room { (name : List ℕ) (n : ℕ) → HasRoomOf name (n + 1) self.old → HasRoomOf name n self.new }
-        ensures busy { self.new.busy ≡ self.old.busy + 1 }
-    {
-        self.windows.note(namespace, at);
-        self.busy += 1;
-    }
-
-    /// An invocation that was charged to the namespace has ended. It takes no memory.
-    pub fn ended(&mut self, namespace: &EntityName)
-        ensures notes { (notes : Notes) → MayEnd namespace.now notes → StandsFor self.old notes → StandsFor self.new (ended namespace.now ∷ notes) }
-        ensures room { (name : List ℕ) (n : ℕ) → HasRoomOf name n self.old → HasRoomOf name n self.new }
-        ensures busy { self.new.busy ≤ self.old.busy }
-    {
-        end_in(&mut self.windows, namespace);
-        self.busy = self.busy.saturating_sub(1);
-    }
-
-    /// A trigger of the namespace was fired at the moment, which is none before the latest. It takes no memory.
-    pub fn fired(&mut self, namespace: &EntityName, at: u64)
-        requires { HasRoomOf namespace.now 1 self.old }
-        ensures notes { (notes : Notes) → latest notes ≤ at → StandsFor self.old notes → StandsFor self.new (fired namespace.now at ∷ notes) }
-        ensures room { (name : List ℕ) (n : ℕ) → HasRoomOf name (n + 1) self.old → HasRoomOf name n self.new }
-        ensures busy { self.new.busy ≡ self.old.busy }
-    {
-        self.windows.note_fire(namespace, at);
     }
 
     /// Notes all that moved, except what other activations caused. It takes no memory.
@@ -178,6 +135,38 @@ impl Counts {
         ensures room { OnOk result (HasRoomOf namespace.now count self.new) }
     {
         self.windows.reserve_many(alloc, namespace, count)
+    }
+
+    /// An invocation that is charged to the namespace was accepted at the moment, which is none before the latest. It takes no
+    /// memory.
+    pub(crate) fn invoked(&mut self, namespace: &EntityName, at: u64)
+        requires { HasRoomFor namespace.now 1 self.old }
+        ensures notes { (notes : Notes) → latest notes ≤ at → StandsFor self.old notes → StandsFor self.new (invoked namespace.now at ∷ notes) }
+        ensures room { (name : List ℕ) (n : ℕ) → HasRoomOf name (n + 1) self.old → HasRoomOf name n self.new }
+        ensures busy { self.new.busy ≡ self.old.busy + 1 }
+    {
+        self.windows.note(namespace, at);
+        self.busy += 1;
+    }
+
+    /// An invocation that was charged to the namespace has ended. It takes no memory.
+    pub(crate) fn ended(&mut self, namespace: &EntityName)
+        ensures notes { (notes : Notes) → MayEnd namespace.now notes → StandsFor self.old notes → StandsFor self.new (ended namespace.now ∷ notes) }
+        ensures room { (name : List ℕ) (n : ℕ) → HasRoomOf name n self.old → HasRoomOf name n self.new }
+        ensures busy { self.new.busy ≤ self.old.busy }
+    {
+        end_in(&mut self.windows, namespace);
+        self.busy = self.busy.saturating_sub(1);
+    }
+
+    /// A trigger of the namespace was fired at the moment, which is none before the latest. It takes no memory.
+    pub(crate) fn fired(&mut self, namespace: &EntityName, at: u64)
+        requires { HasRoomOf namespace.now 1 self.old }
+        ensures notes { (notes : Notes) → latest notes ≤ at → StandsFor self.old notes → StandsFor self.new (fired namespace.now at ∷ notes) }
+        ensures room { (name : List ℕ) (n : ℕ) → HasRoomOf name (n + 1) self.old → HasRoomOf name n self.new }
+        ensures busy { self.new.busy ≡ self.old.busy }
+    {
+        self.windows.note_fire(namespace, at);
     }
 }
 

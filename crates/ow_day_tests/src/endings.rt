@@ -21,7 +21,7 @@ struct Ending {
 // The words for a service over the table.
 const SERVE_TABLE: &[&str] = &["serve", "--port", "3233", "--table", "office.csv"];
 
-const ENDINGS: [Ending; 14] = [
+const ENDINGS: [Ending; 13] = [
     Ending {
         given: Given {
             words: OVER_TABLE,
@@ -121,20 +121,6 @@ const ENDINGS: [Ending; 14] = [
         status: 0,
         left: 0,
         out: b"nothing empty\n",
-        err: b"",
-    },
-    Ending {
-        given: Given {
-            words: &["--help"],
-            table: b"",
-            failing_table: &[],
-            day: b"",
-            failing_reads: &[],
-            failing_writes: &[],
-        },
-        status: 0,
-        left: 0,
-        out: HELP,
         err: b"",
     },
     Ending {
@@ -292,6 +278,27 @@ fn faults_and_bad_tables_have_their_status(rt: HostRuntime) -> Result<(), Fail> 
     for (number, case) in ENDINGS.iter().enumerate() {
         assert!(rt; has_ending(rt.alloc(), case)?, "ending {number}");
     }
+    Ok(())
+}
+
+// Whether the help is written whole, and nothing else.
+fn is_help_written(alloc: Global) -> Result<bool, Fail> {
+    let given = Given {
+        words: &["--help"],
+        table: b"",
+        failing_table: &[],
+        day: b"",
+        failing_reads: &[],
+        failing_writes: &[],
+    };
+    let told = office_over(alloc, given)?;
+    let is_written = told.out.bytes() == HELP && told.err.bytes().is_empty();
+    Ok(told.status.number() == 0 && told.left == 0 && is_written)
+}
+
+#[test]
+fn help_is_written_whole(rt: HostRuntime) -> Result<(), Fail> {
+    assert!(rt; is_help_written(rt.alloc())?, "the help's text");
     Ok(())
 }
 

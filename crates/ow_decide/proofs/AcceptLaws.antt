@@ -4,20 +4,21 @@ use Rattle.ow_value.specs.Value.{V, Pairs}
 use Rattle.ow_names.specs.declared.full.FullName.{FullName}
 use Rattle.ow_floor.specs.Trace.{Trace}
 use Rattle.ow_floor.specs.declared.activations.Plan.{Plan}
-use Rattle.ow_kept.specs.Commits.{accept_changes, row_changes}
-use Rattle.ow_records.specs.Unrecorded.{unrecorded_of}
+use Rattle.ow_kept.specs.Commits.{row_changes}
 use Rattle.ow_entity.specs.declared.rules.Rule.{Rule}
 use Rattle.ow_entity.specs.declared.triggers.Trigger.{Trigger}
 use Rattle.ow_records.specs.declared.fires.Fire.{Fire}
 use Rattle.ow_rules.specs.Fired.{fired}
 use Rattle.ow_rules.specs.Status.{status_change}
 use Rattle.ow_tables.specs.Contents.{Change}
-use Rattle.ow_floor.specs.Calls.{IsNext, activation_of}
 use Rattle.ow_tables.specs.Refusal.{remove_refusal}
+use Rattle.ow_tables.specs.Rows.{standing}
 use Rattle.ow_tenant.specs.Tenants.{limits_of}
 use Rattle.ow_tenant.specs.declared.entries.Holder.{Holder}
 use Rattle.ow_counts.specs.Counts.{fire_admitted}
+use Rattle.ow_trees.specs.Owed.{AreOwed}
 use Rattle.ow_http.specs.CallOf.{call_of}
+use Rattle.ow_http.specs.Steps.{◌>>=◌}
 use Rattle.ow_http.specs.declared.call_refusal.CallRefusal.{CallRefusal}
 use Rattle.ow_http.specs.Parts.{Parts}
 use Rattle.ow_http.specs.declared.call.Call.{Call}
@@ -28,47 +29,59 @@ use Rattle.ow_decide.specs.declared.call_steps.Callee.{Callee}
 use Rattle.ow_reads.specs.Reasons.{no_route}
 use Rattle.ow_reads.specs.Steps.{or_else}
 use Rattle.ow_reads.specs.declared.acts.Act.TheVariants.{Reads, Puts, Removes, Invokes, Fires, Sets}
+use Rattle.ow_decide.specs.declared.waits.Shows.{Shows}
+use Rattle.ow_decide.specs.declared.waits.Shows.TheVariants.{Web}
 use Rattle.ow_decide.specs.Decision.{items_changes}
-use Rattle.ow_decide.specs.Noted.{IsUnfired}
 use Rattle.ow_decide.specs.Firing.{fire_plan, number_for, shot_items, trigger_for, within_fires}
 use Rattle.ow_decide.specs.Sight.{Sight, room_for, store_room, takes_calls, view_of}
+use Rattle.ow_decide.specs.Waiting.{shows_of}
 use Rattle.ow_reads.specs.Tenants.{asker, office}
 use Rattle.ow_reads.specs.Reading.{name_in, or_call_reason, read_done}
-use Rattle.ow_decide.specs.Calling.{admitted_plan, call_plan, called_plan, callee, charged_namespace, given_over, invocation_plan, next_id, plan_for, until_of}
-use Rattle.ow_decide.specs.Chain.{AreSteps, IsCallee}
-use Rattle.ow_decide.specs.Asking.{Done, Fired, Invoked, act_done, act_for, called_done, change_done, draft_in, keyed_done, put_of, request_done, row_for, row_of, rule_for, rules_done, set_done, shot_done, shown_done, unless_refused, web_done}
+use Rattle.ow_decide.specs.Calling.{admitted_plan, call_plan, called_plan, callee, charged_namespace, given_over, invocation_plan, plan_items}
+use Rattle.ow_decide.specs.Chain.{AreSteps}
+use Rattle.ow_decide.specs.Asking.{Done, Fired, Invoked, act_done, act_for, called_done, change_done, draft_in, keyed_done, plan_done, put_of, request_done, row_for, row_of, rule_for, rules_done, set_done, shot_done, shown_done, unless_refused, web_done}
 use Rattle.ow_decide.specs.WebCalling.{web_extension, web_given, web_name, web_plan}
 use Rattle.ow_reads.specs.Acts.{grant_for, granted_call}
-use Rattle.ow_decide.proofs.CalleeLaws.{IsAdmitted, IsCalled, callee_so, limit_ok, within_so}
+use Rattle.ow_decide.proofs.CalleeLaws.{IsAdmitted, IsCalled, IsPlanned, admitted_so, callee_so, limit_ok}
+use Rattle.ow_decide.proofs.DrivenLaws.{fit_steps, plan_fit}
+use Rattle.ow_decide.proofs.MadeLaws.{plan_owed, plan_right, shot_owed}
 use Rattle.ow_decide.proofs.Results.{then_from, then_ok}
 use Rattle.ow_decide.proofs.ShotLaws.{IsReady, IsThere, plan_ready, shot_steps, trigger_there}
 
 -- ---- what is accepted
 
-admitted_so : (S : Sight) (plan : Plan) → IsNext plan.id S.trace → plan.cause ≡ None → IsCallee S.rows plan.effective → IfOk (admitted_plan S plan) (IsAdmitted S)
-admitted_so S plan next uncaused called =
-    then_ok (IsAdmitted S) (store_room S (accept_changes (unrecorded_of (activation_of S.moment plan)))) _ (λ room. within_so S plan next uncaused called)
+over_planned : (S : Sight) (subject namespace : List ℕ) (blocking web : Bool) (c : Callee) (given : Pairs) → IsCalled S c → IfOk (called_plan S subject namespace blocking web c given) (IsPlanned S)
+over_planned S subject namespace blocking web c given called = then_ok (IsPlanned S) (given_over c.effective given web) _ (λ merged. then_ok (IsPlanned S) (takes_calls S) _ (λ taken.
+    record { next = refl; uncaused = refl; formed = refl; called = called }))
 
-over_admitted : (S : Sight) (subject namespace : List ℕ) (blocking web : Bool) (c : Callee) (given : Pairs) → IsCalled S c → IfOk (called_plan S subject namespace blocking web c given) (IsAdmitted S)
-over_admitted S subject namespace blocking web c given called = then_ok (IsAdmitted S) (given_over c.effective given web) _ (λ merged. then_ok (IsAdmitted S) (takes_calls S) _ (λ taken.
-    admitted_so S (plan_for subject (until_of S.moment blocking c.effective.action) (next_id S c.number) namespace c.effective merged) refl refl called))
+planned : (S : Sight) (subject namespace : List ℕ) (blocking : Bool) (name : FullName) (params : Pairs) → IfOk (invocation_plan S subject namespace blocking name params) (IsPlanned S)
+planned S subject namespace blocking name params =
+    then_from (IsCalled S) (IsPlanned S) (callee S name namespace) _ (callee_so S name namespace) (λ c called. over_planned S subject namespace blocking false c params called)
 
-planned_admitted : (S : Sight) (subject namespace : List ℕ) (blocking : Bool) (name : FullName) (params : Pairs) → IfOk (invocation_plan S subject namespace blocking name params) (IsAdmitted S)
-planned_admitted S subject namespace blocking name params =
-    then_from (IsCalled S) (IsAdmitted S) (callee S name namespace) _ (callee_so S name namespace) (λ c called. over_admitted S subject namespace blocking false c params called)
+call_planned : (S : Sight) (name : FullName) (params : Pairs) → IfOk (call_plan S name params) (IsPlanned S)
+call_planned S name params = then_ok (IsPlanned S) (room_for S 0) _ (λ room. planned S office name.namespace false name params)
 
-pub called_admitted : (S : Sight) (name : FullName) (params : Pairs) → IfOk (call_plan S name params) (IsAdmitted S)
-called_admitted S name params = then_ok (IsAdmitted S) (room_for S 0) _ (λ room. planned_admitted S office name.namespace false name params)
+pub called_admitted : (S : Sight) (name : FullName) (params : Pairs) → IfOk (call_plan S name params >>= admitted_plan S) (IsAdmitted S)
+called_admitted S name params =
+    then_from (IsPlanned S) (IsAdmitted S) (call_plan S name params) (admitted_plan S) (call_planned S name params) (λ plan is. admitted_so S plan (IsAdmitted S) is (λ ok. ok))
 
--- a fire is the newest of its items, which are a chain
+-- they are a chain, and each child and each end of a composite is owed
 pub record IsChain (S : Sight) (items : Trace) : Type 0 where
   pub steps : AreSteps S items
-  pub fires : IsUnfired items → ⊥
+  pub owed : AreOwed (standing S.rows) S.moment items S.trace
+
+-- the items of a plan that is admitted are
+pub plan_chain : (S : Sight) (plan : Plan) → IsAdmitted S plan → IsChain S (plan_items S plan)
+plan_chain S plan ok = record { steps = fit_steps S (plan_items S plan) (plan_fit S plan S.trace ok) (plan_right S plan ok.next); owed = plan_owed S plan ok.uncaused }
 
 abbrev pub IsAdmittedDone : Sight → Done → Type 0
-IsAdmittedDone S (Invoked plan shows) = IsAdmitted S plan
+IsAdmittedDone S (Invoked items plan shows) = IsChain S items
 IsAdmittedDone S (Fired items id) = IsChain S items
 IsAdmittedDone S done = Unit {0}
+
+plan_admitted : (S : Sight) (plan : Plan) (shows : Shows) → IsPlanned S plan → IfOk (plan_done S plan shows) (IsAdmittedDone S)
+plan_admitted S plan shows is =
+    then_from (λ (p : Plan). IsAdmitted S plan) (IsAdmittedDone S) (admitted_plan S plan) _ (admitted_so S plan (λ (p : Plan). IsAdmitted S plan) is (λ ok. ok)) (λ p ok. plan_chain S plan ok)
 
 shown_admitted : (S : Sight) (r : Result V Reason) → IfOk (shown_done r) (IsAdmittedDone S)
 shown_admitted S (Ok value) = tt
@@ -78,7 +91,7 @@ shot_admitted : (S : Sight) (f : Fire) (rs : List Rule) → IsReady S f → IfOk
 shot_admitted S f rs ready =
     let asked = fire_admitted S.trace f.namespace (limits_of f.namespace S.tenants) S.moment in
     then_ok (IsAdmittedDone S) (store_room S (items_changes (shot_items S f rs))) _ (λ room.
-    then_from (λ u. asked ≡ Ok tt) (IsAdmittedDone S) (within_fires S f.namespace) _ (limit_ok asked) (λ u allowed. record { steps = shot_steps S f rs ready.next ready.shot allowed; fires = λ unfired. unfired }))
+    then_from (λ u. asked ≡ Ok tt) (IsAdmittedDone S) (within_fires S f.namespace) _ (limit_ok asked) (λ u allowed. record { steps = shot_steps S f rs ready.next ready.shot allowed; owed = shot_owed S f rs }))
 
 rules_admitted : (S : Sight) (subject : List ℕ) (name : FullName) (number : ℕ) (t : Trigger) (home : List ℕ) (parts : Parts) (c : Call) (rs : List Rule) → IsThere S name t → call_of home parts ≡ Ok c
     → IfOk (rules_done S subject name number t c.params rs) (IsAdmittedDone S)
@@ -101,8 +114,8 @@ change_admitted S h Puts home parts c called = then_ok (IsAdmittedDone S) (draft
 change_admitted S h (Removes kind) home parts c called = then_ok (IsAdmittedDone S) (name_in c) _ (λ name.
     then_ok (IsAdmittedDone S) (unless_refused (remove_refusal kind name S.rows)) _ (λ free. then_ok (IsAdmittedDone S) (row_for S kind name) _ (λ row. tt)))
 change_admitted S h Invokes home parts c called = then_ok (IsAdmittedDone S) (name_in c) _ (λ name.
-    then_from (IsAdmitted S) (IsAdmittedDone S) (invocation_plan S h.subject (charged_namespace h name) c.blocking name c.params) _
-    (planned_admitted S h.subject (charged_namespace h name) c.blocking name c.params) (λ plan ok. ok))
+    then_from (IsPlanned S) (IsAdmittedDone S) (invocation_plan S h.subject (charged_namespace h name) c.blocking name c.params) _
+    (planned S h.subject (charged_namespace h name) c.blocking name c.params) (λ plan is. plan_admitted S plan (shows_of c.result_only) is))
 change_admitted S h Fires home parts c called = then_ok (IsAdmittedDone S) (name_in c) _ (λ name.
     then_from (IsThere S name) (IsAdmittedDone S) (trigger_for S name) _ (trigger_there S name) (λ t there.
     then_ok (IsAdmittedDone S) (number_for S name.namespace) _ (λ number. rules_admitted S h.subject name number t home parts c (fired S.rows name) there called)))
@@ -133,7 +146,7 @@ web_admitted : (S : Sight) (p : Parts) → IfOk (web_done S p) (IsAdmittedDone S
 web_admitted S p = then_ok (IsAdmittedDone S) (room_for S p.size) _ (λ room. then_ok (IsAdmittedDone S) (web_name p.route) _ (λ name.
     then_from (IsCalled S) (IsAdmittedDone S) (callee S name name.namespace) _ (callee_so S name name.namespace) (λ c called.
     then_ok (IsAdmittedDone S) (web_given S.tenants c.effective p) _ (λ given. then_ok (IsAdmittedDone S) (web_extension p.route) _ (λ extension.
-    then_from (IsAdmitted S) (IsAdmittedDone S) (web_plan S name.namespace c given) _ (over_admitted S name.namespace name.namespace true true c given called) (λ plan ok. ok))))))
+    then_from (IsPlanned S) (IsAdmittedDone S) (web_plan S name.namespace c given) _ (over_planned S name.namespace name.namespace true true c given called) (λ plan is. plan_admitted S plan (Web extension) is))))))
 
 by_route : (S : Sight) (p : Parts) (b : Bool) → IfOk (if b then web_done S p else keyed_done S p) (IsAdmittedDone S)
 by_route S p true = web_admitted S p

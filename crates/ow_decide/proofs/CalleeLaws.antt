@@ -1,6 +1,7 @@
 -- What a name calls, and what is accepted of it.
 use Rattle.std.proofs.Common.{◌≡◌, ℕ, List, Option, Some, None, Result, Ok, Err, IfOk, refl, ap}
 use Rattle.ow_names.specs.declared.full.FullName.{FullName}
+use Rattle.ow_compose.specs.Refusal.{form_of}
 use Rattle.ow_floor.specs.Calls.{IsNext, activation_of}
 use Rattle.ow_floor.specs.declared.activations.Plan.{Plan}
 use Rattle.ow_packages.specs.Effective.{effective}
@@ -13,11 +14,12 @@ use Rattle.ow_http.specs.Steps.{◌>>=◌}
 use Rattle.ow_http.specs.declared.reason.Reason.{Reason}
 use Rattle.ow_reads.specs.Reasons.{not_found}
 use Rattle.ow_reads.specs.Steps.{or_else}
-use Rattle.ow_decide.specs.Calling.{callee, callee_in, callee_of}
+use Rattle.ow_decide.specs.Calling.{admitted_plan, callee, callee_in, callee_of, plan_items}
 use Rattle.ow_decide.specs.Chain.{IsAccepted, IsCallee}
-use Rattle.ow_decide.specs.Sight.{Sight, or_limit, within_limits}
+use Rattle.ow_decide.specs.Decision.{items_changes}
+use Rattle.ow_decide.specs.Sight.{Sight, or_limit, store_room, within_limits}
 use Rattle.ow_decide.specs.declared.call_steps.Callee.{Callee}
-use Rattle.ow_decide.proofs.Results.{if_ok_map, then_from}
+use Rattle.ow_decide.proofs.Results.{if_ok_map, then_from, then_ok}
 
 -- it may be accepted
 abbrev pub IsAdmitted : Sight → Plan → Type 0
@@ -44,9 +46,25 @@ pub callee_so : (S : Sight) (name : FullName) (namespace : List ℕ) → IfOk (c
 callee_so S name namespace = if_ok_map (callee S name namespace) (λ (c : Callee). callee_in S.tenants S.rows name namespace ≡ Some c) (IsCalled S)
     (λ c is. (name, (namespace, called_of (number_of namespace S.tenants) (effective (standing S.rows) name namespace) c is))) (there_ok (callee_in S.tenants S.rows name namespace) not_found)
 
+-- no other activation causes what is planned, its id is the next of its namespace, and some name calls it
+pub record IsPlanned (S : Sight) (plan : Plan) : Type 0 where
+  pub next : IsNext plan.id S.trace
+  pub uncaused : plan.cause ≡ None
+  pub formed : plan.form ≡ form_of plan.effective.action
+  pub called : IsCallee S.rows plan.effective
+
 -- what is planned, where the limits allow it
-pub within_so : (S : Sight) (plan : Plan) → IsNext plan.id S.trace → plan.cause ≡ None → IsCallee S.rows plan.effective → IfOk (within_limits S plan.namespace >>= (λ (within : Unit {0}). Ok plan)) (IsAdmitted S)
-within_so S plan next uncaused called =
+pub within_so : (S : Sight) (plan : Plan) (N : Plan → Type 0) → IsPlanned S plan → (IsAdmitted S plan → N plan) → IfOk (within_limits S plan.namespace >>= (λ (within : Unit {0}). Ok plan)) N
+within_so S plan N planned keeps =
     let asked = admitted S.trace plan.namespace (limits_of plan.namespace S.tenants) S.moment in
-    then_from (λ u. asked ≡ Ok tt) (IsAdmitted S) (within_limits S plan.namespace) _ (limit_ok asked) (λ u ok.
-    record { uncaused = uncaused; next = next; admitted = ok; callee = record { called = plan.effective; callee = called; action = refl; binding = refl } })
+    then_from (λ u. asked ≡ Ok tt) N (within_limits S plan.namespace) _ (limit_ok asked) (λ u ok.
+    keeps (record {
+      uncaused = planned.uncaused;
+      next = planned.next;
+      admitted = ok;
+      callee = record { called = plan.effective; callee = planned.called; action = refl; binding = refl; form = planned.formed };
+    }))
+
+-- and the store has room for all that is kept of it
+pub admitted_so : (S : Sight) (plan : Plan) (N : Plan → Type 0) → IsPlanned S plan → (IsAdmitted S plan → N plan) → IfOk (admitted_plan S plan) N
+admitted_so S plan N planned keeps = then_ok N (store_room S (items_changes (plan_items S plan))) _ (λ room. within_so S plan N planned keeps)

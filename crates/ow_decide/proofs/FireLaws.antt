@@ -20,7 +20,6 @@ use Rattle.ow_floor.specs.View.{Shown, last_of}
 use Rattle.ow_floor.specs.declared.activations.Plan.{Plan}
 use Rattle.ow_floor.specs.declared.moves.Moved.{Moved}
 use Rattle.ow_floor.proofs.Drawn.{drawn_last}
-use Rattle.ow_floor.proofs.Soundness.{sound_items}
 use Rattle.ow_items.specs.Bytes.{bytes_of}
 use Rattle.ow_kept.specs.Commits.{changes_of}
 use Rattle.ow_kept.specs.Keeping.{AreOwn, FollowingView, KeepingView, StandsFollowing, StandsForKept}
@@ -32,9 +31,10 @@ use Rattle.ow_tables.specs.Rows.{standing}
 use Rattle.ow_tenant.specs.Tenants.{limits_of, number_of}
 use Rattle.ow_tenant.specs.declared.entries.Holder.{Holder}
 use Rattle.ow_traits.specs.Changes.{changed}
+use Rattle.ow_trees.specs.Steps.{steps_after}
 use Rattle.ow_traits.specs.declared.change_list.Change.{Change}
 use Rattle.ow_counts.specs.Counts.{fire_admitted}
-use Rattle.ow_counts.specs.View.{CountsView}
+use Rattle.ow_counts.specs.View.{AreUpTo, CountsView}
 use Rattle.ow_counts.specs.declared.refusal.LimitRefusal.{LimitRefusal}
 use Rattle.ow_counts.proofs.Moving.{up_items}
 use Rattle.ow_http.specs.Steps.{◌>>=◌}
@@ -44,22 +44,20 @@ use Rattle.ow_reads.specs.Reasons.{no_route, not_found}
 use Rattle.ow_reads.specs.declared.acts.Act.TheVariants.{Fires}
 use Rattle.ow_reads.specs.Steps.{or_else, unless}
 use Rattle.ow_decide.specs.Asking.{Done, Fired, ask_decision, at_once, change_done, rules_done, shot_done}
-use Rattle.ow_decide.specs.Calling.{fitting}
+use Rattle.ow_decide.specs.Calling.{fitting, plan_items}
 use Rattle.ow_decide.specs.Decision.{items_changes}
 use Rattle.ow_decide.specs.Firing.{after_rule, after_rules, fire_of, fire_plan, rule_items, rule_line, rule_lines, rule_plan, seeing, shot_items}
-use Rattle.ow_decide.specs.Making.{Carries, CommitsDone, IsMade, IsSeen, IsUnderway, Makes, admits_shot, done_of}
+use Rattle.ow_decide.specs.Making.{Carries, CommitsDone, IsMade, IsSeen, IsUnderway, Makes, admits_made, done_of}
 use Rattle.ow_decide.specs.Reasons.{draining, store_full, too_large}
 use Rattle.ow_decide.specs.Sight.{Sight, is_store_full, or_limit, takes_calls}
 use Rattle.ow_decide.specs.Waiting.{accepted_answer}
 use Rattle.ow_decide.specs.declared.done.Done.TheVariants as codes
-use Rattle.ow_decide.specs.declared.step.FireStep.{FireStep}
+use Rattle.ow_decide.specs.declared.commits.Made.{Made}
 use Rattle.ow_decide.specs.declared.step.Now.{Now}
 use Rattle.ow_decide.specs.declared.step.Step.{Step}
 use Rattle.ow_decide.specs.declared.waits.Waits.TheVariants.{Keep}
-use Rattle.ow_decide.proofs.ChainLaws.{steps_right}
-use Rattle.ow_decide.proofs.KeptLaws.{items_moved}
-use Rattle.ow_decide.proofs.PlanLaws.{then_then}
-use Rattle.ow_decide.proofs.ShotLaws.{after_all, rules_steps, shot_drawn}
+use Rattle.ow_decide.proofs.MadeLaws.{changes_of_moves as items_moved, moved_append, plan_noted}
+use Rattle.ow_decide.proofs.PlanLaws.{as_seen, then_then}
 
 -- ---- what is under way
 
@@ -81,27 +79,31 @@ id_drawn S t rs k now v w ms ns id grows noted u = record {
   moves = noted ∙ ap (λ (xs : List Moved). xs ++ moved (draw_items now.at id)) u.moves;
 }
 
--- what a rule makes is accepted
+-- what a rule makes is accepted, with the steps that follow
 pub rule_made : (S : Sight) (items : Trace) (t : Table) (rs : List Row) (k : CountsView) (now : Now) (v w : Shown) (ms ns : List Moved) (f : Fire) (r : Rule) (plan : Plan)
-    → Grows v w (λ T. accept_items now.at plan) → ns ≡ ms ++ moved (accept_items now.at plan) → Ok plan ≡ rule_plan (seeing items S) f r
+    → Grows v w (λ T. steps_after (standing rs) now.at T (accept_items now.at plan))
+    → ((T : Trace) → Stands v T → ns ≡ ms ++ moved (steps_after (standing rs) now.at T (accept_items now.at plan))) → Ok plan ≡ rule_plan (seeing items S) f r
     → IsUnderway S items t rs k now v ms → IsUnderway S (after_rule S f r items) t rs k now w ns
 rule_made S items t rs k now v w ms ns f r plan grows noted planned u =
-    let made : IsUnderway S (accept_items now.at plan ++ items) t rs k now w ns = record {
+    let T : Trace = items ++ S.trace in
+    let made : Trace = plan_items (seeing items S) plan in
+    let is : steps_after (standing rs) now.at T (accept_items now.at plan) ≡ made =
+    as_seen (λ (xs : List Row) (m : ℕ). steps_after (standing rs) now.at T (accept_items now.at plan) ≡ steps_after (standing xs) m T (accept_items m plan)) S rs now.at u.rows u.moment refl in
+    let after : IsUnderway S (made ++ items) t rs k now w ns = record {
       tenants = u.tenants;
       rows = u.rows;
       counts = u.counts;
       moment = u.moment;
-      stands = grows (items ++ S.trace) u.stands;
-      up_to = up_items now.at (accept_items now.at plan) (items ++ S.trace) u.up_to (refl, tt);
-      moves = noted ∙ ap (λ (xs : List Moved). xs ++ moved (accept_items now.at plan)) u.moves;
+      stands = subst (Stands w) (sym (append_assoc made items S.trace)) (subst (λ (xs : Trace). Stands w (xs ++ T)) is (grows T u.stands));
+      up_to = subst (AreUpTo now.at) (sym (append_assoc made items S.trace)) (subst (λ (at : ℕ). AreUpTo at (made ++ T)) u.moment (up_items S.moment made T (subst (λ (at : ℕ). AreUpTo at T) (sym u.moment) u.up_to) (plan_noted (seeing items S) plan)));
+      moves = noted T u.stands ∙ (ap (λ (xs : Trace). ms ++ moved xs) is ∙ ap (λ (xs : List Moved). xs ++ moved made) u.moves ∙ sym (moved_append made items));
     } in
-    subst (λ (p : Result Plan Reason). IsUnderway S (rule_items S.moment p ++ items) t rs k now w ns) planned
-    (subst (λ (at : ℕ). IsUnderway S (accept_items at plan ++ items) t rs k now w ns) (sym u.moment) made)
+    subst (λ (p : Result Plan Reason). IsUnderway S (rule_items (seeing items S) p ++ items) t rs k now w ns) planned after
 
 -- a refused rule leaves all as it is
 pub rule_left : (S : Sight) (items : Trace) (t : Table) (rs : List Row) (k : CountsView) (now : Now) (v : Shown) (ms : List Moved) (f : Fire) (r : Rule) (reason : Reason)
     → Err reason ≡ rule_plan (seeing items S) f r → IsUnderway S items t rs k now v ms → IsUnderway S (after_rule S f r items) t rs k now v ms
-rule_left S items t rs k now v ms f r reason planned u = subst (λ (p : Result Plan Reason). IsUnderway S (rule_items S.moment p ++ items) t rs k now v ms) planned u
+rule_left S items t rs k now v ms f r reason planned u = subst (λ (p : Result Plan Reason). IsUnderway S (rule_items (seeing items S) p ++ items) t rs k now v ms) planned u
 
 -- ---- rule after rule
 
@@ -166,17 +168,6 @@ reach_last f all i t rs k now v w ms ns lines past reach S items u =
 pub next_seen : (v : Shown) (T : Trace) (id : Id) → Stands v T → id.count ≡ last_of v.drawn id.namespace + 1 → IsNext id T
 next_seen v T id stands next = next ∙ ap (λ (n : ℕ). n + 1) (ap (λ (w : Shown). last_of w.drawn id.namespace) stands.is ∙ drawn_last T id.namespace)
 
--- a floor may take its items
-pub shot_right : (S : Sight) (f : Fire) (rs : List Rule) → IsNext f.id S.trace → IsSound S.trace → AreRight (shot_items S f rs) (shown S.trace)
-shot_right S f rs next sound =
-    let items : Trace = after_rules S f rs (draw_items S.moment f.id) in
-    let rest = steps_right S items (rules_steps S f rs next) sound in
-    ((subst (λ (v : Shown). v.firing ≡ Some f.id) (sound_items items S.trace rest sound).1 (shot_drawn S f rs), tt), rest)
-
--- they take over nothing of an earlier run
-pub shot_own : (S : Sight) (f : Fire) (rs : List Rule) → AreOwn (shot_items S f rs)
-shot_own S f rs = (tt, after_all S f AreOwn (λ r plan xs is before. (tt, before)) rs (draw_items S.moment f.id) (tt, tt))
-
 -- what follows from moves is what is committed of their items
 pub followed : (b : KeepingView) (ms : List Moved) (c : FollowingView) → c.changes ≡ flat_map changes_of ms
     → ((rs : List Row) (T items : Trace) → StandsForKept b rs T → IsSound T → AreRight items (shown T) → AreOwn items → ms ≡ moved items → c.bytes ≡ bytes_of (changed c.changes (kept rs T)))
@@ -193,7 +184,7 @@ followed b ms c changes bytes stands S items keeps sound right own same =
 
 -- a fire is refused as its bytes and the limit of fires say
 pub shot_so : (S : Sight) (f : Fire) (rs : List Rule) (bytes : ℕ) (limit : Result (Unit {0}) LimitRefusal) (r : Result (Unit {0}) Reason)
-    → bytes ≡ bytes_of (changed (items_changes (shot_items S f rs)) (kept S.rows S.trace)) → limit ≡ fire_admitted S.trace f.namespace (limits_of f.namespace S.tenants) S.moment → r ≡ admits_shot bytes limit
+    → bytes ≡ bytes_of (changed (items_changes (shot_items S f rs)) (kept S.rows S.trace)) → limit ≡ fire_admitted S.trace f.namespace (limits_of f.namespace S.tenants) S.moment → r ≡ admits_made bytes limit
     → (r >>= (λ (u : Unit {0}). Ok (Fired (shot_items S f rs) f.id))) ≡ shot_done S f rs
 shot_so S f rs bytes limit r is allowed same =
     let done : Unit {0} → Result Done Reason = λ u. Ok (Fired (shot_items S f rs) f.id) in
@@ -203,43 +194,43 @@ shot_so S f rs bytes limit r is allowed same =
     ∙ ap (λ (l : Result (Unit {0}) LimitRefusal). unless (is_store_full (bytes_of (changed (items_changes (shot_items S f rs)) (kept S.rows S.trace)))) store_full >>= (λ (room : Unit {0}). or_limit l >>= done)) allowed))
 
 -- what is answered of a fire that is made
-abbrev pub told_fired : Id → FireStep → Step
-told_fired id m = record { told = at_once (accepted_answer id); change = None; waits = Keep; invoked = None; commit = None; fire = Some m }
+abbrev pub told_fired : Id → Made → Step
+told_fired id m = record { told = at_once (accepted_answer id); change = None; waits = Keep; moves = m.moves; commit = Some m.commit }
 
-fired_carries : (m : FireStep) (f : Fire) (rs : List Rule) (b : KeepingView) (S : Sight) → IsMade m (shot_items S f rs) S → Carries (told_fired f.id m) (ask_decision S.moment (Ok (Fired (shot_items S f rs) f.id))) b S
-fired_carries m f rs b S made = record {
+fired_carries : (m : Made) (f : Fire) (rs : List Rule) (S : Sight) → IsMade m (shot_items S f rs) S → Carries (told_fired f.id m) (ask_decision (Ok (Fired (shot_items S f rs) f.id))) S
+fired_carries m f rs S made = record {
   told = refl;
   changes = refl;
   waits = refl;
-  invoked = refl;
-  commit = (refl, record { moves = made.moves; changes = made.changes; stands = made.stands; none = refl });
+  moves = made.moves;
+  commit = record { changes = made.changes; stands = made.stands };
 }
 
 -- a fire that is made is what is decided
-pub fired_makes : (t : Table) (rs : List Row) (k : CountsView) (b : KeepingView) (now : Now) (old new : Shown) (f : Fire) (rules : List Rule) (m : FireStep) (limit : Result (Unit {0}) LimitRefusal) (r : Result Step NoMemory)
+pub fired_makes : (t : Table) (rs : List Row) (k : CountsView) (b : KeepingView) (now : Now) (old new : Shown) (f : Fire) (rules : List Rule) (m : Made) (limit : Result (Unit {0}) LimitRefusal) (r : Result Step NoMemory)
     → ((S : Sight) → IsSeen S t rs k b old now → IsMade m (shot_items S f rules) S) → ((S : Sight) → IsSeen S t rs k b old now → Stands new (shot_items S f rules ++ S.trace))
-    → ((S : Sight) → IsSeen S t rs k b old now → limit ≡ fire_admitted S.trace f.namespace (limits_of f.namespace S.tenants) S.moment) → Ok tt ≡ admits_shot m.commit.bytes limit
-    → IfOk r (λ s. s ≡ told_fired f.id m) → IfOk r (Makes t rs k b now old new (λ S. ask_decision S.moment (shot_done S f rules)))
+    → ((S : Sight) → IsSeen S t rs k b old now → limit ≡ fire_admitted S.trace f.namespace (limits_of f.namespace S.tenants) S.moment) → Ok tt ≡ admits_made m.commit.bytes limit
+    → IfOk r (λ s. s ≡ told_fired f.id m) → IfOk r (Makes t rs k b now old new (λ S. ask_decision (shot_done S f rules)))
 fired_makes t rs k b now old new f rules m limit (Ok s) made stands allowed admits is = λ S seen.
     let made_so = made S seen in
     let same : Ok (Fired (shot_items S f rules) f.id) ≡ shot_done S f rules = shot_so S f rules m.commit.bytes limit (Ok tt) made_so.bytes (allowed S seen) admits in (
-      subst (λ (d : Result Done Reason). Carries s (ask_decision S.moment d) b S) same
-          (subst (λ (x : Step). Carries x (ask_decision S.moment (Ok (Fired (shot_items S f rules) f.id))) b S) (sym is) (fired_carries m f rules b S made_so)),
-      subst (λ (d : Result Done Reason). Stands new ((ask_decision S.moment d).items ++ S.trace)) same (stands S seen),
+      subst (λ (d : Result Done Reason). Carries s (ask_decision d) S) same
+          (subst (λ (x : Step). Carries x (ask_decision (Ok (Fired (shot_items S f rules) f.id))) S) (sym is) (fired_carries m f rules S made_so)),
+      subst (λ (d : Result Done Reason). Stands new ((ask_decision d).items ++ S.trace)) same (stands S seen),
     )
 fired_makes t rs k b now old new f rules m limit (Err e) made stands allowed admits is = tt
 
 -- and one that is refused, and taken back
-pub refused_makes : (t : Table) (rs : List Row) (k : CountsView) (b : KeepingView) (now : Now) (old new : Shown) (f : Fire) (rules : List Rule) (m : FireStep) (limit : Result (Unit {0}) LimitRefusal) (reason : Reason) (r : Result Step NoMemory)
+pub refused_makes : (t : Table) (rs : List Row) (k : CountsView) (b : KeepingView) (now : Now) (old new : Shown) (f : Fire) (rules : List Rule) (m : Made) (limit : Result (Unit {0}) LimitRefusal) (reason : Reason) (r : Result Step NoMemory)
     → ((S : Sight) → IsSeen S t rs k b old now → IsMade m (shot_items S f rules) S) → new ≡ old
-    → ((S : Sight) → IsSeen S t rs k b old now → limit ≡ fire_admitted S.trace f.namespace (limits_of f.namespace S.tenants) S.moment) → Err reason ≡ admits_shot m.commit.bytes limit
-    → IfOk r (λ s. (at : ℕ) (c : KeepingView) (S : Sight) → CommitsDone (codes.Refused reason) c S → Carries s (ask_decision at (done_of (codes.Refused reason))) c S)
-    → IfOk r (Makes t rs k b now old new (λ S. ask_decision S.moment (shot_done S f rules)))
+    → ((S : Sight) → IsSeen S t rs k b old now → limit ≡ fire_admitted S.trace f.namespace (limits_of f.namespace S.tenants) S.moment) → Err reason ≡ admits_made m.commit.bytes limit
+    → IfOk r (λ s. (S : Sight) → CommitsDone (codes.Refused reason) S → Carries s (ask_decision (done_of (codes.Refused reason))) S)
+    → IfOk r (Makes t rs k b now old new (λ S. ask_decision (shot_done S f rules)))
 refused_makes t rs k b now old new f rules m limit reason (Ok s) made back allowed refuses carries = λ S seen.
     let made_so = made S seen in
     let same : Err reason ≡ shot_done S f rules = shot_so S f rules m.commit.bytes limit (Err reason) made_so.bytes (allowed S seen) refuses in (
-      subst (λ (d : Result Done Reason). Carries s (ask_decision S.moment d) b S) same (carries S.moment b S tt),
-      subst (λ (d : Result Done Reason). Stands new ((ask_decision S.moment d).items ++ S.trace)) same (subst (λ (v : Shown). Stands v S.trace) (sym back) seen.stands),
+      subst (λ (d : Result Done Reason). Carries s (ask_decision d) S) same (carries S tt),
+      subst (λ (d : Result Done Reason). Stands new ((ask_decision d).items ++ S.trace)) same (subst (λ (v : Shown). Stands v S.trace) (sym back) seen.stands),
     )
 refused_makes t rs k b now old new f rules m limit reason (Err e) made back allowed refuses carries = tt
 

@@ -1,33 +1,57 @@
 -- What runners tell, and sweeps, are what is decided of them.
-use Rattle.std.proofs.Common.{◌≡◌, ◌++◌, ℕ, List, length, Option, None, Result, refl, sym, ap, subst}
+use Rattle.std.proofs.Common.{arith, ◌≡◌, ◌++◌, ◌∙◌, ℕ, true, List, [], ◌∷◌, length, Option, None, Some, Result, append-nil, refl, sym, ap, subst}
+use Rattle.std.specs.Prelude.{◌==◌}
+use Rattle.std.proofs.lemmas.Bool.Decides.{nat_tests}
 use Rattle.ow_entity.specs.declared.rows.Row.{Row}
 use Rattle.ow_traits.specs.declared.replies.RunReply.{RunReply}
-use Rattle.ow_floor.specs.Calls.{abandon_items, abandoned_ends, answer_to, answered_items, happened, next_items, next_order, swept_ends, swept_items}
+use Rattle.ow_floor.specs.Calls.{abandon_items, abandoned_ends, answer_of, answered_by, answered_items, happened, happened_of, moved, next_items, next_order, reply_recorded}
 use Rattle.ow_floor.specs.View.{Shown}
-use Rattle.ow_floor.specs.Trace.{Trace}
-use Rattle.ow_floor.specs.Laws.{Grows, Stands}
-use Rattle.ow_floor.specs.declared.answers.Answered.{Answered}
+use Rattle.ow_floor.specs.Trace.{Trace, shown}
+use Rattle.ow_floor.specs.Growth.{AreRight}
+use Rattle.ow_floor.specs.Laws.{Grows, IsSound, Stands}
 use Rattle.ow_floor.specs.declared.answers.FloorRefusal.{FloorRefusal}
-use Rattle.ow_floor.specs.declared.answers.Happening.{Happening}
 use Rattle.ow_floor.specs.declared.answers.Order.{Order}
-use Rattle.ow_floor.specs.declared.answers.Swept.{Swept}
-use Rattle.ow_kept.specs.Keeping.{AreLater, KeepingView}
+use Rattle.ow_floor.specs.declared.moves.Moved.{Moved}
+use Rattle.ow_kept.specs.Keeping.{AreOwn, KeepingView, StandsForKept}
+use Rattle.ow_tables.specs.Rows.{standing}
 use Rattle.ow_tenant.specs.Table.{Table}
+use Rattle.ow_trees.specs.Steps.{late_in, steps_after, sweep_items}
 use Rattle.ow_counts.specs.View.{CountsView}
 use Rattle.ow_decide.specs.Decision.{adds}
-use Rattle.ow_decide.specs.Decisions.{reopened_decision, reply_told, swept_told, taken_told}
-use Rattle.ow_decide.specs.Making.{Carries, IsSeen, telling}
+use Rattle.ow_decide.specs.Decisions.{answered_all, answered_told, decide, reply_told, swept_all, swept_told, taken_told}
+use Rattle.ow_decide.specs.Making.{Carries, IsReplyTold, IsSeen, IsTold, Makes, changes_of, telling}
 use Rattle.ow_decide.specs.Sight.{Sight}
+use Rattle.ow_decide.specs.declared.events.Event.TheVariants as events
 use Rattle.ow_decide.specs.declared.events.Told.{Told}
 use Rattle.ow_decide.specs.declared.events.Told.TheVariants as told
 use Rattle.ow_decide.specs.declared.step.Now.{Now}
-use Rattle.ow_decide.specs.declared.waits.Waits.TheVariants.{Clear}
-use Rattle.ow_decide.proofs.ChainLaws.{are_later, of_abandon, of_answered, of_next, of_swept}
-use Rattle.ow_decide.proofs.NotedLaws.{later_invoked}
+use Rattle.ow_decide.specs.declared.step.Step.{Step}
+use Rattle.ow_decide.specs.declared.waits.Waits.TheVariants.{Clear, Keep}
+use Rattle.ow_decide.proofs.MadeLaws.{abandoned_own, abandoned_right, answered_own, answered_right, nothing_answered, swept_own, swept_right}
+use Rattle.ow_decide.proofs.PlanLaws.{as_seen}
 
--- what is told, where items are added that accept nothing
-pub adds_carried : (is are : Told) (items : Trace) (b : KeepingView) (S : Sight) → is ≡ are → AreLater items → Carries (telling is) (adds are items) b S
-adds_carried is are items b S same later = record { told = same; changes = refl; waits = refl; invoked = sym (later_invoked items later); commit = (refl, later) }
+no_length : (n : ℕ) → true ≡ (n == 0) → n ≡ 0
+no_length n none = grind (arith, nat_tests)
+
+-- a list of no length
+pub nothing_moved : (ms : List Moved) → true ≡ (length ms == 0) → ms ≡ []
+nothing_moved [] none = refl
+nothing_moved (m ∷ ms) none = let e : length (m ∷ ms) ≡ 0 = no_length (length (m ∷ ms)) none in cc
+
+-- what is told, where nothing moves
+pub quiet_carried : (is are : Told) (items : Trace) (S : Sight) → is ≡ are → AreOwn items → moved items ≡ [] → Carries (telling is) (adds are items) S
+quiet_carried is are items S same own quiet = record { told = same; changes = refl; waits = refl; moves = sym quiet; commit = (refl, (own, quiet)) }
+
+-- what is told, where these moved
+pub told_carried : (s : Step) (is are : Told) (ms : List Moved) (b : KeepingView) (S : Sight) (items : Trace) → IsTold s is Keep ms b → is ≡ are → StandsForKept b S.rows S.trace → IsSound S.trace
+    → AreRight items (shown S.trace) → AreOwn items → ms ≡ moved items → Carries s (adds are items) S
+told_carried s is are ms b S items step same keeps sound right own moves = record {
+  told = step.told ∙ same;
+  changes = ap changes_of step.change;
+  waits = step.waits;
+  moves = step.moves ∙ moves;
+  commit = step.commit S items are Keep keeps sound right own moves;
+}
 
 -- items at the moment that is seen
 pub at_moment : (old new : Shown) (items : ℕ → Trace → Trace) (t : Table) (rs : List Row) (k : CountsView) (b : KeepingView) (now : Now) → Grows old new (items now.at) → (S : Sight) → IsSeen S t rs k b old now
@@ -36,59 +60,92 @@ at_moment old new items t rs k b now grows S seen = subst (λ (at : ℕ). Stands
 
 -- what is taken by the floor's words is told, and happens
 pub taken_makes : (t : Table) (rs : List Row) (k : CountsView) (b : KeepingView) (old new : Shown) (now : Now) (answer : Trace → Result (Unit {0}) FloorRefusal) (items : ℕ → Trace → Trace)
-    (taken : Result (Unit {0}) FloorRefusal) → ((S : Sight) → AreLater (items S.moment S.trace)) → ((T : Trace) → Stands old T → taken ≡ answer T) → Grows old new (items now.at)
+    (taken : Result (Unit {0}) FloorRefusal) → ((S : Sight) → AreOwn (items S.moment S.trace) × (moved (items S.moment S.trace) ≡ [])) → ((T : Trace) → Stands old T → taken ≡ answer T) → Grows old new (items now.at)
     → (S : Sight) → IsSeen S t rs k b old now
-    → Carries (telling (taken_told taken)) (adds (taken_told (answer S.trace)) (items S.moment S.trace)) b S × Stands new (items S.moment S.trace ++ S.trace)
-taken_makes t rs k b old new now answer items taken later is grows S seen =
-    (adds_carried _ _ (items S.moment S.trace) b S (ap taken_told (is S.trace seen.stands)) (later S), at_moment old new items t rs k b now grows S seen)
+    → Carries (telling (taken_told taken)) (adds (taken_told (answer S.trace)) (items S.moment S.trace)) S × Stands new (items S.moment S.trace ++ S.trace)
+taken_makes t rs k b old new now answer items taken quiet is grows S seen =
+    (quiet_carried _ _ (items S.moment S.trace) S (ap taken_told (is S.trace seen.stands)) (quiet S).0 (quiet S).1, at_moment old new items t rs k b now grows S seen)
 
 -- what is to be run next is told, and ordered
-pub next_makes : (t : Table) (rs : List Row) (k : CountsView) (b : KeepingView) (old new : Shown) (now : Now) (order : Order)
+pub next_makes : (t : Table) (rs : List Row) (k : CountsView) (b : KeepingView) (old new : Shown) (now : Now) (order : Order) → ((S : Sight) → AreOwn (next_items S.moment S.trace) × (moved (next_items S.moment S.trace) ≡ []))
     → ((T : Trace) → Stands old T → order ≡ next_order T) → Grows old new (λ T. next_items now.at T) → (S : Sight) → IsSeen S t rs k b old now
-    → Carries (telling (told.Next order)) (adds (told.Next (next_order S.trace)) (next_items S.moment S.trace)) b S × Stands new (next_items S.moment S.trace ++ S.trace)
-next_makes t rs k b old new now order is grows S seen =
-    (adds_carried _ _ (next_items S.moment S.trace) b S (ap told.Next (is S.trace seen.stands)) (are_later S (next_items S.moment S.trace) (of_next S)), at_moment old new (λ at T. next_items at T) t rs k b now grows S seen)
+    → Carries (telling (told.Next order)) (adds (told.Next (next_order S.trace)) (next_items S.moment S.trace)) S × Stands new (next_items S.moment S.trace ++ S.trace)
+next_makes t rs k b old new now order quiet is grows S seen =
+    (quiet_carried _ _ (next_items S.moment S.trace) S (ap told.Next (is S.trace seen.stands)) (quiet S).0 (quiet S).1, at_moment old new (λ at T. next_items at T) t rs k b now grows S seen)
 
--- what is told where all that is open is abandoned
-pub reopened_carried : (h : List Happening) (at : ℕ) (b : KeepingView) (S : Sight) → h ≡ happened (abandoned_ends at S.trace)
-    → Carries (record { told = told.Reopened h; change = None; waits = Clear; invoked = None; commit = None; fire = None }) (reopened_decision at S.trace) b S
-reopened_carried h at b S is =
-    let later = are_later (record S { moment = at }) (abandon_items at S.trace) (of_abandon (record S { moment = at })) in
-    record { told = ap told.Reopened is; changes = refl; waits = refl; invoked = sym (later_invoked (abandon_items at S.trace) later); commit = (refl, later) }
+-- a reply to a live run is told of, and taken, with the steps that its end makes
+recorded_makes : (t : Table) (rs : List Row) (k : CountsView) (b : KeepingView) (now : Now) (old new : Shown) (run : ℕ) (reply : RunReply) (recorded : Option ℕ) (ms ns : List Moved) (s : Step)
+    → IsTold s (told.Answered (answered_by run recorded (happened_of ns))) Keep ns b → ((T : Trace) → Stands old T → Some recorded ≡ reply_recorded run T) → ms ≡ []
+    → ((T : Trace) → Stands old T → ns ≡ ms ++ moved (steps_after (standing rs) now.at T (answered_items now.at run reply T)))
+    → Grows old new (λ T. steps_after (standing rs) now.at T (answered_items now.at run reply T))
+    → Makes t rs k b now old new (λ S. decide S (events.Answered run reply)) s
+recorded_makes t rs k b now old new run reply recorded ms ns s step is none noted grows = λ S seen.
+    let moves : ns ≡ moved (answered_all S run reply) =
+    as_seen (λ (xs : List Row) (m : ℕ). ns ≡ moved (steps_after (standing xs) m S.trace (answered_items m run reply S.trace))) S rs now.at seen.rows seen.moment
+    (noted S.trace seen.stands ∙ ap (λ (os : List Moved). os ++ moved (steps_after (standing rs) now.at S.trace (answered_items now.at run reply S.trace))) none) in
+    let tells : told.Answered (answered_by run recorded (happened_of ns)) ≡ answered_told S run reply =
+    ap (λ (o : Option (Option ℕ)). reply_told run reply (answer_of run o (happened_of ns))) (is S.trace seen.stands)
+    ∙ ap (λ (xs : List Moved). reply_told run reply (answer_of run (reply_recorded run S.trace) (happened_of xs))) moves in (
+      told_carried s _ (answered_told S run reply) ns b S (answered_all S run reply) step tells seen.keeping seen.stands.sound (answered_right S run reply seen.stands.sound) (answered_own S run reply) moves,
+      as_seen (λ (xs : List Row) (m : ℕ). Stands new (steps_after (standing xs) m S.trace (answered_items m run reply S.trace) ++ S.trace)) S rs now.at seen.rows seen.moment (grows S.trace seen.stands),
+    )
 
-pub reopened_makes : (t : Table) (rs : List Row) (k : CountsView) (b : KeepingView) (old new : Shown) (now : Now) (h : List Happening)
-    → ((T : Trace) → Stands old T → h ≡ happened (abandoned_ends now.at T)) → Grows old new (λ T. abandon_items now.at T) → (S : Sight) → IsSeen S t rs k b old now
-    → Carries (record { told = told.Reopened h; change = None; waits = Clear; invoked = None; commit = None; fire = None }) (reopened_decision S.moment S.trace) b S
-    × Stands new (abandon_items S.moment S.trace ++ S.trace)
-reopened_makes t rs k b old new now h is grows S seen = (
-  subst (λ (at : ℕ). Carries (record { told = told.Reopened h; change = None; waits = Clear; invoked = None; commit = None; fire = None }) (reopened_decision at S.trace) b S) (sym seen.moment)
-      (reopened_carried h now.at b S (is S.trace seen.stands)),
-  at_moment old new (λ at T. abandon_items at T) t rs k b now grows S seen,
-)
+-- a reply to no live run is handed back
+unknown_makes : (t : Table) (rs : List Row) (k : CountsView) (b : KeepingView) (now : Now) (old new : Shown) (run : ℕ) (reply : RunReply) (s : Step)
+    → s ≡ telling (told.NoRun run reply) → ((T : Trace) → Stands old T → None ≡ reply_recorded run T)
+    → Grows old new (λ T. steps_after (standing rs) now.at T (answered_items now.at run reply T))
+    → Makes t rs k b now old new (λ S. decide S (events.Answered run reply)) s
+unknown_makes t rs k b now old new run reply s step is grows = λ S seen.
+    let nothing : answered_all S run reply ≡ [] = nothing_answered S run reply (sym (is S.trace seen.stands)) in
+    let tells : told.NoRun run reply ≡ answered_told S run reply = ap (λ (o : Option (Option ℕ)). reply_told run reply (answer_of run o (happened (answered_all S run reply)))) (is S.trace seen.stands) in (
+      subst (λ (x : Step). Carries x (adds (answered_told S run reply) (answered_all S run reply)) S) (sym step)
+          (quiet_carried _ _ (answered_all S run reply) S tells (answered_own S run reply) (ap moved nothing)),
+      as_seen (λ (xs : List Row) (m : ℕ). Stands new (steps_after (standing xs) m S.trace (answered_items m run reply S.trace) ++ S.trace)) S rs now.at seen.rows seen.moment (grows S.trace seen.stands),
+    )
 
--- a runner's reply is told of, and taken
-pub answered_makes : (t : Table) (rs : List Row) (k : CountsView) (b : KeepingView) (old new : Shown) (now : Now) (run : ℕ) (reply : RunReply) (o : Option Answered)
-    → ((T : Trace) → Stands old T → o ≡ answer_to now.at run reply T) → Grows old new (λ T. answered_items now.at run reply T) → (S : Sight) → IsSeen S t rs k b old now
-    → Carries (telling (reply_told run reply o)) (adds (reply_told run reply (answer_to S.moment run reply S.trace)) (answered_items S.moment run reply S.trace)) b S
-    × Stands new (answered_items S.moment run reply S.trace ++ S.trace)
-answered_makes t rs k b old new now run reply o is grows S seen = (
-  adds_carried _ _ (answered_items S.moment run reply S.trace) b S
-      (subst (λ (at : ℕ). reply_told run reply o ≡ reply_told run reply (answer_to at run reply S.trace)) (sym seen.moment) (ap (reply_told run reply) (is S.trace seen.stands)))
-      (are_later S (answered_items S.moment run reply S.trace) (of_answered S run reply)),
-  at_moment old new (λ at T. answered_items at run reply T) t rs k b now grows S seen,
-)
-
-swept_same : (s : Swept) (h : List Happening) (n : ℕ) → s.happened ≡ h → s.late ≡ n → s ≡ record { happened = h; late = n }
-swept_same s h n p q = subst (λ (x : List Happening). s ≡ record { happened = x; late = n }) p (subst (λ (y : ℕ). s ≡ record { happened = s.happened; late = y }) q refl)
+-- a reply
+pub answered_makes : (t : Table) (rs : List Row) (k : CountsView) (b : KeepingView) (now : Now) (old new : Shown) (run : ℕ) (reply : RunReply) (o : Option (Option ℕ)) (ms ns : List Moved) (s : Step)
+    → IsReplyTold s run reply o ns b → ((T : Trace) → Stands old T → o ≡ reply_recorded run T) → ms ≡ []
+    → ((T : Trace) → Stands old T → ns ≡ ms ++ moved (steps_after (standing rs) now.at T (answered_items now.at run reply T)))
+    → Grows old new (λ T. steps_after (standing rs) now.at T (answered_items now.at run reply T))
+    → Makes t rs k b now old new (λ S. decide S (events.Answered run reply)) s
+answered_makes t rs k b now old new run reply None ms ns s step is none noted grows = unknown_makes t rs k b now old new run reply s step is grows
+answered_makes t rs k b now old new run reply (Some recorded) ms ns s step is none noted grows = recorded_makes t rs k b now old new run reply recorded ms ns s step is none noted grows
 
 -- a sweep
-pub swept_makes : (t : Table) (rs : List Row) (k : CountsView) (b : KeepingView) (old new : Shown) (now : Now) (s : Swept)
-    → ((T : Trace) → Stands old T → (s.happened ≡ happened (swept_ends now.at T)) × (s.late ≡ length (swept_ends now.at T))) → Grows old new (λ T. swept_items now.at T)
-    → (S : Sight) → IsSeen S t rs k b old now
-    → Carries (telling (told.Swept s)) (adds (told.Swept (swept_told S.moment S.trace)) (swept_items S.moment S.trace)) b S × Stands new (swept_items S.moment S.trace ++ S.trace)
-swept_makes t rs k b old new now s is grows S seen = (
-  adds_carried _ _ (swept_items S.moment S.trace) b S
-      (subst (λ (at : ℕ). told.Swept s ≡ told.Swept (swept_told at S.trace)) (sym seen.moment) (ap told.Swept (swept_same s _ _ (is S.trace seen.stands).0 (is S.trace seen.stands).1)))
-      (are_later S (swept_items S.moment S.trace) (of_swept S)),
-  at_moment old new (λ at T. swept_items at T) t rs k b now grows S seen,
-)
+pub swept_makes : (t : Table) (rs : List Row) (k : CountsView) (b : KeepingView) (now : Now) (old new : Shown) (late : ℕ) (ms ns : List Moved) (s : Step)
+    → IsTold s (told.Swept (record { happened = happened_of ns; late = late })) Keep ns b → ((T : Trace) → Stands old T → late ≡ late_in (sweep_items (standing rs) now.at T)) → ms ≡ []
+    → ((T : Trace) → Stands old T → ns ≡ ms ++ moved (sweep_items (standing rs) now.at T)) → Grows old new (λ T. sweep_items (standing rs) now.at T)
+    → Makes t rs k b now old new (λ S. decide S events.Sweep) s
+swept_makes t rs k b now old new late ms ns s step is none noted grows = λ S seen.
+    let moves : ns ≡ moved (swept_all S) =
+    as_seen (λ (xs : List Row) (m : ℕ). ns ≡ moved (sweep_items (standing xs) m S.trace)) S rs now.at seen.rows seen.moment
+    (noted S.trace seen.stands ∙ ap (λ (os : List Moved). os ++ moved (sweep_items (standing rs) now.at S.trace)) none) in
+    let count : late ≡ late_in (swept_all S) =
+    as_seen (λ (xs : List Row) (m : ℕ). late ≡ late_in (sweep_items (standing xs) m S.trace)) S rs now.at seen.rows seen.moment (is S.trace seen.stands) in
+    let tells : told.Swept (record { happened = happened_of ns; late = late }) ≡ told.Swept (swept_told (swept_all S)) =
+    ap (λ (xs : List Moved). told.Swept (record { happened = happened_of xs; late = late })) moves
+    ∙ ap (λ (n : ℕ). told.Swept (record { happened = happened (swept_all S); late = n })) count in (
+      told_carried s _ (told.Swept (swept_told (swept_all S))) ns b S (swept_all S) step tells seen.keeping seen.stands.sound (swept_right S seen.stands.sound) (swept_own S) moves,
+      as_seen (λ (xs : List Row) (m : ℕ). Stands new (sweep_items (standing xs) m S.trace ++ S.trace)) S rs now.at seen.rows seen.moment (grows S.trace seen.stands),
+    )
+
+-- a reopening
+pub reopened_makes : (t : Table) (rs : List Row) (k : CountsView) (b : KeepingView) (now : Now) (old new : Shown) (ms ns : List Moved) (s : Step)
+    → IsTold s (told.Reopened (happened_of ns)) Clear ns b → ms ≡ [] → ((T : Trace) → Stands old T → ns ≡ ms ++ moved (abandon_items now.at T)) → Grows old new (λ T. abandon_items now.at T)
+    → Makes t rs k b now old new (λ S. decide S events.Reopened) s
+reopened_makes t rs k b now old new ms ns s step none noted grows = λ S seen.
+    let items : Trace = abandon_items S.moment S.trace in
+    let moves : ns ≡ moved items =
+    subst (λ (m : ℕ). ns ≡ moved (abandon_items m S.trace)) (sym seen.moment)
+    (noted S.trace seen.stands ∙ ap (λ (os : List Moved). os ++ moved (abandon_items now.at S.trace)) none) in
+    let ends : moved items ≡ moved (abandoned_ends S.moment S.trace) = append-nil (moved (abandoned_ends S.moment S.trace)) in (
+      record {
+        told = step.told ∙ ap (λ (xs : List Moved). told.Reopened (happened_of xs)) (moves ∙ ends);
+        changes = ap changes_of step.change;
+        waits = step.waits;
+        moves = step.moves ∙ moves;
+        commit = step.commit S items (told.Reopened (happened (abandoned_ends S.moment S.trace))) Clear seen.keeping seen.stands.sound (abandoned_right S seen.stands.sound) (abandoned_own S) moves;
+      },
+      at_moment old new (λ at T. abandon_items at T) t rs k b now grows S seen,
+    )

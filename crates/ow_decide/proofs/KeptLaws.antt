@@ -1,20 +1,21 @@
 -- What is committed of what is decided makes what is kept then.
-use Rattle.std.proofs.Common.{◌≡◌, ◌==◌, ◌++◌, ◌^◌, ◌≤◌, ◌<◌, ◌∙◌, ℕ, Bool, true, false, cond, List, [], ◌∷◌, Option, Some, refl, sym, ap, arith, subst}
+use Rattle.std.proofs.Common.{◌≡◌, ◌==◌, ◌+◌, ◌++◌, ◌^◌, ◌≤◌, ◌<◌, ◌∙◌, ℕ, Bool, true, false, cond, List, [], ◌∷◌, Option, Some, refl, sym, ap, arith, subst}
 use Rattle.std.specs.List.{find, flat_map, AllByRecursion}
 use Rattle.std.proofs.lemmas.Bool.Decides.{nat_tests}
-use Rattle.std.proofs.lemmas.Grind.{flat_map-append}
 use Rattle.std.proofs.lemmas.List.{append-nil}
 use Rattle.ow_entity.specs.declared.rows.Row.{Row}
 use Rattle.ow_records.specs.declared.ids.Id.{Id}
 use Rattle.ow_records.specs.declared.record.Record.{Record}
 use Rattle.ow_records.specs.Known.{IsId}
 use Rattle.ow_floor.specs.Calls.{IsNext, moved, moved_by}
-use Rattle.ow_floor.specs.View.{count_or_zero, is_in, last_of}
-use Rattle.ow_floor.specs.Trace.{Accepted, Drawn, Ended, Fired, Item, Resumed, Trace, drawn, last, record_of, records, resumed}
+use Rattle.ow_floor.specs.Growth.{AreRight, IsRight}
+use Rattle.ow_floor.specs.View.{Shown, count_or_zero, is_in, last_of}
+use Rattle.ow_floor.specs.Trace.{Accepted, Drawn, Ended, Fired, Item, Resumed, Trace, drawn, last, record_of, records, resumed, shown}
 use Rattle.ow_floor.specs.Laws.{IsSound}
 use Rattle.ow_floor.proofs.Drawn.{drawn_last}
+use Rattle.ow_floor.proofs.Soundness.{sound_items}
 use Rattle.ow_items.specs.Sorted.{Entries}
-use Rattle.ow_kept.specs.Commits.{changes_of, row_changes}
+use Rattle.ow_kept.specs.Commits.{row_changes}
 use Rattle.ow_kept.specs.Keeping.{AreIds, AreOwn, IsDrawn, IsKnownMove, IsOwn}
 use Rattle.ow_kept.specs.Kept.{kept}
 use Rattle.ow_kept.proofs.Ids.{all_both}
@@ -25,11 +26,12 @@ use Rattle.ow_tables.specs.Rows.{changed as rows_changed}
 use Rattle.ow_traits.specs.Changes.{after_change, changed}
 use Rattle.ow_traits.specs.declared.change_list.Change.{Change as StoreChange}
 use Rattle.ow_decide.specs.declared.events.Event.{Event}
-use Rattle.ow_decide.specs.Chain.{AreSteps, IsDecided}
 use Rattle.ow_decide.specs.Sight.{Sight}
-use Rattle.ow_decide.specs.Decision.{all_changed, commits, item_changes, items_changes}
+use Rattle.ow_decide.specs.Decision.{all_changed, commits, items_changes}
 use Rattle.ow_decide.specs.Decisions.{decide, is_opening}
-use Rattle.ow_decide.proofs.ChainLaws.{decided_steps, steps_right}
+use Rattle.ow_decide.proofs.MadeLaws.{changes_of_moves}
+use Rattle.ow_decide.proofs.NotedLaws.{decided_own}
+use Rattle.ow_decide.proofs.SoundLaws.{decided_right}
 
 -- ---- changes one after another
 
@@ -46,22 +48,6 @@ all_rows_kept [] rs T = refl
 all_rows_kept (c ∷ cs) rs T =
     changed_then (row_changes c) (flat_map row_changes cs) (kept rs T)
     ∙ (ap (changed (flat_map row_changes cs)) (rows_kept c rs T) ∙ all_rows_kept cs (rows_changed c rs) T)
-
--- ---- changes of moves
-
-item_moved : (item : Item) → item_changes item ≡ flat_map changes_of (moved_by item)
-item_moved (Accepted a) = refl
-item_moved (Ended e) = refl
-item_moved (Drawn id at) = refl
-item_moved (Fired r) = refl
-item_moved item = refl
-
--- what items change of what is kept is what their moves do
-pub items_moved : (items : Trace) → items_changes items ≡ flat_map changes_of (moved items)
-items_moved [] = refl
-items_moved (item ∷ items) =
-    ap (λ (cs : List StoreChange). cs ++ item_changes item) (items_moved items)
-    ∙ (ap (λ (cs : List StoreChange). flat_map changes_of (moved items) ++ cs) (item_moved item) ∙ sym (flat_map-append changes_of (moved items) (moved_by item)))
 
 -- ---- ids of what moves
 
@@ -95,12 +81,16 @@ next_more : (id : Id) (T : Trace) (n : ℕ) (b : Bool) → (id.namespace == n) �
 next_more id T n true e next = let same = ap (last T) (same_number id.namespace n e) in omega (arith, same, next)
 next_more id T n false e next = same_le (last T n)
 
+-- the id of what may come is the next of its namespace
+is_next : (id : Id) (T : Trace) → id.count ≡ last_of (drawn T) id.namespace + 1 → IsNext id T
+is_next id T right = right ∙ ap (λ (n : ℕ). n + 1) (drawn_last T id.namespace)
+
 -- no last count falls
-last_more : (S : Sight) (item : Item) (T : Trace) (n : ℕ) → IsDecided S item T → last T n ≤ last (item ∷ T) n
-last_more S (Accepted a) T n is = next_more a.id T n (a.id.namespace == n) refl is.next
-last_more S (Drawn id at) T n is = next_more id T n (id.namespace == n) refl is
-last_more S (Resumed counts rs) T n is = absurd is
-last_more S item T n is = same_le (last T n)
+last_more : (item : Item) (T : Trace) (n : ℕ) → IsRight item (shown T) → IsOwn item → last T n ≤ last (item ∷ T) n
+last_more (Accepted a) T n right own = next_more a.id T n (a.id.namespace == n) refl (is_next a.id T right.0)
+last_more (Drawn id at) T n right own = next_more id T n (id.namespace == n) refl (is_next id T right.0)
+last_more (Resumed counts rs) T n right own = absurd own
+last_more item T n right own = same_le (last T n)
 
 self_number : (n : ℕ) → (n == n) ≡ true
 self_number n = grind (arith, nat_tests)
@@ -117,33 +107,25 @@ record_before r [] all = (tt, all.0)
 record_before r (x ∷ xs) all = let rest = record_before r xs all.1 in ((all.0, rest.0), rest.1)
 
 -- of the newest item
-item_known : (S : Sight) (item : Item) (T : Trace) → IsDecided S item T → AreLastsSmall (item ∷ T) → AllByRecursion (λ r. IsId r.id) (records (item ∷ T))
+item_known : (item : Item) (T : Trace) → IsRight item (shown T) → AreLastsSmall (item ∷ T) → AllByRecursion (λ r. IsId r.id) (records (item ∷ T))
     → AllByRecursion IsKnownMove (moved_by item) × AllByRecursion (λ r. IsId r.id) (records T)
-item_known S (Accepted a) T is small ended = ((here_small a.id T (a.id.namespace == a.id.namespace) refl is.next (small a.id.namespace), tt), ended)
-item_known S (Drawn id at) T is small ended = ((here_small id T (id.namespace == id.namespace) refl is (small id.namespace), tt), ended)
-item_known S (Ended e) T is small ended = let both = record_before (record_of e) (records T) ended in ((both.1, tt), both.0)
-item_known S (Fired r) T is small ended = let both = record_before r (records T) ended in ((both.1, tt), both.0)
-item_known S item T is small ended = (tt, ended)
+item_known (Accepted a) T right small ended = ((here_small a.id T (a.id.namespace == a.id.namespace) refl (is_next a.id T right.0) (small a.id.namespace), tt), ended)
+item_known (Drawn id at) T right small ended = ((here_small id T (id.namespace == id.namespace) refl (is_next id T right.0) (small id.namespace), tt), ended)
+item_known (Ended e) T right small ended = let both = record_before (record_of e) (records T) ended in ((both.1, tt), both.0)
+item_known (Fired r) T right small ended = let both = record_before r (records T) ended in ((both.1, tt), both.0)
+item_known item T right small ended = (tt, ended)
 
--- of a chain: its ids are known by what is known then
-moves_known : (S : Sight) (items : Trace) → AreSteps S items → AreLastsSmall (items ++ S.trace) → AllByRecursion (λ r. IsId r.id) (records (items ++ S.trace)) → AllByRecursion IsKnownMove (moved items)
-moves_known S [] steps small ended = tt
-moves_known S (item ∷ items) steps small ended =
-    let T : Trace = items ++ S.trace in
-    let here = item_known S item T steps.0.is small ended in
+-- the ids of what moved are known by what is known then
+moves_known : (items T : Trace) → IsSound T → AreRight items (shown T) → AreOwn items → AreLastsSmall (items ++ T) → AllByRecursion (λ r. IsId r.id) (records (items ++ T)) → AllByRecursion IsKnownMove (moved items)
+moves_known [] T sound right own small ended = tt
+moves_known (item ∷ items) T sound right own small ended =
+    let U : Trace = items ++ T in
+    let here : IsRight item (shown U) = subst (λ (v : Shown). IsRight item v) (sym (sound_items items T right.1 sound).1) right.0 in
+    let known = item_known item U here small ended in
     all_both IsKnownMove (moved items) (moved_by item)
-    (moves_known S items steps.1 (λ n. less_small (last T n) (last (item ∷ T) n) n (last_more S item T n steps.0.is) (small n)) here.1) here.0
+    (moves_known items T sound right.1 own.1 (λ n. less_small (last U n) (last (item ∷ U) n) n (last_more item U n here own.0) (small n)) known.1) known.0
 
--- ---- a chain
-
-own_item : (S : Sight) (item : Item) (T : Trace) → IsDecided S item T → IsOwn item
-own_item S (Resumed counts rs) T is = absurd is
-own_item S item T is = tt
-
--- it takes over nothing of an earlier run
-pub steps_own : (S : Sight) (items : Trace) → AreSteps S items → AreOwn items
-steps_own S [] steps = tt
-steps_own S (item ∷ items) steps = (own_item S item (items ++ S.trace) steps.0.is, steps_own S items steps.1)
+-- ---- a decision
 
 later_one : (P : Record → Type 0) (xs ys : List Record) → AllByRecursion P (xs ++ ys) → AllByRecursion P ys
 later_one P [] ys all = all
@@ -155,10 +137,11 @@ pub decided_kept : (S : Sight) (event : Event) → is_opening event ≡ false �
 decided_kept S event other sound ids after =
     let d = decide S event in
     let U : Trace = d.items ++ S.trace in
-    let steps = decided_steps S event other in
+    let right = decided_right S event sound in
+    let own = decided_own S event other in
     let rs : List Row = all_changed d.changes S.rows in
     changed_then (flat_map row_changes d.changes) (items_changes d.items) (kept S.rows S.trace)
     ∙ (ap (changed (items_changes d.items)) (all_rows_kept d.changes S.rows S.trace)
-    ∙ (ap (λ (cs : List StoreChange). changed cs (kept rs S.trace)) (items_moved d.items)
-    ∙ moves_kept rs S.trace d.items sound ids (steps_right S d.items steps sound) (steps_own S d.items steps)
-    (moves_known S d.items steps (lasts_small U after) (later_one (λ r. IsId r.id) (resumed U) (records U) after.ended))))
+    ∙ (ap (λ (cs : List StoreChange). changed cs (kept rs S.trace)) (changes_of_moves d.items)
+    ∙ moves_kept rs S.trace d.items sound ids right own
+    (moves_known d.items S.trace sound right own (lasts_small U after) (later_one (λ r. IsId r.id) (resumed U) (records U) after.ended))))

@@ -1,13 +1,17 @@
 pub mod AskLaws
 pub mod Results
+pub mod MadeLaws
 pub mod OpenLaws
 pub mod SoundLaws
 pub mod CalleeLaws
+pub mod DrivenLaws
 pub mod ShotLaws
 pub mod AcceptLaws
 pub mod ChainLaws
 pub mod NotedLaws
 pub mod LimitLaws
+pub mod OwedLaws
+pub mod CloseLaws
 pub mod KeptLaws
 mod OnceLaws
 mod RouteLaws

@@ -18,6 +18,7 @@ use Rattle.ow_http.specs.declared.reason.Reason.{Reason}
 use Rattle.ow_kept.specs.Commits.{row_changes}
 use Rattle.ow_tables.specs.Refusal.{old_row, put_refusal, remove_refusal}
 use Rattle.ow_tables.specs.Contents.{Change}
+use Rattle.ow_tables.specs.declared.refusal.TableRefusal.{TableRefusal}
 use Rattle.ow_tables.specs.Joined.{rule_at}
 use Rattle.ow_tables.specs.Rows.{changed, standing, with_row, without}
 use Rattle.ow_entity.specs.declared.rules.Rule.{Rule}
@@ -29,7 +30,7 @@ use Rattle.ow_tenant.specs.declared.entries.Holder.{Holder}
 use Rattle.ow_decide.specs.Asking.{Changed, Done, Fired, Invoked, Quiet, Shown, act_done, act_for, ask_decision, change_done, keyed_done, or_table_reason, put_done, put_of, request_done, row_for, row_of, rule_for, rules_done, set_done, shown_done, unless_refused, web_done}
 use Rattle.ow_decide.specs.WebCalling.{web_extension, web_given, web_name, web_plan}
 use Rattle.ow_reads.specs.Acts.{grant_for, granted_call}
-use Rattle.ow_decide.specs.Calling.{callee, charged_namespace, invocation_plan}
+use Rattle.ow_decide.specs.Calling.{admitted_plan, callee, charged_namespace, invocation_plan}
 use Rattle.ow_decide.specs.Decision.{all_changed, items_changes}
 use Rattle.ow_reads.specs.Reading.{name_in, or_call_reason, read_done}
 use Rattle.ow_reads.specs.Reasons.{no_route, not_found}
@@ -45,29 +46,38 @@ called_good : (G : Call → Type 0) (r : Result Call CallRefusal) → IfOk r G �
 called_good G (Ok c) g = g
 called_good G (Err e) g = tt
 
-made_so : (o : Result Row EntityRefusal) → IfOk (or_table_reason o) (λ (r : Row). o ≡ Ok r)
-made_so (Ok r) = refl
-made_so (Err e) = tt
+free_so : (o : Option TableRefusal) → IfOk (unless_refused o) (λ (u : Unit {0}). o ≡ None)
+free_so None = refl
+free_so (Some e) = tt
+
+made_so : (F : Type 0) (o : Result Row EntityRefusal) → F → IfOk (or_table_reason o) (λ (r : Row). F × (o ≡ Ok r))
+made_so F (Ok r) free = (free, refl)
+made_so F (Err e) free = tt
 
 -- who asks, what the request calls for, and the rows: as they are, with a row of the call's draft, without those of a kind and name, and with another status of a rule
 module _ (S : Sight) (p : Parts) (H : Holder → Type 0) (G : Call → Type 0) (N : List Row → Type 0) (known : IfOk (asker S.tenants p.key) H)
     (called : (h : Holder) → H h → IfOk (call_of h.home p) G) (stays : N S.rows)
-    (put : (c : Call) (d : Draft) (r : Row) → G c → c.draft ≡ Some d → finished_row d (old_row d S.rows) ≡ Ok r → N (with_row r S.rows))
+    (put : (c : Call) (d : Draft) (r : Row) → G c → c.draft ≡ Some d → put_refusal d c.overwrite S.rows ≡ None → finished_row d (old_row d S.rows) ≡ Ok r → N (with_row r S.rows))
     (removed : (kind : EntityKind) (name : FullName) → N (without kind name S.rows))
     (set : (name : FullName) (r : Rule) (active : Bool) (c : Change) → rule_at (standing S.rows) name ≡ Some r → status_change r active ≡ Some c → N (changed c S.rows)) where
   abbrev IsGoodDone : Done → Type 0
   IsGoodDone (Changed c value) = N (changed c S.rows)
   IsGoodDone done = Unit {0}
 
-  row_so : (d : Draft) (overwrite : Bool) → IfOk (row_of S d overwrite) (λ (r : Row). finished_row d (old_row d S.rows) ≡ Ok r)
+  -- nothing refuses the put, and the draft makes this row
+  abbrev IsPut : Draft → Bool → Row → Type 0
+  IsPut d overwrite r = (put_refusal d overwrite S.rows ≡ None) × (finished_row d (old_row d S.rows) ≡ Ok r)
+
+  row_so : (d : Draft) (overwrite : Bool) → IfOk (row_of S d overwrite) (IsPut d overwrite)
   row_so d overwrite =
-      then_ok (λ (r : Row). finished_row d (old_row d S.rows) ≡ Ok r) (unless_refused (put_refusal d overwrite S.rows)) _ (λ free. made_so (finished_row d (old_row d S.rows)))
+      then_from (λ (u : Unit {0}). put_refusal d overwrite S.rows ≡ None) (IsPut d overwrite) (unless_refused (put_refusal d overwrite S.rows)) _ (free_so (put_refusal d overwrite S.rows))
+      (λ u free. made_so (put_refusal d overwrite S.rows ≡ None) (finished_row d (old_row d S.rows)) free)
 
   draft_good : (c : Call) (o : Option Draft) → G c → c.draft ≡ o → IfOk (or_else o no_route >>= (λ (d : Draft). put_done S d c.overwrite)) IsGoodDone
   draft_good c None g e = tt
   draft_good c (Some d) g e =
-      then_from (λ (r : Row). finished_row d (old_row d S.rows) ≡ Ok r) IsGoodDone (row_of S d c.overwrite) _ (row_so d c.overwrite) (λ r made.
-      then_ok IsGoodDone (store_room S (row_changes (put_of r))) _ (λ room. put c d r g e made))
+      then_from (IsPut d c.overwrite) IsGoodDone (row_of S d c.overwrite) _ (row_so d c.overwrite) (λ r made.
+      then_ok IsGoodDone (store_room S (row_changes (put_of r))) _ (λ room. put c d r g e made.0 made.1))
 
   rules_good : (subject : List ℕ) (name : FullName) (number : ℕ) (t : Trigger) (given : Pairs) (rs : List Rule) → IfOk (rules_done S subject name number t given rs) IsGoodDone
   rules_good subject name number t given [] = tt
@@ -85,7 +95,8 @@ module _ (S : Sight) (p : Parts) (H : Holder → Type 0) (G : Call → Type 0) (
       then_ok IsGoodDone (unless_refused (remove_refusal kind name S.rows)) _ (λ free.
       then_ok IsGoodDone (row_for S kind name) _ (λ row. removed (kind_of row) (name_of row))))
   change_good h Invokes c g = then_ok IsGoodDone (name_in c) _ (λ name.
-      then_ok IsGoodDone (invocation_plan S h.subject (charged_namespace h name) c.blocking name c.params) _ (λ plan. tt))
+      then_ok IsGoodDone (invocation_plan S h.subject (charged_namespace h name) c.blocking name c.params) _ (λ plan.
+      then_ok IsGoodDone (admitted_plan S plan) _ (λ admitted. tt)))
   change_good h Fires c g = then_ok IsGoodDone (name_in c) _ (λ name. then_ok IsGoodDone (trigger_for S name) _ (λ t. then_ok IsGoodDone (number_for S name.namespace) _ (λ number.
       rules_good h.subject name number t c.params (fired S.rows name))))
   change_good h Sets c g = then_ok IsGoodDone (name_in c) _ (λ name. then_ok IsGoodDone (or_else c.active no_route) _ (λ active.
@@ -114,7 +125,8 @@ module _ (S : Sight) (p : Parts) (H : Holder → Type 0) (G : Call → Type 0) (
   web_good : IfOk (web_done S p) IsGoodDone
   web_good = then_ok IsGoodDone (room_for S p.size) _ (λ room. then_ok IsGoodDone (web_name p.route) _ (λ name.
       then_ok IsGoodDone (callee S name name.namespace) _ (λ c. then_ok IsGoodDone (web_given S.tenants c.effective p) _ (λ given.
-      then_ok IsGoodDone (web_extension p.route) _ (λ extension. then_ok IsGoodDone (web_plan S name.namespace c given) _ (λ plan. tt))))))
+      then_ok IsGoodDone (web_extension p.route) _ (λ extension. then_ok IsGoodDone (web_plan S name.namespace c given) _ (λ plan.
+      then_ok IsGoodDone (admitted_plan S plan) _ (λ admitted. tt)))))))
 
   by_route : (b : Bool) → IfOk (if b then web_done S p else keyed_done S p) IsGoodDone
   by_route true = web_good
@@ -123,14 +135,14 @@ module _ (S : Sight) (p : Parts) (H : Holder → Type 0) (G : Call → Type 0) (
   request_good : IfOk (request_done S p) IsGoodDone
   request_good = by_route (is_web p.route)
 
-  by_done : (d : Result Done Reason) → IfOk d IsGoodDone → N (all_changed (ask_decision S.moment d).changes S.rows)
+  by_done : (d : Result Done Reason) → IfOk d IsGoodDone → N (all_changed (ask_decision d).changes S.rows)
   by_done (Ok (Shown value)) good = stays
   by_done (Ok (Changed c value)) good = good
-  by_done (Ok (Invoked plan shows)) good = stays
+  by_done (Ok (Invoked items plan shows)) good = stays
   by_done (Ok Quiet) good = stays
   by_done (Ok (Fired items id)) good = stays
   by_done (Err reason) good = stays
 
   -- what is true of them each is true of the rows behind a request
-  pub request_rows : N (all_changed (ask_decision S.moment (request_done S p)).changes S.rows)
+  pub request_rows : N (all_changed (ask_decision (request_done S p)).changes S.rows)
   request_rows = by_done (request_done S p) request_good

@@ -1,5 +1,5 @@
 -- The items of a fire are a chain.
-use Rattle.std.proofs.Common.{◌≡◌, ◌++◌, ◌+◌, ◌∙◌, ℕ, Bool, true, false, if◌then◌else◌, List, [], ◌∷◌, Option, Some, None, Result, Ok, Err, IfOk, refl, sym, ap, arith, subst}
+use Rattle.std.proofs.Common.{◌≡◌, ◌++◌, ◌+◌, ◌∙◌, ℕ, Bool, true, false, if◌then◌else◌, List, Option, Some, None, Result, Ok, Err, IfOk, refl, ap, arith, subst}
 use Rattle.std.specs.Prelude.{count_by, nat_le}
 use Rattle.ow_value.specs.Find.{merge}
 use Rattle.ow_value.specs.Value.{Pairs}
@@ -11,11 +11,9 @@ use Rattle.ow_entity.specs.declared.rows.Row.TheVariants as rows
 use Rattle.ow_entity.specs.declared.rules.Rule.{Rule}
 use Rattle.ow_entity.specs.declared.triggers.Trigger.{Trigger}
 use Rattle.ow_records.specs.declared.fires.Fire.{Fire}
-use Rattle.ow_records.specs.declared.ids.Id.{Id}
-use Rattle.ow_floor.specs.Calls.{IsNext, accept_items, draw_items}
-use Rattle.ow_floor.specs.Trace.{Trace, fired, firing}
+use Rattle.ow_floor.specs.Calls.{IsNext, draw_items}
+use Rattle.ow_floor.specs.Trace.{Trace, fired}
 use Rattle.ow_floor.specs.declared.activations.Plan.{Plan}
-use Rattle.ow_floor.proofs.Drawn.{drawn_last}
 use Rattle.ow_tables.specs.Rows.{found, standing}
 use Rattle.ow_tables.specs.Joined.{trigger_at}
 use Rattle.ow_tenant.specs.Tenants.{limits_of}
@@ -25,18 +23,21 @@ use Rattle.ow_counts.specs.Counts.{fire_admitted, is_recent_fire}
 use Rattle.ow_counts.specs.Counts as counts
 use Rattle.ow_counts.specs.declared.refusal.LimitRefusal.{LimitRefusal}
 use Rattle.ow_counts.specs.declared.refusal.LimitRefusal.TheVariants.{OfNamespace}
+use Rattle.ow_trees.proofs.Each.{each_append}
 use Rattle.ow_http.specs.CallOf.{call_of}
 use Rattle.ow_http.specs.Parts.{Parts}
 use Rattle.ow_http.specs.declared.call.Call.{Call}
 use Rattle.ow_http.specs.declared.reason.Reason.{Reason}
 use Rattle.ow_reads.specs.Reasons.{not_found}
 use Rattle.ow_reads.specs.Steps.{or_else}
-use Rattle.ow_decide.specs.Calling.{callee, fitting, given_over, is_oversized, next_id, plan_for}
+use Rattle.ow_decide.specs.Calling.{callee, fitting, given_over, is_oversized, next_id, plan_for, plan_items}
 use Rattle.ow_decide.specs.Chain.{AreSteps, IsShot}
-use Rattle.ow_decide.specs.Firing.{after_rule, after_rules, fire_plan, rule_items, rule_lines, rule_plan, seeing, shot_items, trigger_for}
+use Rattle.ow_decide.specs.Firing.{after_rules, fire_plan, rule_lines, rule_plan, seeing, shot_items, trigger_for}
 use Rattle.ow_decide.specs.Reasons.{too_large}
 use Rattle.ow_decide.specs.Sight.{Sight, takes_calls}
 use Rattle.ow_decide.proofs.CalleeLaws.{IsAdmitted, IsCalled, callee_so, there_ok, within_so}
+use Rattle.ow_decide.proofs.DrivenLaws.{AreFit, IsFit, fit_steps, plan_fit}
+use Rattle.ow_decide.proofs.MadeLaws.{after_all, rules_fired, shot_right}
 use Rattle.ow_decide.proofs.Results.{if_ok_map, then_from, then_ok}
 
 -- ---- one rule
@@ -45,49 +46,18 @@ use Rattle.ow_decide.proofs.Results.{if_ok_map, then_from, then_ok}
 rule_admitted : (S : Sight) (f : Fire) (r : Rule) → IfOk (rule_plan S f r) (IsAdmitted S)
 rule_admitted S f r = then_from (IsCalled S) (IsAdmitted S) (callee S r.action f.namespace) _ (callee_so S r.action f.namespace) (λ c called.
     then_ok (IsAdmitted S) (given_over c.effective f.params false) _ (λ merged.
-    within_so S (plan_for f.subject None (next_id S c.number) f.namespace c.effective merged) refl refl called))
+    within_so S (plan_for f.subject None (next_id S c.number) f.namespace c.effective merged) (IsAdmitted S) (record { next = refl; uncaused = refl; formed = refl; called = called }) (λ ok. ok)))
 
--- what is true before a rule, and of what each rule makes, is true after all rules
-module _ (S : Sight) (f : Fire) (P : Trace → Type 0)
-    (step : (r : Rule) (plan : Plan) (items : Trace) → rule_plan (seeing items S) f r ≡ Ok plan → P items → P (accept_items S.moment plan ++ items)) where
-  after_one : (r : Rule) (items : Trace) (p : Result Plan Reason) → rule_plan (seeing items S) f r ≡ p → P items → P (rule_items S.moment p ++ items)
-  after_one r items (Ok plan) is before = step r plan items is before
-  after_one r items (Err reason) is before = before
+-- so all that it makes may be decided
+rule_fit : (S : Sight) (f : Fire) (r : Rule) (plan : Plan) (items : Trace) → rule_plan (seeing items S) f r ≡ Ok plan → AreFit S items S.trace → AreFit S (plan_items (seeing items S) plan ++ items) S.trace
+rule_fit S f r plan items is before =
+    let ok : IsAdmitted (seeing items S) plan = subst (λ (p : Result Plan Reason). IfOk p (IsAdmitted (seeing items S))) is (rule_admitted (seeing items S) f r) in
+    each_append (IsFit S) (plan_items (seeing items S) plan) items S.trace
+    (plan_fit S plan (items ++ S.trace) (record { uncaused = ok.uncaused; next = ok.next; admitted = ok.admitted; callee = ok.callee })) before
 
-  pub after_all : (rs : List Rule) (items : Trace) → P items → P (after_rules S f rs items)
-  after_all [] items before = before
-  after_all (r ∷ rs) items before = after_all rs (after_rule S f r items) (after_one r items (rule_plan (seeing items S) f r) refl before)
-
--- no rule changes which id was drawn for a fire, and what was fired before
-pub rules_firing : (S : Sight) (f : Fire) (rs : List Rule) (items : Trace) → firing (after_rules S f rs items ++ S.trace) ≡ firing (items ++ S.trace)
-rules_firing S f rs items = after_all S f (λ (xs : Trace). firing (xs ++ S.trace) ≡ firing (items ++ S.trace)) (λ r plan xs is before. before) rs items refl
-
-pub rules_fired : (S : Sight) (f : Fire) (rs : List Rule) (items : Trace) → fired (after_rules S f rs items ++ S.trace) ≡ fired (items ++ S.trace)
-rules_fired S f rs items = after_all S f (λ (xs : Trace). fired (xs ++ S.trace) ≡ fired (items ++ S.trace)) (λ r plan xs is before. before) rs items refl
-
--- ---- chains
-
-accepted_step : (S : Sight) (f : Fire) (r : Rule) (plan : Plan) (items : Trace) → rule_plan (seeing items S) f r ≡ Ok plan → AreSteps S items → AreSteps S (accept_items S.moment plan ++ items)
-accepted_step S f r plan items is before =
-    let ok : IsAdmitted (seeing items S) plan = subst (λ (p : Result Plan Reason). IfOk p (IsAdmitted (seeing items S))) is (rule_admitted (seeing items S) f r) in (
-      record {
-        at = refl;
-        is = record { uncaused = ok.uncaused; next = ok.next; admitted = ok.admitted; callee = ok.callee };
-        right = λ sound. (ok.next ∙ ap (λ n. n + 1) (sym (drawn_last (items ++ S.trace) plan.id.namespace)), tt);
-      },
-      before,
-    )
-
-drawn_steps : (S : Sight) (id : Id) → IsNext id S.trace → AreSteps S (draw_items S.moment id)
-drawn_steps S id next = (record { at = refl; is = next; right = λ sound. (next ∙ ap (λ n. n + 1) (sym (drawn_last S.trace id.namespace)), tt) }, tt)
-
--- up to the record they are one
-pub rules_steps : (S : Sight) (f : Fire) (rs : List Rule) → IsNext f.id S.trace → AreSteps S (after_rules S f rs (draw_items S.moment f.id))
-rules_steps S f rs next = after_all S f (AreSteps S) (accepted_step S f) rs (draw_items S.moment f.id) (drawn_steps S f.id next)
-
--- the record has the id that was drawn
-pub shot_drawn : (S : Sight) (f : Fire) (rs : List Rule) → firing (after_rules S f rs (draw_items S.moment f.id) ++ S.trace) ≡ Some f.id
-shot_drawn S f rs = rules_firing S f rs (draw_items S.moment f.id)
+-- and so may what all rules make
+rules_fit : (S : Sight) (f : Fire) (rs : List Rule) → IsNext f.id S.trace → AreFit S (after_rules S f rs (draw_items S.moment f.id)) S.trace
+rules_fit S f rs next = after_all S f (λ (items : Trace). AreFit S items S.trace) (rule_fit S f) rs (draw_items S.moment f.id) ((refl, next), tt)
 
 -- ---- the limit of fires
 
@@ -110,21 +80,21 @@ IsAllowed S f = fire_admitted S.trace f.namespace (limits_of f.namespace S.tenan
 pub shot_steps : (S : Sight) (f : Fire) (rs : List Rule) → IsNext f.id S.trace → IsShot S f → IsAllowed S f → AreSteps S (shot_items S f rs)
 shot_steps S f rs next shot allowed =
     let T : Trace = after_rules S f rs (draw_items S.moment f.id) ++ S.trace in
-    let before : fired T ≡ fired S.trace = rules_fired S f rs (draw_items S.moment f.id) in (
-      record {
-        at = shot.at;
-        is = record {
+    let before : fired T ≡ fired S.trace = rules_fired S f rs (draw_items S.moment f.id) in
+    fit_steps S (shot_items S f rs) (
+      (
+        shot.at,
+        record {
           admitted = same_admitted T S.trace f.namespace (limits_of f.namespace S.tenants) S.moment before ∙ allowed;
           counted = omega (arith, next);
           fire = f;
           lines = rule_lines S f rs (draw_items S.moment f.id);
           made = refl;
           shot = shot;
-        };
-        right = λ sound. (shot_drawn S f rs, tt);
-      },
-      rules_steps S f rs next,
-    )
+        },
+      ),
+      rules_fit S f rs next,
+    ) (shot_right S f rs next)
 
 -- ---- what is fired
 

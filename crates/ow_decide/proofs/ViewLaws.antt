@@ -1,5 +1,5 @@
 -- What reads are answered.
-use Rattle.std.proofs.Common.{◌≡◌, ◌∙◌, ◌||◌, ℕ, Bool, true, false, not, Option, Some, None, Result, Ok, Err, IfErr, refl, ap}
+use Rattle.std.proofs.Common.{◌≡◌, ◌∙◌, ◌||◌, Bool, true, false, not, Option, Some, None, Result, Ok, Err, IfErr, refl, ap}
 use Rattle.ow_value.specs.Value.{V}
 use Rattle.ow_names.specs.declared.full.FullName.{FullName}
 use Rattle.ow_entity.specs.declared.rows.Row.{Row}
@@ -80,16 +80,16 @@ done_other W reading p = then_other (read_call W reading p) (read_value W readin
     (then_other (read_grant W reading p) (λ (u : Unit {0}). or_call_reason (call_of W.home p)) (grant_other W reading p) (λ grant. call_other (call_of W.home p)))
     (value_other W reading p)
 
-told_so : (at : ℕ) (r : Result V Reason) → IfErr r IsOther → (ask_decision at (shown_done r)).told ≡ at_once (answer_of r)
-told_so at (Ok value) other = refl
-told_so at (Err reason) other = rw other refl
+told_so : (r : Result V Reason) → IfErr r IsOther → (ask_decision (shown_done r)).told ≡ at_once (answer_of r)
+told_so (Ok value) other = refl
+told_so (Err reason) other = rw other refl
 
 -- of a read that the book has room for, with a key of the table, the answer is the one of the view
 pub read_so : (S : Sight) (h : Holder) (reading : Reading) (p : Parts) → act_of p.route p.method ≡ Some (Reads reading) → is_full S.counted p.size ≡ false → holder_of p.key S.tenants ≡ Some h
-    → (ask_decision S.moment (request_done S p)).told ≡ at_once (read_answer (view_of S h) reading p)
+    → (ask_decision (request_done S p)).told ≡ at_once (read_answer (view_of S h) reading p)
 read_so S h reading p act room held =
-    ap (λ (d : Result Done Reason). (ask_decision S.moment d).told) (keyed_so S p (Reads reading) act)
-    ∙ (ap (λ (o : Option Act). (ask_decision S.moment (or_else o no_route >>= (λ (a : Act). room_for S p.size >>= (λ (u : Unit {0}). asker S.tenants p.key >>= (λ (k : Holder). act_done S k a p))))).told) act
-    ∙ (ap (λ (b : Bool). (ask_decision S.moment (unless b book_full >>= (λ (u : Unit {0}). asker S.tenants p.key >>= (λ (k : Holder). act_done S k (Reads reading) p)))).told) room
-    ∙ (ap (λ (o : Option Holder). (ask_decision S.moment (or_else o unknown_key >>= (λ (k : Holder). act_done S k (Reads reading) p))).told) held
-    ∙ told_so S.moment (read_done (view_of S h) reading p) (done_other (view_of S h) reading p))))
+    ap (λ (d : Result Done Reason). (ask_decision d).told) (keyed_so S p (Reads reading) act)
+    ∙ (ap (λ (o : Option Act). (ask_decision (or_else o no_route >>= (λ (a : Act). room_for S p.size >>= (λ (u : Unit {0}). asker S.tenants p.key >>= (λ (k : Holder). act_done S k a p))))).told) act
+    ∙ (ap (λ (b : Bool). (ask_decision (unless b book_full >>= (λ (u : Unit {0}). asker S.tenants p.key >>= (λ (k : Holder). act_done S k (Reads reading) p)))).told) room
+    ∙ (ap (λ (o : Option Holder). (ask_decision (or_else o unknown_key >>= (λ (k : Holder). act_done S k (Reads reading) p))).told) held
+    ∙ told_so (read_done (view_of S h) reading p) (done_other (view_of S h) reading p))))

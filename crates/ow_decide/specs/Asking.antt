@@ -19,7 +19,6 @@ use Rattle.ow_tables.specs.Joined.{rule_at}
 use Rattle.ow_tables.specs.Refusal.{table_refusal, old_row, put_refusal, remove_refusal}
 use Rattle.ow_tables.specs.Rows.{found, standing, with_row}
 use Rattle.ow_kept.specs.Commits.{row_changes}
-use Rattle.ow_floor.specs.Calls.{accept_items}
 use Rattle.ow_floor.specs.Trace.{Trace}
 use Rattle.ow_floor.specs.declared.activations.Plan.{Plan}
 use Rattle.ow_tables.specs.declared.refusal.TableRefusal.{TableRefusal}
@@ -53,7 +52,7 @@ use Rattle.ow_decide.specs.Sight.{Sight, is_full, room_for, store_room, view_of}
 use Rattle.ow_decide.specs.Decision.{Decision, adds, items_changes, tells}
 use Rattle.ow_decide.specs.Firing.{fire_plan, number_for, shot_items, trigger_for, within_fires}
 use Rattle.ow_reads.specs.Reading.{good, name_in, read_answer, read_done}
-use Rattle.ow_decide.specs.Calling.{callee, charged_namespace, invocation_plan}
+use Rattle.ow_decide.specs.Calling.{admitted_plan, callee, charged_namespace, invocation_plan, plan_items}
 use Rattle.ow_decide.specs.WebCalling.{web_extension, web_given, web_name, web_plan}
 use Rattle.ow_reads.specs.Shown.{shown_row}
 use Rattle.ow_decide.specs.Waiting.{accepted_answer, invoked_reply, shows_of, waits_of}
@@ -88,12 +87,12 @@ row_of S draft overwrite = do
 
 -- ---- what comes of it
 
--- a value is shown, a change is made of which this is shown, or an activation is accepted; a trigger is fired of which no rule is active, or
--- one whose fire has these items and this id
+-- a value is shown, a change is made of which this is shown, or a plan is accepted with these items; a trigger is fired of which no rule is active,
+-- or one whose fire has these items and this id
 pub data Done : Type 0 where
   Shown : (value : V) → Done
   Changed : (change : Change) (value : V) → Done
-  Invoked : (plan : Plan) (shows : Shows) → Done
+  Invoked : (items : Trace) (plan : Plan) (shows : Shows) → Done
   Quiet : Done
   Fired : (items : Trace) (id : Id) → Done
 
@@ -126,6 +125,12 @@ named_set S name active = do
   r ← rule_for S name
   Ok (set_done S r (status_change r active))
 
+-- what comes of a plan, where the store has room for what is kept of it, and the limits allow it
+abbrev pub plan_done : Sight → Plan → Shows → Result Done Reason
+plan_done S plan shows = do
+  admitted ← admitted_plan S plan
+  Ok (Invoked (plan_items S plan) plan shows)
+
 -- what comes of a fire of these rules, where the store has room for all that is kept of it, and the limit of fires allows it
 abbrev pub shot_done : Sight → Fire → List Rule → Result Done Reason
 shot_done S f rs = do
@@ -154,7 +159,7 @@ change_done S h (Removes kind) c = do
 change_done S h Invokes c = do
   name ← name_in c
   plan ← invocation_plan S h.subject (charged_namespace h name) c.blocking name c.params
-  Ok (Invoked plan (shows_of c.result_only))
+  plan_done S plan (shows_of c.result_only)
 change_done S h Fires c = do
   name ← name_in c
   t ← trigger_for S name
@@ -196,7 +201,7 @@ keyed_done S p = do
 abbrev pub web_planned : Sight → List ℕ → Callee → Pairs → Extension → Result Done Reason
 web_planned S namespace c given extension = do
   plan ← web_plan S namespace c given
-  Ok (Invoked plan (Web extension))
+  plan_done S plan (Web extension)
 
 abbrev pub web_accepted : Sight → Parts → FullName → Callee → Pairs → Result Done Reason
 web_accepted S p name c given = do
@@ -241,19 +246,19 @@ refusal_told reason = if tells_full reason then told.Full (refusal_of reason) el
 abbrev pub no_content : Answer
 no_content = record { status = 204; headers = []; body = [] }
 
--- what is done at a request, at a moment
-abbrev pub ask_decision : ℕ → Result Done Reason → Decision
-ask_decision at (Ok (Shown value)) = tells (at_once (good value))
-ask_decision at (Ok (Changed change value)) = record { told = at_once (good value); items = []; changes = change ∷ []; waits = Keep }
-ask_decision at (Ok (Invoked plan shows)) = record {
+-- what is done at a request
+abbrev pub ask_decision : Result Done Reason → Decision
+ask_decision (Ok (Shown value)) = tells (at_once (good value))
+ask_decision (Ok (Changed change value)) = record { told = at_once (good value); items = []; changes = change ∷ []; waits = Keep }
+ask_decision (Ok (Invoked items plan shows)) = record {
   told = told.Asked (invoked_reply plan.id plan.until);
-  items = accept_items at plan;
+  items = items;
   changes = [];
   waits = waits_of plan.id shows plan.until;
 }
-ask_decision at (Ok Quiet) = tells (at_once no_content)
-ask_decision at (Ok (Fired items id)) = adds (at_once (accepted_answer id)) items
-ask_decision at (Err reason) = tells (refusal_told reason)
+ask_decision (Ok Quiet) = tells (at_once no_content)
+ask_decision (Ok (Fired items id)) = adds (at_once (accepted_answer id)) items
+ask_decision (Err reason) = tells (refusal_told reason)
 
 -- what a request is answered by what it is told: an answer that the book is full looks as any other
 abbrev pub reply_in : Told → Option Reply
@@ -264,9 +269,9 @@ reply_in t = None
 -- a read that the book has room for is answered of what whoever asks may see
 abbrev pub IsOfView : Sight → Type 0
 IsOfView S = (h : Holder) (reading : Reading) (p : Parts) → act_of p.route p.method ≡ Some (Reads reading) → is_full S.counted p.size ≡ false → holder_of p.key S.tenants ≡ Some h
-    → (ask_decision S.moment (request_done S p)).told ≡ at_once (read_answer (view_of S h) reading p)
+    → (ask_decision (request_done S p)).told ≡ at_once (read_answer (view_of S h) reading p)
 
 -- a read leaves the rows and what happened on the floor as they were, and so what anybody may see
 abbrev pub ReadsChangeNothing : Type 0
 ReadsChangeNothing = (S : Sight) (reading : Reading) (p : Parts) → act_of p.route p.method ≡ Some (Reads reading)
-    → ((ask_decision S.moment (request_done S p)).items ≡ []) × ((ask_decision S.moment (request_done S p)).changes ≡ [])
+    → ((ask_decision (request_done S p)).items ≡ []) × ((ask_decision (request_done S p)).changes ≡ [])

@@ -14,11 +14,9 @@ use Rattle.ow_packages.specs.Fixed.{first_fixed}
 use Rattle.ow_packages.specs.declared.effective_action.Effective.{Effective}
 use Rattle.ow_tables.specs.Rows.{standing}
 use Rattle.ow_records.specs.declared.ids.Id.{Id}
-use Rattle.ow_floor.specs.Trace.{last}
-use Rattle.ow_floor.specs.Calls.{accept_items, activation_of, happened_accepted}
+use Rattle.ow_floor.specs.Trace.{Trace, last}
+use Rattle.ow_floor.specs.Calls.{accept_items, happened}
 use Rattle.ow_floor.specs.declared.activations.Plan.{Plan}
-use Rattle.ow_kept.specs.Commits.{accept_changes}
-use Rattle.ow_records.specs.Unrecorded.{unrecorded_of}
 use Rattle.ow_http.specs.Steps.{◌>>=◌}
 use Rattle.ow_http.specs.declared.reason.Reason.{Reason}
 use Rattle.ow_http.specs.declared.reason.Reason.TheVariants.{Fixed}
@@ -27,6 +25,11 @@ use Rattle.ow_decide.specs.declared.replies.Called.TheVariants as called
 use Rattle.ow_tenant.specs.Table.{Table}
 use Rattle.ow_tenant.specs.Rights.{has_right}
 use Rattle.ow_tenant.specs.Tenants.{number_of, rights_in}
+use Rattle.ow_records.specs.Form.{is_composite}
+use Rattle.ow_records.specs.declared.forms.Form.{Form}
+use Rattle.ow_compose.specs.Refusal.{form_of}
+use Rattle.ow_trees.specs.Steps.{steps_after}
+use Rattle.ow_records.specs.declared.forms.Role.TheVariants as roles
 use Rattle.ow_tenant.specs.declared.entries.Holder.{Holder}
 use Rattle.ow_tenant.specs.declared.rights.Right.TheVariants.{Invoke}
 use Rattle.ow_decide.specs.declared.call_steps.Callee.{Callee}
@@ -35,7 +38,7 @@ use Rattle.ow_reads.specs.Steps.{or_else}
 use Rattle.ow_reads.specs.Reasons.{not_found}
 use Rattle.ow_decide.specs.Reasons.{too_large}
 use Rattle.ow_decide.specs.Sight.{Sight, room_for, store_room, takes_calls, within_limits}
-use Rattle.ow_decide.specs.Decision.{Decision, adds, tells}
+use Rattle.ow_decide.specs.Decision.{Decision, adds, items_changes, tells}
 
 -- ---- what is wanted, or why it isn't there
 
@@ -85,6 +88,10 @@ abbrev pub until_of : ℕ → Bool → Action → Option ℕ
 until_of at true action = Some (at + min 60000 action.limits.timeout)
 until_of at false action = None
 
+-- how deep a first activation of this form stands in its composition
+abbrev pub first_depth : Form → ℕ
+first_depth form = if is_composite form then 1 else 0
+
 -- what is to be accepted under an id: what is called, with merged parameters, charged to a namespace, in the name of a subject
 abbrev pub plan_for : List ℕ → Option ℕ → Id → List ℕ → Effective → Pairs → Plan
 plan_for subject until id namespace e params = record {
@@ -95,27 +102,24 @@ plan_for subject until id namespace e params = record {
   subject = subject;
   cause = None;
   until = until;
+  form = form_of e.action;
+  role = roles.Alone;
+  top = id;
+  depth = first_depth (form_of e.action);
 }
-
--- where the store has room for what is kept of it, and the limits allow it
-abbrev pub admitted_plan : Sight → Plan → Result Plan Reason
-admitted_plan S plan = do
-  room ← store_room S (accept_changes (unrecorded_of (activation_of S.moment plan)))
-  within ← within_limits S plan.namespace
-  Ok plan
 
 abbrev pub merged_plan : Sight → List ℕ → List ℕ → Bool → Callee → Pairs → Result Plan Reason
 merged_plan S subject namespace blocking c merged = do
   taken ← takes_calls S
-  admitted_plan S (plan_for subject (until_of S.moment blocking c.effective.action) (next_id S c.number) namespace c.effective merged)
+  Ok (plan_for subject (until_of S.moment blocking c.effective.action) (next_id S c.number) namespace c.effective merged)
 
 abbrev pub called_plan : Sight → List ℕ → List ℕ → Bool → Bool → Callee → Pairs → Result Plan Reason
 called_plan S subject namespace blocking web c given = do
   merged ← given_over c.effective given web
   merged_plan S subject namespace blocking c merged
 
--- what is to be accepted, whose refusals stand in the order of their places: what is called, the fixed parameters, the merged
--- parameters, the drain, the room of the store, and the limits
+-- what is to be accepted, whose refusals are in the order of their places: what is called, the fixed parameters, the merged
+-- parameters, and the drain
 abbrev pub invocation_plan : Sight → List ℕ → List ℕ → Bool → FullName → Pairs → Result Plan Reason
 invocation_plan S subject namespace blocking name given = do
   c ← callee S name namespace
@@ -127,10 +131,27 @@ call_plan S name params = do
   room ← room_for S 0
   invocation_plan S office name.namespace false name params
 
+-- ---- what is accepted, with the steps that it makes
+
+-- the items of a plan: its acceptance, and the steps that a composite makes at once
+abbrev pub plan_items : Sight → Plan → Trace
+plan_items S plan = steps_after (standing S.rows) S.moment S.trace (accept_items S.moment plan)
+
+-- where the store has room for all that is kept of them, and the limits allow the plan
+abbrev pub admitted_plan : Sight → Plan → Result Plan Reason
+admitted_plan S plan = do
+  room ← store_room S (items_changes (plan_items S plan))
+  within ← within_limits S plan.namespace
+  Ok plan
+
+-- what is done at a call whose plan was admitted, or refused
+abbrev pub called_decision : Sight → Result Plan Reason → Decision
+called_decision S (Ok plan) = adds (told.Called (called.Happened (happened (plan_items S plan)))) (plan_items S plan)
+called_decision S (Err reason) = tells (told.Called (called.Refused reason))
+
 -- what is done at a call
 abbrev pub call_decision : Sight → Result Plan Reason → Decision
-call_decision S (Ok plan) = adds (told.Called (called.Happened (happened_accepted plan.id))) (accept_items S.moment plan)
-call_decision S (Err reason) = tells (told.Called (called.Refused reason))
+call_decision S planned = called_decision S (planned >>= admitted_plan S)
 
 -- ---- for private clauses
 

@@ -25,6 +25,8 @@ use Rattle.ow_floor.specs.Trace.{Accepted, Drawn, End, Ended, Fired, Item, Order
 use Rattle.ow_floor.specs.declared.runs.Run.{Run}
 use Rattle.ow_tenant.specs.Tenants.{limits_of}
 use Rattle.ow_counts.specs.Counts.{admitted, fire_admitted}
+use Rattle.ow_compose.specs.Refusal.{form_of}
+use Rattle.ow_trees.specs.Driven.{IsDriven}
 use Rattle.ow_decide.specs.Sight.{Sight}
 
 -- ---- what is accepted
@@ -39,6 +41,7 @@ pub record IsCalled (rs : List Row) (a : Activation) : Type 0 where
   pub callee : IsCallee rs called
   pub action : a.action ≡ called.action
   pub binding : a.binding ≡ called.binding
+  pub form : a.form ≡ form_of called.action
 
 -- no other activation caused it, its id is the next of its namespace, the limits admit it, and some name calls it
 pub record IsAccepted (S : Sight) (a : Activation) (T : Trace) : Type 0 where
@@ -94,10 +97,11 @@ pub record IsFired (S : Sight) (r : Record) (T : Trace) : Type 0 where
 
 -- ---- each item
 
--- why an item may be decided after these: an opening, which takes over records of an earlier run, stands apart
+-- why an item may be decided after these: an acceptance or an end may also be the step that a composite owes. An opening, which takes over
+-- records of an earlier run, is apart
 abbrev pub IsDecided : Sight → Item → Trace → Type 0
-IsDecided S (Accepted a) T = IsAccepted S a T
-IsDecided S (Ended e) T = IsEnd S e
+IsDecided S (Accepted a) T = IsAccepted S a T ⊎ IsDriven (standing S.rows) S.moment (Accepted a) T
+IsDecided S (Ended e) T = IsEnd S e ⊎ IsDriven (standing S.rows) S.moment (Ended e) T
 IsDecided S (Ordered r key) T = r.begun ≡ None
 IsDecided S (Resumed counts rs) T = ⊥
 IsDecided S (Drawn id at) T = IsNext id T

@@ -1,13 +1,15 @@
 -- What the service does at an event, by what is seen: one case for each kind of event.
-use Rattle.std.specs.Prelude.{ℕ, [], ◌∷◌, length, Bool, true, false, Option, Some, None, Result, Ok, Err}
+use Rattle.std.specs.Prelude.{ℕ, [], ◌∷◌, Bool, true, false, Option, Some, None, Result, Ok, Err}
 use Rattle.ow_traits.specs.declared.replies.RunReply.{RunReply}
 use Rattle.ow_keep.specs.Judged.{judged}
 use Rattle.ow_floor.specs.Trace.{Drained, Trace}
-use Rattle.ow_floor.specs.Calls.{abandon_items, abandoned_ends, answer_to, answered_items, begun_answer, begun_items, drain_answer, gone_answer, gone_items, happened, lost_answer, lost_items, next_items, next_order, swept_ends, swept_items}
+use Rattle.ow_floor.specs.Calls.{abandon_items, abandoned_ends, answer_of, answered_items, begun_answer, begun_items, drain_answer, gone_answer, gone_items, happened, lost_answer, lost_items, next_items, next_order, reply_recorded}
 use Rattle.ow_floor.specs.Collecting.{collected}
 use Rattle.ow_floor.specs.declared.answers.Answered.{Answered}
 use Rattle.ow_floor.specs.declared.answers.FloorRefusal.{FloorRefusal}
 use Rattle.ow_floor.specs.declared.answers.Swept.{Swept}
+use Rattle.ow_tables.specs.Rows.{standing}
+use Rattle.ow_trees.specs.Steps.{late_in, steps_after, sweep_items}
 use Rattle.ow_http.specs.Request.{parts_of}
 use Rattle.ow_decide.specs.declared.events.Event.{Event}
 use Rattle.ow_decide.specs.declared.events.Event.TheVariants as events
@@ -26,14 +28,26 @@ abbrev pub reply_told : ℕ → RunReply → Option Answered → Told
 reply_told run reply None = told.NoRun run reply
 reply_told run reply (Some answered) = told.Answered answered
 
+-- what a runner's reply adds: what the run carries ends, and then the steps that its end makes
+abbrev pub answered_all : Sight → ℕ → RunReply → Trace
+answered_all S run reply = steps_after (standing S.rows) S.moment S.trace (answered_items S.moment run reply S.trace)
+
+-- a reply that comes after a sweep ended what the run carries is late; of any other it is told what happened
+abbrev pub answered_told : Sight → ℕ → RunReply → Told
+answered_told S run reply = reply_told run reply (answer_of run (reply_recorded run S.trace) (happened (answered_all S run reply)))
+
 -- what a beginning, a loss or a going is told: it was taken, or why not
 abbrev pub taken_told : Result (Unit {0}) FloorRefusal → Told
 taken_told (Ok done) = told.Done
 taken_told (Err refusal) = told.Refused refusal
 
--- what is told of a sweep: each end that it makes, and how many late runs there were
-abbrev pub swept_told : ℕ → Trace → Swept
-swept_told at T = record { happened = happened (swept_ends at T); late = length (swept_ends at T) }
+-- what a sweep adds: what each late run carries ends, followed by the steps that its end makes
+abbrev pub swept_all : Sight → Trace
+swept_all S = sweep_items (standing S.rows) S.moment S.trace
+
+-- what is told of these items of a sweep: what happened, and how many late runs there were
+abbrev pub swept_told : Trace → Swept
+swept_told items = record { happened = happened items; late = late_in items }
 
 -- the service is opened
 abbrev pub is_opening : Event → Bool
@@ -53,14 +67,14 @@ wants_memory event = true
 
 abbrev pub decide : Sight → Event → Decision
 decide S (events.Opened rows) = opened_decision S.moment (parts_taken S.moment S.trace (judged rows))
-decide S (events.Asked r) = ask_decision S.moment (request_done S (parts_of r))
+decide S (events.Asked r) = ask_decision (request_done S (parts_of r))
 decide S (events.Called name params) = call_decision S (call_plan S name params)
 decide S events.Next = adds (told.Next (next_order S.trace)) (next_items S.moment S.trace)
-decide S (events.Answered run reply) = adds (reply_told run reply (answer_to S.moment run reply S.trace)) (answered_items S.moment run reply S.trace)
+decide S (events.Answered run reply) = adds (answered_told S run reply) (answered_all S run reply)
 decide S (events.Begun run) = adds (taken_told (begun_answer run S.trace)) (begun_items S.moment run S.trace)
 decide S (events.Lost run) = adds (taken_told (lost_answer run S.trace)) (lost_items S.moment run S.trace)
 decide S (events.Gone slot generation) = adds (taken_told (gone_answer slot generation S.trace)) (gone_items S.moment slot generation S.trace)
-decide S events.Sweep = adds (told.Swept (swept_told S.moment S.trace)) (swept_items S.moment S.trace)
+decide S events.Sweep = adds (told.Swept (swept_told (swept_all S))) (swept_all S)
 decide S (events.Collected id) = tells (told.Collected (collected_told id (shows_for S.waits id) (collected S.moment id S.trace)))
 decide S events.Drain = adds (told.Drain (drain_answer S.trace)) (Drained S.moment ∷ [])
 decide S events.Reopened = reopened_decision S.moment S.trace

@@ -13,7 +13,7 @@ use Rattle.ow_records.specs.Id.{id_text}
 use Rattle.ow_records.specs.declared.fires.Fire.{Fire}
 use Rattle.ow_records.specs.declared.ids.Id.{Id}
 use Rattle.ow_records.specs.declared.record.Record.{Record}
-use Rattle.ow_floor.specs.Calls.{accept_items, draw_items, fire_items}
+use Rattle.ow_floor.specs.Calls.{draw_items, fire_items}
 use Rattle.ow_floor.specs.Trace.{Trace}
 use Rattle.ow_floor.specs.declared.activations.Plan.{Plan}
 use Rattle.ow_tenant.specs.Tenants.{limits_of, number_of}
@@ -25,7 +25,7 @@ use Rattle.ow_http.specs.declared.reason.Reason.{Reason}
 use Rattle.ow_reads.specs.Reasons.{not_found}
 use Rattle.ow_reads.specs.Steps.{or_else}
 use Rattle.ow_decide.specs.declared.call_steps.Callee.{Callee}
-use Rattle.ow_decide.specs.Calling.{callee, fitting, given_over, next_id, plan_for}
+use Rattle.ow_decide.specs.Calling.{callee, fitting, given_over, next_id, plan_for, plan_items}
 use Rattle.ow_decide.specs.Reasons.{too_large}
 use Rattle.ow_decide.specs.Sight.{Sight, or_limit, takes_calls, within_limits}
 
@@ -86,10 +86,10 @@ rule_plan S f r = do
   c ← callee S r.action f.namespace
   called_rule S f c
 
--- a refused rule makes no activation
-abbrev pub rule_items : ℕ → Result Plan Reason → Trace
-rule_items at (Ok plan) = accept_items at plan
-rule_items at (Err reason) = []
+-- the activation that a rule makes, with the steps that a composite makes at once; a refused rule makes none
+abbrev pub rule_items : Sight → Result Plan Reason → Trace
+rule_items S (Ok plan) = plan_items S plan
+rule_items S (Err reason) = []
 
 -- `{"action":A,"activationId":ID,"rule":R}`
 abbrev pub made_value : Rule → Id → V
@@ -115,7 +115,7 @@ rule_line r (Err reason) = compact (refused_value r reason)
 
 -- the items after a rule
 abbrev pub after_rule : Sight → Fire → Rule → Trace → Trace
-after_rule S f r items = rule_items S.moment (rule_plan (seeing items S) f r) ++ items
+after_rule S f r items = rule_items (seeing items S) (rule_plan (seeing items S) f r) ++ items
 
 -- the items after all rules
 abbrev pub after_rules : Sight → Fire → List Rule → Trace → Trace

@@ -6,7 +6,6 @@ pub mod Waiting
 pub mod Decision
 pub mod Firing
 pub mod Chain
-pub mod Noted
 pub mod Asking
 pub mod Opening
 pub mod Decisions

@@ -39,6 +39,8 @@ abbrev pub table_reason : TableRefusal → Reason
 table_reason tables.NotFound = not_found
 table_reason tables.BindsABinding = Service services.BindsABinding
 table_reason tables.Exists = Service services.Exists
+table_reason tables.SequenceTooLong = Service services.SequenceTooLong
+table_reason tables.SequenceLoops = Service services.SequenceLoops
 table_reason tables.NotEmpty = Service services.NotEmpty
 table_reason (tables.Entity e) = Call (calls.BadEntity e)
 table_reason tables.NoMemory = Call calls.NoMemory

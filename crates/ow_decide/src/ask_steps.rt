@@ -1,7 +1,9 @@
 // What comes of a request: its first refusal, in the order of their places, or what it reads and changes.
-ghost use Rattle.std.specs.Prelude.{◌≡◌, ◌≢◌, None, Some, Ok, Err, false, IfOk, IfErr, IfSome};
+ghost use Rattle.std.specs.Prelude.{◌≡◌, ◌≢◌, ◌+◌, None, Some, Ok, Err, false, IfOk, IfErr, IfSome};
 ghost use Rattle.ow_kept.specs.Commits.{row_changes};
 ghost use Rattle.ow_kept.specs.Keeping.{KeepingView, StandsForKept};
+ghost use Rattle.ow_counts.specs.View.{CountsView};
+ghost use Rattle.ow_floor.specs.View.{last_of};
 ghost use Rattle.ow_http.specs.Request.{parts_of};
 ghost use Rattle.ow_web.specs.Target.{is_web};
 ghost use Rattle.ow_entity.specs.declared.rows.Row.TheVariants as rows;
@@ -11,12 +13,12 @@ ghost use Rattle.ow_tables.specs.Rows.{changed as rows_changed, standing, with_r
 ghost use Rattle.ow_decide.specs.Asking as asking;
 ghost use Rattle.ow_decide.specs.declared.done.Served.TheVariants as served;
 ghost use Rattle.ow_reads.specs.Shown.{shown_row};
-ghost use Rattle.ow_decide.specs.Asking.{ask_decision, called_done, change_done, keyed_done, named_set, put_done, request_done, row_done};
+ghost use Rattle.ow_decide.specs.Asking.{ask_decision, called_done, change_done, keyed_done, named_set, plan_done, put_done, request_done, row_done};
 ghost use Rattle.ow_decide.specs.Sight.{Sight};
 ghost use Rattle.ow_tenant.specs.declared.entries.Holder.{Holder};
-ghost use Rattle.ow_decide.specs.Making.{CommitsDone, CommitsServed, HasPlace, IsCommitOf, IsNextOf, IsSeen, Makes, change_of, done_of, served_change, served_of};
+ghost use Rattle.ow_decide.specs.Making.{CommitsDone, CommitsServed, HasPlace, IsFollowingOf, IsNextOf, IsSeen, Makes, change_of, done_of, served_change, served_of};
 
-use crate::call_steps::{charged_namespace, invocation_plan};
+use crate::call_steps::{charged_namespace, invocation_plan, taken_plan};
 use crate::commits::{changing, is_store_full};
 use crate::done::{Done, Served, accepted};
 use crate::fire_steps::{fired, shot};
@@ -24,13 +26,13 @@ use crate::read_steps::read;
 use crate::reasons::table_reason;
 use crate::room::room_for;
 use crate::step::{Now, Step};
-use crate::waits::shows_of;
+use crate::waits::{Shows, shows_of};
 use crate::web_steps::web_served;
 use ow_counts::Counts;
 use ow_entity::{Draft, EntityKind};
-use ow_floor::Floor;
+use ow_floor::{Floor, Plan};
 use ow_http::{Call, HttpRefusal, Reason, Request, Route, ServiceRefusal};
-use ow_kept::{Commit, Keeping};
+use ow_kept::{Following, Keeping};
 use ow_names::FullName;
 use ow_reads::{Act, act_of, asker, granted_call, shown_once_put, shown_row};
 use ow_rules::set_status;
@@ -51,41 +53,66 @@ pub(crate) fn ask(
     request: &Request,
 ) -> Result<Step, NoMemory>
     requires held { floor.old.before ≡ Some floor.old.now }
-    ensures ok { IfOk result (Makes tenants.now tables.old.rows counts.now keeping.now now floor.old.now floor.new.now (λ S. ask_decision S.moment (request_done S (parts_of request.now)))) }
+    ensures ok { IfOk result (Makes tenants.now tables.old.rows counts.now keeping.now now floor.old.now floor.new.now (λ S. ask_decision (request_done S (parts_of request.now)))) }
     ensures before { floor.new.before ≡ floor.old.before }
     ensures rows { tables.new.rows ≡ tables.old.rows }
     ensures place { IfOk result (λ s. HasPlace s.change tables.new.room) }
 {
-    match request_served(alloc, tenants, counts, keeping, floor, tables, now, request)? {
+    match request_served(alloc, tenants, keeping, floor, tables, now, request)? {
         Served::Done(done) => done.step(alloc),
-        Served::Accepts { planned, shows } => accepted(alloc, floor, now.at, planned, shows),
+        Served::Accepts { plan, shows } => accepted_plan(
+            alloc, tenants, counts, keeping, floor, tables, now, plan, shows,
+        ),
         Served::Fires { fire, rules } => shot(
             alloc, tenants, counts, keeping, floor, tables, now, fire, rules,
         ),
     }
 }
 
+// What is done of a plan, which is answered where it was taken.
+fn accepted_plan(
+    alloc: Global,
+    tenants: &Tenants,
+    counts: &Counts,
+    keeping: &Keeping,
+    floor: &mut Floor,
+    tables: &Tables,
+    now: Now,
+    plan: Plan,
+    shows: Shows,
+) -> Result<Step, NoMemory>
+    requires next { plan.id.count ≡ last_of floor.old.now.drawn plan.id.namespace + 1 }
+    requires held { floor.old.before ≡ Some floor.old.now }
+    ensures ok { IfOk result (Makes tenants.now tables.now.rows counts.now keeping.now now floor.old.now floor.new.now (λ S. ask_decision (plan_done S plan shows))) }
+    ensures change { IfOk result (λ s. s.change ≡ None) }
+    ensures before { floor.new.before ≡ floor.old.before }
+{
+    let id = plan.id;
+    let until = plan.until;
+    let taken = taken_plan(alloc, tenants, counts, keeping, floor, tables, now, plan)?;
+    accepted(alloc, id, until, shows, taken)
+}
+
 // What comes of a request, over this floor and these rows.
 fn request_served(
     alloc: Global,
     tenants: &Tenants,
-    counts: &Counts,
     keeping: &Keeping,
     floor: &Floor,
     tables: &mut Tables,
     now: Now,
     request: &Request,
 ) -> Result<Served, NoMemory>
-    ensures done { IfOk result (λ d. (S : Sight) → IsSeen S tenants.now tables.old.rows counts.now keeping.now floor.now.now now → served_of S d ≡ request_done S (parts_of request.now)) }
-    ensures commit { IfOk result (λ d. (S : Sight) → IsSeen S tenants.now tables.old.rows counts.now keeping.now floor.now.now now → CommitsServed d keeping.now S) }
+    ensures done { IfOk result (λ d. (S : Sight) (k : CountsView) → IsSeen S tenants.now tables.old.rows k keeping.now floor.now.now now → served_of S d ≡ request_done S (parts_of request.now)) }
+    ensures commit { IfOk result (λ d. (S : Sight) (k : CountsView) → IsSeen S tenants.now tables.old.rows k keeping.now floor.now.now now → CommitsServed d S) }
     ensures rows { tables.new.rows ≡ tables.old.rows }
     ensures place { IfOk result (λ d. HasPlace (served_change d) tables.new.room) }
     ensures next { IfOk result (IsNextOf floor.now.now.drawn) }
 {
     if is_web(&request.route) {
-        return web_served(alloc, tenants, counts, keeping, floor, tables, now, request);
+        return web_served(alloc, tenants, floor, tables, now, request);
     }
-    keyed_served(alloc, tenants, counts, keeping, floor, tables, now, request)
+    keyed_served(alloc, tenants, keeping, floor, tables, now, request)
 }
 
 fn is_web(route: &Route) -> bool
@@ -98,15 +125,14 @@ fn is_web(route: &Route) -> bool
 fn keyed_served(
     alloc: Global,
     tenants: &Tenants,
-    counts: &Counts,
     keeping: &Keeping,
     floor: &Floor,
     tables: &mut Tables,
     now: Now,
     request: &Request,
 ) -> Result<Served, NoMemory>
-    ensures done { IfOk result (λ d. (S : Sight) → IsSeen S tenants.now tables.old.rows counts.now keeping.now floor.now.now now → served_of S d ≡ keyed_done S (parts_of request.now)) }
-    ensures commit { IfOk result (λ d. (S : Sight) → IsSeen S tenants.now tables.old.rows counts.now keeping.now floor.now.now now → CommitsServed d keeping.now S) }
+    ensures done { IfOk result (λ d. (S : Sight) (k : CountsView) → IsSeen S tenants.now tables.old.rows k keeping.now floor.now.now now → served_of S d ≡ keyed_done S (parts_of request.now)) }
+    ensures commit { IfOk result (λ d. (S : Sight) (k : CountsView) → IsSeen S tenants.now tables.old.rows k keeping.now floor.now.now now → CommitsServed d S) }
     ensures rows { tables.new.rows ≡ tables.old.rows }
     ensures place { IfOk result (λ d. HasPlace (served_change d) tables.new.room) }
     ensures next { IfOk result (IsNextOf floor.now.now.drawn) }
@@ -126,7 +152,7 @@ fn keyed_served(
             alloc, holder, floor, tables, reading, request,
         )?)),
         act => called_served(
-            alloc, tenants, holder, counts, keeping, floor, tables, now, act, request,
+            alloc, tenants, holder, keeping, floor, tables, now, act, request,
         ),
     }
 }
@@ -136,7 +162,6 @@ fn called_served(
     alloc: Global,
     tenants: &Tenants,
     holder: &Holder,
-    counts: &Counts,
     keeping: &Keeping,
     floor: &Floor,
     tables: &mut Tables,
@@ -144,15 +169,15 @@ fn called_served(
     act: Act,
     request: &Request,
 ) -> Result<Served, NoMemory>
-    ensures done { IfOk result (λ d. (S : Sight) → IsSeen S tenants.now tables.old.rows counts.now keeping.now floor.now.now now → served_of S d ≡ called_done S holder.now act (parts_of request.now)) }
-    ensures commit { IfOk result (λ d. (S : Sight) → IsSeen S tenants.now tables.old.rows counts.now keeping.now floor.now.now now → CommitsServed d keeping.now S) }
+    ensures done { IfOk result (λ d. (S : Sight) (k : CountsView) → IsSeen S tenants.now tables.old.rows k keeping.now floor.now.now now → served_of S d ≡ called_done S holder.now act (parts_of request.now)) }
+    ensures commit { IfOk result (λ d. (S : Sight) (k : CountsView) → IsSeen S tenants.now tables.old.rows k keeping.now floor.now.now now → CommitsServed d S) }
     ensures rows { tables.new.rows ≡ tables.old.rows }
     ensures place { IfOk result (λ d. HasPlace (served_change d) tables.new.room) }
     ensures next { IfOk result (IsNextOf floor.now.now.drawn) }
 {
     match granted_call(alloc, holder, tables, act, request)? {
         Ok(call) => call_served(
-            alloc, tenants, holder, counts, keeping, floor, tables, now, act, call,
+            alloc, tenants, holder, keeping, floor, tables, now, act, call,
         ),
         Err(reason) => Ok(Served::Done(Done::Refused(reason))),
     }
@@ -162,7 +187,6 @@ fn call_served(
     alloc: Global,
     tenants: &Tenants,
     holder: &Holder,
-    counts: &Counts,
     keeping: &Keeping,
     floor: &Floor,
     tables: &mut Tables,
@@ -170,16 +194,18 @@ fn call_served(
     act: Act,
     call: Call,
 ) -> Result<Served, NoMemory>
-    ensures done { IfOk result (λ d. (S : Sight) → IsSeen S tenants.now tables.old.rows counts.now keeping.now floor.now.now now → served_of S d ≡ change_done S holder.now act call) }
-    ensures commit { IfOk result (λ d. (S : Sight) → IsSeen S tenants.now tables.old.rows counts.now keeping.now floor.now.now now → CommitsServed d keeping.now S) }
+    ensures done { IfOk result (λ d. (S : Sight) (k : CountsView) → IsSeen S tenants.now tables.old.rows k keeping.now floor.now.now now → served_of S d ≡ change_done S holder.now act call) }
+    ensures commit { IfOk result (λ d. (S : Sight) (k : CountsView) → IsSeen S tenants.now tables.old.rows k keeping.now floor.now.now now → CommitsServed d S) }
     ensures rows { tables.new.rows ≡ tables.old.rows }
     ensures place { IfOk result (λ d. HasPlace (served_change d) tables.new.room) }
     ensures next { IfOk result (IsNextOf floor.now.now.drawn) }
 {
     match act {
-        Act::Invokes => invoked(
-            alloc, tenants, holder, counts, keeping, floor, tables, now, &call,
-        ),
+        Act::Invokes => {
+            let served = invoked(alloc, tenants, holder, floor, tables, now, &call);
+            drop(call);
+            served
+        }
         Act::Fires => {
             let served = fired(alloc, tenants, holder, floor, tables, now, &call);
             drop(call);
@@ -210,7 +236,7 @@ fn changed(
     requires invokes { act ≢ Act.Invokes }
     requires fires { act ≢ Act.Fires }
     ensures done { IfOk result (λ d. (S : Sight) (h : Holder) → S.rows ≡ tables.old.rows → StandsForKept keeping.now S.rows S.trace → done_of d ≡ change_done S h act call) }
-    ensures commit { IfOk result (λ d. (S : Sight) → S.rows ≡ tables.old.rows → StandsForKept keeping.now S.rows S.trace → CommitsDone d keeping.now S) }
+    ensures commit { IfOk result (λ d. (S : Sight) → S.rows ≡ tables.old.rows → StandsForKept keeping.now S.rows S.trace → CommitsDone d S) }
     ensures rows { tables.new.rows ≡ tables.old.rows }
     ensures place { IfOk result (λ d. HasPlace (change_of d) tables.new.room) }
 {
@@ -239,15 +265,13 @@ fn invoked(
     alloc: Global,
     tenants: &Tenants,
     holder: &Holder,
-    counts: &Counts,
-    keeping: &Keeping,
     floor: &Floor,
     tables: &Tables,
     now: Now,
     call: &Call,
 ) -> Result<Served, NoMemory>
-    ensures done { IfOk result (λ d. (S : Sight) → IsSeen S tenants.now tables.now.rows counts.now keeping.now floor.now.now now → served_of S d ≡ change_done S holder.now Act.Invokes call.now) }
-    ensures commit { IfOk result (λ d. (S : Sight) → IsSeen S tenants.now tables.now.rows counts.now keeping.now floor.now.now now → CommitsServed d keeping.now S) }
+    ensures done { IfOk result (λ d. (S : Sight) (k : CountsView) (b : KeepingView) → IsSeen S tenants.now tables.now.rows k b floor.now.now now → served_of S d ≡ change_done S holder.now Act.Invokes call.now) }
+    ensures commit { IfOk result (λ d. (S : Sight) → CommitsServed d S) }
     ensures change { IfOk result (λ d. served_change d ≡ None) }
     ensures next { IfOk result (IsNextOf floor.now.now.drawn) }
 {
@@ -257,8 +281,6 @@ fn invoked(
     let plan = invocation_plan(
         alloc,
         tenants,
-        counts,
-        keeping,
         floor,
         tables,
         now,
@@ -269,8 +291,8 @@ fn invoked(
         &call.params,
     )?;
     match plan {
-        Ok(planned) => Ok(Served::Accepts {
-            planned,
+        Ok(plan) => Ok(Served::Accepts {
+            plan,
             shows: shows_of(call.result_only),
         }),
         Err(reason) => Ok(Served::Done(Done::Refused(reason))),
@@ -279,7 +301,7 @@ fn invoked(
 
 fn put(alloc: Global, keeping: &Keeping, tables: &mut Tables, call: Call) -> Result<Done, NoMemory>
     ensures done { IfOk result (λ d. (S : Sight) (h : Holder) → S.rows ≡ tables.old.rows → StandsForKept keeping.now S.rows S.trace → done_of d ≡ change_done S h Act.Puts call) }
-    ensures commit { IfOk result (λ d. (S : Sight) → S.rows ≡ tables.old.rows → StandsForKept keeping.now S.rows S.trace → CommitsDone d keeping.now S) }
+    ensures commit { IfOk result (λ d. (S : Sight) → S.rows ≡ tables.old.rows → StandsForKept keeping.now S.rows S.trace → CommitsDone d S) }
     ensures rows { tables.new.rows ≡ tables.old.rows }
     ensures place { IfOk result (λ d. HasPlace (change_of d) tables.new.room) }
 {
@@ -302,7 +324,7 @@ fn put_draft(
     overwrite: bool,
 ) -> Result<Done, NoMemory>
     ensures done { IfOk result (λ d. (S : Sight) → S.rows ≡ tables.old.rows → StandsForKept keeping.now S.rows S.trace → done_of d ≡ put_done S draft overwrite) }
-    ensures commit { IfOk result (λ d. (S : Sight) → S.rows ≡ tables.old.rows → StandsForKept keeping.now S.rows S.trace → CommitsDone d keeping.now S) }
+    ensures commit { IfOk result (λ d. (S : Sight) → S.rows ≡ tables.old.rows → StandsForKept keeping.now S.rows S.trace → CommitsDone d S) }
     ensures rows { tables.new.rows ≡ tables.old.rows }
     ensures place { IfOk result (λ d. HasPlace (change_of d) tables.new.room) }
 {
@@ -322,7 +344,7 @@ fn put_ready(
 ) -> Result<Done, NoMemory>
     requires puts { ready.removes ≡ false }
     ensures done { IfOk result (λ d. (S : Sight) → S.rows ≡ tables.now.rows → StandsForKept keeping.now S.rows S.trace → done_of d ≡ row_done S ready.row) }
-    ensures commit { IfOk result (λ d. (S : Sight) → S.rows ≡ tables.now.rows → StandsForKept keeping.now S.rows S.trace → CommitsDone d keeping.now S) }
+    ensures commit { IfOk result (λ d. (S : Sight) → S.rows ≡ tables.now.rows → StandsForKept keeping.now S.rows S.trace → CommitsDone d S) }
     ensures change { IfOk result (λ d. IfSome (change_of d) (λ c. c ≡ ready)) }
 {
     let Ok(commit) = changing(alloc, keeping, tables, &ready) else {
@@ -337,10 +359,15 @@ fn put_ready(
 }
 
 // The same with its row as it is shown then.
-fn put_shown(alloc: Global, tables: &Tables, ready: Ready, commit: Commit) -> Result<Done, NoMemory>
+fn put_shown(
+    alloc: Global,
+    tables: &Tables,
+    ready: Ready,
+    commit: Following,
+) -> Result<Done, NoMemory>
     ensures done { IfOk result (λ d. done_of d ≡ Ok (asking.Changed ready (shown_row (with_row ready.row tables.now.rows) ready.row))) }
     ensures change { IfOk result (λ d. change_of d ≡ Some ready) }
-    ensures commit { IfOk result (λ d. (b : KeepingView) (S : Sight) → IsCommitOf commit (row_changes ready) b (rows_changed ready S.rows) S.trace → CommitsDone d b S) }
+    ensures commit { IfOk result (λ d. (S : Sight) → IsFollowingOf commit (row_changes ready) (rows_changed ready S.rows) S.trace → CommitsDone d S) }
 {
     match shown_once_put(alloc, tables, ready.row()) {
         Ok(shown) => Ok(Done::Changed {
@@ -363,7 +390,7 @@ fn removed(
     call: &Call,
 ) -> Result<Done, NoMemory>
     ensures done { IfOk result (λ d. (S : Sight) (h : Holder) → S.rows ≡ tables.old.rows → done_of d ≡ change_done S h (Act.Removes kind) call.now) }
-    ensures commit { IfOk result (λ d. (S : Sight) → S.rows ≡ tables.old.rows → StandsForKept keeping.now S.rows S.trace → CommitsDone d keeping.now S) }
+    ensures commit { IfOk result (λ d. (S : Sight) → S.rows ≡ tables.old.rows → StandsForKept keeping.now S.rows S.trace → CommitsDone d S) }
     ensures rows { tables.new.rows ≡ tables.old.rows }
     ensures place { IfOk result (λ d. HasPlace (change_of d) tables.new.room) }
 {
@@ -385,7 +412,7 @@ fn removal_ready(
     ready: Ready,
 ) -> Result<Done, NoMemory>
     ensures done { IfOk result (λ d. done_of d ≡ Ok (asking.Changed ready (shown_row tables.now.rows ready.row))) }
-    ensures commit { IfOk result (λ d. (S : Sight) → S.rows ≡ tables.now.rows → StandsForKept keeping.now S.rows S.trace → CommitsDone d keeping.now S) }
+    ensures commit { IfOk result (λ d. (S : Sight) → S.rows ≡ tables.now.rows → StandsForKept keeping.now S.rows S.trace → CommitsDone d S) }
     ensures change { IfOk result (λ d. change_of d ≡ Some ready) }
 {
     let Ok(commit) = changing(alloc, keeping, tables, &ready) else {
@@ -400,11 +427,11 @@ fn removal_shown(
     alloc: Global,
     tables: &Tables,
     ready: Ready,
-    commit: Commit,
+    commit: Following,
 ) -> Result<Done, NoMemory>
     ensures done { IfOk result (λ d. done_of d ≡ Ok (asking.Changed ready (shown_row tables.now.rows ready.row))) }
     ensures change { IfOk result (λ d. change_of d ≡ Some ready) }
-    ensures commit { IfOk result (λ d. (b : KeepingView) (S : Sight) → IsCommitOf commit (row_changes ready) b (rows_changed ready S.rows) S.trace → CommitsDone d b S) }
+    ensures commit { IfOk result (λ d. (S : Sight) → IsFollowingOf commit (row_changes ready) (rows_changed ready S.rows) S.trace → CommitsDone d S) }
 {
     match shown_row(alloc, tables, ready.row()) {
         Ok(shown) => Ok(Done::Changed {
@@ -422,7 +449,7 @@ fn removal_shown(
 // What comes of a status: a rule that has it already stays as it is.
 fn set(alloc: Global, keeping: &Keeping, tables: &mut Tables, call: &Call) -> Result<Done, NoMemory>
     ensures done { IfOk result (λ d. (S : Sight) (h : Holder) → S.rows ≡ tables.old.rows → done_of d ≡ change_done S h Act.Sets call.now) }
-    ensures commit { IfOk result (λ d. (S : Sight) → S.rows ≡ tables.old.rows → StandsForKept keeping.now S.rows S.trace → CommitsDone d keeping.now S) }
+    ensures commit { IfOk result (λ d. (S : Sight) → S.rows ≡ tables.old.rows → StandsForKept keeping.now S.rows S.trace → CommitsDone d S) }
     ensures rows { tables.new.rows ≡ tables.old.rows }
     ensures place { IfOk result (λ d. HasPlace (change_of d) tables.new.room) }
 {
@@ -443,7 +470,7 @@ fn set_named(
     active: bool,
 ) -> Result<Done, NoMemory>
     ensures done { IfOk result (λ d. (S : Sight) → S.rows ≡ tables.old.rows → done_of d ≡ named_set S name.now active) }
-    ensures commit { IfOk result (λ d. (S : Sight) → S.rows ≡ tables.old.rows → StandsForKept keeping.now S.rows S.trace → CommitsDone d keeping.now S) }
+    ensures commit { IfOk result (λ d. (S : Sight) → S.rows ≡ tables.old.rows → StandsForKept keeping.now S.rows S.trace → CommitsDone d S) }
     ensures rows { tables.new.rows ≡ tables.old.rows }
     ensures place { IfOk result (λ d. HasPlace (change_of d) tables.new.room) }
 {
@@ -463,7 +490,7 @@ fn status_ready(
     ready: Ready,
 ) -> Result<Done, NoMemory>
     ensures done { IfOk result (λ d. done_of d ≡ Ok (asking.Changed ready (shown_row (with_row ready.row tables.now.rows) ready.row))) }
-    ensures commit { IfOk result (λ d. (S : Sight) → S.rows ≡ tables.now.rows → StandsForKept keeping.now S.rows S.trace → CommitsDone d keeping.now S) }
+    ensures commit { IfOk result (λ d. (S : Sight) → S.rows ≡ tables.now.rows → StandsForKept keeping.now S.rows S.trace → CommitsDone d S) }
     ensures change { IfOk result (λ d. change_of d ≡ Some ready) }
 {
     let Ok(commit) = changing(alloc, keeping, tables, &ready) else {

@@ -1,32 +1,33 @@
 // Invocations of actions: by requests, and the office's own.
-ghost use Rattle.std.specs.Prelude.{◌≡◌, ◌+◌, List, None, Ok, IfOk, OnOk};
-ghost use Rattle.ow_entity.specs.declared.rows.Row.{Row};
-ghost use Rattle.ow_floor.specs.Calls.{IsNext, accept_items};
-ghost use Rattle.ow_floor.specs.Laws.{Grows, IsSound};
+ghost use Rattle.std.specs.Prelude.{◌≡◌, ◌+◌, ◌++◌, List, None, Ok, Some, IfOk, OnOk};
+ghost use Rattle.ow_counts.specs.Counts.{admitted};
+ghost use Rattle.ow_counts.specs.View.{CountsView};
+ghost use Rattle.ow_floor.specs.Laws.{IsSound, Stands};
 ghost use Rattle.ow_floor.specs.View.{Shown, last_of};
+ghost use Rattle.ow_floor.specs.declared.activations.Plan.{Plan};
 ghost use Rattle.ow_kept.specs.Keeping.{KeepingView};
-ghost use Rattle.ow_decide.specs.Calling.{admitted_plan, call_decision, call_plan, called_plan, callee_in, charged_namespace, fitting, given_over, invocation_plan, merged_plan, pairs_of, plan_for, until_of};
-ghost use Rattle.ow_decide.specs.Sight.{Sight, within_limits};
-ghost use Rattle.ow_decide.specs.Making.{admits};
-ghost use Rattle.ow_decide.specs.Making.{AreCounted, Carries, CommitsPlan, IsSeen, Makes, plan_in};
+ghost use Rattle.ow_tenant.specs.Table.{Table};
+ghost use Rattle.ow_tenant.specs.Tenants.{limits_of};
+ghost use Rattle.ow_decide.specs.Calling.{admitted_plan, call_decision, call_plan, called_decision, called_plan, callee_in, charged_namespace, first_depth, fitting, given_over, invocation_plan, merged_plan, pairs_of, plan_for, plan_items, until_of};
+ghost use Rattle.ow_decide.specs.Sight.{Sight};
+ghost use Rattle.ow_decide.specs.Making.{AreCounted, Carries, IsMade, IsSeen, IsTaken, Makes};
 
-use crate::commits::{accepting, is_store_full};
-use crate::done::charged;
+use crate::commits::{Made, admit_made, made_of};
 use crate::events::Told;
-use crate::reasons::limit_reason;
 use crate::replies::Called;
 use crate::room::room_for;
 use crate::step::{Now, Step};
 use crate::waits::Waits;
-use ow_counts::Counts;
+use ow_compose::form_of;
+use ow_counts::{Counts, LimitRefusal};
 use ow_entity::{Action, EntityRefusal};
-use ow_floor::{Floor, Plan};
+use ow_floor::{Floor, Happened, Moves, Plan};
 use ow_http::{CallRefusal, Reason, ServiceRefusal};
-use ow_kept::{Commit, Keeping};
+use ow_kept::Keeping;
 use ow_names::{EntityName, FullName};
 use ow_packages::{Effective, PackageRefusal, check_override, effective};
 use ow_reads::office;
-use ow_records::Id;
+use ow_records::{Form, Id, Role};
 use ow_tables::Tables;
 use ow_tenant::{Holder, Right, Tenants};
 use ow_value::{MEGABYTE, NoMemory, Params, PlainData, Str, Val, merge, size};
@@ -42,13 +43,6 @@ pub(crate) struct Callee {
     pub(crate) effective: Effective,
 }
 
-/// What is to be accepted, and what is committed of it.
-#[derive(Drop)]
-pub(crate) struct Planned {
-    pub(crate) plan: Plan,
-    pub(crate) commit: Commit,
-}
-
 /// What is done at a call: the action is accepted, unless the call is refused.
 pub(crate) fn call(
     alloc: Global,
@@ -61,60 +55,130 @@ pub(crate) fn call(
     name: &FullName,
     params: &Params,
 ) -> Result<Step, NoMemory>
+    requires held { floor.old.before ≡ Some floor.old.now }
     ensures ok { IfOk result (Makes tenants.now tables.now.rows counts.now keeping.now now floor.old.now floor.new.now (λ S. call_decision S (call_plan S name.now params.now))) }
     ensures change { IfOk result (λ s. s.change ≡ None) }
     ensures before { floor.new.before ≡ floor.old.before }
 {
-    match call_plan(
-        alloc, tenants, counts, keeping, floor, tables, now, name, params,
-    )? {
-        Ok(planned) => called(alloc, floor, now.at, planned),
-        Err(reason) => Ok(Step::telling(Told::Called(Called::Refused(reason)))),
+    match call_plan(alloc, tenants, floor, tables, now, name, params)? {
+        Ok(plan) => {
+            let taken = taken_plan(alloc, tenants, counts, keeping, floor, tables, now, plan)?;
+            called(alloc, taken)
+        }
+        Err(reason) => Ok(Step::telling(alloc, Told::Called(Called::Refused(reason)))),
     }
 }
 
-// What is told of a call, whose activation is accepted.
-fn called(alloc: Global, floor: &mut Floor, at: u64, planned: Planned) -> Result<Step, NoMemory>
-    requires next { planned.plan.id.count ≡ last_of floor.old.now.drawn planned.plan.id.namespace + 1 }
-    ensures ok { IfOk result (λ s. (S : Sight) (b : KeepingView) → S.moment ≡ at → CommitsPlan planned b S → Carries s (call_decision S (Ok planned.plan)) b S) }
+// What is told of a call whose plan was taken, or refused.
+fn called(alloc: Global, taken: Result<Made, Reason>) -> Result<Step, NoMemory>
+    ensures ok { IfOk result (λ s. (S : Sight) (plan : Plan) (v : Shown) → IsTaken taken plan S v → Carries s (called_decision S (admitted_plan S plan)) S) }
     ensures change { IfOk result (λ s. s.change ≡ None) }
-    ensures grows { OnOk result (Grows floor.old.now floor.new.now (λ T. accept_items at planned.plan)) }
-    ensures before { floor.new.before ≡ floor.old.before }
 {
-    let Planned { plan, commit } = planned;
-    let Ok(invoked) = charged(alloc, &plan) else {
-        drop((plan, commit));
+    match taken {
+        Ok(made) => happened(alloc, made),
+        Err(reason) => Ok(Step::telling(alloc, Told::Called(Called::Refused(reason)))),
+    }
+}
+
+// What is told of a call whose plan was taken.
+fn happened(alloc: Global, made: Made) -> Result<Step, NoMemory>
+    ensures ok { IfOk result (λ s. (S : Sight) (plan : Plan) → IsMade made (plan_items S plan) S → Carries s (called_decision S (Ok plan)) S) }
+    ensures change { IfOk result (λ s. s.change ≡ None) }
+{
+    let Ok(happened) = Happened::of_moves(alloc, made.moves.items()) else {
+        drop(made);
         return Err(NoMemory);
     };
-    let Ok(happened) = floor.accept(alloc, at, plan) else {
-        drop((invoked, commit));
-        return Err(NoMemory);
-    };
+    let Made { moves, commit } = made;
     Ok(Step {
         told: Told::Called(Called::Happened(happened)),
         change: None,
         waits: Waits::Keep,
-        invoked,
+        moves,
         commit: Some(commit),
-        fire: None,
     })
 }
+
+// ---- what is done on the floor
+
+/// A plan is accepted on the floor, with the steps that it makes, where the store has room for them and the limits allow it. Else the floor is
+/// as it was.
+pub(crate) fn taken_plan(
+    alloc: Global,
+    tenants: &Tenants,
+    counts: &Counts,
+    keeping: &Keeping,
+    floor: &mut Floor,
+    tables: &Tables,
+    now: Now,
+    plan: Plan,
+) -> Result<Result<Made, Reason>, NoMemory>
+    requires next { plan.id.count ≡ last_of floor.old.now.drawn plan.id.namespace + 1 }
+    requires held { floor.old.before ≡ Some floor.old.now }
+    ensures ok { IfOk result (λ taken. (S : Sight) → IsSeen S tenants.now tables.now.rows counts.now keeping.now floor.old.now now → IsTaken taken plan S floor.new.now) }
+    ensures before { floor.new.before ≡ floor.old.before }
+{
+    let limit = within_limits(tenants, counts, &plan.namespace, now.at);
+    let made = made_plan(alloc, keeping, floor, tables, now, plan)?;
+    match admit_made(made.commit.bytes(), limit) {
+        Ok(()) => Ok(Ok(made)),
+        Err(reason) => {
+            drop(made);
+            floor.back();
+            Ok(Err(reason))
+        }
+    }
+}
+
+// What the limits say of one more invocation that is charged to the namespace.
+fn within_limits(
+    tenants: &Tenants,
+    counts: &Counts,
+    namespace: &EntityName,
+    at: u64,
+) -> Result<(), LimitRefusal>
+    ensures { (S : Sight) → S.tenants ≡ tenants.now → IsSound S.trace → S.moment ≡ at → AreCounted counts.now at S.trace
+        → result ≡ admitted S.trace namespace.now (limits_of namespace.now S.tenants) S.moment }
+{
+    counts.admit(namespace, &tenants.limits_of(namespace), at)
+}
+
+// The plan is accepted on the floor, with the steps that it makes, and what is committed of them is made ready.
+fn made_plan(
+    alloc: Global,
+    keeping: &Keeping,
+    floor: &mut Floor,
+    tables: &Tables,
+    now: Now,
+    plan: Plan,
+) -> Result<Made, NoMemory>
+    requires next { plan.id.count ≡ last_of floor.old.now.drawn plan.id.namespace + 1 }
+    ensures made { IfOk result (λ m. (S : Sight) (t : Table) (k : CountsView) → IsSeen S t tables.now.rows k keeping.now floor.old.now now → IsMade m (plan_items S plan) S) }
+    ensures ok { OnOk result ((S : Sight) (t : Table) (k : CountsView) → IsSeen S t tables.now.rows k keeping.now floor.old.now now → Stands floor.new.now (plan_items S plan ++ S.trace)) }
+    ensures before { floor.new.before ≡ floor.old.before }
+{
+    let mut moves = Moves::new(alloc);
+    if ow_trees::accept(alloc, tables, floor, now.at, plan, &mut moves).is_err() {
+        drop(moves);
+        return Err(NoMemory);
+    }
+    made_of(alloc, keeping, moves)
+}
+
+// ---- what is to be accepted
 
 // What is to be accepted by a call of the office, or why not. Nothing is done yet.
 fn call_plan(
     alloc: Global,
     tenants: &Tenants,
-    counts: &Counts,
-    keeping: &Keeping,
     floor: &Floor,
     tables: &Tables,
     now: Now,
     name: &FullName,
     params: &Params,
-) -> Result<Result<Planned, Reason>, NoMemory>
-    ensures plan { IfOk result (λ p. (S : Sight) → IsSeen S tenants.now tables.now.rows counts.now keeping.now floor.now.now now → plan_in p ≡ call_plan S name.now params.now) }
-    ensures commit { IfOk result (λ p. IfOk p (λ q. (S : Sight) → IsSeen S tenants.now tables.now.rows counts.now keeping.now floor.now.now now → CommitsPlan q keeping.now S)) }
-    ensures next { IfOk result (λ p. IfOk p (λ q. q.plan.id.count ≡ last_of floor.now.now.drawn q.plan.id.namespace + 1)) }
+) -> Result<Result<Plan, Reason>, NoMemory>
+    ensures plan { IfOk result (λ p. (S : Sight) (k : CountsView) (b : KeepingView) → IsSeen S tenants.now tables.now.rows k b floor.now.now now → p ≡ call_plan S name.now params.now) }
+    ensures next { IfOk result (λ p. IfOk p (λ q. q.id.count ≡ last_of floor.now.now.drawn q.id.namespace + 1)) }
 {
     if let Err(reason) = room_for(now.counted, 0) {
         return Ok(Err(reason));
@@ -123,8 +187,6 @@ fn call_plan(
     invocation_plan(
         alloc,
         tenants,
-        counts,
-        keeping,
         floor,
         tables,
         now,
@@ -140,8 +202,6 @@ fn call_plan(
 pub(crate) fn invocation_plan(
     alloc: Global,
     tenants: &Tenants,
-    counts: &Counts,
-    keeping: &Keeping,
     floor: &Floor,
     tables: &Tables,
     now: Now,
@@ -150,16 +210,14 @@ pub(crate) fn invocation_plan(
     blocking: bool,
     name: &FullName,
     params: &Params,
-) -> Result<Result<Planned, Reason>, NoMemory>
-    ensures plan { IfOk result (λ p. (S : Sight) → IsSeen S tenants.now tables.now.rows counts.now keeping.now floor.now.now now
-        → plan_in p ≡ invocation_plan S subject.now namespace.now blocking name.now params.now) }
-    ensures commit { IfOk result (λ p. IfOk p (λ q. (S : Sight) → IsSeen S tenants.now tables.now.rows counts.now keeping.now floor.now.now now → CommitsPlan q keeping.now S)) }
-    ensures next { IfOk result (λ p. IfOk p (λ q. q.plan.id.count ≡ last_of floor.now.now.drawn q.plan.id.namespace + 1)) }
+) -> Result<Result<Plan, Reason>, NoMemory>
+    ensures plan { IfOk result (λ p. (S : Sight) (k : CountsView) (b : KeepingView) → IsSeen S tenants.now tables.now.rows k b floor.now.now now
+        → p ≡ invocation_plan S subject.now namespace.now blocking name.now params.now) }
+    ensures next { IfOk result (λ p. IfOk p (λ q. q.id.count ≡ last_of floor.now.now.drawn q.id.namespace + 1)) }
 {
     match callee_in(alloc, tenants, tables, name, namespace)? {
         Some(called) => called_plan(
-            alloc, tenants, counts, keeping, floor, now, subject, namespace, blocking, false,
-            called, params,
+            alloc, floor, now, subject, namespace, blocking, false, called, params,
         ),
         None => Ok(Err(Reason::Service(ServiceRefusal::NotFound))),
     }
@@ -168,9 +226,6 @@ pub(crate) fn invocation_plan(
 /// The same of what is called. `web` says that a web request calls.
 pub(crate) fn called_plan(
     alloc: Global,
-    tenants: &Tenants,
-    counts: &Counts,
-    keeping: &Keeping,
     floor: &Floor,
     now: Now,
     subject: &Str,
@@ -179,17 +234,15 @@ pub(crate) fn called_plan(
     web: bool,
     called: Callee,
     params: &Params,
-) -> Result<Result<Planned, Reason>, NoMemory>
-    ensures plan { IfOk result (λ p. (S : Sight) (rs : List Row) → IsSeen S tenants.now rs counts.now keeping.now floor.now.now now
-        → plan_in p ≡ called_plan S subject.now namespace.now blocking web called params.now) }
-    ensures commit { IfOk result (λ p. IfOk p (λ q. (S : Sight) (rs : List Row) → IsSeen S tenants.now rs counts.now keeping.now floor.now.now now → CommitsPlan q keeping.now S)) }
-    ensures next { IfOk result (λ p. IfOk p (λ q. q.plan.id.count ≡ last_of floor.now.now.drawn q.plan.id.namespace + 1)) }
+) -> Result<Result<Plan, Reason>, NoMemory>
+    ensures plan { IfOk result (λ p. (S : Sight) → Stands floor.now.now S.trace → S.moment ≡ now.at
+        → p ≡ called_plan S subject.now namespace.now blocking web called params.now) }
+    ensures next { IfOk result (λ p. IfOk p (λ q. q.id.count ≡ last_of floor.now.now.drawn q.id.namespace + 1)) }
 {
     let Callee { number, effective } = called;
     match given_over(alloc, &effective, params, web) {
         Ok(Ok(merged)) => merged_plan(
-            alloc, tenants, counts, keeping, floor, now, subject, namespace, blocking, number,
-            effective, merged,
+            alloc, floor, now, subject, namespace, blocking, number, effective, merged,
         ),
         Ok(Err(reason)) => {
             drop(effective);
@@ -205,9 +258,6 @@ pub(crate) fn called_plan(
 // The same with merged parameters.
 fn merged_plan(
     alloc: Global,
-    tenants: &Tenants,
-    counts: &Counts,
-    keeping: &Keeping,
     floor: &Floor,
     now: Now,
     subject: &Str,
@@ -216,11 +266,10 @@ fn merged_plan(
     number: u64,
     effective: Effective,
     merged: Params,
-) -> Result<Result<Planned, Reason>, NoMemory>
-    ensures plan { IfOk result (λ p. (S : Sight) (rs : List Row) → IsSeen S tenants.now rs counts.now keeping.now floor.now.now now
-        → plan_in p ≡ merged_plan S subject.now namespace.now blocking (record { number = number; effective = effective }) merged) }
-    ensures commit { IfOk result (λ p. IfOk p (λ q. (S : Sight) (rs : List Row) → IsSeen S tenants.now rs counts.now keeping.now floor.now.now now → CommitsPlan q keeping.now S)) }
-    ensures next { IfOk result (λ p. IfOk p (λ q. q.plan.id.count ≡ last_of floor.now.now.drawn q.plan.id.namespace + 1)) }
+) -> Result<Result<Plan, Reason>, NoMemory>
+    ensures plan { IfOk result (λ p. (S : Sight) → Stands floor.now.now S.trace → S.moment ≡ now.at
+        → p ≡ merged_plan S subject.now namespace.now blocking (record { number = number; effective = effective }) merged) }
+    ensures next { IfOk result (λ p. IfOk p (λ q. q.id.count ≡ last_of floor.now.now.drawn q.id.namespace + 1)) }
 {
     if floor.is_draining() {
         return Ok(Err(Reason::Service(ServiceRefusal::Draining)));
@@ -234,64 +283,7 @@ fn merged_plan(
         count,
     };
     let plan = plan_for(alloc, subject, until, id, namespace, effective, merged)?;
-    admitted_plan(alloc, tenants, counts, keeping, now, plan)
-}
-
-// What is planned, whose id is the next of its namespace, where the store has room and the limits allow it.
-fn admitted_plan(
-    alloc: Global,
-    tenants: &Tenants,
-    counts: &Counts,
-    keeping: &Keeping,
-    now: Now,
-    plan: Plan,
-) -> Result<Result<Planned, Reason>, NoMemory>
-    ensures plan { IfOk result (λ p. (S : Sight) (rs : List Row) (v : Shown) → IsSeen S tenants.now rs counts.now keeping.now v now → IsNext plan.id S.trace → plan_in p ≡ admitted_plan S plan) }
-    ensures commit { IfOk result (λ p. IfOk p (λ q. (S : Sight) (rs : List Row) (v : Shown) → IsSeen S tenants.now rs counts.now keeping.now v now → IsNext plan.id S.trace → CommitsPlan q keeping.now S)) }
-    ensures same { IfOk result (λ p. IfOk p (λ q. q.plan ≡ plan)) }
-{
-    let Ok(commit) = accepting(alloc, keeping, now.at, &plan) else {
-        drop(plan);
-        return Err(NoMemory);
-    };
-    match admit(tenants, counts, now.at, &plan.namespace, commit.bytes()) {
-        Ok(()) => Ok(Ok(Planned { plan, commit })),
-        Err(reason) => {
-            drop((plan, commit));
-            Ok(Err(reason))
-        }
-    }
-}
-
-// Whether the store has room for so many bytes, and the limits allow one more invocation that is charged to the namespace.
-fn admit(
-    tenants: &Tenants,
-    counts: &Counts,
-    at: u64,
-    namespace: &EntityName,
-    bytes: u64,
-) -> Result<(), Reason>
-    ensures { (S : Sight) → S.tenants ≡ tenants.now → IsSound S.trace → S.moment ≡ at → AreCounted counts.now at S.trace → result ≡ admits S namespace.now bytes }
-{
-    if is_store_full(bytes) {
-        return Err(Reason::Service(ServiceRefusal::KeptFull));
-    }
-    within_limits(tenants, counts, namespace, at)
-}
-
-// Whether the limits allow one more invocation that is charged to the namespace.
-fn within_limits(
-    tenants: &Tenants,
-    counts: &Counts,
-    namespace: &EntityName,
-    at: u64,
-) -> Result<(), Reason>
-    ensures { (S : Sight) → S.tenants ≡ tenants.now → IsSound S.trace → S.moment ≡ at → AreCounted counts.now at S.trace → result ≡ within_limits S namespace.now }
-{
-    match counts.admit(namespace, &tenants.limits_of(namespace), at) {
-        Ok(()) => Ok(()),
-        Err(refusal) => Err(limit_reason(refusal)),
-    }
+    Ok(Ok(plan))
 }
 
 // Up to which moment a blocking invocation waits. A moment that would pass its type is answered as want of memory.
@@ -322,6 +314,7 @@ pub(crate) fn plan_for(
 {
     let subject = subject.copy(alloc)?;
     let namespace = namespace.copy(alloc)?;
+    let form = form_of(effective.action.get());
     Ok(Plan {
         id,
         namespace,
@@ -330,7 +323,18 @@ pub(crate) fn plan_for(
         subject,
         cause: None,
         until,
+        form,
+        role: Role::Alone,
+        top: id,
+        depth: first_depth(form),
     })
+}
+
+// How deep a first activation of this form stands in its composition.
+fn first_depth(form: Form) -> u32
+    ensures { result ≡ first_depth form }
+{
+    if form.is_composite() { 1 } else { 0 }
 }
 
 /// Which namespace is charged for an invocation: the caller's own where it has no right on that of the action.

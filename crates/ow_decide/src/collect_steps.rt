@@ -35,7 +35,7 @@ pub(crate) fn collect(
 {
     let shows = shows_for(waits, id);
     let collected = told(alloc, id, shows, floor.collect(now.at, &id))?;
-    Ok(Step::telling(Told::Collected(collected)))
+    Ok(Step::telling(alloc, Told::Collected(collected)))
 }
 
 fn told(

@@ -1,30 +1,28 @@
 // What comes of a request, before it is told.
-ghost use Rattle.std.specs.Prelude.{◌≡◌, ◌+◌, ℕ, Ok, None, IfOk, OnOk};
+ghost use Rattle.std.specs.Prelude.{◌≡◌, None, Some, IfOk};
 ghost use Rattle.ow_value.specs.View.{view};
-ghost use Rattle.ow_floor.specs.Calls.{accept_items};
-ghost use Rattle.ow_floor.specs.Laws.{Grows};
-ghost use Rattle.ow_floor.specs.View.{last_of};
-ghost use Rattle.ow_decide.specs.Asking.{Invoked, ask_decision, no_content, refusal_told};
+ghost use Rattle.ow_floor.specs.View.{Shown};
+ghost use Rattle.ow_floor.specs.declared.activations.Plan.{Plan};
+ghost use Rattle.ow_decide.specs.Asking.{ask_decision, no_content, plan_done, refusal_told};
 ghost use Rattle.ow_reads.specs.Reading.{good};
-ghost use Rattle.ow_kept.specs.Keeping.{KeepingView};
 ghost use Rattle.ow_decide.specs.Sight.{Sight};
-ghost use Rattle.ow_decide.specs.Making.{Carries, CommitsDone, CommitsPlan, change_of, commit_of, done_of};
-ghost use Rattle.ow_decide.specs.Noted.{invoked_in};
+ghost use Rattle.ow_decide.specs.Waiting.{invoked_reply, waits_of};
+ghost use Rattle.ow_decide.specs.declared.events.Told.TheVariants as told;
+ghost use Rattle.ow_decide.specs.Making.{Carries, CommitsDone, IsTaken, change_of, commit_of, done_of};
 
-use crate::call_steps::Planned;
+use crate::commits::Made;
 use crate::events::Told;
 use crate::reasons::tells_full;
 use crate::replies::Reply;
 use crate::step::Step;
 use crate::waits::{Shows, Waits, invoked_reply, waits_of};
-use ow_floor::{Floor, Plan};
+use ow_floor::{Moves, Plan};
 use ow_http::{Answer, Reason, refusal};
-use ow_kept::Commit;
-use ow_names::EntityName;
-use ow_records::Fire;
+use ow_kept::Following;
+use ow_records::{Fire, Id};
 use ow_rules::Rules;
 use ow_tables::Ready;
-use ow_value::{Bytes, NoMemory, Pairs, PlainData, Val, write_val};
+use ow_value::{Bytes, NoMemory, Pairs, Val, write_val};
 use std::alloc::Global;
 
 /// What comes of a request.
@@ -33,7 +31,7 @@ pub(crate) enum Served {
     /// This is told, or made ready.
     Done(Done),
     /// This is to be accepted. Where it has a moment up to which it is waited for, this is shown to one who waits.
-    Accepts { planned: Planned, shows: Shows },
+    Accepts { plan: Plan, shows: Shows },
     /// This fire is to be made, and these rules to be followed.
     Fires { fire: Fire, rules: Rules },
 }
@@ -49,7 +47,7 @@ pub(crate) enum Done {
     Changed {
         ready: Ready,
         shown: Val,
-        commit: Commit,
+        commit: Following,
     },
     /// A trigger is fired of which no rule is active: nothing comes of it.
     Quiet,
@@ -58,7 +56,7 @@ pub(crate) enum Done {
 impl Done {
     /// What is told of it, and the change.
     pub(crate) fn step(self, alloc: Global) -> Result<Step, NoMemory>
-        ensures ok { IfOk result (λ s. (at : ℕ) (b : KeepingView) (S : Sight) → CommitsDone self b S → Carries s (ask_decision at (done_of self)) b S) }
+        ensures ok { IfOk result (λ s. (S : Sight) → CommitsDone self S → Carries s (ask_decision (done_of self)) S) }
         ensures change { IfOk result (λ s. s.change ≡ change_of self) }
     {
         let Ok(told) = self.told(alloc) else {
@@ -70,14 +68,13 @@ impl Done {
             told,
             change,
             waits: Waits::Keep,
-            invoked: None,
+            moves: Moves::new(alloc),
             commit,
-            fire: None,
         })
     }
 
     fn told(&self, alloc: Global) -> Result<Told, NoMemory>
-        ensures { IfOk result (λ t. (at : ℕ) → t ≡ (ask_decision at (done_of self.now)).told) }
+        ensures { IfOk result (λ t. t ≡ (ask_decision (done_of self.now)).told) }
     {
         match self {
             Done::Refused(reason) => refusal_told(alloc, reason),
@@ -89,7 +86,7 @@ impl Done {
     }
 
     // The change, and what is committed of it.
-    fn parts(self) -> (Option<Ready>, Option<Commit>)
+    fn parts(self) -> (Option<Ready>, Option<Following>)
         ensures change { result.0 ≡ change_of self }
         ensures commit { result.1 ≡ commit_of self }
     {
@@ -100,52 +97,45 @@ impl Done {
     }
 }
 
-/// What is told of an activation, which is accepted.
+/// What is told of a plan with this id, for which a request waits up to a moment, if at all. It was taken, or refused.
 pub(crate) fn accepted(
     alloc: Global,
-    floor: &mut Floor,
-    at: u64,
-    planned: Planned,
+    id: Id,
+    until: Option<u64>,
     shows: Shows,
+    taken: Result<Made, Reason>,
 ) -> Result<Step, NoMemory>
-    requires next { planned.plan.id.count ≡ last_of floor.old.now.drawn planned.plan.id.namespace + 1 }
-    ensures ok { IfOk result (λ s. (b : KeepingView) (S : Sight) → S.moment ≡ at → CommitsPlan planned b S → Carries s (ask_decision at (Ok (Invoked planned.plan shows))) b S) }
+    ensures ok { IfOk result (λ s. (S : Sight) (plan : Plan) (v : Shown) → plan.id ≡ id → plan.until ≡ until → IsTaken taken plan S v → Carries s (ask_decision (plan_done S plan shows)) S) }
     ensures change { IfOk result (λ s. s.change ≡ None) }
-    ensures grows { OnOk result (Grows floor.old.now floor.new.now (λ T. accept_items at planned.plan)) }
-    ensures before { floor.new.before ≡ floor.old.before }
 {
-    let Planned { plan, commit } = planned;
-    let Ok(reply) = invoked_reply(alloc, plan.id, plan.until) else {
-        drop((plan, commit));
-        return Err(NoMemory);
-    };
-    let Ok(invoked) = charged(alloc, &plan) else {
-        drop((plan, commit, reply));
-        return Err(NoMemory);
-    };
-    let waits = waits_of(plan.id, shows, plan.until);
-    if floor.accept(alloc, at, plan).is_err() {
-        drop((reply, invoked, commit));
-        return Err(NoMemory);
+    match taken {
+        Ok(made) => invoked(alloc, id, until, shows, made),
+        Err(reason) => Done::Refused(reason).step(alloc),
     }
+}
+
+// What is told of a plan that was taken.
+fn invoked(
+    alloc: Global,
+    id: Id,
+    until: Option<u64>,
+    shows: Shows,
+    made: Made,
+) -> Result<Step, NoMemory>
+    ensures ok { IfOk result (λ s. s ≡ record { told = told.Asked (invoked_reply id until); change = None; waits = waits_of id shows until; moves = made.moves; commit = Some made.commit }) }
+{
+    let Ok(reply) = invoked_reply(alloc, id, until) else {
+        drop(made);
+        return Err(NoMemory);
+    };
+    let Made { moves, commit } = made;
     Ok(Step {
         told: Told::Asked(reply),
         change: None,
-        waits,
-        invoked,
+        waits: waits_of(id, shows, until),
+        moves,
         commit: Some(commit),
-        fire: None,
     })
-}
-
-/// The namespace that is charged for what is to be accepted, where no other activation caused it.
-pub(crate) fn charged(alloc: Global, plan: &Plan) -> Result<Option<EntityName>, NoMemory>
-    ensures { IfOk result (λ n. (at : ℕ) → n ≡ invoked_in (accept_items at plan.now)) }
-{
-    if plan.cause.is_some() {
-        return Ok(None);
-    }
-    Ok(Some(plan.namespace.copy(alloc)?))
 }
 
 // An answer without a body.

@@ -3,29 +3,27 @@ ghost use Rattle.std.specs.Prelude.{◌≡◌, ◌+◌, ◌++◌, [], None, Some
 ghost use Rattle.ow_counts.specs.Counts.{fire_admitted};
 ghost use Rattle.ow_counts.specs.View.{CountsView};
 ghost use Rattle.ow_floor.specs.Calls.{draw_items, moved};
-ghost use Rattle.ow_floor.specs.Growth.{AreRight};
-ghost use Rattle.ow_floor.specs.Laws.{IsSound, Stands};
-ghost use Rattle.ow_floor.specs.Trace.{Trace, shown};
+ghost use Rattle.ow_floor.specs.Laws.{Stands};
+ghost use Rattle.ow_floor.specs.Trace.{Trace};
 ghost use Rattle.ow_floor.specs.View.{last_of};
-ghost use Rattle.ow_kept.specs.Keeping.{AreOwn, KeepingView, StandsForKept};
+ghost use Rattle.ow_kept.specs.Keeping.{KeepingView};
 ghost use Rattle.ow_tables.specs.Joined.{trigger_at};
 ghost use Rattle.ow_tables.specs.Rows.{standing};
 ghost use Rattle.ow_tenant.specs.Tenants.{limits_of};
 ghost use Rattle.ow_decide.specs.Asking.{ask_decision, at_once, change_done, rules_done, shot_done};
 ghost use Rattle.ow_decide.specs.Firing.{after_rules, fire_plan, rule_lines, shot_items};
-ghost use Rattle.ow_decide.specs.Making.{AreCounted, CommitsServed, IsMade, IsNextOf, IsSeen, IsUnderway, Makes, admits_shot, served_change, served_of};
+ghost use Rattle.ow_decide.specs.Making.{AreCounted, CommitsServed, IsMade, IsNextOf, IsSeen, IsUnderway, Makes, served_change, served_of};
 ghost use Rattle.ow_decide.specs.Sight.{Sight};
 ghost use Rattle.ow_decide.specs.Waiting.{accepted_answer};
 ghost use Rattle.ow_reads.specs.declared.acts.Act.{Act};
 
 use crate::call_steps::fitting;
-use crate::commits::is_store_full;
+use crate::commits::{Made, admit_made, made_of};
 use crate::done::{Done, Served};
 use crate::events::Told;
-use crate::reasons::limit_reason;
 use crate::replies::Reply;
 use crate::rule_steps::take_rule;
-use crate::step::{FireStep, Now, Step};
+use crate::step::{Now, Step};
 use crate::waits::{Waits, accepted_answer};
 use ow_counts::{Counts, LimitRefusal};
 use ow_entity::{EntityKind, EntityRefusal, Lookup, Row, Trigger};
@@ -55,7 +53,7 @@ pub(crate) fn fired(
 ) -> Result<Served, NoMemory>
     ensures done { IfOk result (λ d. (S : Sight) (k : CountsView) (b : KeepingView) → IsSeen S tenants.now tables.now.rows k b floor.now.now now
         → served_of S d ≡ change_done S holder.now Act.Fires call.now) }
-    ensures commit { IfOk result (λ d. (b : KeepingView) (S : Sight) → CommitsServed d b S) }
+    ensures commit { IfOk result (λ d. (S : Sight) → CommitsServed d S) }
     ensures change { IfOk result (λ d. served_change d ≡ None) }
     ensures next { IfOk result (IsNextOf floor.now.now.drawn) }
 {
@@ -106,7 +104,7 @@ fn rules_served(
 ) -> Result<Served, NoMemory>
     ensures done { IfOk result (λ d. (S : Sight) → Stands floor.now.now S.trace → S.moment ≡ now.at
         → served_of S d ≡ rules_done S subject.now name.now number trigger.now given.now rules) }
-    ensures commit { IfOk result (λ d. (b : KeepingView) (S : Sight) → CommitsServed d b S) }
+    ensures commit { IfOk result (λ d. (S : Sight) → CommitsServed d S) }
     ensures change { IfOk result (λ d. served_change d ≡ None) }
     ensures next { IfOk result (IsNextOf floor.now.now.drawn) }
 {
@@ -203,7 +201,7 @@ pub(crate) fn shot(
 ) -> Result<Step, NoMemory>
     requires next { fire.id.count ≡ last_of floor.old.now.drawn fire.id.namespace + 1 }
     requires held { floor.old.before ≡ Some floor.old.now }
-    ensures ok { IfOk result (Makes tenants.now tables.now.rows counts.now keeping.now now floor.old.now floor.new.now (λ S. ask_decision S.moment (shot_done S fire rules))) }
+    ensures ok { IfOk result (Makes tenants.now tables.now.rows counts.now keeping.now now floor.old.now floor.new.now (λ S. ask_decision (shot_done S fire rules))) }
     ensures change { IfOk result (λ s. s.change ≡ None) }
     ensures before { floor.new.before ≡ floor.old.before }
 {
@@ -212,7 +210,7 @@ pub(crate) fn shot(
     let made = made_shot(
         alloc, tenants, counts, keeping, floor, tables, now, fire, rules,
     )?;
-    match admit_shot(made.commit.bytes(), limit) {
+    match admit_made(made.commit.bytes(), limit) {
         Ok(()) => fired_step(alloc, id, made),
         Err(reason) => {
             drop(made);
@@ -234,34 +232,21 @@ fn within_fires(
     counts.admit_fire(namespace, &tenants.limits_of(namespace), at)
 }
 
-// Whether that many bytes may be kept, and the limit of fires allows one more.
-fn admit_shot(bytes: u64, limit: Result<(), LimitRefusal>) -> Result<(), Reason>
-    ensures { result ≡ admits_shot bytes limit }
-{
-    if is_store_full(bytes) {
-        return Err(Reason::Service(ServiceRefusal::KeptFull));
-    }
-    match limit {
-        Ok(()) => Ok(()),
-        Err(refusal) => Err(limit_reason(refusal)),
-    }
-}
-
 // What is answered of a fire, which is made.
-fn fired_step(alloc: Global, id: Id, fire: FireStep) -> Result<Step, NoMemory>
-    ensures { IfOk result (λ s. s ≡ record { told = at_once (accepted_answer id); change = None; waits = Waits.Keep; invoked = None; commit = None; fire = Some fire }) }
+fn fired_step(alloc: Global, id: Id, made: Made) -> Result<Step, NoMemory>
+    ensures { IfOk result (λ s. s ≡ record { told = at_once (accepted_answer id); change = None; waits = Waits.Keep; moves = made.moves; commit = Some made.commit }) }
 {
     let Ok(answer) = accepted_answer(alloc, id) else {
-        drop(fire);
+        drop(made);
         return Err(NoMemory);
     };
+    let Made { moves, commit } = made;
     Ok(Step {
         told: Told::Asked(Reply::Now(answer)),
         change: None,
         waits: Waits::Keep,
-        invoked: None,
-        commit: None,
-        fire: Some(fire),
+        moves,
+        commit: Some(commit),
     })
 }
 
@@ -276,7 +261,7 @@ fn made_shot(
     now: Now,
     fire: Fire,
     rules: Rules,
-) -> Result<FireStep, NoMemory>
+) -> Result<Made, NoMemory>
     requires next { fire.id.count ≡ last_of floor.old.now.drawn fire.id.namespace + 1 }
     ensures made { IfOk result (λ m. (S : Sight) → IsSeen S tenants.now tables.now.rows counts.now keeping.now floor.old.now now → IsMade m (shot_items S fire rules) S) }
     ensures ok { OnOk result ((S : Sight) → IsSeen S tenants.now tables.now.rows counts.now keeping.now floor.old.now now → Stands floor.new.now (shot_items S fire rules ++ S.trace)) }
@@ -288,24 +273,12 @@ fn made_shot(
     );
     drop(rules);
     match made {
-        Ok(()) => following(alloc, keeping, moves),
+        Ok(()) => made_of(alloc, keeping, moves),
         Err(e) => {
             drop(moves);
             Err(e)
         }
     }
-}
-
-// What is committed of these moves.
-fn following(alloc: Global, keeping: &Keeping, moves: Moves) -> Result<FireStep, NoMemory>
-    ensures { IfOk result (λ m. (S : Sight) (items : Trace) → StandsForKept keeping.now S.rows S.trace → IsSound S.trace → AreRight items (shown S.trace) → AreOwn items
-        → moves ≡ moved items → IsMade m items S) }
-{
-    let Ok(commit) = keeping.following(alloc, moves.items()) else {
-        drop(moves);
-        return Err(NoMemory);
-    };
-    Ok(FireStep { moves, commit })
 }
 
 // The id is drawn, the rules are followed, and the fire is recorded.

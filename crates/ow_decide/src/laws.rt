@@ -1,18 +1,21 @@
 // What is true of what is decided. The functions do nothing: their contracts are the laws.
-ghost use Rattle.std.specs.Prelude.{◌≡◌, ◌++◌, false};
+ghost use Rattle.std.specs.Prelude.{◌≡◌, ◌++◌, [], false};
+ghost use Rattle.ow_floor.specs.Calls.{moved};
+ghost use Rattle.ow_floor.specs.Growth.{AreRight};
 ghost use Rattle.ow_floor.specs.Laws.{IsSound};
-ghost use Rattle.ow_floor.specs.Trace.{Trace, records};
+ghost use Rattle.ow_floor.specs.Trace.{shown};
 ghost use Rattle.ow_kept.specs.Kept.{kept};
-ghost use Rattle.ow_kept.specs.Keeping.{AreIds};
+ghost use Rattle.ow_kept.specs.Keeping.{AreIds, AreOwn};
+ghost use Rattle.ow_tables.specs.Rows.{standing};
 ghost use Rattle.ow_traits.specs.Changes.{changed};
+ghost use Rattle.ow_trees.specs.Owed.{AreOwed};
 ghost use Rattle.ow_tenant.specs.Tenants.{limits_of};
-ghost use Rattle.ow_counts.specs.View.{AreUpTo, notes_of};
+ghost use Rattle.ow_counts.specs.View.{AreNotedAt, AreUpTo};
 ghost use Rattle.ow_counts.specs.Within.{AreWithin};
 ghost use Rattle.ow_decide.specs.Asking.{IsOfView, ReadsChangeNothing};
 ghost use Rattle.ow_decide.specs.Chain.{AreSteps};
 ghost use Rattle.ow_decide.specs.Decision.{all_changed, commits};
 ghost use Rattle.ow_decide.specs.Decisions.{decide, is_opening, wants_memory};
-ghost use Rattle.ow_decide.specs.Noted.{IsUnfired, MayAllEnd, invoked_in, noted_ends, noted_invoked};
 ghost use Rattle.ow_decide.specs.Sight.{Sight};
 ghost use Rattle.ow_decide.specs.declared.events.Event.{Event};
 
@@ -36,14 +39,19 @@ pub fn decisions_keep_traces_sound()
     ensures { (S : Sight) (event : Event) → IsSound S.trace → IsSound ((decide S event).items ++ S.trace) }
 {}
 
-/// What a decision adds to the notes for the limits, where nothing is fired: the invocation, at the moment, and then the ends, by their records. Each
-/// end is of an invocation that has not ended, and nothing is accepted or fired after the moment.
-pub fn notes_follow_decisions()
-    ensures noted { (S : Sight) (event : Event) → IsUnfired (decide S event).items → notes_of ((decide S event).items ++ S.trace) ≡ noted_ends (records (decide S event).items) (noted_invoked (invoked_in (decide S event).items) S.moment (notes_of S.trace)) }
-    ensures quiet { (S : Sight) (event : Event) → wants_memory event ≡ false → notes_of ((decide S event).items ++ S.trace) ≡ notes_of S.trace }
-    ensures records { (items T : Trace) → records (items ++ T) ≡ records T ++ records items }
-    ensures may_end { (S : Sight) (event : Event) → IsUnfired (decide S event).items → IsSound S.trace → MayAllEnd (records (decide S event).items) (noted_invoked (invoked_in (decide S event).items) S.moment (notes_of S.trace)) }
+/// What is decided may come, but for an opening: it accepts and fires at the moment, and takes over nothing of an earlier run. At an event that takes no memory
+/// nothing moves. Nothing is accepted or fired after the moment.
+pub fn decisions_are_right_items()
+    ensures right { (S : Sight) (event : Event) → is_opening event ≡ false → IsSound S.trace → AreRight (decide S event).items (shown S.trace) }
+    ensures noted { (S : Sight) (event : Event) → is_opening event ≡ false → AreNotedAt S.moment (decide S event).items }
+    ensures own { (S : Sight) (event : Event) → is_opening event ≡ false → AreOwn (decide S event).items }
+    ensures quiet { (S : Sight) (event : Event) → wants_memory event ≡ false → moved (decide S event).items ≡ [] }
     ensures up_to { (S : Sight) (event : Event) → AreUpTo S.moment S.trace → AreUpTo S.moment ((decide S event).items ++ S.trace) }
+{}
+
+/// Each child that is accepted at an event is the step that its cause owes there, and each end of a composite the one that the composite owes.
+pub fn decisions_take_owed_steps()
+    ensures { (S : Sight) (event : Event) → AreOwed (standing S.rows) S.moment (decide S event).items S.trace }
 {}
 
 /// What is decided at an event keeps the limits of the office table: what is accepted had room.

@@ -22,12 +22,12 @@ mod web_steps;
 pub use events::{Event, Told};
 pub use floor_steps::{take, taken_told};
 pub use laws::{
-    decisions_are_chains, decisions_commit_what_is_kept, decisions_keep_limits,
-    decisions_keep_traces_sound, notes_follow_decisions, reads_are_answered_of_the_view,
-    reads_change_nothing,
+    decisions_are_chains, decisions_are_right_items, decisions_commit_what_is_kept,
+    decisions_keep_limits, decisions_keep_traces_sound, decisions_take_owed_steps,
+    reads_are_answered_of_the_view, reads_change_nothing,
 };
 pub use reasons::tells_full;
 pub use replies::{Called, HallCollected, Reply};
 pub use room::is_full;
-pub use step::{FireStep, Now, Step, step_for};
+pub use step::{Now, Step, step_for};
 pub use waits::{Shows, Wait, Waits};

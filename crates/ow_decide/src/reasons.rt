@@ -15,6 +15,8 @@ pub fn table_reason(refusal: TableRefusal) -> Reason
         TableRefusal::NotFound => Reason::Service(ServiceRefusal::NotFound),
         TableRefusal::BindsABinding => Reason::Service(ServiceRefusal::BindsABinding),
         TableRefusal::Exists => Reason::Service(ServiceRefusal::Exists),
+        TableRefusal::SequenceTooLong => Reason::Service(ServiceRefusal::SequenceTooLong),
+        TableRefusal::SequenceLoops => Reason::Service(ServiceRefusal::SequenceLoops),
         TableRefusal::NotEmpty => Reason::Service(ServiceRefusal::NotEmpty),
         TableRefusal::Entity(refusal) => Reason::Call(CallRefusal::BadEntity(refusal)),
         TableRefusal::NoMemory => Reason::Call(CallRefusal::NoMemory),

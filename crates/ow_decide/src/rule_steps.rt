@@ -14,6 +14,8 @@ ghost use Rattle.ow_decide.specs.Calling.{next_id, plan_for};
 ghost use Rattle.ow_decide.specs.Firing.{after_rule, called_rule, made_value, merged_rule, refused_value, rule_line, rule_plan, seeing};
 ghost use Rattle.ow_decide.specs.Making.{IsUnderway};
 ghost use Rattle.ow_decide.specs.Sight.{Sight, within_limits};
+ghost use Rattle.ow_tables.specs.Rows.{standing};
+ghost use Rattle.ow_trees.specs.Steps.{steps_after};
 
 use crate::call_steps::{Callee, callee_in, given_over, plan_for};
 use crate::reasons::limit_reason;
@@ -61,15 +63,16 @@ pub(crate) fn take_rule(
         rule,
         moves.items(),
     )? {
-        Ok(plan) => accept_rule(alloc, floor, now.at, rule, plan, moves, lines),
+        Ok(plan) => accept_rule(alloc, floor, tables, now.at, rule, plan, moves, lines),
         Err(reason) => refuse_rule(alloc, rule, reason, lines),
     }
 }
 
-// What is planned is accepted, and its line noted.
+// What is planned is accepted, with the steps that it makes, and its line noted.
 fn accept_rule(
     alloc: Global,
     floor: &mut Floor,
+    tables: &Tables,
     at: u64,
     rule: &Rule,
     plan: Plan,
@@ -77,8 +80,8 @@ fn accept_rule(
     lines: &mut Vec<Str>,
 ) -> Result<(), NoMemory>
     requires next { plan.id.count ≡ last_of floor.old.now.drawn plan.id.namespace + 1 }
-    ensures ok { OnOk result (Grows floor.old.now floor.new.now (λ T. accept_items at plan)) }
-    ensures moved { OnOk result (moves.new ≡ moves.old ++ moved (accept_items at plan)) }
+    ensures ok { OnOk result (Grows floor.old.now floor.new.now (λ T. steps_after (standing tables.now.rows) at T (accept_items at plan))) }
+    ensures moved { OnOk result ((T : Trace) → Stands floor.old.now T → moves.new ≡ moves.old ++ moved (steps_after (standing tables.now.rows) at T (accept_items at plan))) }
     ensures line { OnOk result (lines.new.items ≡ lines.old.items ++ compact (made_value rule.now plan.id) ∷ []) }
     ensures firing { OnOk result (floor.new.now.firing ≡ floor.old.now.firing) }
     ensures before { floor.new.before ≡ floor.old.before }
@@ -87,7 +90,7 @@ fn accept_rule(
         drop(plan);
         return Err(NoMemory);
     }
-    floor.accept_into(alloc, at, plan, moves)
+    ow_trees::accept(alloc, tables, floor, at, plan, moves)
 }
 
 // The line of a rule that made the activation of this id.

@@ -11,31 +11,21 @@ use crate::floor_steps::{answered, drain, next, reopen, sweep};
 use crate::waits::{Wait, Waits};
 use ow_counts::Counts;
 use ow_floor::{Floor, Moves};
-use ow_kept::{Commit, Following, Keeping};
-use ow_names::EntityName;
+use ow_kept::{Following, Keeping};
 use ow_tables::{Ready, Tables};
 use ow_tenant::Tenants;
 use ow_value::NoMemory;
 use std::alloc::Global;
 
-/// What was done: what is told, the change of the rows that was made ready, what becomes of those who wait, which namespace is
-/// charged for what was accepted, where no other activation caused it, and what is to be committed of an acceptance or a change of
-/// the rows. What has ended is to be committed beside it. A fire has none of these, but its own part.
+/// What was done: what is told, the change of the rows that was made ready, what becomes of those who wait, all that moved on the
+/// floor, and what is to be committed of it. Where nothing is to be committed there may be no commit.
 #[derive(Drop)]
 pub struct Step {
     pub told: Told,
     pub change: Option<Ready>,
     pub waits: Waits,
-    pub invoked: Option<EntityName>,
-    pub commit: Option<Commit>,
-    pub fire: Option<FireStep>,
-}
-
-/// What a fire did: all that moved on the floor, and what is to be committed of it.
-#[derive(Drop)]
-pub struct FireStep {
     pub moves: Moves,
-    pub commit: Following,
+    pub commit: Option<Following>,
 }
 
 /// How many bytes the book counts, and the moment in milliseconds.
@@ -46,17 +36,16 @@ pub struct Now {
 }
 
 impl Step {
-    /// Something is told, and nothing else is made ready.
-    pub fn telling(told: Told) -> Step
+    /// Something is told, and nothing else is made ready. This takes no memory.
+    pub fn telling(alloc: Global, told: Told) -> Step
         ensures { result ≡ telling told }
     {
         Step {
             told,
             change: None,
             waits: Waits::Keep,
-            invoked: None,
+            moves: Moves::new(alloc),
             commit: None,
-            fire: None,
         }
     }
 }
@@ -98,13 +87,15 @@ pub fn step_for(
             )
         }
         Event::Next => next(alloc, floor, now),
-        Event::Answered { run, reply } => answered(alloc, floor, now, *run, reply),
-        Event::Sweep => sweep(alloc, floor, now),
+        Event::Answered { run, reply } => {
+            answered(alloc, keeping, floor, tables, now, *run, reply)
+        }
+        Event::Sweep => sweep(alloc, keeping, floor, tables, now),
         Event::Begun { .. } | Event::Lost { .. } | Event::Gone { .. } | Event::Opened(_) => {
             unreachable!()
         }
         Event::Collected(id) => collect(alloc, floor, waits, now, *id),
-        Event::Drain => Ok(drain(floor, now)),
-        Event::Reopened => reopen(alloc, floor, now),
+        Event::Drain => Ok(drain(alloc, floor, now)),
+        Event::Reopened => reopen(alloc, keeping, floor, now),
     }
 }

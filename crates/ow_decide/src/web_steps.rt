@@ -2,24 +2,25 @@
 ghost use Rattle.std.specs.Prelude.{◌≡◌, ◌≢◌, ◌+◌, List, None, Ok, Err, true, is_some, IfOk, MatchResult, option_copied};
 ghost use Rattle.ow_names.specs.Path.{within};
 ghost use Rattle.ow_entity.specs.declared.rows.Row.{Row};
+ghost use Rattle.ow_counts.specs.View.{CountsView};
+ghost use Rattle.ow_floor.specs.Laws.{Stands};
 ghost use Rattle.ow_floor.specs.View.{last_of};
 ghost use Rattle.ow_http.specs.Request.{parts_of};
+ghost use Rattle.ow_kept.specs.Keeping.{KeepingView};
 ghost use Rattle.ow_tenant.specs.Tenants.{holder_of};
 ghost use Rattle.ow_web.specs.Target.{as_target, is_web};
 ghost use Rattle.ow_decide.specs.Asking.{web_accepted, web_called, web_done, web_named, web_planned};
 ghost use Rattle.ow_decide.specs.Sight.{Sight};
-ghost use Rattle.ow_decide.specs.Making.{CommitsPlan, CommitsServed, IsNextOf, IsSeen, plan_in, served_change, served_of};
+ghost use Rattle.ow_decide.specs.Making.{CommitsServed, IsNextOf, IsSeen, served_change, served_of};
 ghost use Rattle.ow_decide.specs.WebCalling.{target_name, web_extension, web_given, web_name, web_plan};
 
-use crate::call_steps::{Callee, Planned, called_plan, callee_in};
+use crate::call_steps::{Callee, called_plan, callee_in};
 use crate::done::{Done, Served};
 use crate::room::room_for;
 use crate::step::Now;
 use crate::waits::Shows;
-use ow_counts::Counts;
-use ow_floor::Floor;
+use ow_floor::{Floor, Plan};
 use ow_http::{CallRefusal, Reason, Request, ServiceRefusal};
-use ow_kept::Keeping;
 use ow_names::{EntityName, FullName, NameRefusal, named_in, read_name};
 use ow_packages::Effective;
 use ow_tables::Tables;
@@ -32,16 +33,14 @@ use std::alloc::Global;
 pub(crate) fn web_served(
     alloc: Global,
     tenants: &Tenants,
-    counts: &Counts,
-    keeping: &Keeping,
     floor: &Floor,
     tables: &Tables,
     now: Now,
     request: &Request,
 ) -> Result<Served, NoMemory>
     requires web { is_web request.now.route ≡ true }
-    ensures done { IfOk result (λ d. (S : Sight) → IsSeen S tenants.now tables.now.rows counts.now keeping.now floor.now.now now → served_of S d ≡ web_done S (parts_of request.now)) }
-    ensures commit { IfOk result (λ d. (S : Sight) → IsSeen S tenants.now tables.now.rows counts.now keeping.now floor.now.now now → CommitsServed d keeping.now S) }
+    ensures done { IfOk result (λ d. (S : Sight) (k : CountsView) (b : KeepingView) → IsSeen S tenants.now tables.now.rows k b floor.now.now now → served_of S d ≡ web_done S (parts_of request.now)) }
+    ensures commit { IfOk result (λ d. (S : Sight) → CommitsServed d S) }
     ensures change { IfOk result (λ d. served_change d ≡ None) }
     ensures next { IfOk result (IsNextOf floor.now.now.drawn) }
 {
@@ -49,9 +48,7 @@ pub(crate) fn web_served(
         return Ok(Served::Done(Done::Refused(reason)));
     }
     match web_name(alloc, request)? {
-        Ok(name) => web_named(
-            alloc, tenants, counts, keeping, floor, tables, now, request, &name,
-        ),
+        Ok(name) => web_named(alloc, tenants, floor, tables, now, request, &name),
         Err(reason) => Ok(Served::Done(Done::Refused(reason))),
     }
 }
@@ -92,8 +89,6 @@ fn full_name(
 fn web_named(
     alloc: Global,
     tenants: &Tenants,
-    counts: &Counts,
-    keeping: &Keeping,
     floor: &Floor,
     tables: &Tables,
     now: Now,
@@ -101,15 +96,13 @@ fn web_named(
     name: &FullName,
 ) -> Result<Served, NoMemory>
     requires web { is_web request.now.route ≡ true }
-    ensures done { IfOk result (λ d. (S : Sight) → IsSeen S tenants.now tables.now.rows counts.now keeping.now floor.now.now now → served_of S d ≡ web_named S (parts_of request.now) name.now) }
-    ensures commit { IfOk result (λ d. (S : Sight) → IsSeen S tenants.now tables.now.rows counts.now keeping.now floor.now.now now → CommitsServed d keeping.now S) }
+    ensures done { IfOk result (λ d. (S : Sight) (k : CountsView) (b : KeepingView) → IsSeen S tenants.now tables.now.rows k b floor.now.now now → served_of S d ≡ web_named S (parts_of request.now) name.now) }
+    ensures commit { IfOk result (λ d. (S : Sight) → CommitsServed d S) }
     ensures change { IfOk result (λ d. served_change d ≡ None) }
     ensures next { IfOk result (IsNextOf floor.now.now.drawn) }
 {
     match callee_in(alloc, tenants, tables, name, &name.namespace)? {
-        Some(called) => web_called(
-            alloc, tenants, counts, keeping, floor, now, request, name, called,
-        ),
+        Some(called) => web_called(alloc, tenants, floor, now, request, name, called),
         None => Ok(Served::Done(Done::Refused(Reason::Service(ServiceRefusal::NotFound)))),
     }
 }
@@ -118,8 +111,6 @@ fn web_named(
 fn web_called(
     alloc: Global,
     tenants: &Tenants,
-    counts: &Counts,
-    keeping: &Keeping,
     floor: &Floor,
     now: Now,
     request: &Request,
@@ -127,15 +118,13 @@ fn web_called(
     called: Callee,
 ) -> Result<Served, NoMemory>
     requires web { is_web request.now.route ≡ true }
-    ensures done { IfOk result (λ d. (S : Sight) (rs : List Row) → IsSeen S tenants.now rs counts.now keeping.now floor.now.now now → served_of S d ≡ web_called S (parts_of request.now) name.now called) }
-    ensures commit { IfOk result (λ d. (S : Sight) (rs : List Row) → IsSeen S tenants.now rs counts.now keeping.now floor.now.now now → CommitsServed d keeping.now S) }
+    ensures done { IfOk result (λ d. (S : Sight) (rs : List Row) (k : CountsView) (b : KeepingView) → IsSeen S tenants.now rs k b floor.now.now now → served_of S d ≡ web_called S (parts_of request.now) name.now called) }
+    ensures commit { IfOk result (λ d. (S : Sight) → CommitsServed d S) }
     ensures change { IfOk result (λ d. served_change d ≡ None) }
     ensures next { IfOk result (IsNextOf floor.now.now.drawn) }
 {
     match web_given(alloc, tenants, &called.effective, request) {
-        Ok(Ok(given)) => web_accepted(
-            alloc, tenants, counts, keeping, floor, now, request, name, called, given,
-        ),
+        Ok(Ok(given)) => web_accepted(alloc, floor, now, request, name, called, given),
         Ok(Err(reason)) => {
             drop(called);
             Ok(Served::Done(Done::Refused(reason)))
@@ -178,9 +167,6 @@ fn is_known(tenants: &Tenants, key: &Option<Str>) -> bool
 // What comes of the parameters that are given.
 fn web_accepted(
     alloc: Global,
-    tenants: &Tenants,
-    counts: &Counts,
-    keeping: &Keeping,
     floor: &Floor,
     now: Now,
     request: &Request,
@@ -189,24 +175,13 @@ fn web_accepted(
     given: Params,
 ) -> Result<Served, NoMemory>
     requires web { is_web request.now.route ≡ true }
-    ensures done { IfOk result (λ d. (S : Sight) (rs : List Row) → IsSeen S tenants.now rs counts.now keeping.now floor.now.now now → served_of S d ≡ web_accepted S (parts_of request.now) name.now called given) }
-    ensures commit { IfOk result (λ d. (S : Sight) (rs : List Row) → IsSeen S tenants.now rs counts.now keeping.now floor.now.now now → CommitsServed d keeping.now S) }
+    ensures done { IfOk result (λ d. (S : Sight) → Stands floor.now.now S.trace → S.moment ≡ now.at → served_of S d ≡ web_accepted S (parts_of request.now) name.now called given) }
+    ensures commit { IfOk result (λ d. (S : Sight) → CommitsServed d S) }
     ensures change { IfOk result (λ d. served_change d ≡ None) }
     ensures next { IfOk result (IsNextOf floor.now.now.drawn) }
 {
     match web_extension(request) {
-        Ok(extension) => web_planned(
-            alloc,
-            tenants,
-            counts,
-            keeping,
-            floor,
-            now,
-            &name.namespace,
-            called,
-            given,
-            extension,
-        ),
+        Ok(extension) => web_planned(alloc, floor, now, &name.namespace, called, given, extension),
         Err(reason) => {
             drop((called, given));
             Ok(Served::Done(Done::Refused(reason)))
@@ -228,9 +203,6 @@ fn web_extension(request: &Request) -> Result<Extension, Reason>
 // What comes of the parameters that are given, where the end is answered by this extension.
 fn web_planned(
     alloc: Global,
-    tenants: &Tenants,
-    counts: &Counts,
-    keeping: &Keeping,
     floor: &Floor,
     now: Now,
     namespace: &EntityName,
@@ -238,17 +210,14 @@ fn web_planned(
     given: Params,
     extension: Extension,
 ) -> Result<Served, NoMemory>
-    ensures done { IfOk result (λ d. (S : Sight) (rs : List Row) → IsSeen S tenants.now rs counts.now keeping.now floor.now.now now → served_of S d ≡ web_planned S namespace.now called given extension) }
-    ensures commit { IfOk result (λ d. (S : Sight) (rs : List Row) → IsSeen S tenants.now rs counts.now keeping.now floor.now.now now → CommitsServed d keeping.now S) }
+    ensures done { IfOk result (λ d. (S : Sight) → Stands floor.now.now S.trace → S.moment ≡ now.at → served_of S d ≡ web_planned S namespace.now called given extension) }
+    ensures commit { IfOk result (λ d. (S : Sight) → CommitsServed d S) }
     ensures change { IfOk result (λ d. served_change d ≡ None) }
     ensures next { IfOk result (IsNextOf floor.now.now.drawn) }
 {
-    let plan = web_plan(
-        alloc, tenants, counts, keeping, floor, now, namespace, called, given,
-    )?;
-    match plan {
-        Ok(planned) => Ok(Served::Accepts {
-            planned,
+    match web_plan(alloc, floor, now, namespace, called, given)? {
+        Ok(plan) => Ok(Served::Accepts {
+            plan,
             shows: Shows::Web(extension),
         }),
         Err(reason) => Ok(Served::Done(Done::Refused(reason))),
@@ -258,26 +227,20 @@ fn web_planned(
 // What is to be accepted, in the name of the namespace of the path.
 fn web_plan(
     alloc: Global,
-    tenants: &Tenants,
-    counts: &Counts,
-    keeping: &Keeping,
     floor: &Floor,
     now: Now,
     namespace: &EntityName,
     called: Callee,
     given: Params,
-) -> Result<Result<Planned, Reason>, NoMemory>
-    ensures plan { IfOk result (λ p. (S : Sight) (rs : List Row) → IsSeen S tenants.now rs counts.now keeping.now floor.now.now now
-        → plan_in p ≡ web_plan S namespace.now called given) }
-    ensures commit { IfOk result (λ p. IfOk p (λ q. (S : Sight) (rs : List Row) → IsSeen S tenants.now rs counts.now keeping.now floor.now.now now → CommitsPlan q keeping.now S)) }
-    ensures next { IfOk result (λ p. IfOk p (λ q. q.plan.id.count ≡ last_of floor.now.now.drawn q.plan.id.namespace + 1)) }
+) -> Result<Result<Plan, Reason>, NoMemory>
+    ensures plan { IfOk result (λ p. (S : Sight) → Stands floor.now.now S.trace → S.moment ≡ now.at → p ≡ web_plan S namespace.now called given) }
+    ensures next { IfOk result (λ p. IfOk p (λ q. q.id.count ≡ last_of floor.now.now.drawn q.id.namespace + 1)) }
 {
     let Ok(subject) = Str::of(alloc, namespace.as_str()) else {
         drop((called, given));
         return Err(NoMemory);
     };
     called_plan(
-        alloc, tenants, counts, keeping, floor, now, &subject, namespace, true, true, called,
-        &given,
+        alloc, floor, now, &subject, namespace, true, true, called, &given,
     )
 }

@@ -2,7 +2,7 @@
 ghost use Rattle.std.specs.Prelude.{◌≡◌, ◌+◌, ◌<◌, ◌≤◌};
 ghost use Rattle.ow_tenant.specs.Table.{IsPoolSized};
 ghost use Rattle.ow_floor.specs.Laws.{StandInSlots};
-ghost use Rattle.ow_hall.specs.Beginnings.{KeepsEach, KeepsLimits};
+ghost use Rattle.ow_hall.specs.Beginnings.{KeepsEach, KeepsLimits, KeepsSteps};
 ghost use Rattle.ow_hall.specs.Comes.{HoldsBook};
 ghost use Rattle.ow_hall.specs.History.{IsLegal, seen};
 ghost use Rattle.ow_desk.specs.Desks.{IsWithinFaults};
@@ -68,6 +68,7 @@ impl<P: Keeper + Drop> Desk<P> {
         ensures legal { IsLegal self.now.hall.tenants self.now.hall.ledger.entries }
         ensures activations { KeepsEach self.now.hall.tenants self.now.hall.ledger.entries }
         ensures limits { KeepsLimits self.now.hall.tenants self.now.hall.ledger.entries }
+        ensures steps { KeepsSteps self.now.hall.tenants self.now.hall.ledger.entries }
         ensures slots { StandInSlots (seen self.now.hall.tenants self.now.hall.ledger.entries).trace }
         ensures kept { HoldsBook (P.telling self.now.hall.store).rows self.now.hall.tenants self.now.hall.ledger }
         ensures stored { IsWithinFaults (P.telling self.now.hall.store).faults self.now.since self.now.hall.ledger.stored self.now.before }

@@ -1,3 +1,4 @@
 pub mod PlainCodeLaws
 pub mod PairLaws
 pub mod BackLaws
+pub mod ComponentLaws

@@ -2,7 +2,7 @@
 use Rattle.std.specs.Prelude.{◌==◌, ℕ, ℤ, pos, negsuc, List, [], ◌∷◌, Bool, true, false, map, filter, codes, if◌then◌else◌, Option, Some, None, Result, Ok, Err}
 use Rattle.std.specs.Result.{result_err, result_unwrap_or}
 use Rattle.std.specs.Str.{bytes_eq}
-use Rattle.ow_value.specs.Value.{V, boolean, whole, text, object}
+use Rattle.ow_value.specs.Value.{V, Items, no_items, item, boolean, whole, text, list, object}
 use Rattle.ow_value.specs.Field.{field}
 use Rattle.ow_value.specs.Decimal.{if_within}
 use Rattle.ow_names.specs.declared.full.FullName.{FullName}
@@ -17,7 +17,7 @@ use Rattle.ow_entity.specs.declared.refusal.EntityRefusal.TheVariants.{MissingFi
 use Rattle.ow_entity.specs.declared.bounds.GivenLimits.{GivenLimits}
 use Rattle.ow_entity.specs.declared.bounds.TheConstants.{LEAST_TIMEOUT, MOST_TIMEOUT, LEAST_MEMORY, MOST_MEMORY, LEAST_LOGS, MOST_LOGS}
 use Rattle.ow_entity.specs.declared.exec.Exec.{Exec}
-use Rattle.ow_entity.specs.declared.exec.Exec.TheVariants.{Plain, Program}
+use Rattle.ow_entity.specs.declared.exec.Exec.TheVariants.{Plain, Program, Sequence}
 use Rattle.ow_entity.specs.declared.rows.Draft.{Draft}
 use Rattle.ow_entity.specs.declared.rows.Draft.TheVariants as drafts
 use Rattle.ow_entity.specs.Chain.{and_then, first_some, result_map}
@@ -61,6 +61,45 @@ number_or_none name least most (Some v) = Err (WrongType name)
 abbrev pub number_field : FieldName → ℕ → ℕ → V → Result (Option ℕ) EntityRefusal
 number_field name least most v = number_or_none name least most (field (field_name name) v)
 
+-- ---- the components of a sequence
+
+abbrev pub or_bad_name : Result FullName NameRefusal → Result FullName EntityRefusal
+or_bad_name (Ok name) = Ok name
+or_bad_name (Err e) = Err (BadName e)
+
+abbrev pub are_texts : Items → Bool
+are_texts no_items = true
+are_texts (item (text s) vs) = are_texts vs
+are_texts (item v vs) = false
+
+-- a full name, as a text is one for a reader of the namespace
+abbrev pub name_in : List ℕ → V → Result FullName EntityRefusal
+name_in home (text s) = or_bad_name (resolved home s)
+name_in home v = Err (WrongType fields.Components)
+
+-- the names of all, or what is wrong with the first that is none
+abbrev pub names_in : List ℕ → Items → Result (List FullName) EntityRefusal
+names_in home no_items = Ok []
+names_in home (item v vs) = and_then (name_in home v) (λ n. result_map (λ ns. n ∷ ns) (names_in home vs))
+
+-- one at least
+abbrev pub if_some : List FullName → Result (List FullName) EntityRefusal
+if_some [] = Err (OutOfRange fields.Components)
+if_some (n ∷ ns) = Ok (n ∷ ns)
+
+-- all are texts, there is one at least, and each is a full name, in this order
+abbrev pub components_in : List ℕ → Items → Result (List FullName) EntityRefusal
+components_in home vs = if are_texts vs then and_then (names_in home vs) if_some else Err (WrongType fields.Components)
+
+abbrev pub components_given : List ℕ → Option V → Result (List FullName) EntityRefusal
+components_given home None = Err (MissingField fields.Components)
+components_given home (Some (list vs)) = components_in home vs
+components_given home (Some v) = Err (WrongType fields.Components)
+
+-- the components, which must be there
+abbrev pub components_field : List ℕ → V → Result (List FullName) EntityRefusal
+components_field home v = components_given home (field (field_name fields.Components) v)
+
 -- ---- what an action runs
 
 abbrev pub plain_exec : V → Result Exec EntityRefusal
@@ -69,22 +108,27 @@ plain_exec v = result_map Plain (and_then (text_field fields.Code v) plain_code)
 abbrev pub program_exec : V → Result Exec EntityRefusal
 program_exec v = result_map Program (and_then (text_field fields.Code v) program_name)
 
-abbrev pub exec_of_kind : V → List ℕ → Result Exec EntityRefusal
-exec_of_kind v kind =
+abbrev pub sequence_exec : List ℕ → V → Result Exec EntityRefusal
+sequence_exec home v = result_map Sequence (components_field home v)
+
+abbrev pub exec_of_kind : List ℕ → V → List ℕ → Result Exec EntityRefusal
+exec_of_kind home v kind =
     if bytes_eq kind (codes "plain:1") then plain_exec v
     else if bytes_eq kind (codes "program:1") then program_exec v
+    else if bytes_eq kind (codes "sequence") then sequence_exec home v
     else Err UnknownKind
 
-abbrev pub exec_in : V → Result Exec EntityRefusal
-exec_in v = and_then (text_field fields.Kind v) (exec_of_kind v)
+-- for a path of this namespace
+abbrev pub exec_in : List ℕ → V → Result Exec EntityRefusal
+exec_in home v = and_then (text_field fields.Kind v) (exec_of_kind home v)
 
-abbrev pub exec_given : Option V → Result (Option Exec) EntityRefusal
-exec_given None = Ok None
-exec_given (Some (object ps)) = result_map Some (exec_in (object ps))
-exec_given (Some v) = Err (WrongType fields.Exec)
+abbrev pub exec_given : List ℕ → Option V → Result (Option Exec) EntityRefusal
+exec_given home None = Ok None
+exec_given home (Some (object ps)) = result_map Some (exec_in home (object ps))
+exec_given home (Some v) = Err (WrongType fields.Exec)
 
-abbrev pub exec_field : V → Result (Option Exec) EntityRefusal
-exec_field body = exec_given (field (codes "exec") body)
+abbrev pub exec_field : List ℕ → V → Result (Option Exec) EntityRefusal
+exec_field home body = exec_given home (field (codes "exec") body)
 
 -- ---- the limits of its runs
 
@@ -107,10 +151,6 @@ abbrev pub limits_field : V → Result GivenLimits EntityRefusal
 limits_field body = limits_given (field (codes "limits") body)
 
 -- ---- what a package binds
-
-abbrev pub or_bad_name : Result FullName NameRefusal → Result FullName EntityRefusal
-or_bad_name (Ok name) = Ok name
-or_bad_name (Err e) = Err (BadName e)
 
 -- the package that an object names for one who stands in the namespace, which `_` stands for
 abbrev pub bound_in : List ℕ → V → Result FullName EntityRefusal
@@ -175,7 +215,7 @@ field_table =
     record { of = is_any; fault = λ home body. result_err (pairs_field fields.Annotations body) }
     ∷ record { of = is_no_rule; fault = λ home body. result_err (pairs_field fields.Parameters body) }
     ∷ record { of = is_any; fault = λ home body. result_err (bool_field fields.Publish body) }
-    ∷ record { of = is_action; fault = λ home body. result_err (exec_field body) }
+    ∷ record { of = is_action; fault = λ home body. result_err (exec_field home body) }
     ∷ record { of = is_action; fault = λ home body. result_err (limits_field body) }
     ∷ record { of = is_package; fault = λ home body. result_err (binding_field home body) }
     ∷ record { of = is_rule; fault = λ home body. result_err (name_field fields.Trigger home body) }
@@ -199,7 +239,7 @@ action_draft name body = drafts.Action (record {
   publish = result_unwrap_or (bool_field fields.Publish body) None;
   params = result_unwrap_or (pairs_field fields.Parameters body) None;
   notes = result_unwrap_or (pairs_field fields.Annotations body) None;
-  exec = result_unwrap_or (exec_field body) None;
+  exec = result_unwrap_or (exec_field name.namespace body) None;
   limits = result_unwrap_or (limits_field body) no_limits;
 })
 

@@ -1,7 +1,7 @@
 -- How a body writes the names of its fields.
 use Rattle.std.specs.Prelude.{ℕ, List, codes}
 use Rattle.ow_entity.specs.declared.field_name.FieldName.{FieldName}
-use Rattle.ow_entity.specs.declared.field_name.FieldName.TheVariants.{Body, Annotations, Parameters, Publish, Exec, Kind, Code, Limits, Timeout, Memory, Logs, Binding, BoundNamespace, BoundName, Trigger, Action, Status}
+use Rattle.ow_entity.specs.declared.field_name.FieldName.TheVariants.{Body, Annotations, Parameters, Publish, Exec, Kind, Code, Components, Limits, Timeout, Memory, Logs, Binding, BoundNamespace, BoundName, Trigger, Action, Status}
 
 abbrev pub field_name : FieldName → List ℕ
 field_name Body = codes "body"
@@ -11,6 +11,7 @@ field_name Publish = codes "publish"
 field_name Exec = codes "exec"
 field_name Kind = codes "kind"
 field_name Code = codes "code"
+field_name Components = codes "components"
 field_name Limits = codes "limits"
 field_name Timeout = codes "timeout"
 field_name Memory = codes "memory"

@@ -1,5 +1,8 @@
--- Within which bounds the texts and the pairs of entities lie.
+-- Within which bounds the texts, the lists and the pairs of entities lie.
 use Rattle.std.specs.Prelude.{◌≡◌, ◌≤◌, ℕ, List, true, length, is_some}
+use Rattle.std.specs.List.{AllByRecursion}
+use Rattle.ow_names.specs.FullName.{IsFullName}
+use Rattle.ow_names.specs.declared.full.FullName.{FullName}
 use Rattle.ow_value.specs.Value.{Pairs}
 use Rattle.ow_value.specs.declared.measure.TheConstants.{MEGABYTE}
 use Rattle.ow_entity.specs.Pairs.{pairs_size}
@@ -17,3 +20,8 @@ pub record IsFitText (text : List ℕ) : Type 0 where
 pub record IsFitPlain (text : List ℕ) : Type 0 where
   pub size : length text ≤ MEGABYTE
   pub form : is_some (plain_cases text) ≡ true
+
+-- the components of a sequence: one at least, and each a full name
+pub record IsFitSequence (components : List FullName) : Type 0 where
+  pub some : 1 ≤ length components
+  pub names : AllByRecursion IsFullName components

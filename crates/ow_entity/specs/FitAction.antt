@@ -2,10 +2,10 @@
 use Rattle.ow_entity.specs.declared.bounds.TheConstants.{LEAST_TIMEOUT, MOST_TIMEOUT, LEAST_MEMORY, MOST_MEMORY, LEAST_LOGS, MOST_LOGS}
 use Rattle.ow_entity.specs.declared.bounds.Limits.{Limits}
 use Rattle.ow_entity.specs.declared.exec.Exec.{Exec}
-use Rattle.ow_entity.specs.declared.exec.Exec.TheVariants.{Plain, Program}
+use Rattle.ow_entity.specs.declared.exec.Exec.TheVariants.{Plain, Program, Sequence}
 use Rattle.ow_entity.specs.declared.actions.Action.{Action}
 use Rattle.ow_entity.specs.Bounds.{IsBetween}
-use Rattle.ow_entity.specs.Fit.{IsFitPairs, IsFitText, IsFitPlain}
+use Rattle.ow_entity.specs.Fit.{IsFitPairs, IsFitText, IsFitPlain, IsFitSequence}
 
 pub record IsFitLimits (l : Limits) : Type 0 where
   pub timeout : IsBetween LEAST_TIMEOUT MOST_TIMEOUT l.timeout
@@ -15,6 +15,7 @@ pub record IsFitLimits (l : Limits) : Type 0 where
 abbrev pub IsFitExec : Exec → Type 0
 IsFitExec (Plain code) = IsFitPlain code
 IsFitExec (Program code) = IsFitText code
+IsFitExec (Sequence components) = IsFitSequence components
 
 pub record IsFitAction (a : Action) : Type 0 where
   pub params : IsFitPairs a.params

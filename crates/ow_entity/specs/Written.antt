@@ -1,7 +1,9 @@
 -- How a row is shown.
-use Rattle.std.specs.Prelude.{ℕ, pos, Bool, List, [], ◌∷◌, ◌++◌, codes, decimal, Option, Some, None}
-use Rattle.ow_value.specs.Value.{V, Pairs, boolean, whole, text, object, members_of}
+use Rattle.std.specs.Prelude.{◌≡◌, ℕ, pos, Bool, List, [], ◌∷◌, ◌++◌, map, codes, decimal, Option, Some, None}
+use Rattle.std.specs.List.{AllByRecursion}
+use Rattle.ow_value.specs.Value.{V, Pairs, boolean, whole, text, list, object, items_of, members_of}
 use Rattle.ow_names.specs.FullName.{full_text}
+use Rattle.ow_names.specs.Path.{home}
 use Rattle.ow_names.specs.declared.full.FullName.{FullName}
 use Rattle.ow_entity.specs.declared.bounds.Limits.{Limits}
 use Rattle.ow_entity.specs.declared.exec.Exec.{Exec}
@@ -11,12 +13,31 @@ use Rattle.ow_entity.specs.declared.rules.Rule.{Rule}
 use Rattle.ow_entity.specs.declared.triggers.Trigger.{Trigger}
 use Rattle.ow_entity.specs.declared.rows.Row.{Row}
 use Rattle.ow_entity.specs.declared.rows.Row.TheVariants as rows
-use Rattle.ow_entity.specs.Exec.{exec_kind, exec_code}
+use Rattle.ow_entity.specs.declared.exec.Exec.TheVariants.{Plain, Program, Sequence}
 use Rattle.ow_entity.specs.Pairs.{pairs_value}
 use Rattle.ow_entity.specs.Status.{status_text}
 
+abbrev pub code_value : List ℕ → List ℕ → V
+code_value kind code = object (members_of ((codes "code", text code) ∷ (codes "kind", text kind) ∷ []))
+
+abbrev pub name_value : FullName → V
+name_value n = text (full_text n)
+
+abbrev pub sequence_value : List FullName → V
+sequence_value components = object (members_of (
+    (codes "components", list (items_of (map name_value components)))
+    ∷ (codes "kind", text (codes "sequence"))
+    ∷ []))
+
 abbrev pub exec_value : Exec → V
-exec_value e = object (members_of ((codes "code", text (exec_code e)) ∷ (codes "kind", text (exec_kind e)) ∷ []))
+exec_value (Plain code) = code_value (codes "plain:1") code
+exec_value (Program code) = code_value (codes "program:1") code
+exec_value (Sequence components) = sequence_value components
+
+-- each component, as it is shown, is the same name for a reader of the namespace: none stands in a namespace `_`
+abbrev pub IsReadIn : List ℕ → Exec → Type 0
+IsReadIn here (Sequence components) = AllByRecursion (λ n. home here n.namespace ≡ n.namespace) components
+IsReadIn here exec = Unit {0}
 
 abbrev pub limits_value : Limits → V
 limits_value l = object (members_of (

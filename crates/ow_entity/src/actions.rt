@@ -56,7 +56,7 @@ impl Action {
     {
         self.params.get();
         self.notes.get();
-        self.exec.code();
+        self.exec.known();
         self.limits.known();
     }
 }

@@ -18,9 +18,9 @@ pub fn is_set(notes: &Params, name: &str) -> bool
     }
 }
 
-/// Whether the action decides, run by run, which action comes next in its composition.
+/// Whether the action decides, run by run, which action comes next in its composition. No sequence does.
 pub fn is_conductor(action: &Action) -> bool
     ensures { result ≡ is_conductor action.now }
 {
-    is_set(action.notes.get(), "conductor")
+    !action.exec.is_sequence() && is_set(action.notes.get(), "conductor")
 }

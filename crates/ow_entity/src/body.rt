@@ -4,10 +4,11 @@ ghost use Rattle.ow_value.specs.Value.{members_of, object};
 ghost use Rattle.ow_value.specs.View.{view};
 ghost use Rattle.ow_entity.specs.declared.kinds.EntityKind.TheVariants as kinds;
 ghost use Rattle.ow_entity.specs.Chain.{result_map};
-ghost use Rattle.ow_entity.specs.Body.{bool_field, text_field, number_field, number_given, exec_in, exec_field, plain_exec, program_exec, limits_in, limits_field, draft_of, entity_of};
+ghost use Rattle.ow_entity.specs.Body.{bool_field, text_field, number_field, number_given, exec_in, exec_field, plain_exec, program_exec, sequence_exec, limits_in, limits_field, draft_of, entity_of};
 
 use crate::actions::ActionDraft;
 use crate::bounds::{Bounded, GivenLimits};
+use crate::components::components_field;
 use crate::exec::{Exec, ProgramName};
 use crate::field_name::FieldName;
 use crate::kinds::EntityKind;
@@ -18,7 +19,7 @@ use crate::refusal::EntityRefusal;
 use crate::rows::Draft;
 use crate::rule_body::read_rule;
 use crate::trigger_body::read_trigger;
-use ow_names::FullName;
+use ow_names::{EntityName, FullName};
 use ow_several::kept_beside;
 use ow_value::{Params, PlainData, Val, Whole};
 use std::alloc::Global;
@@ -55,7 +56,7 @@ fn read_action(alloc: Global, name: &FullName, body: &Params) -> Result<Draft, E
     let notes = pairs_field(alloc, body, FieldName::Annotations)?;
     let pairs = kept_beside(notes, pairs_field(alloc, body, FieldName::Parameters))?;
     let (pairs, publish) = kept_beside(pairs, bool_field(body, FieldName::Publish))?;
-    let (pairs, exec) = kept_beside(pairs, exec_field(alloc, body))?;
+    let (pairs, exec) = kept_beside(pairs, exec_field(alloc, body, &name.namespace))?;
     let (given, limits) = kept_beside((pairs, exec), limits_field(body))?;
     let (((notes, params), exec), name) = kept_beside(given, name.copy(alloc))?;
     Ok(Draft::Action(ActionDraft {
@@ -78,22 +79,26 @@ pub(crate) fn bool_field(body: &Params, name: FieldName) -> Result<Option<bool>,
     }
 }
 
-fn exec_field(alloc: Global, body: &Params) -> Result<Option<Exec>, EntityRefusal>
-    ensures { MatchResult result (λ x. exec_field (object (members_of body.now)) ≡ Ok x)
-        (λ e. e ≢ EntityRefusal.NoMemory → exec_field (object (members_of body.now)) ≡ Err e) }
+fn exec_field(
+    alloc: Global,
+    body: &Params,
+    home: &EntityName,
+) -> Result<Option<Exec>, EntityRefusal>
+    ensures { MatchResult result (λ x. exec_field home.now (object (members_of body.now)) ≡ Ok x)
+        (λ e. e ≢ EntityRefusal.NoMemory → exec_field home.now (object (members_of body.now)) ≡ Err e) }
 {
     match body.find("exec") {
         None => Ok(None),
-        Some(Val::Object(exec)) => Ok(Some(read_exec(alloc, exec)?)),
+        Some(Val::Object(exec)) => Ok(Some(read_exec(alloc, exec, home)?)),
         Some(_) => Err(EntityRefusal::WrongType {
             name: FieldName::Exec,
         }),
     }
 }
 
-fn read_exec(alloc: Global, exec: &Params) -> Result<Exec, EntityRefusal>
-    ensures { MatchResult result (λ x. exec_in (object (members_of exec.now)) ≡ Ok x)
-        (λ e. e ≢ EntityRefusal.NoMemory → exec_in (object (members_of exec.now)) ≡ Err e) }
+fn read_exec(alloc: Global, exec: &Params, home: &EntityName) -> Result<Exec, EntityRefusal>
+    ensures { MatchResult result (λ x. exec_in home.now (object (members_of exec.now)) ≡ Ok x)
+        (λ e. e ≢ EntityRefusal.NoMemory → exec_in home.now (object (members_of exec.now)) ≡ Err e) }
 {
     let kind = text_field(exec, FieldName::Kind)?;
     if kind == "plain:1" {
@@ -101,6 +106,9 @@ fn read_exec(alloc: Global, exec: &Params) -> Result<Exec, EntityRefusal>
     }
     if kind == "program:1" {
         return read_program(alloc, exec);
+    }
+    if kind == "sequence" {
+        return read_sequence(alloc, exec, home);
     }
     Err(EntityRefusal::UnknownKind)
 }
@@ -122,6 +130,15 @@ fn read_program(alloc: Global, exec: &Params) -> Result<Exec, EntityRefusal>
     let text = text_field(exec, FieldName::Code)?;
     Ok(Exec::Program {
         code: ProgramName::read(alloc, text)?,
+    })
+}
+
+fn read_sequence(alloc: Global, exec: &Params, home: &EntityName) -> Result<Exec, EntityRefusal>
+    ensures { MatchResult result (λ x. sequence_exec home.now (object (members_of exec.now)) ≡ Ok x)
+        (λ e. e ≢ EntityRefusal.NoMemory → sequence_exec home.now (object (members_of exec.now)) ≡ Err e) }
+{
+    Ok(Exec::Sequence {
+        components: components_field(alloc, exec, home)?,
     })
 }
 

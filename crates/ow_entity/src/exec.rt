@@ -1,10 +1,13 @@
 // What actions run.
-ghost use Rattle.std.specs.Prelude.{◌≡◌, ◌≢◌, Ok, Err, MatchResult};
+ghost use Rattle.std.specs.Prelude.{◌≡◌, ◌≢◌, Ok, Err, IfOk, MatchResult};
+ghost use Rattle.std.specs.Str.{IsUtf8};
 ghost use Rattle.ow_entity.specs.Code.{program_name};
 ghost use Rattle.ow_entity.specs.Fit.{IsFitText};
 
+use crate::components::Components;
 use crate::plain_code::PlainCode;
 use crate::refusal::EntityRefusal;
+use ow_names::FullName;
 use ow_value::{MEGABYTE, NoMemory, PlainData, Str};
 use std::alloc::Global;
 use std::marker::Model;
@@ -16,6 +19,8 @@ pub enum Exec {
     Plain { code: PlainCode },
     /// A program of the office runs.
     Program { code: ProgramName },
+    /// Other actions run, one after another.
+    Sequence { components: Components },
 }
 
 /// The name of a program of the office, of at most 1 MB.
@@ -71,7 +76,7 @@ impl PlainData for ProgramName {
 }
 
 impl Exec {
-    ghost use Rattle.ow_entity.specs.Exec.{exec_kind, exec_code};
+    ghost use Rattle.ow_entity.specs.Exec.{exec_kind, exec_code, components_of, is_sequence};
     ghost use Rattle.ow_entity.specs.FitAction.{IsFitExec};
 
     /// As a body names the kind.
@@ -81,17 +86,54 @@ impl Exec {
         match self {
             Exec::Plain { .. } => "plain:1",
             Exec::Program { .. } => "program:1",
+            Exec::Sequence { .. } => "sequence",
         }
     }
 
-    /// The text of the code, or the name of the program.
-    pub fn code(&self) -> &Str
-        ensures value { result.now ≡ exec_code self.now }
+    /// The text of the code, or the name of the program. A sequence has none.
+    pub fn code(&self, alloc: Global) -> Result<Str, NoMemory>
+        ensures { IfOk result (λ s. s ≡ exec_code self.now) }
+    {
+        match self {
+            Exec::Plain { code } => code.get().copy(alloc),
+            Exec::Program { code } => code.get().copy(alloc),
+            Exec::Sequence { .. } => Str::of(alloc, ""),
+        }
+    }
+
+    /// The actions that a sequence calls, one after another. Others have none.
+    pub fn components(&self) -> &[FullName]
+        ensures { result.now ≡ components_of self.now }
+    {
+        match self {
+            Exec::Plain { .. } | Exec::Program { .. } => &[],
+            Exec::Sequence { components } => components.get().as_slice(),
+        }
+    }
+
+    /// Whether other actions run.
+    pub fn is_sequence(&self) -> bool
+        ensures { result ≡ is_sequence self.now }
+    {
+        match self {
+            Exec::Plain { .. } | Exec::Program { .. } => false,
+            Exec::Sequence { .. } => true,
+        }
+    }
+
+    /// Makes known within which bounds it lies.
+    pub fn known(&self)
+        ensures code { IsUtf8 (exec_code self.now) }
         ensures fits { IsFitExec self.now }
     {
         match self {
-            Exec::Plain { code } => code.get(),
-            Exec::Program { code } => code.get(),
+            Exec::Plain { code } => {
+                code.get().as_str();
+            }
+            Exec::Program { code } => {
+                code.get().as_str();
+            }
+            Exec::Sequence { components } => components.known(),
         }
     }
 }
@@ -101,6 +143,7 @@ impl PlainData for Exec {
         match (self, other) {
             (Exec::Plain { code: a }, Exec::Plain { code: b }) => a.same(b),
             (Exec::Program { code: a }, Exec::Program { code: b }) => a.same(b),
+            (Exec::Sequence { components: a }, Exec::Sequence { components: b }) => a.same(b),
             _ => false,
         }
     }
@@ -112,6 +155,9 @@ impl PlainData for Exec {
             }),
             Exec::Program { code } => Ok(Exec::Program {
                 code: code.copy(alloc)?,
+            }),
+            Exec::Sequence { components } => Ok(Exec::Sequence {
+                components: components.copy(alloc)?,
             }),
         }
     }

@@ -13,12 +13,14 @@ pub enum FieldName {
     Parameters,
     /// Whether the entity is published.
     Publish,
-    /// What an action runs: an object of the next two.
+    /// What an action runs: an object of the next three.
     Exec,
     /// Of which kind the code is.
     Kind,
     /// The code, or the name of a program.
     Code,
+    /// The names of the actions of a sequence.
+    Components,
     /// What a run may take: an object of the next three.
     Limits,
     /// A number of milliseconds.
@@ -54,6 +56,7 @@ impl FieldName {
             FieldName::Exec => "exec",
             FieldName::Kind => "kind",
             FieldName::Code => "code",
+            FieldName::Components => "components",
             FieldName::Limits => "limits",
             FieldName::Timeout => "timeout",
             FieldName::Memory => "memory",

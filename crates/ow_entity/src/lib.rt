@@ -6,6 +6,7 @@ mod actions;
 mod annotations;
 mod body;
 mod bounds;
+mod components;
 mod exec;
 mod field_name;
 mod finishing;
@@ -33,6 +34,7 @@ pub use bounds::{
     Bounded, DEFAULT_LOGS, DEFAULT_MEMORY, DEFAULT_TIMEOUT, GivenLimits, LEAST_LOGS, LEAST_MEMORY,
     LEAST_TIMEOUT, Limits, Logs, MOST_LOGS, MOST_MEMORY, MOST_TIMEOUT, Memory, Timeout,
 };
+pub use components::Components;
 pub use exec::{Exec, ProgramName};
 pub use field_name::FieldName;
 pub use finishing::{FIRST_VERSION, finish};

@@ -59,7 +59,12 @@ fn name_field(
     }
 }
 
-fn name_of(alloc: Global, text: &str, home: &EntityName) -> Result<FullName, EntityRefusal>
+/// The full name that a text is for a reader of the namespace.
+pub(crate) fn name_of(
+    alloc: Global,
+    text: &str,
+    home: &EntityName,
+) -> Result<FullName, EntityRefusal>
     ensures { MatchResult result (λ n. or_bad_name (resolved home.now text.now) ≡ Ok n)
         (λ e. e ≢ EntityRefusal.NoMemory → or_bad_name (resolved home.now text.now) ≡ Err e) }
 {

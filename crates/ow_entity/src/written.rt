@@ -1,5 +1,5 @@
 // Entities as clients see them.
-ghost use Rattle.std.specs.Prelude.{◌≡◌, pos, Ok, IfOk, OnOk};
+ghost use Rattle.std.specs.Prelude.{◌≡◌, pos, map, Ok, IfOk, OnOk};
 ghost use Rattle.ow_value.specs.Value.{whole, text};
 ghost use Rattle.ow_value.specs.Find.{with_pair};
 ghost use Rattle.ow_value.specs.View.{view};
@@ -8,7 +8,7 @@ ghost use Rattle.ow_entity.specs.declared.kinds.EntityKind.TheVariants as kinds;
 ghost use Rattle.ow_entity.specs.declared.actions.Action.{Action};
 ghost use Rattle.ow_entity.specs.declared.rows.Row.TheVariants as rows;
 ghost use Rattle.ow_entity.specs.Finish.{row_of_body};
-ghost use Rattle.ow_entity.specs.Written.{exec_value, limits_value, shown_namespace, shown_version, action_value, binding_value, package_value, rule_value, trigger_value, row_value, summary_of, summary_value, entry_of, package_entry};
+ghost use Rattle.ow_entity.specs.Written.{code_value, exec_value, name_value, sequence_value, IsReadIn, limits_value, shown_namespace, shown_version, action_value, binding_value, package_value, rule_value, trigger_value, row_value, summary_of, summary_value, entry_of, package_entry};
 
 use crate::actions::Action;
 use crate::bounds::Limits;
@@ -22,7 +22,7 @@ use crate::rules::Rule;
 use crate::triggers::Trigger;
 use ow_names::{FullName, full_text};
 use ow_several::kept_beside;
-use ow_value::{Fields, NoMemory, Params, Str, Val, Whole};
+use ow_value::{Fields, NoMemory, Params, PlainData, Str, Val, Vals, Whole};
 use std::alloc::Global;
 
 impl Limits {
@@ -42,7 +42,7 @@ impl Limits {
 #[tactic(auto, unfolding(crate::specs::Written::row_value))]
 pub fn write_entity(alloc: Global, row: &Row) -> Result<Val, NoMemory>
     ensures value { IfOk result (λ v. view v ≡ row_value row.now) }
-    ensures reads_back { IfOk result (λ v. (a : Action) → row.now ≡ rows.Action a
+    ensures reads_back { IfOk result (λ v. (a : Action) → row.now ≡ rows.Action a → IsReadIn a.name.namespace a.exec
         → row_of_body kinds.Action a.name (view v) ≡ Ok (rows.Action (record a { version = FIRST_VERSION }))) }
 {
     match row {
@@ -129,7 +129,7 @@ pub fn package_entry(alloc: Global, row: &Row) -> Result<Val, NoMemory>
 
 fn write_action(alloc: Global, action: &Action) -> Result<Val, NoMemory>
     ensures value { IfOk result (λ v. view v ≡ action_value action.now) }
-    ensures reads_back { IfOk result (λ v. row_of_body kinds.Action action.now.name (view v) ≡ Ok (rows.Action (record action.now { version = FIRST_VERSION }))) }
+    ensures reads_back { IfOk result (λ v. IsReadIn action.now.name.namespace action.now.exec → row_of_body kinds.Action action.now.name (view v) ≡ Ok (rows.Action (record action.now { version = FIRST_VERSION }))) }
 {
     let shown = action_value(alloc, action)?;
     action.known();
@@ -277,15 +277,41 @@ fn entry_of(alloc: Global, name: &FullName, notes: &Params, version: u32) -> Res
 fn exec_value(alloc: Global, exec: &Exec) -> Result<Val, NoMemory>
     ensures { IfOk result (λ v. view v ≡ exec_value exec.now) }
 {
+    match exec {
+        Exec::Plain { code } => code_value(alloc, exec.kind(), code.get()),
+        Exec::Program { code } => code_value(alloc, exec.kind(), code.get()),
+        Exec::Sequence { components } => sequence_value(alloc, components.get().as_slice()),
+    }
+}
+
+fn code_value(alloc: Global, kind: &str, code: &Str) -> Result<Val, NoMemory>
+    ensures { IfOk result (λ v. view v ≡ code_value kind.now code.now) }
+{
     let mut fields = Fields::new(alloc);
-    put(
-        alloc,
-        &mut fields,
-        "code",
-        text(alloc, exec.code().as_str())?,
-    )?;
-    put(alloc, &mut fields, "kind", text(alloc, exec.kind())?)?;
+    put(alloc, &mut fields, "code", Val::Text(code.copy(alloc)?))?;
+    put(alloc, &mut fields, "kind", text(alloc, kind)?)?;
     Ok(Val::Object(fields.into_params()?))
+}
+
+fn sequence_value(alloc: Global, components: &[FullName]) -> Result<Val, NoMemory>
+    ensures { IfOk result (λ v. view v ≡ sequence_value components.now) }
+{
+    let mut fields = Fields::new(alloc);
+    let names = name_values(alloc, components)?;
+    put(alloc, &mut fields, "components", Val::List(names))?;
+    put(alloc, &mut fields, "kind", text(alloc, "sequence")?)?;
+    Ok(Val::Object(fields.into_params()?))
+}
+
+fn name_values(alloc: Global, names: &[FullName]) -> Result<Vals, NoMemory>
+    ensures { IfOk result (λ vs. vs ≡ map name_value names.now) }
+{
+    let mut items = Vec::new(alloc);
+    for name in names {
+        let item = full_name(alloc, name)?;
+        items.push(item)?;
+    }
+    Vals::from_vec(items)
 }
 
 fn shown_namespace(alloc: Global, name: &FullName) -> Result<Val, NoMemory>

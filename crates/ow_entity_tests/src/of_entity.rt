@@ -39,6 +39,12 @@ const UPDATE: &str = "{\"parameters\":[],\"limits\":{\"memory\":512}}";
 const UPDATED: &str =
     "{\"annotations\":[{\"key\":\"a\",\"value\":[2]}],\"exec\":{\"code\":\"greet\",\"kind\":\"program:1\"},\"limits\":{\"logs\":0,\"memory\":512,\"timeout\":100},\"name\":\"hello\",\"namespace\":\"guest/p\",\"parameters\":[],\"publish\":true,\"version\":\"0.0.2\"}";
 
+const SEQUENCE: &str =
+    "{\"exec\":{\"kind\":\"sequence\",\"components\":[\"a\",\"p/a\",\"/_/a\",\"/whisk.system/utils/echo\",\"a\"]},\"annotations\":[{\"key\":\"conductor\",\"value\":1}]}";
+
+const SEQUENCE_SHOWN: &str =
+    "{\"annotations\":[{\"key\":\"conductor\",\"value\":1}],\"exec\":{\"components\":[\"/guest/a\",\"/guest/p/a\",\"/guest/a\",\"/whisk.system/utils/echo\",\"/guest/a\"],\"kind\":\"sequence\"},\"limits\":{\"logs\":10,\"memory\":256,\"timeout\":60000},\"name\":\"hello\",\"namespace\":\"guest/p\",\"parameters\":[],\"publish\":false,\"version\":\"0.0.1\"}";
+
 fn shows(alloc: Global, row: &Row, text: &str) -> Result<bool, Fail> {
     let shown = boxed(alloc, write_entity(alloc, row))?;
     is_written(alloc, &shown, text)
@@ -65,6 +71,17 @@ fn a_body_makes_an_action(rt: HostRuntime) -> Result<(), Fail> {
     let alloc = rt.alloc();
     let row = put(alloc, GREETER, None)?;
     assert!(rt; is_seen_as(alloc, &row, GREETER_SHOWN, GREETER_SUMMARY)?);
+    Ok(())
+}
+
+#[test]
+fn a_body_makes_a_sequence(rt: HostRuntime) -> Result<(), Fail> {
+    let alloc = rt.alloc();
+    let row = put(alloc, SEQUENCE, None)?;
+    assert!(rt; shows(alloc, &row, SEQUENCE_SHOWN)?);
+    let copy = boxed(alloc, row.copy(alloc))?;
+    assert!(rt; copy.same(&row));
+    assert!(rt; matches!(&*row, Row::Action(action) if !is_conductor(action.get())));
     Ok(())
 }
 
@@ -128,7 +145,11 @@ const REFUSED: &str = "\
 {'limits':{'memory':512,'logs':11}} 11 logs\n\
 {'limits':{'logs':-1}} 11 logs\n\
 {'exec':{'kind':'nodejs:20','code':1}} 12 \n\
-{'exec':{'kind':'sequence','components':[]}} 12 ";
+{'exec':{'kind':'sequence','code':'c'}} 9 components\n\
+{'exec':{'kind':'sequence','components':'a'}} 10 components\n\
+{'exec':{'kind':'sequence','components':['a//b',5]}} 10 components\n\
+{'exec':{'kind':'sequence','components':[]}} 11 components\n\
+{'exec':{'kind':'sequence','components':['a','a//b']},'limits':1} 8 ";
 
 // What a refusal tells.
 fn told(alloc: Global, refusal: EntityRefusal) -> Result<String, Fail> {

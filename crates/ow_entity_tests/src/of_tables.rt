@@ -97,6 +97,51 @@ fn puts_are_refused_in_order(rt: HostRuntime) -> Result<(), Fail> {
     Ok(())
 }
 
+// The body of a sequence of these components, each in quotes.
+fn sequence_of(alloc: Global, components: &str) -> Result<String, Fail> {
+    let body = format!(in alloc; "{{'exec':{{'kind':'sequence','components':[{components}]}}}}")?;
+    Ok(body.replace(alloc, "'", "\"")?)
+}
+
+#[test]
+fn a_sequence_may_not_contain_itself(rt: HostRuntime) -> Result<(), Fail> {
+    let alloc = rt.alloc();
+    let mut tables = boxed(alloc, Tables::new(alloc))?;
+    let puts = [
+        ("s", "'s'", 20),
+        ("s", "'a','b'", 0),
+        ("t", "'a','s','s'", 0),
+        ("u", "'t','s','/whisk.system/utils/echo'", 0),
+        ("s", "'a','u'", 20),
+        ("s", "'no'", 0),
+        ("s", "'t'", 20),
+    ];
+    for (path, components, number) in puts.iter() {
+        let body = sequence_of(alloc, components)?;
+        assert_eq!(rt;
+            told_of_put(&mut tables, alloc, path, body.as_str(), true)?,
+            *number
+        );
+    }
+    Ok(())
+}
+
+#[test]
+fn a_sequence_has_fifty_components_at_most(rt: HostRuntime) -> Result<(), Fail> {
+    let alloc = rt.alloc();
+    let mut tables = boxed(alloc, Tables::new(alloc))?;
+    for (count, number) in [(49, 0), (50, 19)].iter() {
+        let more = "'a',".repeat(alloc, *count)?;
+        let components = format!(in alloc; "{more}'s'")?;
+        let body = sequence_of(alloc, components.as_str())?;
+        assert_eq!(rt;
+            told_of_put(&mut tables, alloc, "b", body.as_str(), true)?,
+            *number
+        );
+    }
+    Ok(())
+}
+
 #[test]
 fn refusals_of_drafts_keep_their_numbers(rt: HostRuntime) -> Result<(), Fail> {
     let last = TableRefusal::from(EntityRefusal::LastVersion);

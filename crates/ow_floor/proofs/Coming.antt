@@ -4,7 +4,7 @@ use Rattle.std.specs.Prelude.{is_none, is_some}
 use Rattle.std.specs.List.{find, slice_get, AllByRecursion, IsDistinct}
 use Rattle.ow_records.specs.declared.ids.Id.{Id}
 use Rattle.ow_records.specs.declared.outcomes.Ending.{Ending}
-use Rattle.ow_records.specs.declared.outcomes.Ending.TheVariants.{Replied, Overran, Abandoned}
+use Rattle.ow_records.specs.declared.outcomes.Ending.TheVariants.{Replied, Overran, Abandoned, Composed}
 use Rattle.ow_traits.specs.declared.replies.RunReply.{RunReply}
 use Rattle.ow_slots.specs.declared.states.Slot.{Slot}
 use Rattle.ow_slots.specs.Slots.{IsThere, first_with, memory_held}
@@ -24,8 +24,10 @@ use Rattle.ow_records.specs.Records.{is_of_id}
 use Rattle.ow_floor.specs.View.{Shown, containers_of, is_of, is_number, remove_first, same_open, waits}
 use Rattle.ow_floor.specs.Trace.{Trace, End, Answered, Begun, Drained, Ended, Gone, Lost, Reopened, Swept, end_of, live, live_run, open_items, overrun_of, record_of, records, shown, slots}
 use Rattle.ow_floor.specs.Growth.{grow, grown, IsEventRight, IsLive, IsRight, AreRight}
+use Rattle.ow_records.specs.Response.{ResponseView}
+use Rattle.ow_floor.specs.Frames.{children_of, is_frame}
 use Rattle.ow_floor.specs.Laws.{IsSound, bearers}
-use Rattle.ow_floor.specs.Calls.{KeepSound, abandon_items, abandoned_items, accept_items, answered_items, draw_items, end_items, ended_by, fire_items, goes_by, head_by, is_late, items_if, items_on, late_items, late_of, leaves_alive, next_items, order_items, overrun_items, place_on, reply_items, resume_items, run_by, sorted_by_id, swept_items}
+use Rattle.ow_floor.specs.Calls.{KeepSound, abandon_items, abandoned_items, accept_items, answered_items, compose_items, composed_items, draw_items, end_items, ended_by, fire_items, first_items, first_late, goes_by, head_by, is_late, items_if, items_on, late_items, late_of, leaves_alive, next_items, note_swept_items, order_items, overrun_first, overrun_items, place_on, reply_items, resume_items, run_by, sorted_by_id, swept_items}
 use Rattle.ow_floor.proofs.Alters.{same_id_refl}
 use Rattle.ow_floor.proofs.Apart.{AreFound, all_sorted, distinct_sorted, each_by_id, found_left, length_sorted, open_distinct}
 use Rattle.ow_floor.proofs.Drawn.{drawn_last}
@@ -205,6 +207,24 @@ right_overrun at (r ∷ rs) v within live =
 pub right_swept : (at : ℕ) (v : Shown) → memory_held v.slots ≤ v.pool → ((run : ℕ) → bearers run v.live ≤ 1) → AreRight (Swept at ∷ overrun_items at v.live v) v
 right_swept at v within single = ((tt, tt), right_overrun at v.live v within (each_found v.live single))
 
+right_first : (items rest : Trace) (v : Shown) → AreRight items v → AreRight rest v → AreRight (first_items items rest) v
+right_first [] rest v a b = b
+right_first (item ∷ items) rest v a b = a
+
+right_first_late : (at : ℕ) (rs : List Run) (v : Shown) → memory_held v.slots ≤ v.pool → AllByRecursion (λ r. find (is_number r.number) v.live ≡ Some r) rs → AreRight (first_late at rs v) v
+right_first_late at [] v within live = tt
+right_first_late at (r ∷ rs) v within live =
+    right_first (late_of at r v) (first_late at rs v) v (late_at at r (first_with (runs r.number) v.slots) (find (is_of r.id) v.open_items) v live.0 refl refl within)
+    (right_first_late at rs v within live.1)
+
+pub right_overran : (at : ℕ) (v : Shown) → memory_held v.slots ≤ v.pool → ((run : ℕ) → bearers run v.live ≤ 1) → AreRight (first_late at v.live v) v
+right_overran at v within single = right_first_late at v.live v within (each_found v.live single)
+
+-- ---- composites
+
+pub right_composed : (at : ℕ) (id : Id) (r : ResponseView) (v : Shown) → AreRight (composed_items at id r v) v
+right_composed at id r v = end_at at (Composed r (children_of (find (is_frame id) v.frames))) None id (find (is_of id) v.open_items) v tt refl tt
+
 -- ---- openings
 
 no_more : (os : List Open) → length os ≡ 0 → os ≡ []
@@ -256,6 +276,9 @@ calls_keep_sound = record {
   lost = λ at run T sound. (sound_items _ T (right_lost at run (shown T) sound.slotted.within) sound).0;
   gone = λ at slot generation T sound. (sound_items _ T (right_gone at slot generation (shown T) sound.slotted.within) sound).0;
   sweep = λ at T sound. (sound_items (swept_items at T) T (right_swept at (shown T) sound.slotted.within sound.single) sound).0;
+  overrun = λ at T sound. (sound_items (overrun_first at T) T (right_overran at (shown T) sound.slotted.within sound.single) sound).0;
+  note_swept = λ at T sound. (sound_items (note_swept_items at) T ((tt, tt), tt) sound).0;
+  compose = λ at id r T sound. (sound_items (compose_items at id r T) T (right_composed at id r (shown T)) sound).0;
   drain = λ at T sound. (sound_items (Drained at ∷ []) T ((tt, tt), tt) sound).0;
   abandon = λ at T sound. (sound_items (abandon_items at T) T (right_reopened at (shown T) sound.slotted.within (open_distinct T sound)) sound).0;
 }

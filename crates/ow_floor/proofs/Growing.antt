@@ -2,7 +2,8 @@
 use Rattle.std.proofs.Common.{◌≡◌, ◌+◌, ◌-◌, ◌++◌, ◌&&◌, ℕ, Bool, true, false, cond, not, List, [], ◌∷◌, Option, Some, None, length, get_or, refl, sym, ap, ◌∙◌, arith, subst, length-append, append_assoc, append-nil, map}
 use Rattle.std.specs.List.{find, IsDistinct}
 use Rattle.std.specs.Prelude.{is_err, is_none, is_some, slice_get, OnErr, OnOk, Result, Ok, Err}
-use Rattle.ow_records.specs.declared.outcomes.Ending.TheVariants.{Abandoned, Replied, Overran}
+use Rattle.ow_records.specs.declared.outcomes.Ending.{Ending}
+use Rattle.ow_records.specs.declared.outcomes.Ending.TheVariants.{Abandoned, Composed, Replied, Overran}
 use Rattle.ow_records.specs.declared.ids.Id.{Id}
 use Rattle.ow_records.specs.declared.record.Record.{Record}
 use Rattle.ow_records.specs.declared.unrecorded.Unrecorded.{Unrecorded}
@@ -25,10 +26,12 @@ use Rattle.ow_floor.specs.Places.{recorded_there}
 use Rattle.ow_floor.specs.Trace.{Trace, Accepted, Answered as replied, Begun, Drained, Gone, Lost, Reopened, Swept, last, live, open_items, records, shown}
 use Rattle.ow_floor.specs.Growth.{AreResumable, IsFresh, grow, grown}
 use Rattle.ow_floor.specs.Laws.{Grows, Stands}
-use Rattle.ow_floor.specs.Calls.{abandon_items, abandoned_ends, abandoned_items, accept_items, activation_of, answer_by, answer_of, answer_to, answered_by, answered_items, begun_items, busy_run, drain_answer, drain_by, end_items, goes_by, gone_items, happened, happened_of, is_late, items_if, items_on, late_items, late_of, leaves_alive, lost_items, moved, next_items, next_order, order_on, overrun_items, record_abandoned, recorded_with, reply_items, reply_recorded, resume_items, run_by, sorted_by_id, swept_ends, swept_items, unrecorded_by, unrecorded_in, draw_items, fire_items}
+use Rattle.ow_floor.specs.Calls.{abandon_items, abandoned_ends, abandoned_items, accept_items, activation_of, answer_by, answer_of, answer_to, answered_by, answered_items, begun_items, busy_run, compose_items, composed_items, first_late, has_items, note_swept_items, overrun_first, drain_answer, drain_by, end_items, goes_by, gone_items, happened, happened_of, is_late, items_if, items_on, late_items, late_of, leaves_alive, lost_items, moved, next_items, next_order, order_on, overrun_items, record_abandoned, recorded_with, reply_items, reply_recorded, resume_items, run_by, sorted_by_id, swept_ends, swept_items, unrecorded_by, unrecorded_in, draw_items, fire_items}
 use Rattle.ow_floor.specs.Store.{IsCell, IsGood, IsGoodPast, Store, answered_in, at_moment, drained_in, event_in, opens, reopened_in, resumed_in, run_in, run_put, show, show_past, taken_back, drawn_in, fired_in}
-use Rattle.ow_floor.specs.Ends.{AreAbandoned, IsEndedRun, IsMade, IsRunBegun, IsRunLost, sweeps}
-use Rattle.ow_floor.proofs.Coming.{right_begun, right_gone, right_lost, right_next, right_reopened, right_reply, right_swept}
+use Rattle.ow_records.specs.Response.{ResponseView}
+use Rattle.ow_floor.specs.Frames.{children_of, is_frame}
+use Rattle.ow_floor.specs.Ends.{AreAbandoned, IsEndedRun, IsFirstSwept, IsMade, IsRunBegun, IsRunLost, sweeps}
+use Rattle.ow_floor.proofs.Coming.{right_begun, right_composed, right_gone, right_overran, right_lost, right_next, right_reopened, right_reply, right_swept}
 use Rattle.ow_floor.proofs.Drawn.{drawn_last}
 use Rattle.ow_floor.proofs.Making.{moved_append}
 use Rattle.ow_floor.proofs.Numbers.{number_is}
@@ -188,6 +191,38 @@ abandoned_records at (o ∷ os) T =
 -- the records of what was abandoned come behind the others
 pub abandon_recorded : (v w : Shown) (at : ℕ) → Grows v w (λ T. abandon_items at T) → (T : Trace) → Stands v T → w.ended ≡ records T ++ map (record_abandoned at) (sorted_by_id (open_items T))
 abandon_recorded v w at grows T st = ap (λ (u : Shown). u.ended) (grows T st).is ∙ abandoned_records at (sorted_by_id (open_items T)) T
+
+-- ---- the first late run, and what is swept
+
+pub grows_overrun : (R S : Store) (at : ℕ) (late : Bool) (before after : List Moved) → IsFirstSwept at late R S before after → Grows (show R) (show S) (λ T. overrun_first at T)
+grows_overrun R S at late before after x =
+    grows (λ v. first_late at v.live v) (show R) (show S) (λ T st. right_overran at (shown T) st.sound.slotted.within st.sound.single) x.made.shows
+
+pub overrun_moved : (R S : Store) (at : ℕ) (late : Bool) (before after : List Moved) → IsFirstSwept at late R S before after → (T : Trace) → Stands (show R) T → after ≡ before ++ moved (overrun_first at T)
+overrun_moved R S at late before after x T st = x.made.noted ∙ ap (λ (v : Shown). before ++ moved (first_late at v.live v)) st.is
+
+pub overrun_told : (R S : Store) (at : ℕ) (late : Bool) (before after : List Moved) → IsFirstSwept at late R S before after → (T : Trace) → Stands (show R) T → late ≡ has_items (overrun_first at T)
+overrun_told R S at late before after x T st = x.tells ∙ ap (λ (v : Shown). has_items (first_late at v.live v)) st.is
+
+pub grows_swept : (R : Store) (at : ℕ) → Grows (show R) (show (at_moment at R)) (λ T. note_swept_items at)
+grows_swept R at = grows (λ v. note_swept_items at) (show R) (show (at_moment at R)) (λ T st. ((tt, tt), tt)) refl
+
+-- ---- composites
+
+pub grows_compose : (R S : Store) (at : ℕ) (id : Id) (r : ResponseView) (before after : List Moved) → IsMade (composed_items at id r (show R)) R S before after → Grows (show R) (show S) (λ T. compose_items at id r T)
+grows_compose R S at id r before after x = grows (composed_items at id r) (show R) (show S) (λ T st. right_composed at id r (shown T)) x.shows
+
+pub compose_moved : (R S : Store) (at : ℕ) (id : Id) (r : ResponseView) (before after : List Moved) → IsMade (composed_items at id r (show R)) R S before after
+    → (T : Trace) → Stands (show R) T → after ≡ before ++ moved (compose_items at id r T)
+compose_moved R S at id r before after x T st = x.noted ∙ ap (λ (v : Shown). before ++ moved (composed_items at id r v)) st.is
+
+-- an end leaves which fire isn't recorded yet
+firing_ended : (at : ℕ) (ending : Ending) (run : Option Run) (o : Option Open) (v : Shown) → (grown (end_items at ending run o) v).firing ≡ v.firing
+firing_ended at ending run None v = refl
+firing_ended at ending run (Some o) v = refl
+
+pub compose_firing : (R S : Store) (at : ℕ) (id : Id) (r : ResponseView) (before after : List Moved) → IsMade (composed_items at id r (show R)) R S before after → S.marks.firing ≡ R.marks.firing
+compose_firing R S at id r before after x = ap (λ (v : Shown). v.firing) x.shows ∙ firing_ended at (Composed r (children_of (find (is_frame id) R.frames))) None (find (is_of id) (opens R.spots R.tasks)) (show R)
 
 -- ---- what is taken over
 

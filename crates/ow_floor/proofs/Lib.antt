@@ -1,5 +1,6 @@
 pub mod Firsts
 pub mod Finding
+pub mod Framing
 pub mod Going
 pub mod Undoing
 pub mod Wanting

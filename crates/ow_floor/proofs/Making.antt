@@ -8,7 +8,7 @@ use Rattle.std.proofs.lemmas.List.Sorted.{All-permutation}
 use Rattle.ow_records.specs.declared.ids.Id.{Id}
 use Rattle.ow_records.specs.Id.{same_id}
 use Rattle.ow_records.specs.declared.outcomes.Ending.{Ending}
-use Rattle.ow_records.specs.declared.outcomes.Ending.TheVariants.{Replied, Overran, Abandoned}
+use Rattle.ow_records.specs.declared.outcomes.Ending.TheVariants.{Replied, Overran, Abandoned, Composed}
 use Rattle.ow_traits.specs.declared.replies.RunReply.{RunReply}
 use Rattle.ow_records.specs.declared.activations.Activation.{Activation}
 use Rattle.ow_floor.specs.declared.activations.Open.{Open}
@@ -23,17 +23,19 @@ use Rattle.ow_slots.specs.declared.states.Slot.{Slot}
 use Rattle.ow_slots.specs.Slots.{IsThere, first_with}
 use Rattle.ow_slots.specs.State.{IsUnrecorded, recorded_of, runs}
 use Rattle.ow_lifecycle.specs.Life as lives
+use Rattle.ow_records.specs.Response.{ResponseView}
+use Rattle.ow_floor.specs.Frames.{children_of, is_frame}
 use Rattle.ow_floor.specs.Trace.{Trace, overrun_of, record_of}
 use Rattle.ow_floor.specs.Growth.{grown}
-use Rattle.ow_floor.specs.Calls.{abandoned_items, end_items, ended_by, moved, moved_by, overrun_items, sorted_by_id}
-use Rattle.ow_floor.specs.Store.{IsGood, IsSpot, Store, ended_in, event_in, opens, run_in, show, there}
-use Rattle.ow_floor.specs.Ends.{AreAbandoned, ArePlaced, IsAbandonedAt, IsAbandoning, IsByIds, IsEndedAt, IsEndedRun, IsLateEnd, IsLateSpot, IsLeft, IsMade, IsOverrunAt, IsSweeping, IsSweptOne, abandons, late_at, placed, sweeps}
+use Rattle.ow_floor.specs.Calls.{abandoned_items, composed_items, end_items, ended_by, first_items, first_late, has_items, late_of, moved, moved_by, overrun_items, sorted_by_id}
+use Rattle.ow_floor.specs.Store.{IsGood, IsSpot, Store, event_in, opens, run_in, show, there, with_frames}
+use Rattle.ow_floor.specs.Ends.{AreAbandoned, ArePlaced, IsAbandonedAt, IsAbandoning, IsByIds, IsEndedAt, IsEndedRun, IsLateEnd, IsLateSpot, IsLeft, IsMade, IsOverrunAt, IsFirstSwept, IsSeeking, IsSweeping, IsSweptOne, abandons, end_in, first_swept, late_at, placed, sweeps}
 use Rattle.ow_floor.proofs.Alters.{same_id_refl}
 use Rattle.ow_floor.proofs.Apart.{IsOther, distinct_removed, distinct_sorted}
 use Rattle.ow_floor.proofs.Coming.{grown_append}
 use Rattle.ow_floor.proofs.Firsts.{find_passes}
 use Rattle.ow_floor.proofs.Serving.{within_kept}
-use Rattle.ow_floor.proofs.Showing.{good_ended, good_event, show_ended, show_overran}
+use Rattle.ow_floor.proofs.Showing.{good_ended, good_event, good_framed, show_ended, show_overran}
 use Rattle.ow_floor.proofs.Tallies.{eq_of}
 use Rattle.ow_floor.proofs.Sorting.{placed_by_ids}
 
@@ -58,11 +60,11 @@ pub ended_made : (at : ℕ) (ending : Ending) (place : ℕ) (run : Option Run) (
 ended_made at ending place run id R S before after plain good spot x =
     let task = same_task R (is_of id) place spot x.task x.here in
     let e = ended_by at ending run spot.item.task in
-    let now : S ≡ ended_in at place (record_of e) R = x.now ∙ ap (λ a. ended_in at place (record_of (ended_by at ending run a)) R) task in
+    let now : S ≡ end_in place e R = x.now ∙ ap (λ a. end_in place (ended_by at ending run a) R) task in
     let same : e.task.id ≡ id = eq_of e.task.id id (find_passes (is_of id) spot.item (opens R.spots R.tasks) spot.found) in
     record {
       shows = ap show now ∙ show_ended R place id e same plain spot;
-      good = subst (λ (U : Store). IsGood U) (sym now) (good_ended R (is_of id) at place (record_of e) spot good);
+      good = subst (λ (U : Store). IsGood U) (sym now) (good_ended (with_frames _ R) (is_of id) at place (record_of e) spot (good_framed R _ good));
       runs = ap (λ (U : Store). U.runs) now;
       noted = noted_of at ending run x.task spot.item.task before after task x.noted;
     }
@@ -105,13 +107,13 @@ pub overran_made : (at : ℕ) (r : Run) (place : ℕ) (R S : Store) (before afte
 overran_made at r place R S before after good spot x =
     let task = same_task R (is_of r.id) place spot x.ended.task x.ended.here in
     let e = ended_by at Overran (Some r) spot.item.task in
-    let middle : x.middle ≡ ended_in at place (record_of e) R = x.ended.now ∙ ap (λ a. ended_in at place (record_of (ended_by at Overran (Some r) a)) R) task in
-    let now : S ≡ event_in at (lives.Overran r.number at) (ended_in at place (record_of e) R) = x.now ∙ ap (event_in at (lives.Overran r.number at)) middle in
+    let middle : x.middle ≡ end_in place e R = x.ended.now ∙ ap (λ a. end_in place (ended_by at Overran (Some r) a) R) task in
+    let now : S ≡ event_in at (lives.Overran r.number at) (end_in place e R) = x.now ∙ ap (event_in at (lives.Overran r.number at)) middle in
     let same : e.task.id ≡ r.id = eq_of e.task.id r.id (find_passes (is_of r.id) spot.item (opens R.spots R.tasks) spot.found) in
     record {
       shows = ap show now ∙ show_overran R place r.id e (lives.Overran r.number at) same refl spot;
       good = subst (λ (U : Store). IsGood U) (sym now)
-          (good_event _ at (lives.Overran r.number at) (within_kept (lives.Overran r.number at) R.slots R.pool refl good.pool) (good_ended R (is_of r.id) at place (record_of e) spot good));
+          (good_event _ at (lives.Overran r.number at) (within_kept (lives.Overran r.number at) R.slots R.pool refl good.pool) (good_ended (with_frames _ R) (is_of r.id) at place (record_of e) spot (good_framed R _ good)));
       runs = ap (λ (U : Store). U.runs) now;
       noted = noted_of at Overran (Some r) x.ended.task spot.item.task before after task x.ended.noted;
     }
@@ -164,6 +166,72 @@ sweeps_at at old now new i start told after lt before one =
     (subst (λ (cs : List (Option Berth)). IsSweeping at old now cs start told) cells before)
     (subst (λ (c : Option Berth). IsSweptOne at c now new told after) here one) in
     subst (λ n. IsSweeping at old new (drop n old.runs) start after) next done
+
+-- ---- the first late run
+
+-- what one run carries isn't late: the next one is looked at
+seeks_on : (at : ℕ) (R : Store) (c : Option Berth) (cells : List (Option Berth)) → late_at at c R ≡ [] → IsSeeking at R (c ∷ cells) → IsSeeking at R cells
+seeks_on at R None cells none before = before
+seeks_on at R (Some b) cells none before = before ∙ ap (λ (items : Trace). first_items items (first_late at (there run_in cells) (show R))) none
+
+pub seeks_at : (at : ℕ) (R : Store) (i : ℕ) (d : Option Berth) → i < length R.runs → late_at at (get_or R.runs i d) R ≡ [] → IsSeeking at R (drop i R.runs) → IsSeeking at R (drop (i + 1) R.runs)
+seeks_at at R i d lt none before =
+    let cells : drop i R.runs ≡ get_or R.runs i d ∷ drop (suc i) R.runs = drop-cons R.runs i d lt in
+    let next : suc i ≡ i + 1 = omega arith in
+    subst (λ n. IsSeeking at R (drop n R.runs)) next
+    (seeks_on at R (get_or R.runs i d) (drop (suc i) R.runs) none (subst (λ (cs : List (Option Berth)). IsSeeking at R cs) cells before))
+
+late_made : (at : ℕ) (r : Run) (place : ℕ) (R : Store) → (late : IsLateSpot at r R place) → late_of at r (show R) ≡ end_items at Overran (Some r) (Some late.spot.item)
+late_made at r place R late =
+    let spot = late.spot in
+    let slot = unrecorded (first_with (runs r.number) R.slots) late.unrecorded in
+    rw (slot.1, spot.found) (rw (slot.2, late.late) refl)
+
+-- what this run carries is late, and none before it
+seeks_found : (at : ℕ) (c : Option Berth) (cells : List (Option Berth)) (place : ℕ) (r : Run) (R : Store) → late_at at c R ≡ late_of at r (show R) → IsLateSpot at r R place → IsSeeking at R (c ∷ cells)
+    → first_swept at R ≡ late_of at r (show R)
+seeks_found at None cells place r R here late seeking =
+    let items = late_made at r place R late in
+    let none : [] ≡ end_items at Overran (Some r) (Some late.spot.item) = here ∙ items in
+    cc
+seeks_found at (Some b) cells place r R here late seeking =
+    let items = late_made at r place R late in
+    let rest = first_late at (there run_in cells) (show R) in
+    seeking ∙ (ap (λ (xs : Trace). first_items xs rest) (here ∙ items) ∙ sym items)
+
+pub seeks_found_at : (at : ℕ) (R : Store) (i : ℕ) (d : Option Berth) (place : ℕ) (r : Run) → i < length R.runs → late_at at (get_or R.runs i d) R ≡ late_of at r (show R) → IsLateSpot at r R place
+    → IsSeeking at R (drop i R.runs) → first_swept at R ≡ late_of at r (show R)
+seeks_found_at at R i d place r lt here late seeking =
+    let cells : drop i R.runs ≡ get_or R.runs i d ∷ drop (suc i) R.runs = drop-cons R.runs i d lt in
+    seeks_found at (get_or R.runs i d) (drop (suc i) R.runs) place r R here late (subst (λ (cs : List (Option Berth)). IsSeeking at R cs) cells seeking)
+
+pub swept_first : (at : ℕ) (place : ℕ) (r : Run) (R S : Store) (before after : List Moved) → IsGood R → first_swept at R ≡ late_of at r (show R) → IsLateSpot at r R place
+    → IsOverrunAt at r place R S before after → IsFirstSwept at true R S before after
+swept_first at place r R S before after good first late x =
+    let all = first ∙ late_made at r place R late in
+    record {
+      made = subst (λ (items : Trace). IsMade items R S before after) (sym all) (overran_made at r place R S before after good late.spot x);
+      tells = ap has_items (sym all);
+    }
+
+pub swept_nothing : (at : ℕ) (R : Store) (before : List Moved) → IsGood R → first_swept at R ≡ [] → IsFirstSwept at false R R before before
+swept_nothing at R before good none = record {
+  made = subst (λ (items : Trace). IsMade items R R before before) (sym none) (made_none R before good);
+  tells = ap has_items (sym none);
+}
+
+-- ---- composites
+
+pub composed_made : (at : ℕ) (id : Id) (r : ResponseView) (place : ℕ) (R S : Store) (before after : List Moved) → IsGood R → (spot : IsSpot (is_of id) R.spots R.tasks place)
+    → IsEndedAt at (Composed r (children_of (find (is_frame id) R.frames))) None place R S before after → IsMade (composed_items at id r (show R)) R S before after
+composed_made at id r place R S before after good spot x =
+    let ending = Composed r (children_of (find (is_frame id) R.frames)) in
+    subst (λ (o : Option Open). IsMade (end_items at ending None o) R S before after) (sym spot.found) (ended_made at ending place None id R S before after refl good spot x)
+
+pub composed_none : (at : ℕ) (id : Id) (r : ResponseView) (R : Store) (before : List Moved) → IsGood R → find (is_of id) (opens R.spots R.tasks) ≡ None → IsMade (composed_items at id r (show R)) R R before before
+composed_none at id r R before good none =
+    let ending = Composed r (children_of (find (is_frame id) R.frames)) in
+    subst (λ (o : Option Open). IsMade (end_items at ending None o) R R before before) (sym none) (made_none R before good)
 
 -- ---- openings
 
@@ -283,7 +351,7 @@ left_on at old now new p ps start told after (o ∷ os) good x left e =
     let there : Some x.task ≡ Some o.task = sym x.here ∙ all.1 in
     let task : x.task ≡ o.task = cc in
     let end = ended_by at Abandoned None o.task in
-    let now_is : new ≡ ended_in at p.place (record_of end) now = x.now ∙ ap (λ a. ended_in at p.place (record_of (ended_by at Abandoned None a)) now) task in
+    let now_is : new ≡ end_in p.place end now = x.now ∙ ap (λ a. end_in p.place (ended_by at Abandoned None a) now) task in
     let cut = opens_cut now.spots now.tasks p.place o.task good.paired all.1 left.apart in
     let last : Trace = end_items at Abandoned None (Some o) in
     let made : show new ≡ grown last (show now) = ap show now_is ∙ rw cut refl in

@@ -3,7 +3,7 @@ use Rattle.std.proofs.Common.{◌≡◌, ◌+◌, ◌≤◌, ◌++◌, ◌&&◌,
 use Rattle.std.specs.List.{find}
 use Rattle.std.specs.Prelude.{is_none, slice_get}
 use Rattle.ow_records.specs.declared.outcomes.Ending.{Ending}
-use Rattle.ow_records.specs.declared.outcomes.Ending.TheVariants.{Replied, Overran, Abandoned}
+use Rattle.ow_records.specs.declared.outcomes.Ending.TheVariants.{Replied, Overran, Abandoned, Composed}
 use Rattle.ow_traits.specs.declared.replies.RunReply.{RunReply}
 use Rattle.ow_slots.specs.declared.states.Slot.{Slot}
 use Rattle.ow_slots.specs.Slots.{first_with}
@@ -20,7 +20,7 @@ use Rattle.ow_floor.specs.View.{Shown, is_of, waits}
 use Rattle.ow_floor.specs.Trace.{Trace, Item, Opened, Resumed, Accepted, Ordered, Prewarming, Removed, Begun, Answered, Lost, Gone, Ended, Drawn, Fired, Swept, Drained, Reopened, event_of, live, overrun_of, run_count, shown, slots, slots_by}
 use Rattle.ow_floor.specs.Growth.{AreRight, IsRight, grown}
 use Rattle.ow_floor.specs.Laws.{IsSound}
-use Rattle.ow_floor.specs.Calls.{RaisesLittle, abandoned_items, begins, end_items, goes, is_late, late_items, late_of, loses, overrun_items, reply_items, busy_run, order_items, place_on, sorted_by_id}
+use Rattle.ow_floor.specs.Calls.{RaisesLittle, abandoned_items, begins, end_items, first_items, first_late, goes, is_late, late_items, late_of, loses, overrun_items, reply_items, busy_run, order_items, place_on, sorted_by_id}
 use Rattle.ow_floor.specs.Owed.{owed, rise, rises}
 use Rattle.ow_floor.proofs.Coming.{comes, goes_there, there}
 use Rattle.ow_floor.proofs.Slotting.{slots_item}
@@ -33,6 +33,7 @@ ended_rises (Replied reply) run at slots = omega arith
 ended_rises Overran None at slots = omega arith
 ended_rises Overran (Some r) at slots = let h = raises (events.Overran r.number at) slots in omega (arith, h)
 ended_rises Abandoned run at slots = omega arith
+ended_rises (Composed r children) run at slots = omega arith
 
 item_rises : (item : Item) (slots : List Slot) → lives.owed (slots_by (event_of item) slots) ≤ lives.owed slots + rise item
 item_rises (Opened pool wants) slots = omega arith
@@ -128,6 +129,18 @@ rises_reply : (at run : ℕ) (reply : RunReply) (v : Shown) (r : Option Run) →
 rises_reply at run reply v None = refl
 rises_reply at run reply v (Some r) = let h = rises_end at reply r (find (is_of r.id) v.open_items) in omega (arith, h)
 
+rises_first : (items rest : Trace) → rises items ≡ 0 → rises rest ≡ 0 → rises (first_items items rest) ≡ 0
+rises_first [] rest a b = b
+rises_first (item ∷ items) rest a b = a
+
+rises_first_late : (at : ℕ) (rs : List Run) (v : Shown) → rises (first_late at rs v) ≡ 0
+rises_first_late at [] v = refl
+rises_first_late at (r ∷ rs) v = rises_first (late_of at r v) (first_late at rs v) (rises_late at r (first_with (runs r.number) v.slots) (find (is_of r.id) v.open_items)) (rises_first_late at rs v)
+
+rises_composed : (at : ℕ) (ending : Ending) (o : Option Open) → rises (end_items at ending None o) ≡ 0
+rises_composed at ending None = refl
+rises_composed at ending (Some o) = refl
+
 pub raises_little : RaisesLittle
 raises_little = record {
   resume = λ counts rs. refl;
@@ -137,5 +150,8 @@ raises_little = record {
   next = λ at T. rises_order (place_on (shown T)) (find waits (shown T).open_items) at (shown T);
   answered = λ at run reply T. rises_reply at run reply (shown T) (busy_run run (shown T));
   sweep = λ at T. let h = rises_overrun at (live T) (shown T) in omega (arith, h);
+  overrun = λ at T. rises_first_late at (live T) (shown T);
+  note_swept = λ at. refl;
+  compose = λ at id r T. rises_composed at _ (find (is_of id) (shown T).open_items);
   abandon = λ at T. let h = rises_abandoned at (sorted_by_id (shown T).open_items) in omega (arith, h);
 }

@@ -23,3 +23,12 @@ on_value (Err e) P a is h = tt
 pub on_more : {A E : Type 0} (r : Result A E) (P Q : Type 0) → (P → Q) → OnOk r P → OnOk r Q
 on_more (Ok a) P Q f h = f h
 on_more (Err e) P Q f h = tt
+
+-- what holds of the value on success where something else does
+pub if_more : {A E : Type 0} (r : Result A E) (P Q : A → Type 0) → ((a : A) → P a → Q a) → IfOk r P → IfOk r Q
+if_more (Ok a) P Q f h = f a h
+if_more (Err e) P Q f h = tt
+
+pub if_on : {A E : Type 0} (r : Result A E) (P : A → Type 0) (Q : Type 0) → ((a : A) → P a → Q) → IfOk r P → OnOk r Q
+if_on (Ok a) P Q f h = f a h
+if_on (Err e) P Q f h = tt

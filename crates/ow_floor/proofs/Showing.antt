@@ -1,5 +1,5 @@
 -- What changes of the kept lists show.
-use Rattle.std.proofs.Common.{◌≡◌, ◌≤◌, ◌+◌, ◌-◌, ◌++◌, ℕ, zero, suc, Bool, false, List, [], ◌∷◌, Option, Some, None, length, get_or, map, refl, sym, ap, ◌∙◌, arith, length-append}
+use Rattle.std.proofs.Common.{◌≡◌, ◌≤◌, ◌+◌, ◌-◌, ◌++◌, ℕ, zero, suc, Bool, false, List, [], ◌∷◌, Option, Some, None, length, get_or, map, refl, sym, ap, ◌∙◌, arith, length-append, subst}
 use Rattle.std.specs.List.{find}
 use Rattle.std.specs.Prelude.{slice_set}
 use Rattle.std.proofs.lemmas.List.{length-set}
@@ -20,10 +20,12 @@ use Rattle.ow_floor.specs.declared.lists.Berth.{Berth}
 use Rattle.ow_floor.specs.declared.lists.Spot.{Spot}
 use Rattle.ow_floor.specs.declared.runs.Run.{Run}
 use Rattle.ow_floor.specs.View.{begun, is_number, is_of, waits, with_state}
-use Rattle.ow_floor.specs.Trace.{End, Accepted, Answered, Drained, Drawn, Ended, Fired, Opened, Ordered, Prewarming, Removed, Reopened, Resumed, Swept, overrun_of, record_of, slot_count}
+use Rattle.ow_floor.specs.Trace.{End, Accepted, Answered, Drained, Drawn, Ended, Fired, Opened, Ordered, Prewarming, Removed, Reopened, Resumed, Swept, overrun_of, slot_count}
 use Rattle.ow_floor.specs.Growth.{grow}
-use Rattle.ow_floor.specs.Ends.{IsRunBegun, IsRunLost}
-use Rattle.ow_floor.specs.Store.{Store, IsCell, IsGood, IsSpot, accepted_in, answered_in, at_moment, counted_in, drained_in, drawn_in, ended_in, event_in, fired_in, freed_in, empty_of, opens, ordered_in, prewarmed_in, reopened_in, resumed_in, run_in, run_put, show, started_in, there}
+use Rattle.ow_records.specs.declared.frames.Frame.{Frame}
+use Rattle.ow_floor.specs.Ends.{IsRunBegun, IsRunLost, end_in}
+use Rattle.ow_floor.specs.Frames.{frames_accepted, part_of}
+use Rattle.ow_floor.specs.Store.{Store, IsCell, IsGood, IsSpot, accepted_in, answered_in, at_moment, counted_in, drained_in, drawn_in, ended_in, event_in, fired_in, freed_in, empty_of, opens, ordered_in, prewarmed_in, reopened_in, resumed_in, run_in, run_put, show, started_in, there, with_frames}
 use Rattle.ow_floor.proofs.Firsts.{remove_none, update_none}
 use Rattle.ow_floor.proofs.Serving.{within_kept}
 use Rattle.ow_floor.proofs.Slotting.{slots_opened, vacant_held}
@@ -72,9 +74,17 @@ none_length Y (x ∷ xs) = ap suc (none_length Y xs)
 more : (m n : ℕ) → m ≤ n → n + 1 - m ≡ n - m + 1
 more m n le = omega (arith, le)
 
+-- ---- frames
+
+pub good_framed : (R : Store) (fs : List Frame) → IsGood R → IsGood (with_frames fs R)
+good_framed R fs good = record { paired = good.paired; opened = good.opened; number = good.number; owed = good.owed; pool = good.pool; wants = good.wants }
+
+pub framed_good : (R S : Store) → S ≡ with_frames S.frames R → IsGood R → IsGood S
+framed_good R S is good = subst (λ (U : Store). IsGood U) (sym is) (good_framed R S.frames good)
+
 -- ---- acceptance
 
-pub show_accepted : (R : Store) (a : Activation) → IsGood R → show (accepted_in a R) ≡ grow (Accepted a) (show R)
+pub show_accepted : (R : Store) (a : Activation) → IsGood R → show (accepted_in a (with_frames (frames_accepted (part_of a) R.frames) R)) ≡ grow (Accepted a) (show R)
 show_accepted R a good =
     let len : length (R.spots ++ record { state = Waiting } ∷ []) ≡ length R.spots + 1 = length-append R.spots (record { state = Waiting } ∷ []) in
     let count : length (R.spots ++ record { state = Waiting } ∷ []) - R.marks.opened ≡ length R.spots - R.marks.opened + 1 = ap (λ n. n - R.marks.opened) len ∙ more R.marks.opened (length R.spots) good.opened in
@@ -214,12 +224,12 @@ show_not_begun R at run none = rw (update_none (is_number run) (begun at) (there
 -- ---- ends
 
 pub show_ended : (R : Store) (k : ℕ) (id : Id) (e : End) → e.task.id ≡ id → overrun_of e.ending e.run e.at ≡ None → IsSpot (is_of id) R.spots R.tasks k
-    → show (ended_in e.at k (record_of e) R) ≡ grow (Ended e) (show R)
+    → show (end_in k e R) ≡ grow (Ended e) (show R)
 show_ended R k id e is plain spot = rw (spot.removed, ← is, plain) refl
 
 -- what overran is recorded so in the slot of its run
 pub show_overran : (R : Store) (k : ℕ) (id : Id) (e : End) (event : Event) → e.task.id ≡ id → overrun_of e.ending e.run e.at ≡ Some event → IsSpot (is_of id) R.spots R.tasks k
-    → show (event_in e.at event (ended_in e.at k (record_of e) R)) ≡ grow (Ended e) (show R)
+    → show (event_in e.at event (end_in k e R)) ≡ grow (Ended e) (show R)
 show_overran R k id e event is event_is spot = rw (spot.removed, ← is, event_is) refl
 
 pub good_ended : (R : Store) (p : Open → Bool) (at k : ℕ) (e : Record) → IsSpot p R.spots R.tasks k → IsGood R → IsGood (ended_in at k e R)
@@ -287,6 +297,7 @@ opened_store pool wants = record {
   spots = [];
   tasks = [];
   runs = [];
+  frames = [];
   slots = replicate (slot_count pool) vacant_slot;
   ended = [];
   resumed = [];

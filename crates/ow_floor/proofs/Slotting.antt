@@ -4,7 +4,7 @@ use Rattle.std.specs.List.{find, slice_get}
 use Rattle.std.specs.Prelude.{is_some, map, replicate}
 use Rattle.std.proofs.lemmas.List.Sums.{sum_by-cons}
 use Rattle.ow_records.specs.declared.outcomes.Ending.{Ending}
-use Rattle.ow_records.specs.declared.outcomes.Ending.TheVariants.{Replied, Overran, Abandoned}
+use Rattle.ow_records.specs.declared.outcomes.Ending.TheVariants.{Replied, Overran, Abandoned, Composed}
 use Rattle.ow_traits.specs.declared.prewarms.Prewarm.{Prewarm}
 use Rattle.ow_slots.specs.declared.states.Slot.{Slot}
 use Rattle.ow_slots.specs.Slots.{IsThere, first_with, has, memory_held, vacant_slot}
@@ -34,6 +34,7 @@ overrun_counts (Replied reply) run at L = refl
 overrun_counts Overran None at L = refl
 overrun_counts Overran (Some r) at L = refl
 overrun_counts Abandoned run at L = refl
+overrun_counts (Composed r children) run at L = refl
 
 -- as many runs were ordered
 pub counted : (T : Trace) → lives.run_count (life T) ≡ run_count T
@@ -171,6 +172,7 @@ busies_ended (Replied reply) run at m slots = refl
 busies_ended Overran None at m slots = refl
 busies_ended Overran (Some r) at m slots = busies_overran m r.number at slots
 busies_ended Abandoned run at m slots = refl
+busies_ended (Composed r children) run at m slots = refl
 
 pub slotted_item : (item : Item) (T : Trace) → IsRight item (shown T) → AreSlotsSound T → AreSlotsSound (item ∷ T)
 slotted_item (Opened pool wants) T right sound = absurd right.0

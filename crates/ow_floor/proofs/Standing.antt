@@ -1,7 +1,9 @@
 -- How activations stand behind each item.
-use Rattle.std.proofs.Common.{◌≡◌, ◌≤◌, ℕ, Bool, true, false, cond, List, [], ◌∷◌, Option, Some, None, refl, sym, ap, ◌∙◌, subst}
+use Rattle.std.proofs.Common.{◌≡◌, ◌≤◌, ℕ, Bool, true, false, cond, not, List, [], ◌∷◌, Option, Some, None, refl, sym, ap, ◌∙◌, subst}
 use Rattle.std.specs.List.{find, AllByRecursion}
 use Rattle.ow_records.specs.declared.ids.Id.{Id}
+use Rattle.std.proofs.lemmas.Bool.{and_parts}
+use Rattle.ow_records.specs.Form.{is_composite}
 use Rattle.ow_records.specs.Id.{same_id}
 use Rattle.ow_records.specs.declared.activations.Activation.{Activation}
 use Rattle.ow_floor.specs.declared.activations.Open.{Open}
@@ -118,7 +120,7 @@ waits_so (Running run) e = cc
 pub head_waits : (o : Open) (T : Trace) → head (shown T) ≡ Some o → (end_of T o.task.id ≡ None) × (carrier T o.task.id ≡ None)
 head_waits o T found =
     let h = is_found waits (standing T) (accepted T) o found in
-    waits_by (end_of T o.task.id) (carrier T o.task.id) (h.0 ∙ ap Some (waits_so o.state h.1))
+    waits_by (end_of T o.task.id) (carrier T o.task.id) (h.0 ∙ ap Some (waits_so o.state (and_parts (is_waiting o.state) (not (is_composite o.task.form)) h.1).0))
 
 pub open_ordered : (r : Run) (key : Key) (o : Open) (T : Trace) → head (shown T) ≡ Some o → r.id ≡ o.task.id → IsSound T
     → open_items (Ordered r key ∷ T) ≡ change_first waits (with_state (Running r.number)) (open_items T)

@@ -7,7 +7,7 @@ use Rattle.ow_traits.specs.declared.replies.RunReply.{RunReply}
 use Rattle.ow_traits.specs.declared.replies.RunReply.TheVariants as runs
 use Rattle.ow_records.specs.declared.ids.Id.{Id}
 use Rattle.ow_records.specs.declared.outcomes.Ending.{Ending}
-use Rattle.ow_records.specs.declared.outcomes.Ending.TheVariants.{Replied, Overran, Abandoned}
+use Rattle.ow_records.specs.declared.outcomes.Ending.TheVariants.{Replied, Overran, Abandoned, Composed}
 use Rattle.ow_records.specs.declared.record.Record.{Record}
 use Rattle.ow_records.specs.declared.unrecorded.Unrecorded.{Unrecorded}
 use Rattle.ow_records.specs.Record.{record_of}
@@ -46,6 +46,8 @@ use Rattle.ow_traits.specs.declared.prewarms.Prewarm.{Prewarm}
 use Rattle.ow_floor.specs.declared.answers.Drain.{Drain}
 use Rattle.ow_floor.specs.declared.answers.Drain.TheVariants.{Drained, StillOpen}
 use Rattle.ow_floor.specs.View.{Shown, head, containers_of, generation_after, generation_in, is_number, is_of, key_of, order_for, prewarm_of, recorded_in}
+use Rattle.ow_records.specs.Response.{ResponseView}
+use Rattle.ow_floor.specs.Frames.{children_of, is_frame, own_of}
 use Rattle.ow_floor.specs.Trace as trace
 use Rattle.ow_floor.specs.Trace.{Trace, Item, End, count, last, live, open_item, open_items, shown, slots}
 use Rattle.ow_floor.specs.Growth.{AreResumable, IsFresh, grown}
@@ -99,6 +101,11 @@ activation_of at plan = record {
   subject = plan.subject;
   cause = plan.cause;
   until = plan.until;
+  form = plan.form;
+  role = plan.role;
+  top = plan.top;
+  depth = plan.depth;
+  own = own_of plan.form plan.effective.params;
 }
 
 -- what `accept` adds
@@ -347,6 +354,37 @@ swept_ends at T = overrun_items at (live T) (shown T)
 abbrev pub swept_items : ℕ → Trace → Trace
 swept_items at T = trace.Swept at ∷ swept_ends at T
 
+-- the end of what the first of these runs carries that is late, if one is
+abbrev pub first_items : Trace → Trace → Trace
+first_items [] rest = rest
+first_items (item ∷ items) rest = item ∷ items
+
+abbrev pub first_late : ℕ → List Run → Shown → Trace
+first_late at [] v = []
+first_late at (r ∷ rs) v = first_items (late_of at r v) (first_late at rs v)
+
+-- what `overrun` adds: the end of what the first late run carries, by the runs' orders
+abbrev pub overrun_first : ℕ → Trace → Trace
+overrun_first at T = first_late at (live T) (shown T)
+
+abbrev pub has_items : Trace → Bool
+has_items [] = false
+has_items (item ∷ items) = true
+
+-- what `note_swept` adds
+abbrev pub note_swept_items : ℕ → Trace
+note_swept_items at = trace.Swept at ∷ []
+
+-- ---- composites
+
+-- the end of a composite, with the children that its frame has
+abbrev pub composed_items : ℕ → Id → ResponseView → Shown → Trace
+composed_items at id r v = end_items at (Composed r (children_of (find (is_frame id) v.frames))) None (find (is_of id) v.open_items)
+
+-- what `compose` adds: the end of the composite, where it is open
+abbrev pub compose_items : ℕ → Id → ResponseView → Trace → Trace
+compose_items at id r T = composed_items at id r (shown T)
+
 -- ---- openings
 
 -- each of these ends as abandoned, one behind another
@@ -417,6 +455,9 @@ pub record KeepSound : Type 0 where
   pub lost : (at run : ℕ) (T : Trace) → IsSound T → IsSound (lost_items at run T ++ T)
   pub gone : (at slot generation : ℕ) (T : Trace) → IsSound T → IsSound (gone_items at slot generation T ++ T)
   pub sweep : (at : ℕ) (T : Trace) → IsSound T → IsSound (swept_items at T ++ T)
+  pub overrun : (at : ℕ) (T : Trace) → IsSound T → IsSound (overrun_first at T ++ T)
+  pub note_swept : (at : ℕ) (T : Trace) → IsSound T → IsSound (note_swept_items at ++ T)
+  pub compose : (at : ℕ) (id : Id) (r : ResponseView) (T : Trace) → IsSound T → IsSound (compose_items at id r T ++ T)
   pub drain : (at : ℕ) (T : Trace) → IsSound T → IsSound (trace.Drained at ∷ T)
   pub abandon : (at : ℕ) (T : Trace) → IsSound T → IsSound (abandon_items at T ++ T)
 
@@ -429,4 +470,7 @@ pub record RaisesLittle : Type 0 where
   pub next : (at : ℕ) (T : Trace) → rises (next_items at T) ≤ 3
   pub answered : (at run : ℕ) (reply : RunReply) (T : Trace) → rises (answered_items at run reply T) ≡ 0
   pub sweep : (at : ℕ) (T : Trace) → rises (swept_items at T) ≡ 0
+  pub overrun : (at : ℕ) (T : Trace) → rises (overrun_first at T) ≡ 0
+  pub note_swept : (at : ℕ) → rises (note_swept_items at) ≡ 0
+  pub compose : (at : ℕ) (id : Id) (r : ResponseView) (T : Trace) → rises (compose_items at id r T) ≡ 0
   pub abandon : (at : ℕ) (T : Trace) → rises (abandon_items at T) ≡ 0

@@ -1,5 +1,5 @@
 -- For private clauses: ends of activations over the kept lists.
-use Rattle.std.specs.Prelude.{◌≡◌, ◌⊎◌, ◌++◌, ◌+◌, ℕ, true, List, [], ◌∷◌, Option, Some, None, length, slice_index_or}
+use Rattle.std.specs.Prelude.{◌≡◌, ◌⊎◌, ◌++◌, ◌+◌, ℕ, Bool, true, List, [], ◌∷◌, Option, Some, None, length, slice_index_or}
 use Rattle.std.specs.List.{find, IsDistinct}
 use Rattle.std.specs.declared.cmp.Ordering.{Ordering}
 use Rattle.std.specs.List.Sorted.{IsPermutation, IsSorted}
@@ -17,19 +17,24 @@ use Rattle.ow_floor.specs.declared.by_id.OpenPlace.{OpenPlace}
 use Rattle.ow_floor.specs.declared.lists.Berth.{Berth}
 use Rattle.ow_floor.specs.declared.runs.Run.{Run}
 use Rattle.ow_floor.specs.View.{begun, is_number, is_of, remove_first, same_open}
-use Rattle.ow_floor.specs.Trace.{Trace, record_of}
+use Rattle.ow_floor.specs.Trace.{End, Trace, record_of}
 use Rattle.ow_floor.specs.Growth.{freed, grown}
 use Rattle.ow_lifecycle.specs.Life as lives
 use Rattle.ow_slots.specs.Slots.{IsThere, first_with, change_first}
 use Rattle.ow_slots.specs.State.{IsUnrecorded, runs as is_busy_with}
-use Rattle.ow_floor.specs.Calls.{abandoned_items, end_items, ended_by, is_late, items_on, late_of, moved, order_on, overrun_items, sorted_by_id}
-use Rattle.ow_floor.specs.Store.{IsGood, IsSpot, Store, ended_in, event_in, freed_in, opens, run_in, show, there}
+use Rattle.ow_floor.specs.Calls.{abandoned_items, end_items, ended_by, first_late, has_items, is_late, items_on, late_of, moved, order_on, overrun_items, sorted_by_id}
+use Rattle.ow_floor.specs.Frames.{frames_ended, part_of}
+use Rattle.ow_floor.specs.Store.{IsGood, IsSpot, Store, ended_in, event_in, freed_in, opens, run_in, show, there, with_frames}
+
+-- what stands at this place has ended so, and its cause hears it
+abbrev pub end_in : ℕ → End → Store → Store
+end_in place e R = ended_in e.at place (record_of e) (with_frames (frames_ended (part_of e.task) (record_of e).response R.frames) R)
 
 -- what stands there has ended, and it is noted that it moved
 pub record IsEndedAt (at : ℕ) (ending : Ending) (run : Option Run) (place : ℕ) (old new : Store) (before after : List Moved) : Type 0 where
   pub task : Activation
   pub here : slice_index_or old.tasks place None ≡ Some task
-  pub now : new ≡ ended_in at place (record_of (ended_by at ending run task)) old
+  pub now : new ≡ end_in place (ended_by at ending run task) old
   pub noted : after ≡ before ++ moves.Ended (record_of (ended_by at ending run task)) ∷ []
 
 -- what the run carries is late and stands there, and no sweep recorded it
@@ -72,6 +77,14 @@ late_at at (Some b) R = late_of at b.run (show R)
 abbrev pub IsSweptOne : ℕ → Option Berth → Store → Store → List Moved → List Moved → Type 0
 IsSweptOne at cell old new before after = IsMade (late_at at cell old) old new before after
 
+abbrev pub first_swept : ℕ → Store → Trace
+first_swept at R = first_late at (show R).live (show R)
+
+-- what the first late run carries has ended, if there is one
+pub record IsFirstSwept (at : ℕ) (late : Bool) (old new : Store) (before after : List Moved) : Type 0 where
+  pub made : IsMade (first_swept at old) old new before after
+  pub tells : late ≡ has_items (first_swept at old)
+
 abbrev pub sweeps : ℕ → Store → Trace
 sweeps at R = overrun_items at (show R).live (show R)
 
@@ -109,6 +122,20 @@ pub record IsSweeping (at : ℕ) (old now : Store) (cells : List (Option Berth))
   pub noted : after ++ moved (overrun_items at (there run_in cells) (show now)) ≡ before ++ moved (sweeps at old)
   pub runs : now.runs ≡ old.runs
   pub good : IsGood now
+
+-- what the runs before these carry isn't late
+abbrev pub IsSeeking : ℕ → Store → List (Option Berth) → Type 0
+IsSeeking at R cells = first_swept at R ≡ first_late at (there run_in cells) (show R)
+
+-- there is a run, and what it carries is late and stands there; or it isn't late
+abbrev pub IsLateCell : ℕ → Option Berth → Store → Option (ℕ × Run) → Type 0
+IsLateCell at cell R None = late_at at cell R ≡ []
+IsLateCell at cell R (Some found) = (late_at at cell R ≡ late_of at found.1 (show R)) × IsLateSpot at found.1 R found.0
+
+-- the first late run, and the place of what it carries
+abbrev pub IsFirstLate : ℕ → Store → Option (ℕ × Run) → Type 0
+IsFirstLate at R None = first_swept at R ≡ []
+IsFirstLate at R (Some found) = (first_swept at R ≡ late_of at found.1 (show R)) × IsLateSpot at found.1 R found.0
 
 -- what is left to be abandoned stands at these places
 pub record IsLeft (at : ℕ) (old now : Store) (ps : List OpenPlace) (before after : List Moved) : Type 0 where

@@ -10,7 +10,7 @@ use Rattle.ow_slots.specs.Slots.{memory_held, change_first}
 use Rattle.ow_lifecycle.specs.Life.{Event}
 use Rattle.ow_lifecycle.specs.Fitting.{IsFit, changed}
 use Rattle.ow_floor.specs.View.{Shown, is_number, is_of, last_of, remove_first, same_namespace, same_record, waits, with_state}
-use Rattle.ow_floor.specs.Trace.{Item, Trace, Opened, Resumed, Accepted, Ordered, Answered, Lost, Ended, Drawn, Fired, Reopened, blocking_after, count_after, draining_after, drawn_after, event_of, firing_after, live_after, moment_of, pool_after, records_after, resumed_after, run_count_after, slots_after, wants_after}
+use Rattle.ow_floor.specs.Trace.{Item, Trace, Opened, Resumed, Accepted, Ordered, Answered, Lost, Ended, Drawn, Fired, Reopened, blocking_after, count_after, draining_after, drawn_after, event_of, firing_after, frames_after, live_after, moment_of, pool_after, records_after, resumed_after, run_count_after, slots_after, wants_after}
 
 -- what a lost run carries waits again
 abbrev pub freed : Option Run → List Open → List Open
@@ -30,6 +30,7 @@ abbrev pub grow : Item → Shown → Shown
 grow item v = record {
   open_items = open_after item v.live v.open_items;
   live = live_after item v.live;
+  frames = frames_after item v.frames;
   slots = slots_after item v.slots;
   ended = records_after item v.ended;
   resumed = resumed_after item v.resumed;

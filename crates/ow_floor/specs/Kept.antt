@@ -4,6 +4,7 @@ use Rattle.ow_floor.specs.declared.kept.Step.{Step}
 use Rattle.ow_floor.specs.declared.kept.Step.TheVariants.{Added, Was, All}
 use Rattle.ow_floor.specs.declared.kept_slots.SlotStep.{SlotStep}
 use Rattle.ow_floor.specs.declared.kept_slots.SlotStep.TheVariants as slot_steps
+use Rattle.ow_records.specs.declared.frames.Frame.{Frame}
 use Rattle.ow_slots.specs.declared.states.Slot.{Slot}
 use Rattle.ow_slots.specs.Slots.{change}
 
@@ -42,6 +43,11 @@ noted held s ss = if held then ss ++ s ∷ [] else ss
 pub record SlotsView : Type 0 where
   pub now : List Slot
   pub before : List Slot
+
+-- the frames of open composites now, and as they were at the last hold
+pub record FramesView : Type 0 where
+  pub now : List Frame
+  pub before : List Frame
 
 -- one change is undone
 abbrev pub restore : SlotStep → List Slot → List Slot

@@ -1,6 +1,7 @@
 pub mod View
 pub mod Kept
 pub mod Trace
+pub mod Frames
 pub mod Growth
 pub mod Laws
 pub mod Calls

@@ -9,6 +9,8 @@ use Rattle.ow_floor.specs.declared.lists.Spot.{Spot}
 use Rattle.ow_slots.specs.declared.states.Slot.{Slot}
 use Rattle.ow_slots.specs.State.{recorded_of}
 use Rattle.ow_slots.specs.Slots.{change_first}
+use Rattle.ow_records.specs.declared.frames.Frame.{Frame}
+use Rattle.ow_floor.specs.Store.{IsCell, there}
 
 -- the first that passes stands at this place
 pub record IsPlace {X : Type 0} (p : X → Bool) (xs : List X) (place : ℕ) : Type 0 where
@@ -42,3 +44,12 @@ has_id id (Some a) = same_id a.id id
 abbrev pub recorded_there : Option Slot → Option (Option ℕ)
 recorded_there None = None
 recorded_there (Some s) = Some (recorded_of s.state)
+
+-- the first frame that passes, and its place
+pub record IsFrameAt (p : Frame → Bool) (cells : List (Option Frame)) (place : ℕ) (f : Frame) : Type 0 where
+  pub cell : IsCell (λ f. f) p cells place
+  pub same : cell.item ≡ f
+
+abbrev pub FrameOf : (Frame → Bool) → List (Option Frame) → Option (ℕ × Frame) → Type 0
+FrameOf p cells None = find p (there (λ f. f) cells) ≡ None
+FrameOf p cells (Some found) = IsFrameAt p cells found.0 found.1

@@ -24,6 +24,7 @@ use Rattle.ow_lifecycle.specs.Owed.{owed}
 use Rattle.ow_floor.specs.declared.answers.PrewarmOrder.{PrewarmOrder}
 use Rattle.ow_floor.specs.Trace.{blocked_by}
 use Rattle.ow_slots.specs.Slots.{change_first}
+use Rattle.ow_records.specs.declared.frames.Frame.{Frame}
 use Rattle.ow_floor.specs.View.{Shown, put_id, remove_first, with_state}
 
 -- the lists as they are kept
@@ -31,6 +32,7 @@ pub record Store : Type 0 where
   pub spots : List Spot
   pub tasks : List (Option Activation)
   pub runs : List (Option Berth)
+  pub frames : List Frame
   pub slots : List Slot
   pub ended : List Record
   pub resumed : List Record
@@ -46,10 +48,10 @@ pub record StoreView : Type 0 where
   pub past : Option Store
 
 -- all the parts as they were, where they are held. The pool, what is wanted ahead, and what was taken over don't change in a hold
-abbrev pub past_of : ℕ → List Prewarm → List Record → Option (List Spot) → Option (List (Option Activation)) → Option (List (Option Berth)) → Option (List Slot) → Option (List Record) → Option (List Id) → Option (List Blocking) → Option Marks → Option Store
-past_of pool wants resumed (Some spots) (Some tasks) (Some runs) (Some slots) (Some ended) (Some drawn) (Some blocking) (Some marks) =
-    Some (record { spots = spots; tasks = tasks; runs = runs; slots = slots; ended = ended; resumed = resumed; drawn = drawn; blocking = blocking; marks = marks; pool = pool; wants = wants })
-past_of pool wants resumed spots tasks runs slots ended drawn blocking marks = None
+abbrev pub past_of : ℕ → List Prewarm → List Record → Option (List Spot) → Option (List (Option Activation)) → Option (List (Option Berth)) → Option (List Frame) → Option (List Slot) → Option (List Record) → Option (List Id) → Option (List Blocking) → Option Marks → Option Store
+past_of pool wants resumed (Some spots) (Some tasks) (Some runs) (Some frames) (Some slots) (Some ended) (Some drawn) (Some blocking) (Some marks) =
+    Some (record { spots = spots; tasks = tasks; runs = runs; frames = frames; slots = slots; ended = ended; resumed = resumed; drawn = drawn; blocking = blocking; marks = marks; pool = pool; wants = wants })
+past_of pool wants resumed spots tasks runs frames slots ended drawn blocking marks = None
 
 -- what was before, where they are held
 abbrev pub taken_back : Option Store → Store → Store
@@ -81,6 +83,7 @@ abbrev pub show : Store → Shown
 show R = record {
   open_items = opens R.spots R.tasks;
   live = there run_in R.runs;
+  frames = R.frames;
   slots = R.slots;
   ended = R.ended;
   resumed = R.resumed;
@@ -165,12 +168,17 @@ with_firing at firing m = record { latest = at; opened = m.opened; owed = m.owed
 abbrev pub at_moment : ℕ → Store → Store
 at_moment at R = record R { marks = with_latest at R.marks }
 
+-- with these frames
+abbrev pub with_frames : List Frame → Store → Store
+with_frames fs R = record R { frames = fs }
+
 -- an activation comes to the end
 abbrev pub accepted_in : Activation → Store → Store
 accepted_in a R = record {
   spots = R.spots ++ record { state = Waiting } ∷ [];
   tasks = R.tasks ++ Some a ∷ [];
   runs = R.runs;
+  frames = R.frames;
   slots = R.slots;
   ended = R.ended;
   resumed = R.resumed;
@@ -191,6 +199,7 @@ fired_in r R = record {
   spots = R.spots ++ record { state = Waiting } ∷ [];
   tasks = R.tasks ++ None ∷ [];
   runs = R.runs;
+  frames = R.frames;
   slots = R.slots;
   ended = R.ended ++ r ∷ [];
   resumed = R.resumed;
@@ -242,6 +251,7 @@ ended_in at place e R = record {
   spots = R.spots;
   tasks = slice_set R.tasks place None;
   runs = R.runs;
+  frames = R.frames;
   slots = R.slots;
   ended = R.ended ++ e ∷ [];
   resumed = R.resumed;

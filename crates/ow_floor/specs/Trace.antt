@@ -26,6 +26,8 @@ use Rattle.ow_lifecycle.specs.Fitting.{changed}
 use Rattle.ow_records.specs.Records.{is_of_id}
 use Rattle.ow_slots.specs.Slots.{change_first}
 use Rattle.std.specs.Option.{option_or}
+use Rattle.ow_records.specs.declared.frames.Frame.{Frame}
+use Rattle.ow_floor.specs.Frames.{frames_accepted, frames_ended, part_of}
 use Rattle.ow_floor.specs.View.{Shown, begun, carries, ids_of, is_number, is_of, last_of, put_id, remove_first, runs_now, waits}
 
 -- the end of an activation: what ended it, the run that carried it then as it was then, and the moment
@@ -224,6 +226,16 @@ abbrev pub live : Trace → List Run
 live [] = []
 live (item ∷ T) = live_after item (live T)
 
+abbrev pub frames_after : Item → List Frame → List Frame
+frames_after (Accepted a) fs = frames_accepted (part_of a) fs
+frames_after (Ended end) fs = frames_ended (part_of end.task) (record_of end).response fs
+frames_after item fs = fs
+
+-- what is kept of composites that have not ended, by acceptance
+abbrev pub frames : Trace → List Frame
+frames [] = []
+frames (item ∷ T) = frames_after item (frames T)
+
 -- the end of what a run carries by a sweep
 abbrev pub overrun_of : Ending → Option Run → ℕ → Option Event
 overrun_of Overran (Some r) at = Some (lives.Overran r.number at)
@@ -358,6 +370,14 @@ open_items T = filter_map (λ a. open_of a (standing T a.id)) (accepted T)
 abbrev pub open_item : Trace → Id → Option Open
 open_item T id = find (is_of id) (open_items T)
 
+abbrev pub task_by : Option Open → Option Activation
+task_by None = None
+task_by (Some o) = Some o.task
+
+-- what was accepted with this id, where it hasn't ended
+abbrev pub open_task : Trace → Id → Option Activation
+open_task T id = task_by (open_item T id)
+
 -- the ids that wait, by acceptance
 abbrev pub waiting : Trace → List Id
 waiting T = ids_of (filter waits (open_items T))
@@ -375,6 +395,7 @@ abbrev pub shown : Trace → Shown
 shown T = record {
   open_items = open_items T;
   live = live T;
+  frames = frames T;
   slots = slots T;
   ended = records T;
   resumed = resumed T;

@@ -1,12 +1,14 @@
 -- What a floor is seen as, and the words on its lists.
-use Rattle.std.specs.Prelude.{◌==◌, ◌+◌, ℕ, Bool, true, false, List, [], ◌∷◌, Option, Some, None, if◌then◌else◌, not, map, slice_get}
+use Rattle.std.specs.Prelude.{◌&&◌, ◌==◌, ◌+◌, ℕ, Bool, true, false, List, [], ◌∷◌, Option, Some, None, if◌then◌else◌, not, map, slice_get}
 use Rattle.std.specs.Option.{option_or}
 use Rattle.std.specs.List.{find, filter}
 use Rattle.ow_traits.specs.declared.replies.Kind.{Kind}
 use Rattle.ow_entity.specs.Exec.{exec_code}
 use Rattle.ow_records.specs.declared.ids.Id.{Id}
+use Rattle.ow_records.specs.Form.{is_composite}
 use Rattle.ow_records.specs.Id.{same_id}
 use Rattle.ow_records.specs.declared.activations.Activation.{Activation}
+use Rattle.ow_records.specs.declared.frames.Frame.{Frame}
 use Rattle.ow_floor.specs.declared.activations.Open.{Open}
 use Rattle.ow_records.specs.declared.record.Record.{Record}
 use Rattle.ow_floor.specs.declared.activations.State.{State}
@@ -26,13 +28,14 @@ use Rattle.ow_floor.specs.declared.answers.RunOrder.{RunOrder}
 use Rattle.ow_slots.specs.declared.keys.Start.{Start}
 use Rattle.ow_traits.specs.declared.prewarms.Prewarm.{Prewarm}
 
--- the activations that have not ended, by acceptance; the live runs, by their orders; the slots, by number;
+-- the activations that have not ended, by acceptance; the live runs, by their orders; what is kept of open composites, by acceptance; the slots, by number;
 -- the records of the activations that have ended and of fires, by their order, and those that were taken over from an earlier run; the last id of each namespace; how many runs were
 -- ordered, those of containers ahead among them; how many were accepted since the last opening; which of these a request waits for; the id of a fire that isn't recorded yet; the moment of the newest thing; whether
 -- it drains; the memory of the pool, in MB, and which containers are wanted ahead
 pub record Shown : Type 0 where
   pub open_items : List Open
   pub live : List Run
+  pub frames : List Frame
   pub slots : List Slot
   pub ended : List Record
   pub resumed : List Record
@@ -57,9 +60,9 @@ abbrev pub is_waiting : State → Bool
 is_waiting Waiting = true
 is_waiting state = false
 
--- whether an open activation waits
+-- whether an open activation waits; a composite never does, since it has no run of its own
 abbrev pub waits : Open → Bool
-waits o = is_waiting o.state
+waits o = is_waiting o.state && not (is_composite o.task.form)
 
 -- the first that waits: the next run is ordered for it
 abbrev pub head : Shown → Option Open
@@ -67,7 +70,7 @@ head v = find waits v.open_items
 
 -- whether an open activation does not wait
 abbrev pub runs_now : Open → Bool
-runs_now o = not (is_waiting o.state)
+runs_now o = not (waits o)
 
 -- whether an open activation has this id
 abbrev pub is_of : Id → Open → Bool

@@ -1,9 +1,10 @@
 // Activations: as planned, and as open.
 ghost use Rattle.std.specs.Prelude.{◌≡◌, ◌↔◌, IsTrue, IfOk};
+ghost use Rattle.ow_floor.specs.Frames.{part_of};
 
 use ow_names::EntityName;
 use ow_packages::Effective;
-use ow_records::{Activation, Id};
+use ow_records::{Activation, Form, Id, Role};
 use ow_several::copied4;
 use ow_value::{NoMemory, Params, PlainData, Str};
 use std::alloc::Global;
@@ -25,6 +26,24 @@ pub struct Plan {
     pub cause: Option<Id>,
     /// Up to which moment, in milliseconds, the request that made it waits for the end.
     pub until: Option<u64>,
+    /// What it does.
+    pub form: Form,
+    /// What part it has in its cause.
+    pub role: Role,
+    /// The first activation of its composition, or itself.
+    pub top: Id,
+    /// How many composites stand from the first one of its composition down to this activation.
+    pub depth: u32,
+}
+
+/// What part an activation has in its composition.
+#[derive(Clone, Copy)]
+pub(crate) struct Part {
+    pub(crate) id: Id,
+    pub(crate) form: Form,
+    pub(crate) role: Role,
+    pub(crate) cause: Option<Id>,
+    pub(crate) top: Id,
 }
 
 /// Whether an activation waits, or the number of the run that carries it.
@@ -54,6 +73,10 @@ impl PlainData for Plan {
             && self.subject.same(&other.subject)
             && self.cause == other.cause
             && self.until == other.until
+            && self.form == other.form
+            && self.role == other.role
+            && self.top == other.top
+            && self.depth == other.depth
     }
 
     fn copy(&self, alloc: Global) -> Result<Plan, NoMemory> {
@@ -72,6 +95,10 @@ impl PlainData for Plan {
             subject,
             cause: self.cause,
             until: self.until,
+            form: self.form,
+            role: self.role,
+            top: self.top,
+            depth: self.depth,
         })
     }
 }
@@ -86,5 +113,17 @@ impl PlainData for Open {
             task: self.task.copy(alloc)?,
             state: self.state,
         })
+    }
+}
+
+pub(crate) fn part_of(task: &Activation) -> Part
+    ensures { result ≡ part_of task.now }
+{
+    Part {
+        id: task.id,
+        form: task.form,
+        role: task.role,
+        cause: task.cause,
+        top: task.top,
     }
 }

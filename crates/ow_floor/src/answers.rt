@@ -3,7 +3,7 @@ ghost use Rattle.std.specs.Prelude.{◌≡◌, ◌↔◌, [], ◌∷◌, IsTrue,
 
 use crate::{Moved, Run};
 use ow_records::{Activation, Id, Record};
-use ow_several::copied2;
+use ow_several::kept_beside;
 use ow_slots::{Start, kind_of};
 use ow_traits::{Kind, RunReply};
 use ow_value::{Items, NoMemory, Params, PlainData, Str};
@@ -203,7 +203,8 @@ impl RunOrder {
         ensures { IfOk result (λ order. order ≡ order_for run.number run.slot run.generation run.start task.now) }
     {
         let action = task.action.get();
-        let (code, params) = copied2(alloc, action.exec.code(), &task.params)?;
+        let code = action.exec.code(alloc)?;
+        let (code, params) = kept_beside(code, task.params.copy(alloc))?;
         Ok(RunOrder {
             run: run.number,
             id: task.id,

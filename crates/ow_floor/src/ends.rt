@@ -1,18 +1,20 @@
 // Ends of activations.
-ghost use Rattle.std.specs.Prelude.{◌≡◌, ◌<◌, ◌++◌, ◌∷◌, [], length, None, Some, slice_index_or, ◌↔◌, IsTrue, OnOk};
+ghost use Rattle.std.specs.Prelude.{◌≡◌, ◌<◌, ◌++◌, ◌∷◌, [], length, None, Some, slice_index_or, ◌↔◌, option_copied, IfOk, IsTrue, OnOk};
 ghost use Rattle.ow_slots.specs.Slots.{IsThere, first_with};
 ghost use Rattle.ow_slots.specs.State.{IsUnrecorded, runs};
 ghost use Rattle.ow_floor.specs.Trace.{began, started};
-ghost use Rattle.ow_floor.specs.Calls.{is_late};
-ghost use Rattle.ow_floor.specs.Ends.{IsAbandonedAt, IsEndedAt, IsEndedRun, IsFreed, IsLateEnd, IsLateSpot, IsMade, IsOverrunAt, IsSweptOne, AreAbandoned, sweeps};
-ghost use Rattle.ow_floor.specs.Store.{IsGood};
+ghost use Rattle.ow_floor.specs.Calls.{composed_items, is_late};
+ghost use Rattle.ow_floor.specs.Frames.{children_of};
+ghost use Rattle.ow_floor.specs.Ends.{IsAbandonedAt, IsEndedAt, IsEndedRun, IsFirstLate, IsFirstSwept, IsFreed, IsLateCell, IsLateEnd, IsLateSpot, IsMade, IsOverrunAt, IsSweptOne, AreAbandoned, sweeps};
+ghost use Rattle.ow_floor.specs.Store.{IsGood, show};
 
+use crate::activations::part_of;
 use crate::by_id::places_by_id;
-use crate::lists::Lists;
+use crate::lists::{Berth, Lists};
 use crate::{Moves, Run};
-use ow_records::{Activation, Ending, ReadyRecord, record_of};
+use ow_records::{Activation, Ending, Frame, Id, ReadyRecord, Response, record_of};
 use ow_traits::RunReply;
-use ow_value::{NoMemory, PlainData, Scratch, Shared};
+use ow_value::{Items, NoMemory, PlainData, Scratch, Shared};
 use std::alloc::Global;
 
 /// Ends what stands at this place.
@@ -36,8 +38,10 @@ pub(crate) fn end_at(
         return Err(NoMemory);
     };
     let task = task.get();
+    let part = part_of(task);
     let record = record_of(alloc, scratch, task, ending, started(run), began(run), at)?;
     let ready = ReadyRecord::new(alloc, record)?;
+    lists.frame_ended(alloc, part, &ready.record().response)?;
     lists.end(at, place, ready)?;
     moves.note_ended(alloc, lists.records())
 }
@@ -196,6 +200,94 @@ pub(crate) fn sweep(
         end_late(alloc, lists, scratch, at, i, moves)?;
     }
     Ok(())
+}
+
+/// Ends what the first late run carries, and tells whether there was one.
+pub(crate) fn end_first_late(
+    alloc: Global,
+    lists: &mut Lists,
+    scratch: &mut Scratch,
+    at: u64,
+    moves: &mut Moves,
+) -> Result<bool, NoMemory>
+    requires { IsGood lists.old.now }
+    ensures good { IsGood lists.new.now }
+    ensures made { IfOk result (λ late. IsFirstSwept at late lists.old.now lists.new.now moves.old moves.new) }
+    ensures past { lists.new.past ≡ lists.old.past }
+{
+    let Some((place, run)) = first_late(lists, at) else {
+        return Ok(false);
+    };
+    end_overrun(alloc, lists, scratch, at, place, run, moves)?;
+    Ok(true)
+}
+
+// The first late run, and the place of what it carries.
+fn first_late(lists: &Lists, at: u64) -> Option<(usize, Run)>
+    requires { IsGood lists.now.now }
+    ensures { IsFirstLate at lists.now.now result }
+{
+    for i in 0..lists.runs().len() {
+        if let Some(found) = late_at(lists, at, lists.runs()[i]) {
+            return Some(found);
+        }
+    }
+    None
+}
+
+// The run and the place of what it carries, where there is a run and it is late.
+fn late_at(lists: &Lists, at: u64, cell: Option<Berth>) -> Option<(usize, Run)>
+    requires { IsGood lists.now.now }
+    ensures { IsLateCell at cell lists.now.now result }
+{
+    let berth = cell?;
+    let place = late_place(lists, at, berth.run)?;
+    Some((place, berth.run))
+}
+
+/// Ends the composite of this id with this response, where it is open.
+pub(crate) fn end_composite(
+    alloc: Global,
+    lists: &mut Lists,
+    scratch: &mut Scratch,
+    at: u64,
+    id: Id,
+    response: Response,
+    moves: &mut Moves,
+) -> Result<(), NoMemory>
+    requires { IsGood lists.old.now }
+    ensures good { IsGood lists.new.now }
+    ensures made { OnOk result (IsMade (composed_items at id response (show lists.old.now)) lists.old.now lists.new.now moves.old moves.new) }
+    ensures past { lists.new.past ≡ lists.old.past }
+{
+    let Some(place) = lists.open_place(id) else {
+        drop(response);
+        return Ok(());
+    };
+    let ending = composed(alloc, response, lists.frame(id))?;
+    end_at(alloc, lists, scratch, at, place, &ending, None, moves)
+}
+
+// The end of a composite that has this frame.
+fn composed(alloc: Global, response: Response, frame: Option<&Frame>) -> Result<Ending, NoMemory>
+    ensures { IfOk result (λ e. e ≡ Ending.Composed response (children_of (option_copied frame.entry))) }
+{
+    match children_of(alloc, frame) {
+        Ok(children) => Ok(Ending::Composed { response, children }),
+        Err(NoMemory) => {
+            drop(response);
+            Err(NoMemory)
+        }
+    }
+}
+
+fn children_of(alloc: Global, frame: Option<&Frame>) -> Result<Items<Id>, NoMemory>
+    ensures { IfOk result (λ ids. ids ≡ children_of (option_copied frame.entry)) }
+{
+    match frame {
+        Some(frame) => frame.children.copy(alloc),
+        None => Ok(Items::new()),
+    }
 }
 
 // What stands at this place ends as abandoned.

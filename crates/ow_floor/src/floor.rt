@@ -4,28 +4,31 @@ ghost use Rattle.std.specs.List.{AllByRecursion};
 ghost use Rattle.ow_records.specs.Known.{IsId, IsKnown, IsKnownUnrecorded};
 ghost use Rattle.ow_records.specs.Unrecorded.{unrecorded_of};
 ghost use Rattle.ow_floor.specs.View.{is_of, last_of};
-ghost use Rattle.ow_floor.specs.Trace.{Drained, Opened, Trace, all_records, drawn, is_draining, last, latest, open_items, records, shown};
+ghost use Rattle.ow_floor.specs.Frames.{is_frame, own_of};
+ghost use Rattle.ow_floor.specs.Trace.{Drained, Opened, Trace, all_records, drawn, frames, is_draining, last, latest, open_items, open_task, records, shown, task_by};
 ghost use Rattle.ow_floor.specs.Growth.{AreResumable, IsFresh};
 ghost use Rattle.ow_floor.specs.Laws.{Grows, Stands};
 ghost use Rattle.ow_traits.specs.Prewarms.{AreWantsSized};
 ghost use Rattle.ow_floor.specs.Collecting.{collected, collected_by, collection_of};
 ghost use Rattle.ow_floor.specs.Owed.{owed, owed_of};
-ghost use Rattle.ow_floor.specs.Calls.{AllRecorded, HasWork, abandon_items, accept_items, activation_of, answered_items, begun_answer, begun_items, busy_run, drain_answer, drain_by, draw_items, fire_items, gone_answer, gone_items, leaves_alive, lost_answer, lost_items, moved, next_items, next_order, record_abandoned, reply_recorded, resume_items, sorted_by_id, swept_ends, swept_items, unrecorded_by, unrecorded_in};
+ghost use Rattle.ow_floor.specs.Calls.{AllRecorded, HasWork, abandon_items, accept_items, activation_of, answered_items, begun_answer, begun_items, busy_run, compose_items, drain_answer, drain_by, draw_items, fire_items, gone_answer, gone_items, leaves_alive, lost_answer, lost_items, moved, next_items, next_order, note_swept_items, overrun_first, has_items, record_abandoned, reply_recorded, resume_items, sorted_by_id, swept_ends, swept_items, unrecorded_by, unrecorded_in};
 
-use crate::ends::{abandon, end_run, sweep};
+use crate::activations::part_of;
+use crate::ends::{abandon, end_composite, end_first_late, end_run, sweep};
 use crate::known::known_tasks;
 use crate::lists::Lists;
 use crate::orders::next_order;
 use crate::places::last_of;
-use crate::resuming::{records_of, unrecorded};
+use crate::resuming::{open_task, records_of, unrecorded};
 use crate::runs::{begin_run, generation_in, lose_run, recorded_in};
 use crate::{Collected, Drain, FloorRefusal, Moves, Order, Plan};
 use ow_packages::Effective;
 use ow_records::{
-    Activation, Id, ReadyRecord, Record, Records, Unrecorded, known_ids, known_records,
+    Activation, Form, Frame, Id, ReadyRecord, Record, Records, Response, Unrecorded, known_ids,
+    known_records,
 };
 use ow_traits::{Prewarms, RunReply};
-use ow_value::{NoMemory, Scratch, Shared};
+use ow_value::{NoMemory, Params, Scratch, Shared};
 use std::alloc::Global;
 use std::marker::Model;
 
@@ -144,6 +147,14 @@ impl Floor {
         unrecorded(alloc, &self.lists, *id)
     }
 
+    /// The activation of this id, where it was accepted and hasn't ended. It takes no memory.
+    pub fn activation(&self, id: &Id) -> Option<&Activation>
+        ensures value { option_copied result ≡ task_by (find (is_of id.now) self.now.now.open_items) }
+        ensures trace { (T : Trace) → Stands self.now.now T → option_copied result ≡ open_task T id.now }
+    {
+        open_task(&self.lists, *id)
+    }
+
     /// From now on the state of this moment is kept. It takes no memory, and nothing is copied.
     pub fn hold(&mut self)
         ensures now { self.new.now ≡ self.old.now }
@@ -211,6 +222,7 @@ impl Floor {
     {
         let task = Shared::new(alloc, activation_of(at, plan))?;
         moves.note_accepted(alloc, &task)?;
+        self.lists.frame_accepted(alloc, part_of(task.get()))?;
         self.lists.accept(task)?;
         Ok(())
     }
@@ -344,6 +356,57 @@ impl Floor {
         Ok((moves.items().len() - before) as u64)
     }
 
+    /// Ends what the first late run carries, by the runs' orders, and tells whether there was one. The run stays live.
+    pub fn overrun(&mut self, alloc: Global, at: u64, moves: &mut Moves) -> Result<bool, NoMemory>
+        ensures late { IfOk result (λ late. (T : Trace) → Stands self.old.now T → late ≡ has_items (overrun_first at T)) }
+        ensures moved { OnOk result ((T : Trace) → Stands self.old.now T → moves.new ≡ moves.old ++ moved (overrun_first at T)) }
+        ensures ok { OnOk result (Grows self.old.now self.new.now (λ T. overrun_first at T)) }
+        ensures before { self.new.before ≡ self.old.before }
+    {
+        end_first_late(alloc, &mut self.lists, &mut self.scratch, at, moves)
+    }
+
+    /// All that is late was swept at this moment, in milliseconds. It takes no memory.
+    pub fn note_swept(&mut self, at: u64)
+        ensures ok { Grows self.old.now self.new.now (λ T. note_swept_items at) }
+        ensures before { self.new.before ≡ self.old.before }
+    {
+        self.lists.note_moment(at);
+    }
+
+    /// What is kept of the composite while it is open. It takes no memory.
+    pub fn framed(&self, id: &Id) -> Option<&Frame>
+        ensures value { option_copied result ≡ find (is_frame id.now) self.now.now.frames }
+        ensures trace { (T : Trace) → Stands self.now.now T → option_copied result ≡ find (is_frame id.now) (frames T) }
+    {
+        self.lists.frame(*id)
+    }
+
+    /// Ends a composite with this response, where it is open, and notes it. Its logs are the ids of its children.
+    pub fn compose(
+        &mut self,
+        alloc: Global,
+        at: u64,
+        id: Id,
+        response: Response,
+        moves: &mut Moves,
+    ) -> Result<(), NoMemory>
+        ensures moved { OnOk result ((T : Trace) → Stands self.old.now T → moves.new ≡ moves.old ++ moved (compose_items at id response T)) }
+        ensures ok { OnOk result (Grows self.old.now self.new.now (λ T. compose_items at id response T)) }
+        ensures firing { OnOk result (self.new.now.firing ≡ self.old.now.firing) }
+        ensures before { self.new.before ≡ self.old.before }
+    {
+        end_composite(
+            alloc,
+            &mut self.lists,
+            &mut self.scratch,
+            at,
+            id,
+            response,
+            moves,
+        )
+    }
+
     /// Ends each open activation as abandoned, by its id. From then on no run is live, no container is there, and it doesn't drain.
     pub fn abandon_into(
         &mut self,
@@ -387,11 +450,15 @@ fn activation_of(at: u64, plan: Plan) -> Activation
         subject,
         cause,
         until,
+        form,
+        role,
+        top,
+        depth,
     } = plan;
     let Effective {
         action,
+        params: own,
         binding,
-        ..
     } = effective;
     Activation {
         id,
@@ -403,6 +470,21 @@ fn activation_of(at: u64, plan: Plan) -> Activation
         subject,
         cause,
         until,
+        form,
+        role,
+        top,
+        depth,
+        own: own_of(form, own),
+    }
+}
+
+// The parameters that an action has itself, which a conductor keeps.
+fn own_of(form: Form, own: Params) -> Params
+    ensures { result ≡ own_of form own }
+{
+    match form {
+        Form::Leaf | Form::Sequence => Params::new(),
+        Form::Conductor => own,
     }
 }
 

@@ -7,6 +7,7 @@ mod by_id;
 mod ends;
 mod floor;
 mod kept;
+mod kept_frames;
 mod kept_slots;
 mod known;
 mod laws;

@@ -14,15 +14,18 @@ ghost use Rattle.ow_lifecycle.specs.Life.{Event, Removed};
 ghost use Rattle.ow_lifecycle.specs.Owed.{may_begin, owed, owed_by};
 ghost use Rattle.ow_slots.specs.declared.states.State.TheVariants.{Busy};
 ghost use Rattle.ow_floor.specs.Trace.{slot_count};
-ghost use Rattle.ow_floor.specs.Store.{AreGone, CellOf, IsGood, SpotOf, Store, accepted_in, answered_in, at_moment, drained_in, drawn_in, empty_of, ended_in, event_in, fired_in, freed_in, ordered_in, prewarmed_in, reopened_in, resumed_in, run_in, run_put, taken_back, with_owed};
+ghost use Rattle.ow_floor.specs.Store.{AreGone, CellOf, IsGood, SpotOf, Store, accepted_in, answered_in, at_moment, drained_in, drawn_in, empty_of, ended_in, event_in, fired_in, freed_in, ordered_in, prewarmed_in, reopened_in, resumed_in, run_in, run_put, taken_back, with_frames, with_owed};
+ghost use Rattle.ow_floor.specs.Frames.{frames_accepted, frames_ended, is_frame};
 
+use crate::activations::Part;
 use crate::kept::Kept;
+use crate::kept_frames::KeptFrames;
 use crate::kept_slots::KeptSlots;
 use crate::places::{namespace_place, open_place, run_place, until, waiting_place};
 use crate::{PrewarmOrder, Run, State};
 use ow_entity::LEAST_MEMORY;
 use ow_pool::{Head, Place, place};
-use ow_records::{Activation, Id, ReadyRecord, Record, Records};
+use ow_records::{Activation, Frame, Id, ReadyRecord, Record, Records, Response};
 use ow_slots::{Key, Slot, SlotRefusal, Slots, Start, State as SlotState, Work};
 use ow_traits::Prewarms;
 use ow_value::{NoMemory, Shared};
@@ -66,6 +69,7 @@ pub(crate) struct Lists {
     spots: Kept<Spot>,
     tasks: Kept<Option<Shared<Activation>>>,
     runs: Kept<Option<Berth>>,
+    frames: KeptFrames,
     slots: KeptSlots,
     records: Records,
     // How many records there were at the hold.
@@ -104,6 +108,7 @@ impl Model for Lists {
         spots = l.spots.now;
         tasks = l.tasks.now;
         runs = l.runs.now;
+        frames = l.frames.now;
         slots = l.slots.now;
         ended = drop l.resumed l.records.items;
         resumed = take l.resumed l.records.items;
@@ -113,7 +118,7 @@ impl Model for Lists {
         pool = l.pool;
         wants = l.wants;
       };
-      past = past_of l.pool l.wants (take l.resumed l.records.items) (past l.held l.spots.before) (past l.held l.tasks.before) (past l.held l.runs.before) (past l.held l.slots.before)
+      past = past_of l.pool l.wants (take l.resumed l.records.items) (past l.held l.spots.before) (past l.held l.tasks.before) (past l.held l.runs.before) (past l.held l.frames.before) (past l.held l.slots.before)
           (past l.held (drop l.resumed (take l.records_held l.records.items))) (past l.held l.drawn.before) (past l.held l.blocking.before) (past l.held l.before);
     } };
 
@@ -134,7 +139,7 @@ const NO_MARKS: Marks = Marks {
 impl Lists {
     /// Nothing stands in them, and they aren't held. All slots of the pool are vacant.
     pub(crate) fn new(alloc: Global, pool: u32, wants: Prewarms) -> Result<Lists, NoMemory>
-        ensures now { IfOk result (λ l. l.now ≡ record { spots = []; tasks = []; runs = []; slots = replicate (slot_count pool) vacant_slot; ended = []; resumed = []; drawn = []; blocking = []; marks = record { latest = 0; opened = 0; owed = 0; draining = false; firing = None }; pool = pool; wants = wants }) }
+        ensures now { IfOk result (λ l. l.now ≡ record { spots = []; tasks = []; runs = []; frames = []; slots = replicate (slot_count pool) vacant_slot; ended = []; resumed = []; drawn = []; blocking = []; marks = record { latest = 0; opened = 0; owed = 0; draining = false; firing = None }; pool = pool; wants = wants }) }
         ensures past { IfOk result (λ l. l.past ≡ None) }
     {
         let slots = KeptSlots::new(alloc, pool / LEAST_MEMORY)?;
@@ -142,6 +147,7 @@ impl Lists {
             spots: Kept::new(alloc),
             tasks: Kept::new(alloc),
             runs: Kept::new(alloc),
+            frames: KeptFrames::new(alloc),
             slots,
             records: Records::new(alloc),
             records_held: 0,
@@ -245,6 +251,13 @@ impl Lists {
         self.drawn.items()
     }
 
+    /// What is kept of the composite while it is open.
+    pub(crate) fn frame(&self, id: Id) -> Option<&Frame>
+        ensures { option_copied result ≡ find (is_frame id) self.now.now.frames }
+    {
+        self.frames.frame(id)
+    }
+
     /// Up to which moment the request waits that made this activation, where one does.
     pub(crate) fn until(&self, id: Id) -> Option<u64>
         ensures { result ≡ wait_in id self.now.now.blocking }
@@ -265,6 +278,7 @@ impl Lists {
         self.spots.hold();
         self.tasks.hold();
         self.runs.hold();
+        self.frames.hold();
         self.slots.hold();
         self.records_held = self.records.len();
         self.drawn.hold();
@@ -289,6 +303,7 @@ impl Lists {
             self.spots.take_back();
             self.tasks.take_back();
             self.runs.take_back();
+            self.frames.take_back();
             self.slots.take_back();
             self.records.cut(self.records_held);
             self.drawn.take_back();
@@ -355,23 +370,23 @@ fn one_further<T>(cells: &[Option<T>], gone: usize) -> usize
     gone
 }
 
-// Another run, or none, stands at this place. It tells at how many first places none stands. There is room for the change.
-fn set_run(
-    runs: &mut Kept<Option<Berth>>,
+/// Another thing, or none, stands at this place. It tells at how many first places nothing stands. There is room for the change.
+pub(crate) fn set_cell<T: Drop>(
+    cells: &mut Kept<Option<T>>,
     gone: usize,
     held: bool,
     place: usize,
-    cell: Option<Berth>,
+    cell: Option<T>,
 ) -> usize
-    requires place { place < length runs.old.now }
-    requires slack { held ≡ true → 1 ≤ runs.old.slack }
-    requires gone { AreGone gone runs.old.now }
-    ensures now { runs.new.now ≡ slice_set runs.old.now place cell }
-    ensures past { past held runs.new.before ≡ past held runs.old.before }
-    ensures gone { AreGone result runs.new.now }
+    requires place { place < length cells.old.now }
+    requires slack { held ≡ true → 1 ≤ cells.old.slack }
+    requires gone { AreGone gone cells.old.now }
+    ensures now { cells.new.now ≡ slice_set cells.old.now place cell }
+    ensures past { past held cells.new.before ≡ past held cells.old.before }
+    ensures gone { AreGone result cells.new.now }
 {
-    runs.set(held, place, cell);
-    further(runs.items(), gone.min(place))
+    cells.set(held, place, cell);
+    further(cells.items(), gone.min(place))
 }
 
 // At this moment, with what these slots owe.
@@ -428,8 +443,8 @@ fn may_begin(work: &Work) -> bool
     }
 }
 
-// Makes room for one more.
-fn make_room<T: Drop>(kept: &mut Kept<T>, held: bool) -> Result<(), NoMemory>
+/// Makes room for one more.
+pub(crate) fn make_room<T: Drop>(kept: &mut Kept<T>, held: bool) -> Result<(), NoMemory>
     ensures now { kept.new.now ≡ kept.old.now }
     ensures before { kept.new.before ≡ kept.old.before }
     ensures space { OnOk result (1 ≤ kept.new.space) }
@@ -478,6 +493,33 @@ impl Lists {
         note_until(&mut self.blocking, held, id, until);
         self.marks.latest = at;
         Ok(())
+    }
+
+    /// An activation of this part is accepted in its composition.
+    #[tactic(auto, using(crate::proofs::Showing::framed_good))]
+    pub(crate) fn frame_accepted(&mut self, alloc: Global, part: Part) -> Result<(), NoMemory>
+        ensures made { OnOk result (self.new.now ≡ with_frames (frames_accepted part self.old.now.frames) self.old.now) }
+        ensures now { self.new.now ≡ with_frames self.new.now.frames self.old.now }
+        ensures good { IsGood self.old.now → IsGood self.new.now }
+        ensures past { self.new.past ≡ self.old.past }
+    {
+        self.frames.accept(alloc, self.held, part)
+    }
+
+    /// An activation of this part ends in its composition, with this response.
+    #[tactic(auto, using(crate::proofs::Showing::framed_good))]
+    pub(crate) fn frame_ended(
+        &mut self,
+        alloc: Global,
+        part: Part,
+        response: &Response,
+    ) -> Result<(), NoMemory>
+        ensures made { OnOk result (self.new.now ≡ with_frames (frames_ended part response.now self.old.now.frames) self.old.now) }
+        ensures now { self.new.now ≡ with_frames self.new.now.frames self.old.now }
+        ensures good { IsGood self.old.now → IsGood self.new.now }
+        ensures past { self.new.past ≡ self.old.past }
+    {
+        self.frames.end(alloc, self.held, part, response)
     }
 
     /// An id is drawn for a fire at this moment.
@@ -597,7 +639,7 @@ impl Lists {
     {
         self.runs.reserve_step(self.held)?;
         self.slots.answered(alloc, self.held, run, alive, at)?;
-        self.runs_gone = set_run(&mut self.runs, self.runs_gone, self.held, place, None);
+        self.runs_gone = set_cell(&mut self.runs, self.runs_gone, self.held, place, None);
         self.marks = marked(self.slots.slots(), self.marks, at);
         Ok(())
     }
@@ -660,7 +702,7 @@ impl Lists {
         ensures now { self.new.now ≡ run_put place cell self.old.now }
         ensures past { self.new.past ≡ None }
     {
-        self.runs_gone = set_run(&mut self.runs, self.runs_gone, self.held, place, cell);
+        self.runs_gone = set_cell(&mut self.runs, self.runs_gone, self.held, place, cell);
     }
 
     /// What stands at this place waits again. Where nothing is held it takes no memory.

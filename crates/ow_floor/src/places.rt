@@ -1,6 +1,6 @@
 // Places in lists.
 ghost use Rattle.std.specs.Prelude.{◌≡◌, length, position};
-ghost use Rattle.ow_floor.specs.View.{is_in, last_of, is_number, is_of, wait_in, waits};
+ghost use Rattle.ow_floor.specs.View.{is_in, last_of, is_number, is_of, is_waiting, wait_in, waits};
 ghost use Rattle.ow_floor.specs.Store.{AreGone, CellOf, SpotOf, run_in};
 ghost use Rattle.ow_floor.specs.Places.{PlaceOf, has, has_id, has_open};
 
@@ -86,7 +86,19 @@ pub(crate) fn open_place(
 fn waits_at(spot: Spot, task: &Option<Shared<Activation>>) -> bool
     ensures { result ≡ has_open waits spot task.now }
 {
-    task.is_some() && matches!(spot.state, State::Waiting)
+    match task {
+        Some(task) => is_waiting(spot.state) && !task.get().form.is_composite(),
+        None => false,
+    }
+}
+
+fn is_waiting(state: State) -> bool
+    ensures { result ≡ is_waiting state }
+{
+    match state {
+        State::Waiting => true,
+        State::Running(_) => false,
+    }
 }
 
 // Whether the activation of this id stands there.

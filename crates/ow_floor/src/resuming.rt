@@ -1,11 +1,12 @@
 // What is taken over from an earlier run, and what the next one takes over.
-ghost use Rattle.std.specs.Prelude.{◌≡◌, ◌++◌, ◌∷◌, [], find, IfOk, OnOk};
+ghost use Rattle.std.specs.Prelude.{◌≡◌, ◌++◌, ◌∷◌, [], find, option_copied, IfOk, OnOk};
 ghost use Rattle.ow_floor.specs.View.{is_of};
 ghost use Rattle.ow_floor.specs.Calls.{unrecorded_by};
+ghost use Rattle.ow_floor.specs.Trace.{task_by};
 ghost use Rattle.ow_floor.specs.Store.{IsGood, opens};
 
 use crate::lists::Lists;
-use ow_records::{Id, ReadyRecord, Record, Records, Unrecorded};
+use ow_records::{Activation, Id, ReadyRecord, Record, Records, Unrecorded};
 use ow_value::NoMemory;
 use std::alloc::Global;
 
@@ -31,6 +32,20 @@ fn add(alloc: Global, all: &mut Records, ended: Record) -> Result<(), NoMemory>
     }
     all.add(ready);
     Ok(())
+}
+
+/// The activation of this id, where it is open.
+pub(crate) fn open_task(lists: &Lists, id: Id) -> Option<&Activation>
+    requires { IsGood lists.now.now }
+    ensures { option_copied result ≡ task_by (find (is_of id) (opens lists.now.now.spots lists.now.now.tasks)) }
+{
+    let Some(place) = lists.open_place(id) else {
+        return None;
+    };
+    match &lists.tasks()[place] {
+        Some(task) => Some(task.get()),
+        None => None,
+    }
 }
 
 /// What is kept of the activation of this id, where it is open.

@@ -1,12 +1,12 @@
 -- What is posted keeps the hall, and what isn't booked changes nothing.
-use Rattle.std.proofs.Common.{◌≡◌, ◌∙◌, ◌≤◌, ◌++◌, ℕ, Bool, true, false, List, [], ◌∷◌, Option, Some, None, Result, Ok, Err, length, drop, refl, sym, ap, subst, arith}
+use Rattle.std.proofs.Common.{◌≡◌, ◌∙◌, ◌≤◌, ◌++◌, ℕ, Bool, true, false, List, [], ◌∷◌, Option, Some, None, Result, Ok, Err, refl, sym, ap, subst, arith}
 use Rattle.std.proofs.Math.Nat.{le-max_left, max-le, min-le_right}
 use Rattle.ow_traits.specs.declared.replies.RunReply.{RunReply}
 use Rattle.ow_pool.specs.declared.answers.Place.{Place}
 use Rattle.ow_pool.specs.declared.answers.Place.TheVariants as places
 use Rattle.ow_floor.specs.View.{Shown, generation_in, head}
 use Rattle.ow_floor.specs.Trace.{Begun, Gone, Item, Lost, Trace, shown, slots}
-use Rattle.ow_floor.specs.Calls.{answer_by, begins, busy_run, goes, items_if, loses, order_by, order_items, place_on, refused_unless, reply_items}
+use Rattle.ow_floor.specs.Calls.{answer_of, begins, goes, happened, items_if, loses, order_by, order_items, place_on, refused_unless, reply_recorded}
 use Rattle.ow_floor.specs.Laws.{Stands}
 use Rattle.ow_floor.specs.declared.activations.Open.{Open}
 use Rattle.ow_floor.specs.declared.activations.Plan.{Plan}
@@ -23,7 +23,6 @@ use Rattle.ow_decide.specs.declared.events.Told.TheVariants as told
 use Rattle.ow_hall.specs.declared.posting.Posting.{Posting}
 use Rattle.ow_hall.specs.declared.posting.Posting.TheVariants.{Booked, Quiet, Denied, Unbooked}
 use Rattle.ow_decide.specs.declared.replies.Called.TheVariants as called
-use Rattle.ow_decide.specs.declared.step.FireStep.{FireStep}
 use Rattle.ow_decide.specs.declared.step.Now.{Now}
 use Rattle.ow_decide.specs.declared.step.Step.{Step}
 use Rattle.ow_tenant.specs.Table.{Table}
@@ -33,8 +32,9 @@ use Rattle.ow_decide.specs.declared.waits.Waits.TheVariants.{Keep}
 use Rattle.ow_decide.specs.Sight.{Sight}
 use Rattle.ow_decide.specs.Decision.{Decision, adds, all_changed, tells}
 use Rattle.ow_decide.specs.Asking.{Done, Shown as ShownDone, Changed, Fired, Invoked, Quiet as QuietDone, ask_decision, refusal_told, request_done}
-use Rattle.ow_decide.specs.Calling.{call_decision, call_plan}
-use Rattle.ow_decide.specs.Decisions.{decide, is_opening, reply_told, taken_told, wants_memory}
+use Rattle.ow_decide.specs.Calling.{admitted_plan, call_plan, called_decision}
+use Rattle.ow_http.specs.Steps.{◌>>=◌}
+use Rattle.ow_decide.specs.Decisions.{answered_all, decide, is_opening, reply_told, taken_told, wants_memory}
 use Rattle.ow_decide.specs.Opening.{opened_decision, parts_taken}
 use Rattle.ow_decide.specs.Waiting.{collected_told, shows_for}
 use Rattle.ow_floor.specs.Collecting.{collected}
@@ -42,18 +42,19 @@ use Rattle.ow_hall.specs.Posting.{posting_by}
 use Rattle.ow_keep.specs.declared.allowed.TheConstants.{GREATEST_MOMENT}
 use Rattle.ow_hall.specs.History.{AreAnswered, History, IsLegal, after, answer, counted, decision, is_idle, last_moment, least_moment, moment, opens_here, posting, seen, sight, waits_after}
 use Rattle.ow_hall.specs.Ledger.{Ledger, posted, posted_as}
-use Rattle.ow_decide.specs.Making.{IsSeen, changes_of, telling}
+use Rattle.ow_decide.specs.Making.{Carries, IsSeen, changes_of, telling}
 use Rattle.ow_keep.specs.Judged.{judged}
 use Rattle.ow_keep.specs.Split.{Parts}
 use Rattle.ow_kept.specs.Keeping.{AreIds, KeepingView, StandsForKept}
-use Rattle.ow_hall.specs.State.{Does, IsAt, IsStep, IsWhole, Keeps, KeepsCommit, KeepsNotes, Makes, Notes, StateView, StaysKept, all_ended}
+use Rattle.ow_hall.specs.State.{IsAt, Keeps, KeepsNotes, Makes, NotesMoves, StateView, kept_with}
 use Rattle.ow_traits.specs.Changes.{changed}
 use Rattle.ow_decide.specs.Decision.{commits}
 use Rattle.ow_decide.proofs.KeptLaws.{decided_kept}
 use Rattle.ow_hall.specs.Comes.{HoldsBook, HoldsRows, KeptRows, kept_after, kept_of}
-use Rattle.ow_kept.proofs.Quiet.{stands_same}
-use Rattle.ow_hall.proofs.KeepLaws.{alone_made, leaves_commits, quiet_whole}
-use Rattle.ow_hall.proofs.NoteLaws.{counted_at, noted_at, quiet_at, seen_up_to}
+use Rattle.ow_decide.proofs.MadeLaws.{nothing_answered}
+use Rattle.ow_decide.proofs.SoundLaws.{decided_right}
+use Rattle.ow_hall.proofs.KeepLaws.{leaves_commits, step_keeps}
+use Rattle.ow_hall.proofs.NoteLaws.{counted_at, noted_at, seen_up_to, unmoved_at}
 
 -- ---- what isn't booked changes nothing
 
@@ -76,15 +77,15 @@ unless_any Unbooked X x = x
 tells_so : (idle : Bool) (t : Told) → Unbooks idle (tells t)
 tells_so idle t = unless_any (posting_by idle t) (Leaves (tells t)) (refl, refl, refl)
 
-ask_so : (idle : Bool) (at : ℕ) (d : Result Done Reason) → Unbooks idle (ask_decision at d)
-ask_so idle at (Ok (ShownDone value)) = tt
-ask_so idle at (Ok (Changed change value)) = tt
-ask_so idle at (Ok (Invoked plan shows)) = tt
-ask_so idle at (Ok QuietDone) = tt
-ask_so idle at (Ok (Fired items id)) = tt
-ask_so idle at (Err reason) = tells_so idle (refusal_told reason)
+ask_so : (idle : Bool) (d : Result Done Reason) → Unbooks idle (ask_decision d)
+ask_so idle (Ok (ShownDone value)) = tt
+ask_so idle (Ok (Changed change value)) = tt
+ask_so idle (Ok (Invoked items plan shows)) = tt
+ask_so idle (Ok QuietDone) = tt
+ask_so idle (Ok (Fired items id)) = tt
+ask_so idle (Err reason) = tells_so idle (refusal_told reason)
 
-call_so : (idle : Bool) (S : Sight) (p : Result Plan Reason) → Unbooks idle (call_decision S p)
+call_so : (idle : Bool) (S : Sight) (p : Result Plan Reason) → Unbooks idle (called_decision S p)
 call_so idle S (Ok plan) = tt
 call_so idle S (Err reason) = tells_so idle (told.Called (called.Refused reason))
 
@@ -95,10 +96,10 @@ order_so idle at v (places.Prewarm slot kind memory) o = tt
 order_so idle at v (places.Remove slots) o = tt
 order_so idle at v (places.Nothing reason) o = tells_so idle (told.Next (order_by (places.Nothing reason) o v))
 
-reply_so : (idle : Bool) (at run : ℕ) (reply : RunReply) (v : Shown) (r : Option Run)
-    → Unbooks idle (adds (reply_told run reply (answer_by at run reply v r)) (reply_items at run reply v r))
-reply_so idle at run reply v None = (refl, refl, refl)
-reply_so idle at run reply v (Some r) = tt
+reply_so : (idle : Bool) (S : Sight) (run : ℕ) (reply : RunReply) (o : Option (Option ℕ)) → reply_recorded run S.trace ≡ o
+    → Unbooks idle (adds (reply_told run reply (answer_of run o (happened (answered_all S run reply)))) (answered_all S run reply))
+reply_so idle S run reply None is = (nothing_answered S run reply is, refl, refl)
+reply_so idle S run reply (Some recorded) is = tt
 
 taken_so : (idle b : Bool) (refusal : FloorRefusal) (item : Item) → Unbooks idle (adds (taken_told (refused_unless b refusal)) (items_if b item))
 taken_so idle true refusal item = tt
@@ -110,14 +111,14 @@ opened_so idle at (Some parts) = tt
 
 pub unbooked : (idle : Bool) (S : Sight) (event : Event) → Unbooks idle (decide S event)
 unbooked idle S (events.Opened rows) = opened_so idle S.moment (parts_taken S.moment S.trace (judged rows))
-unbooked idle S (events.Asked r) = ask_so idle S.moment (request_done S (parts_of r))
-unbooked idle S (events.Called name params) = call_so idle S (call_plan S name params)
+unbooked idle S (events.Asked r) = ask_so idle (request_done S (parts_of r))
+unbooked idle S (events.Called name params) = call_so idle S (call_plan S name params >>= admitted_plan S)
 unbooked idle S events.Next = order_so idle S.moment (shown S.trace) (place_on (shown S.trace)) (head (shown S.trace))
 unbooked idle S (events.Begun run) = taken_so idle (begins run S.trace) (refusals.NoRun run) (Begun run S.moment)
 unbooked idle S (events.Lost run) = taken_so idle (loses run S.trace) (refusals.NoRun run) (Lost run S.moment)
 unbooked idle S (events.Gone slot generation) = taken_so idle (goes slot generation S.trace) (refusals.NoSlot slot (generation_in slot (slots S.trace))) (Gone slot generation S.moment)
 unbooked idle S events.Sweep = tt
-unbooked idle S (events.Answered run reply) = reply_so idle S.moment run reply (shown S.trace) (busy_run run (shown S.trace))
+unbooked idle S (events.Answered run reply) = reply_so idle S run reply (reply_recorded run S.trace) refl
 unbooked idle S (events.Collected id) = tells_so idle (told.Collected (collected_told id (shows_for S.waits id) (collected S.moment id S.trace)))
 unbooked idle S events.Drain = tt
 unbooked idle S events.Reopened = tt
@@ -215,11 +216,11 @@ stands_by Quiet t L new at event told_is stands leaves = left t L new at event s
 stands_by Denied t L new at event told_is stands leaves = left t L new at event stands leaves
 stands_by Unbooked t L new at event told_is stands leaves = left t L new at event stands leaves
 
--- what a step has that was done, what is committed of it, and what the floor has then
-abbrev pub HasDone : Table → History → ℕ → Event → StateView → Shown → Step → Type 0
-HasDone t B at event old mid step =
+-- what a step has that was done, with all that is committed of it, and what the floor has then
+abbrev pub HasDone : Table → History → ℕ → Event → Shown → Step → Type 0
+HasDone t B at event mid step =
     let d = decision t B at event in
-    IsStep step d × IsWhole step.fire step.commit d old.keeping (sight t (seen t B) (counted B) at) × Stands mid (d.items ++ (seen t B).trace)
+    Carries step d (sight t (seen t B) (counted B) at) × Stands mid (d.items ++ (seen t B).trace)
 
 pub is_seen : (t : Table) (B : History) (old : StateView) (now : Now) → AreAnswered t B → last_moment B ≤ now.at → IsAt old (seen t B) → now.counted ≡ counted B
     → IsSeen (sight t (seen t B) (counted B) now.at) t old.rows old.counts old.keeping old.floor.now now
@@ -234,7 +235,7 @@ is_seen t B old now answered late stands count = record {
 }
 
 pub step_at : (t : Table) (B : History) (old : StateView) (mid : Shown) (now : Now) (event : Event) (step : Step) → AreAnswered t B → last_moment B ≤ now.at → IsAt old (seen t B)
-    → now.counted ≡ counted B → Does old mid t now (λ S. decide S event) step → HasDone t B now.at event old mid step
+    → now.counted ≡ counted B → Makes old mid t now (λ S. decide S event) step → HasDone t B now.at event mid step
 step_at t B old mid now event step answered late stands count does =
     does (sight t (seen t B) (counted B) now.at) (is_seen t B old now answered late stands count) (sym stands.waits)
 
@@ -242,27 +243,34 @@ step_at t B old mid now event step answered late stands count does =
 abbrev pub CountsAfter : Table → History → ℕ → Event → StateView → Type 0
 CountsAfter t B at event new = StandsFor new.counts (notes_of ((decision t B at event).items ++ (seen t B).trace))
 
--- how floor, rows, waits and counts stand once its change is made
+-- how floor, rows, waits and counts stand once its change is made, and its commit is kept
 at_after : (t : Table) (B : History) (old new : StateView) (mid : Shown) (at : ℕ) (event : Event) (step : Step) → IsAt old (seen t B)
-    → HasDone t B at event old mid step
+    → HasDone t B at event mid step
     → new.floor.now ≡ mid → new.rows ≡ all_changed (changes_of step.change) old.rows → new.waits ≡ waits_after step.waits old.waits → CountsAfter t B at event new
-    → KeepsCommit step.fire step.commit old.keeping new.keeping → IsAt new (after (decision t B at event) (seen t B))
+    → new.keeping ≡ kept_with step.commit old.keeping → IsAt new (after (decision t B at event) (seen t B))
 at_after t B old new mid at event step stands done floor rows waits counts kept =
     let s = seen t B in
+    let S = sight t s (counted B) at in
+    let d = decide S event in
     record {
-      keeping = kept (all_changed (decision t B at event).changes s.rows) ((decision t B at event).items ++ s.trace) done.1.stands;
-      stands = rw floor done.2;
+      keeping = subst (λ (v : KeepingView). StandsForKept v (all_changed d.changes s.rows) (d.items ++ s.trace)) (sym kept)
+          (step_keeps step.commit d old.keeping S stands.stands.sound stands.keeping (decided_right S event stands.stands.sound) done.0.commit);
+      stands = rw floor done.1;
       rows = rows ∙ (ap (λ (rs : _). all_changed (changes_of step.change) rs) stands.rows ∙ ap (λ (cs : List Change). all_changed cs s.rows) done.0.changes);
       waits = waits ∙ (ap (waits_after step.waits) stands.waits ∙ ap (λ (w : Waits). waits_after w s.waits) done.0.waits);
       counts = counts;
     }
 
+-- the ids of what has happened then
+abbrev pub AreIdsAfter : Table → Ledger → ℕ → Event → Type 0
+AreIdsAfter t L at event = AreIds ((decision t L.entries at event).items ++ (seen t L.entries).trace)
+
 -- an answer that is posted
 pub answers : (t : Table) (L : Ledger) (old new : StateView) (mid : Shown) (at : ℕ) (event : Event) (step : Step) → Keeps old t L
     → last_moment L.entries ≤ at → at ≤ GREATEST_MOMENT → is_opening event ≡ false → new.floor.before ≡ None
-    → HasDone t L.entries at event old mid step
+    → HasDone t L.entries at event mid step
     → new.floor.now ≡ mid → new.rows ≡ all_changed (changes_of step.change) old.rows → new.waits ≡ waits_after step.waits old.waits → CountsAfter t L.entries at event new
-    → KeepsCommit step.fire step.commit old.keeping new.keeping → (step.told ≡ answer t L.entries at event) × Keeps new t (posted L at event step.told)
+    → new.keeping ≡ kept_with step.commit old.keeping → (step.told ≡ answer t L.entries at event) × Keeps new t (posted L at event step.told) × AreIdsAfter t L at event
 answers t L old new mid at event step keeps late most later free done floor rows waits counts kept =
     let stands = at_after t L.entries old new mid at event step keeps.stands done floor rows waits counts kept in
     let un = unbooked (is_idle L.entries) (sight t (seen t L.entries) (counted L.entries) at) event in
@@ -273,38 +281,18 @@ answers t L old new mid at event step keeps late most later free done floor rows
         legal = posted_legal t L at event step.told keeps.legal late most later done.0.told;
         free = free;
       },
+      stands.keeping.ids,
     )
 
 -- a step that was done, settled and made, and is noted then: `mid` is the state behind the step, `put` behind the changes
-pub noted : (t : Table) (L : Ledger) (old mid put new : StateView) (now : Now) (event : Event) (step : Step) (before : ℕ) → Keeps old t L
-    → is_opening event ≡ false → last_moment L.entries ≤ now.at → before ≡ length (all_ended old.floor.now)
-    → HasDone t L.entries now.at event old mid.floor.now step
-    → KeepsNotes old.counts mid.counts → put.floor.now ≡ mid.floor.now → put.counts ≡ mid.counts
-    → Notes step.fire step.invoked now.at (drop before (all_ended put.floor.now)) put.counts new.counts → CountsAfter t L.entries now.at event new
-noted t L old mid put new now event step before keeps later late count done kept floor counts notes =
+pub noted : (t : Table) (L : Ledger) (old mid put new : StateView) (now : Now) (event : Event) (step : Step) → Keeps old t L
+    → is_opening event ≡ false → last_moment L.entries ≤ now.at → HasDone t L.entries now.at event mid.floor.now step
+    → KeepsNotes old.counts mid.counts → put.counts ≡ mid.counts → NotesMoves step.moves put.counts new.counts → CountsAfter t L.entries now.at event new
+noted t L old mid put new now event step keeps later late done kept counts notes =
     let S = sight t (seen t L.entries) (counted L.entries) now.at in
     let T = (seen t L.entries).trace in
     let there : StandsFor put.counts (notes_of T) = subst (λ (v : CountsView). StandsFor v (notes_of T)) (sym counts) (kept (notes_of T) keeps.stands.counts) in
-    let grown : Stands put.floor.now ((decision t L.entries now.at event).items ++ T) = rw floor done.2 in
-    noted_at S event old.floor.now put.floor.now before step.fire step.invoked put.counts new.counts later keeps.stands.stands grown count done.0.invoked done.0.moves
-    (seen_up_to t L.entries now.at keeps.legal.answered late) there notes
-
--- the ids of what has happened then
-abbrev pub AreIdsAfter : Table → Ledger → ℕ → Event → Type 0
-AreIdsAfter t L at event = AreIds ((decision t L.entries at event).items ++ (seen t L.entries).trace)
-
--- a beginning, a loss or a going commits nothing
-quiet_done : (t : Table) (B : History) (old : StateView) (mid : Shown) (now : Now) (event : Event) (step : Step) → wants_memory event ≡ false → step.fire ≡ None → step.commit ≡ None
-    → AreAnswered t B → last_moment B ≤ now.at → IsAt old (seen t B) → now.counted ≡ counted B → Makes old mid t now (λ S. decide S event) step → HasDone t B now.at event old mid step
-quiet_done t B old mid now event step free alone none answered late stands count makes =
-    let S = sight t (seen t B) (counted B) now.at in
-    let made = makes S (is_seen t B old now answered late stands count) (sym stands.waits) in
-    let is = alone_made step.fire step.commit (decide S event) old.keeping S alone made.0.commit in (
-      record { told = made.0.told; changes = made.0.changes; waits = made.0.waits; invoked = made.0.invoked; moves = is.0 },
-      subst (λ (f : Option FireStep). IsWhole f step.commit (decide S event) old.keeping S) (sym alone)
-          (quiet_whole S event old.keeping step.commit free none stands.stands.sound stands.keeping is.1),
-      made.1,
-    )
+    noted_at S event step.moves put.counts new.counts later keeps.stands.stands.sound done.0.moves (seen_up_to t L.entries now.at keeps.legal.answered late) there notes
 
 -- a beginning, a loss or a going that is posted
 pub takes : (t : Table) (L : Ledger) (old new : StateView) (now : Now) (event : Event) (taken : Result (Unit {0}) FloorRefusal) (at : ℕ) → Keeps old t L → now.counted ≡ counted L.entries
@@ -314,22 +302,21 @@ pub takes : (t : Table) (L : Ledger) (old new : StateView) (now : Now) (event : 
 takes t L old new now event taken at keeps count same free before makes rest counts keeping =
     let late = subst (λ (m : ℕ). last_moment L.entries ≤ m) (sym same) (not_before L.entries at) in
     let most = subst (λ (m : ℕ). m ≤ GREATEST_MOMENT) (sym same) (not_after t L.entries at keeps.legal) in
-    let done = quiet_done t L.entries old new.floor.now now event (telling (taken_told taken)) free refl refl keeps.legal.answered late keeps.stands count makes in
-    let quiet = quiet_at (sight t (seen t L.entries) (counted L.entries) now.at) event old.counts new.counts free counts keeps.stands.counts in
-    let both = answers t L old new new.floor.now now.at event (telling (taken_told taken)) keeps late most (later_free event free) before done refl rest.0 rest.1 quiet
-    (λ rs T stands. subst (λ (v : KeepingView). StandsForKept v rs T) (sym keeping) stands) in
-    (both.0, both.1, done.1.stands.ids)
+    let step = telling (taken_told taken) in
+    let done = step_at t L.entries old new.floor.now now event step keeps.legal.answered late keeps.stands count makes in
+    let quiet = unmoved_at (decision t L.entries now.at event).items (seen t L.entries).trace old.counts new.counts done.0.moves counts keeps.stands.counts in
+    answers t L old new new.floor.now now.at event step keeps late most (later_free event free) before done refl rest.0 rest.1 quiet keeping
 
 -- what was taken back stands as before
 pub stays : (old new : StateView) (t : Table) (L : Ledger) → new.floor.now ≡ old.floor.now → new.floor.before ≡ None → new.rows ≡ old.rows → new.waits ≡ old.waits
-    → KeepsNotes old.counts new.counts → StaysKept old.keeping new.keeping → Keeps old t L → Keeps new t L
+    → KeepsNotes old.counts new.counts → new.keeping ≡ old.keeping → Keeps old t L → Keeps new t L
 stays old new t L floor free rows waits counts kept keeps = record {
   stands = record {
     stands = rw floor keeps.stands.stands;
     rows = rows ∙ keeps.stands.rows;
     waits = waits ∙ keeps.stands.waits;
     counts = counts (notes_of (seen t L.entries).trace) keeps.stands.counts;
-    keeping = stands_same old.keeping new.keeping (seen t L.entries).rows (seen t L.entries).trace kept.0 kept.1 keeps.stands.keeping;
+    keeping = subst (λ (v : KeepingView). StandsForKept v (seen t L.entries).rows (seen t L.entries).trace) (sym kept) keeps.stands.keeping;
   };
   legal = keeps.legal;
   free = free;

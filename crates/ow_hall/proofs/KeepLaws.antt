@@ -1,199 +1,55 @@
 -- What is committed makes what is kept of the book.
-use Rattle.std.proofs.Common.{◌≡◌, ◌≢◌, ◌∙◌, ◌++◌, ◌==◌, ℕ, length, Bool, true, false, List, [], ◌∷◌, is_some, IfSome, Option, Some, None, refl, sym, ap, subst, append-nil, inl, inr, Result, Ok, Err}
+use Rattle.std.proofs.Common.{◌≡◌, ◌≢◌, ◌∙◌, ◌++◌, ℕ, Bool, true, false, List, [], ◌∷◌, Option, Some, None, refl, sym, ap, subst, inr, inl, Result, Ok, Err}
 use Rattle.std.specs.List.{flat_map}
 use Rattle.ow_traits.specs.Telling.{Telling, with_attempt}
 use Rattle.ow_traits.specs.Keeper.{Commits, KeepsCause, attempt_of}
 use Rattle.ow_traits.specs.declared.keepers.KeeperError.{KeeperError}
-use Rattle.ow_entity.specs.declared.rows.Row.{Row}
-use Rattle.ow_records.specs.declared.record.Record.{Record}
 use Rattle.ow_traits.specs.declared.change_list.Change.{Change as StoreChange}
 use Rattle.ow_pool.specs.declared.answers.Place.{Place}
 use Rattle.ow_pool.specs.declared.answers.Place.TheVariants as places
 use Rattle.ow_records.specs.declared.ids.Id.{Id}
 use Rattle.ow_floor.specs.View.{Shown, head}
 use Rattle.ow_floor.specs.declared.activations.Open.{Open}
-use Rattle.ow_floor.specs.Calls.{begins, goes, items_if, loses, order_items, place_on}
+use Rattle.ow_floor.specs.declared.moves.Moved.{Moved}
+use Rattle.ow_floor.specs.Calls.{begins, goes, items_if, loses, moved, order_items, place_on}
 use Rattle.ow_floor.specs.Growth.{AreRight}
 use Rattle.ow_floor.specs.Laws.{IsSound}
-use Rattle.ow_floor.specs.Trace.{Accepted, Drawn, Fired, Begun, Ended, Gone, Item, Lost, Resumed, Trace, record_of, records, resumed, shown}
+use Rattle.ow_floor.specs.Trace.{Begun, Gone, Item, Lost, shown}
 use Rattle.ow_tables.specs.Contents.{Change}
-use Rattle.ow_kept.specs.Commits.{end_changes, row_changes}
-use Rattle.ow_kept.specs.Keeping.{AreLater, CommitView, IsLater, KeepingView, StandsAfter, StandsForKept, keeping_after, with_opened, without_ended}
-use Rattle.ow_kept.proofs.Quiet.{quiet_stands, stands_same}
-use Rattle.ow_counts.specs.View.{AreNotedAt, IsNotedAt}
+use Rattle.ow_kept.specs.Commits.{changes_of, row_changes}
+use Rattle.ow_kept.specs.Keeping.{FollowingView, KeepingView, StandsForKept}
+use Rattle.ow_kept.proofs.Quiet.{quiet_stands}
 use Rattle.ow_decide.specs.declared.events.Event.{Event}
 use Rattle.ow_decide.specs.declared.events.Event.TheVariants as events
-use Rattle.ow_decide.specs.Chain.{AreSteps, IsStep}
-use Rattle.ow_decide.specs.Decision.{Decision, all_changed, commits, item_changes, items_changes}
-use Rattle.ow_decide.specs.Decisions.{decide, is_opening, wants_memory}
-use Rattle.ow_decide.specs.Making.{IsCommit, IsDone}
-use Rattle.ow_decide.specs.Noted.{IsUnfired}
+use Rattle.ow_decide.specs.Decision.{Decision, all_changed, commits, items_changes}
+use Rattle.ow_decide.specs.Decisions.{decide, wants_memory}
+use Rattle.ow_decide.specs.Making.{IsCommit}
 use Rattle.ow_decide.specs.Sight.{Sight}
-use Rattle.ow_decide.specs.declared.step.FireStep.{FireStep}
-use Rattle.ow_decide.proofs.ChainLaws.{decided_steps}
-use Rattle.ow_decide.proofs.SoundLaws.{decided_right}
+use Rattle.ow_decide.proofs.MadeLaws.{changes_of_moves}
 use Rattle.ow_tenant.specs.Table.{Table}
 use Rattle.ow_hall.specs.Comes.{Holds, KeptRows, Refuses, Stays, kept_after}
 use Rattle.ow_hall.specs.Commits.{CommitsTo, changes_in}
 use Rattle.ow_hall.specs.History.{counted, decision, seen, sight}
 use Rattle.ow_hall.specs.Ledger.{Ledger}
-use Rattle.ow_hall.specs.State.{CommitsEnds, HasMoves, IsEnding, IsWhole, KeepsCommit, StandsWith, StaysKept}
-
--- ---- the records of an earlier run stay
-
--- they are what they were
-abbrev pub StayResumed : Trace → Trace → Type 0
-StayResumed items T = resumed (items ++ T) ≡ resumed T
-
-stay_step : (S : Sight) (item : Item) (T : Trace) → IsStep S item T → StayResumed (item ∷ []) T
-stay_step S (Resumed counts rs) T step = absurd step.is
-stay_step S item T step = refl
-
-steps_stay : (S : Sight) (items : Trace) → AreSteps S items → StayResumed items S.trace
-steps_stay S [] steps = refl
-steps_stay S (item ∷ items) steps = stay_step S item (items ++ S.trace) steps.0 ∙ steps_stay S items steps.1
-
-pub stay_resumed : (S : Sight) (event : Event) → is_opening event ≡ false → StayResumed (decide S event).items S.trace
-stay_resumed S event later = steps_stay S (decide S event).items (decided_steps S event later)
+use Rattle.ow_hall.specs.State.{kept_with}
 
 -- ---- a step commits all that changes
 
-ends_then : (rs : List Record) (r : Record) → flat_map end_changes (rs ++ r ∷ []) ≡ flat_map end_changes rs ++ end_changes r
-ends_then [] r = refl
-ends_then (x ∷ rs) r = ap (λ cs. end_changes x ++ cs) (ends_then rs r)
+-- where no row is changed and nothing moved, nothing is committed
+unmoved_commits : (d : Decision) → d.changes ≡ [] → moved d.items ≡ [] → commits d ≡ []
+unmoved_commits d changes unmoved =
+    ap (λ (cs : List Change). flat_map row_changes cs ++ items_changes d.items) changes ∙ (changes_of_moves d.items ∙ ap (λ (ms : List Moved). flat_map changes_of ms) unmoved)
 
-end_step : (item : Item) (items : Trace) → IsLater item → flat_map end_changes (records (item ∷ items)) ≡ flat_map end_changes (records items) ++ item_changes item
-end_step (Accepted a) items later = absurd later
-end_step (Drawn id at) items later = absurd later
-end_step (Fired r) items later = absurd later
-end_step (Ended e) items later = ends_then (records items) (record_of e)
-end_step item items later = sym (append-nil (flat_map end_changes (records items)))
+pub step_commits : (commit : Option FollowingView) (d : Decision) (S : Sight) → IsCommit commit d S → changes_in commit ≡ commits d
+step_commits None d S is = sym (unmoved_commits d is.0 is.1.1)
+step_commits (Some c) d S is = is.changes
 
--- of items that accept nothing the ends are committed
-only_ends : (items : Trace) → AreLater items → items_changes items ≡ flat_map end_changes (records items)
-only_ends [] later = refl
-only_ends (item ∷ items) later = ap (λ (cs : List StoreChange). cs ++ item_changes item) (only_ends items later.1) ∙ sym (end_step item items later.0)
-
-alone_commits : (d : Decision) → (d.changes ≡ []) × AreLater d.items → commits d ≡ flat_map end_changes (records d.items)
-alone_commits d alone = ap (λ (cs : List Change). flat_map row_changes cs ++ items_changes d.items) alone.0 ∙ only_ends d.items alone.1
-
-whole_none : (d : Decision) (b : KeepingView) (S : Sight) → IsSound S.trace → StandsForKept b S.rows S.trace → AreRight d.items (shown S.trace) → (d.changes ≡ []) × AreLater d.items
-    → records d.items ≡ [] → IsWhole None None d b S
-whole_none d b S sound stands right alone none = record {
-  changes = sym (alone_commits d alone ∙ ap (flat_map end_changes) none);
-  stands = subst (λ (cs : List Change). StandsForKept b (all_changed cs S.rows) (d.items ++ S.trace)) (sym alone.0) (quiet_stands b S.rows S.trace d.items stands sound right alone.1 none);
-}
-
--- where nothing ends, it is what was committed before
-whole_quiet : (d : Decision) (b : KeepingView) (S : Sight) (commit : Option CommitView) → IsSound S.trace → StandsForKept b S.rows S.trace → AreRight d.items (shown S.trace)
-    → IsCommit commit d b S → records d.items ≡ [] → IsWhole None commit d b S
-whole_quiet d b S None sound stands right is none = whole_none d b S sound stands right is none
-whole_quiet d b S (Some c) sound stands right is none = record { changes = is.1.changes; stands = is.1.stands }
-
-whole_ends : (d : Decision) (b : KeepingView) (S : Sight) (r : Record) (rs : List Record) (commit : Option CommitView) → IsSound S.trace → StandsForKept b S.rows S.trace
-    → AreRight d.items (shown S.trace) → (d.changes ≡ []) × AreLater d.items → r ∷ rs ≡ records d.items → IfSome commit (λ c. IsEnding c b (r ∷ rs)) → is_some commit ≡ true → IsWhole None commit d b S
-whole_ends d b S r rs None sound stands right alone is ending some = cc
-whole_ends d b S r rs (Some c) sound stands right alone is ending some = record {
-  changes = ending.changes ∙ (ap (flat_map end_changes) is ∙ sym (alone_commits d alone));
-  stands = subst (λ (cs : List Change). StandsAfter c b (all_changed cs S.rows) (d.items ++ S.trace)) (sym alone.0)
-      (ending.stands S.rows S.trace d.items stands sound right alone.1 is);
-}
-
--- where activations end, nothing was to be committed before
-whole_by : (d : Decision) (b : KeepingView) (S : Sight) (ends : List Record) (before after : Option CommitView) → IsSound S.trace → StandsForKept b S.rows S.trace
-    → AreRight d.items (shown S.trace) → IsCommit before d b S → ends ≡ records d.items → CommitsEnds b ends before after → IsWhole None after d b S
-whole_by d b S [] before after sound stands right commit is ends =
-    subst (λ (c : Option CommitView). IsWhole None c d b S) (sym ends) (whole_quiet d b S before sound stands right commit (sym is))
-whole_by d b S (r ∷ rs) None after sound stands right commit is ends = whole_ends d b S r rs after sound stands right commit is ends.0 ends.1
-whole_by d b S (r ∷ rs) (Some c) after sound stands right commit is ends = let none : r ∷ rs ≡ [] = is ∙ commit.0 in cc
-
--- what is committed of ends that there are
-pub ends_committed : (v : KeepingView) (ends : List Record) (before : Option CommitView) (c : CommitView) → false ≡ (length ends == 0) → IsEnding c v ends → CommitsEnds v ends before (Some c)
-ends_committed v [] before c some ending = cc
-ends_committed v (r ∷ rs) before c some ending = (ending, refl)
-
--- with its ends a step commits all
-pub whole : (S : Sight) (event : Event) (b : KeepingView) (ends : List Record) (before after : Option CommitView) → IsSound S.trace
-    → StandsForKept b S.rows S.trace → IsCommit before (decide S event) b S → ends ≡ records (decide S event).items → CommitsEnds b ends before after
-    → IsWhole None after (decide S event) b S
-whole S event b ends before after sound stands commit is committed =
-    whole_by (decide S event) b S ends before after sound stands (decided_right S event sound) commit is committed
-
--- ---- fires
-
-push_some : (rs : List Record) (r : Record) → rs ++ r ∷ [] ≡ [] → ⊥
-push_some [] r none = cc
-push_some (x ∷ rs) r none = cc
-
-later_unfired : (items : Trace) → AreLater items → IsUnfired items
-later_unfired [] later = tt
-later_unfired (Fired r ∷ items) later = absurd later.0
-later_unfired (item ∷ items) later = tt
-
-unrecorded_unfired : (items : Trace) → records items ≡ [] → IsUnfired items
-unrecorded_unfired [] none = tt
-unrecorded_unfired (Fired r ∷ items) none = push_some (records items) r none
-unrecorded_unfired (item ∷ items) none = tt
-
-commit_unfired : (commit : Option CommitView) (d : Decision) (b : KeepingView) (S : Sight) → IsCommit commit d b S → IsUnfired d.items
-commit_unfired None d b S is = later_unfired d.items is.1
-commit_unfired (Some c) d b S is = unrecorded_unfired d.items is.0
-
--- a step that is no fire
-pub alone_made : (fire : Option FireStep) (commit : Option CommitView) (d : Decision) (b : KeepingView) (S : Sight) → fire ≡ None → IsDone fire commit d b S
-    → HasMoves fire d.items × IsCommit commit d b S
-alone_made None commit d b S none done = (commit_unfired commit d b S done, done)
-alone_made (Some f) commit d b S none done = cc
-
--- a fire, with all that is committed of it
-pub fire_made : (fire : Option FireStep) (commit : Option CommitView) (d : Decision) (b : KeepingView) (S : Sight) → is_some fire ≡ true → IsDone fire commit d b S
-    → HasMoves fire d.items × IsWhole fire commit d b S
-fire_made None commit d b S some done = cc
-fire_made (Some f) commit d b S some done = (done.1.moves, record { changes = done.1.changes; stands = done.1.stands })
-
-pub none_of : (fire : Option FireStep) → is_some fire ≡ false → fire ≡ None
-none_of None none = refl
-none_of (Some f) none = cc
-
--- what is decided is of the moment
-step_noted : (S : Sight) (item : Item) (T : Trace) → IsStep S item T → IsNotedAt S.moment item
-step_noted S (Accepted a) T step = step.at
-step_noted S (Fired r) T step = step.at
-step_noted S item T step = tt
-
-steps_noted : (S : Sight) (items : Trace) → AreSteps S items → AreNotedAt S.moment items
-steps_noted S [] steps = tt
-steps_noted S (item ∷ items) steps = (step_noted S item (items ++ S.trace) steps.0, steps_noted S items steps.1)
-
-pub noted_now : (S : Sight) (event : Event) → is_opening event ≡ false → AreNotedAt S.moment (decide S event).items
-noted_now S event later = steps_noted S (decide S event).items (decided_steps S event later)
-
--- ---- what takes no memory
-
--- a beginning, a loss or a going has no ends
-if_ends : (b : Bool) (item : Item) → records (item ∷ []) ≡ [] → records (items_if b item) ≡ []
-if_ends true item none = none
-if_ends false item none = refl
-
-free_ends : (S : Sight) (event : Event) → wants_memory event ≡ false → records (decide S event).items ≡ []
-free_ends S (events.Begun run) free = if_ends (begins run S.trace) (Begun run S.moment) refl
-free_ends S (events.Lost run) free = if_ends (loses run S.trace) (Lost run S.moment) refl
-free_ends S (events.Gone slot generation) free = if_ends (goes slot generation S.trace) (Gone slot generation S.moment) refl
-free_ends S (events.Opened rows) free = cc
-free_ends S (events.Asked r) free = cc
-free_ends S (events.Called name params) free = cc
-free_ends S events.Next free = cc
-free_ends S (events.Answered run reply) free = cc
-free_ends S events.Sweep free = cc
-free_ends S (events.Collected id) free = cc
-free_ends S events.Drain free = cc
-free_ends S events.Reopened free = cc
-
--- it commits nothing
-pub quiet_whole : (S : Sight) (event : Event) (b : KeepingView) (commit : Option CommitView) → wants_memory event ≡ false → commit ≡ None → IsSound S.trace
-    → StandsForKept b S.rows S.trace → IsCommit commit (decide S event) b S → IsWhole None commit (decide S event) b S
-quiet_whole S event b commit free none sound stands is =
-    whole_quiet (decide S event) b S commit sound stands (decided_right S event sound) is (free_ends S event free)
+-- once that is kept, its size stands for what is kept then
+pub step_keeps : (commit : Option FollowingView) (d : Decision) (v : KeepingView) (S : Sight) → IsSound S.trace → StandsForKept v S.rows S.trace → AreRight d.items (shown S.trace)
+    → IsCommit commit d S → StandsForKept (kept_with commit v) (all_changed d.changes S.rows) (d.items ++ S.trace)
+step_keeps None d v S sound stands right is =
+    subst (λ (cs : List Change). StandsForKept v (all_changed cs S.rows) (d.items ++ S.trace)) (sym is.0) (quiet_stands v S.rows S.trace d.items stands sound right is.1.0 is.1.1)
+step_keeps (Some c) d v S sound stands right is = is.stands
 
 -- ---- what the store holds
 
@@ -284,20 +140,5 @@ pub kept_none : (told : KeptRows) (changes : List StoreChange) → changes ≡ [
 kept_none told changes none = none_after told ∙ ap (λ (cs : List StoreChange). kept_after cs told) (sym none)
 
 -- what was to be committed is what a decision commits
-pub committed : {P : Type 0} (telling : P → Telling) (fire : Option FireStep) (commit : Option CommitView) (changes : List StoreChange) (old new : P) → changes_in fire commit ≡ changes
-    → Holds telling (changes_in fire commit) old new → Holds telling changes old new
-committed telling fire commit changes old new same holds = subst (λ (cs : List StoreChange). Holds telling cs old new) same holds
-
--- more room is no matter
-after_same : (c : CommitView) (v w : KeepingView) (rs : List Row) (T : Trace) → w.opens ≡ v.opens → StandsAfter c v rs T → StandsAfter c w rs T
-after_same c v w rs T opens stands = stands_same (keeping_after c v) (keeping_after c w) rs T refl (ap (λ os. without_ended c.ended (with_opened c.opened os)) opens) stands
-
-with_room : (fire : Option FireStep) (commit : Option CommitView) (old mid : KeepingView) (rs : List Row) (T : Trace) → StaysKept old mid → StandsWith fire commit old rs T → StandsWith fire commit mid rs T
-with_room (Some f) commit old mid rs T stays stands = stands
-with_room None None old mid rs T stays stands = stands_same old mid rs T stays.0 stays.1 stands
-with_room None (Some c) old mid rs T stays stands = after_same c old mid rs T stays.1 stands
-
--- the size that was kept with more room
-pub kept_over : (fire : Option FireStep) (commit : Option CommitView) (old mid put new : KeepingView) → StaysKept old mid → put ≡ mid → KeepsCommit fire commit put new → KeepsCommit fire commit old new
-kept_over fire commit old mid put new stays same keeps rs T stands =
-    keeps rs T (subst (λ (v : KeepingView). StandsWith fire commit v rs T) (sym same) (with_room fire commit old mid rs T stays stands))
+pub committed : {P : Type 0} (telling : P → Telling) (made changes : List StoreChange) (old new : P) → made ≡ changes → Holds telling made old new → Holds telling changes old new
+committed telling made changes old new same holds = subst (λ (cs : List StoreChange). Holds telling cs old new) same holds

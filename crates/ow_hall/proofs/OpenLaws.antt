@@ -1,5 +1,5 @@
 -- What an opening leaves keeps the hall.
-use Rattle.std.proofs.Common.{◌≡◌, ◌∙◌, ◌≤◌, ◌+◌, ℕ, List, [], ◌∷◌, map, max, Option, None, Some, Result, Ok, Err, IfSome, IsOk, refl, sym, ap, subst, arith, inl, inr, ◌⊎◌}
+use Rattle.std.proofs.Common.{◌≡◌, ◌∙◌, ◌≤◌, ◌+◌, ℕ, List, [], ◌∷◌, map, max, Option, None, Some, Result, Ok, Err, IfSome, IsOk, refl, sym, ap, subst, arith, inl, inr}
 use Rattle.std.proofs.Math.Nat.{le-max_left, max-le, min-le_right}
 use Rattle.ow_traits.specs.Telling.{Attempt, Telling, made, unmade, with_attempt}
 use Rattle.ow_entity.specs.declared.rows.Row.{Row}
@@ -20,7 +20,7 @@ use Rattle.ow_keep.specs.Split.{HoldsItems, Parts}
 use Rattle.ow_keep.proofs.Whole.{judged-kept}
 use Rattle.ow_keep.proofs.MomentLaws.{judged_small}
 use Rattle.ow_keep.proofs.Splits.{moment_of_split}
-use Rattle.ow_kept.specs.Keeping.{StandsForKept}
+use Rattle.ow_kept.specs.Keeping.{KeepingView, StandsForKept}
 use Rattle.ow_kept.specs.Kept.{kept}
 use Rattle.ow_kept.specs.Opening.{opened_trace, opening_changes, resumed_records}
 use Rattle.ow_kept.proofs.Opening.{openings_kept}
@@ -203,7 +203,7 @@ opening_stands telling old mid new t rows at r o loaded ready commits asked late
     let p = ready.parts in
     let T = opened_trace m p (pool_of t) t.wants in
     let held = judged-kept rows ready.holds.items ready.holds.kept ready.holds.known in
-    let keeping = keeps.keeping (resumed p.entities builtin) T (ready.stands r.opened.state.keeping ready.over.opens) in
+    let keeping = subst (λ (v : KeepingView). StandsForKept v (resumed p.entities builtin) T) (sym keeps.keeping) ready.stands in
     let ledger = ap (λ (b : BookView). b.ledger) keeps.book ∙ ready.ledger in
     let told = made_of (telling old).rows (telling mid).rows (telling new).rows rows r.commit.changes loaded.told loaded.same commits in
     let holds = opened_holds (telling new).rows t rows at p ready.order ready.holds (subst (λ (cs : List Change). IfSome (telling new).rows (λ x. x ≡ changed cs rows)) ready.changes told) in

@@ -1,5 +1,5 @@
 -- What a commit that failed leaves.
-use Rattle.std.proofs.Common.{◌≡◌, ◌∙◌, ℕ, Bool, true, false, List, [], Option, Result, Ok, Err, refl, subst}
+use Rattle.std.proofs.Common.{◌≡◌, ◌∙◌, ℕ, Bool, true, false, List, [], Result, Ok, Err, refl, subst}
 use Rattle.std.specs.Result.{IsErr}
 use Rattle.ow_traits.specs.Telling.{Telling}
 use Rattle.ow_value.specs.declared.memory.NoMemory.{NoMemory as Want}
@@ -7,14 +7,12 @@ use Rattle.ow_traits.specs.declared.change_list.Change.{Change}
 use Rattle.ow_traits.specs.declared.keepers.KeeperError.{KeeperError}
 use Rattle.ow_traits.specs.declared.keepers.KeeperError.TheVariants.{Failed, NoMemory}
 use Rattle.ow_floor.specs.Trace.{Trace}
-use Rattle.ow_kept.specs.Keeping.{CommitView}
 use Rattle.ow_decide.specs.Decision.{commits}
 use Rattle.ow_decide.specs.declared.events.Event.{Event}
 use Rattle.ow_decide.specs.declared.replies.Reply.{Reply}
-use Rattle.ow_decide.specs.declared.step.FireStep.{FireStep}
 use Rattle.ow_tenant.specs.Table.{Table}
 use Rattle.ow_hall.specs.Comes.{Comes, HallView, HoldsBook, KeptRows, Outcome, Refuses, Replies, Wants, decided}
-use Rattle.ow_hall.specs.Commits.{CommitsTo, changes_in, is_fault, uncommitted}
+use Rattle.ow_hall.specs.Commits.{CommitsTo, is_fault, uncommitted}
 use Rattle.ow_hall.specs.Ledger.{HasRoom, Ledger}
 use Rattle.ow_hall.specs.Performing.{undone}
 use Rattle.ow_hall.specs.State.{Keeps, StateView}
@@ -23,12 +21,12 @@ use Rattle.ow_hall.proofs.KeepLaws.{stays_same, stays_so}
 -- ---- a commit that failed
 
 -- what comes of it
-pub undone_comes : {P : Type 0} (telling : P → Telling) (old new : HallView P) (at : ℕ) (event : Event) (fire : Option FireStep) (commit : Option CommitView) (e : KeeperError)
-    → changes_in fire commit ≡ commits (decided old at event) → CommitsTo telling (changes_in fire commit) old.store new.store (Err e) → new.ledger ≡ uncommitted e old.ledger → new.tenants ≡ old.tenants
+pub undone_comes : {P : Type 0} (telling : P → Telling) (old new : HallView P) (at : ℕ) (event : Event) (asked : List Change) (e : KeeperError)
+    → asked ≡ commits (decided old at event) → CommitsTo telling asked old.store new.store (Err e) → new.ledger ≡ uncommitted e old.ledger → new.tenants ≡ old.tenants
     → Comes telling old new at event (undone (is_fault e))
-undone_comes telling old new at event fire commit Failed is none ledger tenants =
+undone_comes telling old new at event asked Failed is none ledger tenants =
     (λ empty. none.0 (is ∙ empty), ledger, tenants, subst (λ (cs : List Change). Refuses telling cs old.store new.store) is none.1, none.2.rose refl)
-undone_comes telling old new at event fire commit NoMemory is none ledger tenants = (
+undone_comes telling old new at event asked NoMemory is none ledger tenants = (
   ledger,
   tenants,
   stays_so telling (commits (decided old at event)) old.store new.store (subst (λ (cs : List Change). Refuses telling cs old.store new.store) is none.1) (λ empty. none.0 (is ∙ empty)),

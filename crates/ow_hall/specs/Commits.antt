@@ -5,16 +5,14 @@ use Rattle.ow_traits.specs.Keeper.{KeepsCause}
 use Rattle.ow_traits.specs.declared.change_list.Change.{Change}
 use Rattle.ow_traits.specs.declared.keepers.KeeperError.{KeeperError}
 use Rattle.ow_traits.specs.declared.keepers.KeeperError.TheVariants.{Failed, NoMemory}
-use Rattle.ow_kept.specs.Keeping.{CommitView}
-use Rattle.ow_decide.specs.declared.step.FireStep.{FireStep}
+use Rattle.ow_kept.specs.Keeping.{FollowingView}
 use Rattle.ow_hall.specs.Comes.{Holds, Refuses}
 use Rattle.ow_hall.specs.Ledger.{Ledger, faulted}
 
--- of a fire, or else of another step
-abbrev pub changes_in : Option FireStep → Option CommitView → List Change
-changes_in (Some fire) commit = fire.commit.changes
-changes_in None None = []
-changes_in None (Some c) = c.changes
+-- all of them, or none where there is no commit
+abbrev pub changes_in : Option FollowingView → List Change
+changes_in None = []
+changes_in (Some c) = c.changes
 
 abbrev pub refused : KeeperError → Result (Unit {0}) KeeperError
 refused e = Err e

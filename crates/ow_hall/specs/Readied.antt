@@ -11,7 +11,7 @@ use Rattle.ow_traits.specs.declared.keepers.KeeperError.TheVariants.{Failed, NoM
 use Rattle.ow_keep.specs.Judged.{judged}
 use Rattle.ow_keep.specs.Kept.{IsBadRow}
 use Rattle.ow_keep.specs.Split.{HoldsItems, Parts}
-use Rattle.ow_kept.specs.Keeping.{KeepingView, StandsAfter}
+use Rattle.ow_kept.specs.Keeping.{StandsFollowing}
 use Rattle.ow_kept.specs.Opening.{opened_trace, opening_changes}
 use Rattle.ow_tenant.specs.Table.{Table}
 use Rattle.ow_tenant.specs.Tenants.{pool_of}
@@ -20,7 +20,7 @@ use Rattle.ow_hall.specs.Comes.{HoldsBook, Makes}
 use Rattle.ow_hall.specs.History.{seen}
 use Rattle.ow_hall.specs.Ledger.{HasRoom, opened, opening_moment}
 use Rattle.ow_hall.specs.Openings.{HasStartCause, IsAskedOnce}
-use Rattle.ow_hall.specs.State.{Keeps, KeepsCommit, StateView}
+use Rattle.ow_hall.specs.State.{Keeps, StateView, kept_with}
 use Rattle.ow_hall.specs.declared.opening.Opened.{Opened}
 use Rattle.ow_hall.specs.declared.opening.Ready.{Ready}
 use Rattle.ow_hall.specs.declared.refusals.StartFault.{StartFault}
@@ -33,8 +33,6 @@ pub record IsOver (t : Table) (at : ℕ) (p : Parts) (w : StateView) : Type 0 wh
   pub rows : w.rows ≡ resumed p.entities builtin
   pub waits : w.waits ≡ []
   pub counts : StandsFor w.counts []
-  pub opens : w.keeping.opens ≡ []
-  pub room : 1 ≤ w.keeping.room
 
 -- floor, rows, waits and counts are what they were
 pub record IsBeside (w v : StateView) : Type 0 where
@@ -51,7 +49,7 @@ pub record IsReadied (t : Table) (rows : List (List ℕ × List ℕ)) (at : ℕ)
   pub over : IsOver t (opening_moment rows at) parts r.opened.state
   pub ledger : r.opened.book.ledger ≡ opened t rows at
   pub changes : r.commit.changes ≡ opening_changes (opening_moment rows at) parts.unrecorded
-  pub stands : (v : KeepingView) → v.opens ≡ [] → StandsAfter r.commit v (resumed parts.entities builtin) (opened_trace (opening_moment rows at) parts (pool_of t) t.wants)
+  pub stands : StandsFollowing r.commit (resumed parts.entities builtin) (opened_trace (opening_moment rows at) parts (pool_of t) t.wants)
 
 -- rows were loaded from a store, which holds them still
 pub record IsLoaded {P : Type 0} (telling : P → Telling) (old new : P) (loaded : List (List ℕ × List ℕ)) : Type 0 where
@@ -76,7 +74,7 @@ pub record IsOpenedOver {P : Type 0} (telling : P → Telling) (old new : P) (t 
 -- the commit was made
 pub record IsKeptBy (r : Ready) (o : Opened) : Type 0 where
   pub beside : IsBeside r.opened.state o.state
-  pub keeping : KeepsCommit None (Some r.commit) r.opened.state.keeping o.state.keeping
+  pub keeping : o.state.keeping ≡ kept_with (Some r.commit) r.opened.state.keeping
   pub book : o.book ≡ r.opened.book
 
 -- it was not, and the store holds what it held
@@ -96,7 +94,3 @@ abbrev pub TellsUnready : List (List ℕ × List ℕ) → StartFault → Type 0
 TellsUnready rows (starts.BadKept key) = IsBadRow rows key
 TellsUnready rows starts.StoreFault = ⊥
 TellsUnready rows starts.NoMemory = Unit {0}
-
--- there is room for what is committed
-abbrev pub IsRoomy : Ready → Type 0
-IsRoomy r = 1 ≤ r.opened.state.keeping.room

@@ -21,10 +21,10 @@ use crate::posting::Posting;
 use crate::refusals::SweepRefusal;
 use crate::state::HallState;
 use crate::store_answer::StoreAnswer;
-use ow_decide::{Called, Event, FireStep, HallCollected, Now, Reply, Step, Told, taken_told};
+use ow_decide::{Called, Event, HallCollected, Now, Reply, Step, Told, taken_told};
 use ow_floor::{AnswerRefusal, Answered, Drain, FloorRefusal, Happened, Order, Swept};
 use ow_http::Request;
-use ow_kept::Commit;
+use ow_kept::Following;
 use ow_names::FullName;
 use ow_records::Id;
 use ow_several::{copied2, kept_beside};
@@ -112,7 +112,7 @@ impl<P: Keeper + Drop> Hall<P> {
         (store, book)
     }
 
-    /// Answers a request.
+    /// Answers a request. A sequence or a conductor that it invokes makes its first step in the same event.
     pub fn ask(&mut self, alloc: Global, at: u64, request: &Request) -> Result<Reply, NoMemory>
         ensures { (o : Outcome) × Replies result o × Comes P.telling self.old self.new at (events.Asked request.now) o }
     {
@@ -133,7 +133,8 @@ impl<P: Keeper + Drop> Hall<P> {
         }
     }
 
-    /// The office's own invocation of an action: it is charged to the namespace that the name states, in the name of the office.
+    /// The office's own invocation of an action: it is charged to the namespace that the name states, in the name of the office. It tells
+    /// all that was accepted and all that has ended, in order.
     pub fn call(
         &mut self,
         alloc: Global,
@@ -196,7 +197,8 @@ impl<P: Keeper + Drop> Hall<P> {
         self.take(at, Event::Gone { slot, generation })
     }
 
-    /// Records the ends of what all late runs carry, by the runs' numbers. It is booked also where no run is late.
+    /// Records the ends of what all late runs carry, by the runs' numbers, each with the steps that sequences and conductors make then. It
+    /// is booked also where no run is late.
     pub fn sweep(&mut self, alloc: Global, at: u64) -> Result<Swept, SweepRefusal>
         ensures { Comes P.telling self.old self.new at events.Sweep (swept_outcome result) }
     {
@@ -217,7 +219,7 @@ impl<P: Keeper + Drop> Hall<P> {
         }
     }
 
-    /// Records the end of what the run carries. A refusal hands the reply back.
+    /// Records the end of what the run carries, with the steps that sequences and conductors make then. A refusal hands the reply back.
     pub fn answered(
         &mut self,
         alloc: Global,
@@ -310,7 +312,6 @@ impl<P: Keeper + Drop> Hall<P> {
             at: self.book.moment(at),
         };
         let failed = false;
-        let before = self.state.ended();
         let Ok(step) = self.state.attempt(alloc, &self.tenants, now, &event) else {
             return Err(Undone { event, failed });
         };
@@ -325,7 +326,7 @@ impl<P: Keeper + Drop> Hall<P> {
             self.state.settle(false);
             return Err(Undone { event, failed });
         };
-        if let Err(error) = commit(alloc, &mut self.store, &step.fire, &step.commit) {
+        if let Err(error) = commit(alloc, &mut self.store, &step.commit) {
             drop((step, copied, kept));
             self.state.settle(false);
             let failed = self.book.note_uncommitted(error);
@@ -336,13 +337,13 @@ impl<P: Keeper + Drop> Hall<P> {
             told,
             change,
             waits,
-            invoked,
+            moves,
             commit,
-            fire,
         } = step;
         self.state.apply(change, waits);
-        self.state.note(&fire, invoked, now.at, before);
-        self.state.keep(fire, commit);
+        self.state.note_moves(&moves);
+        drop(moves);
+        self.state.follow(commit);
         self.book.post(now.at, event, copied, bytes);
         Ok((told, kept))
     }
@@ -362,20 +363,16 @@ impl<P: Keeper + Drop> Hall<P> {
     }
 }
 
-// Commits what is to be committed of a fire, or else of another step, if anything.
+// Commits what is to be committed of a step, if anything.
 fn commit<P: Keeper>(
     alloc: Global,
     store: &mut P,
-    fire: &Option<FireStep>,
-    commit: &Option<Commit>,
+    commit: &Option<Following>,
 ) -> Result<(), KeeperError>
-    ensures { CommitsTo P.telling (changes_in fire.now commit.now) store.old store.new result }
+    ensures { CommitsTo P.telling (changes_in commit.now) store.old store.new result }
 {
-    if let Some(fire) = fire {
-        return commit_all(alloc, store, fire.commit.changes());
-    }
     match commit {
-        Some(commit) => commit_all(alloc, store, commit.changes()),
+        Some(following) => commit_all(alloc, store, following.changes()),
         None => Ok(()),
     }
 }

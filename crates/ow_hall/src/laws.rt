@@ -1,10 +1,11 @@
 // What is true of each book. The functions do nothing: their contracts are the laws.
-ghost use Rattle.std.specs.Prelude.{ℕ};
+ghost use Rattle.std.specs.Prelude.{◌∷◌, ℕ};
 ghost use Rattle.ow_decide.specs.declared.events.Event.{Event};
 ghost use Rattle.ow_tenant.specs.Table.{Table};
-ghost use Rattle.ow_hall.specs.Beginnings.{KeepsEach, KeepsLimits};
+ghost use Rattle.ow_hall.specs.Beginnings.{ChildrenAreSteps, EndsAreSteps, KeepsEach, KeepsLimits, KeepsSteps};
 ghost use Rattle.ow_hall.specs.Comes.{Comes, HallView, Outcome};
 ghost use Rattle.ow_hall.specs.History.{History, IsLegal};
+ghost use Rattle.ow_hall.specs.declared.entry.Entry.{Entry};
 ghost use Rattle.ow_hall.specs.Stops.{StopsWell};
 
 use ow_traits::Keeper;
@@ -21,6 +22,14 @@ pub fn legal_books_keep_activations()
 /// ended; and as a trigger was fired, the fires of its namespace in the minute before it were below the allowed number.
 pub fn legal_books_keep_limits()
     ensures { (t : Table) (B : History) → IsLegal t B → KeepsLimits t B }
+{}
+
+/// By a legal book and each of its beginnings every activation that another caused is what the definition of its cause, a sequence or a
+/// conductor, calls next. A sequence or a conductor that ended of itself ended where its definition answers, and so.
+pub fn legal_books_keep_steps()
+    ensures steps { (t : Table) (B : History) → IsLegal t B → KeepsSteps t B }
+    ensures children { (t : Table) (e : Entry) (B : History) → IsLegal t (e ∷ B) → ChildrenAreSteps t e B }
+    ensures ends { (t : Table) (e : Entry) (B : History) → IsLegal t (e ∷ B) → EndsAreSteps t e B }
 {}
 
 /// A stop at any moment of a call leaves the rows of before the call or those of after it, whatever comes of the call.

@@ -19,6 +19,9 @@ pub use book::Book;
 pub use entry::{Entries, Entry};
 pub use fronts::{answered_in, collected_in, drain_in, order_in, reply_in, reply_of, swept_in};
 pub use hall::{Hall, Undone, unanswered};
-pub use laws::{legal_books_keep_activations, legal_books_keep_limits, stops_leave_whole_calls};
+pub use laws::{
+    legal_books_keep_activations, legal_books_keep_limits, legal_books_keep_steps,
+    stops_leave_whole_calls,
+};
 pub use posting::{Posting, posting_of};
 pub use refusals::{Reopened, StartFault, StartRefusal, SweepRefusal};

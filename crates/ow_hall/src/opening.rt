@@ -1,5 +1,5 @@
 // How a service is opened over what a store keeps.
-ghost use Rattle.std.specs.Prelude.{◌≡◌, ◌≤◌, ◌++◌, [], ◌∷◌, None, max, IfOk, IfErr};
+ghost use Rattle.std.specs.Prelude.{◌≡◌, ◌++◌, [], ◌∷◌, None, max, IfOk, IfErr};
 ghost use Rattle.ow_traits.specs.Prewarms.{AreWantsSized};
 ghost use Rattle.ow_floor.specs.Growth.{AreResumable};
 ghost use Rattle.ow_floor.specs.Laws.{Stands};
@@ -15,7 +15,7 @@ ghost use Rattle.ow_decide.specs.declared.events.Event.TheVariants as events;
 ghost use Rattle.ow_decide.specs.declared.events.Told.TheVariants as told;
 ghost use Rattle.ow_hall.specs.History.{moment};
 ghost use Rattle.ow_hall.specs.Ledger.{no_entries, posted};
-ghost use Rattle.ow_hall.specs.Readied.{IsKeptBy, IsLoaded, IsOpenedOver, IsOver, IsReadied, IsRefused, IsRoomy, TellsUnready, fault_of};
+ghost use Rattle.ow_hall.specs.Readied.{IsKeptBy, IsLoaded, IsOpenedOver, IsOver, IsReadied, IsRefused, TellsUnready, fault_of};
 
 use crate::book::Book;
 use crate::refusals::StartFault;
@@ -26,7 +26,7 @@ use ow_decide::{Event, Told};
 use ow_entity::Row;
 use ow_floor::{Floor, Happened, Happening};
 use ow_keep::{KeepRefusal, Kept, kept_rows};
-use ow_kept::{Commit, Keeping};
+use ow_kept::{Following, Keeping};
 use ow_records::{Id, Record, Unrecorded, abandoned};
 use ow_several::{joined2, kept_beside};
 use ow_tables::Tables;
@@ -47,7 +47,7 @@ pub(crate) struct Opened {
 #[derive(Drop)]
 pub(crate) struct Ready {
     pub(crate) opened: Opened,
-    pub(crate) commit: Commit,
+    pub(crate) commit: Following,
 }
 
 /// Opens over what the store keeps, and commits the opening.
@@ -188,8 +188,7 @@ fn state_over(alloc: Global, tenants: &Tenants, kept: Kept, at: u64) -> Result<H
     let (entities, floor) = kept_beside(entities, resumed)?;
     let (floor, tables) = kept_beside(floor, tables_over(alloc, entities))?;
     let ((floor, tables), limits) = kept_beside((floor, tables), Counts::new(alloc))?;
-    let ((floor, tables, limits), keeping) = kept_beside((floor, tables, limits), roomy(alloc))?;
-    Ok(HallState::of(alloc, floor, tables, limits, keeping))
+    Ok(HallState::of(alloc, floor, tables, limits, Keeping::new(alloc)))
 }
 
 // A floor with the table's pool that has taken over the last ids and the records of an earlier run.
@@ -217,16 +216,6 @@ fn tables_over(alloc: Global, entities: Vec<Row>) -> Result<Tables, NoMemory>
     let mut tables = Tables::new(alloc)?;
     tables.resume(entities)?;
     Ok(tables)
-}
-
-// The size of nothing, with room for one activation.
-fn roomy(alloc: Global) -> Result<Keeping, NoMemory>
-    ensures opens { IfOk result (λ k. k.opens ≡ []) }
-    ensures room { IfOk result (λ k. 1 ≤ k.room) }
-{
-    let mut keeping = Keeping::new(alloc);
-    keeping.reserve()?;
-    Ok(keeping)
 }
 
 // The records, and behind them those of what had not ended, which is abandoned at a moment.
@@ -263,7 +252,6 @@ fn abandoned_told(alloc: Global, left: &[Unrecorded]) -> Result<Happened, NoMemo
 impl Ready {
     // The commit was made.
     fn keep(self) -> Opened
-        requires { IsRoomy self }
         ensures { IsKeptBy self result }
     {
         let Ready { opened, commit } = self;
@@ -273,7 +261,7 @@ impl Ready {
             failed,
         } = opened;
         let mut state = state;
-        state.keep(None, Some(commit));
+        state.follow(Some(commit));
         Opened {
             state,
             book,

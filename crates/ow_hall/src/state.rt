@@ -1,29 +1,28 @@
 // What stands behind the book: the floor, the rows, who waits, and what counts against the limits. What is done at an event is held
 // on the floor, and made ready beside it, until it is settled.
-ghost use Rattle.std.specs.Prelude.{◌≡◌, ◌≤◌, [], ◌∷◌, true, false, Some, None, length, drop, min, IfOk, IfSome, OnOk, OnErr};
+ghost use Rattle.std.specs.Prelude.{◌≡◌, ◌≤◌, [], true, false, Some, None, IfOk, IfSome, OnOk, OnErr};
 ghost use Rattle.std.specs.List.{AllByRecursion};
 ghost use Rattle.ow_floor.specs.Laws.{Stands};
 ghost use Rattle.ow_floor.specs.Owed.{owed};
 ghost use Rattle.ow_floor.specs.Trace.{Trace};
+ghost use Rattle.ow_counts.specs.View.{HasRoomForMoves};
 ghost use Rattle.ow_keep.specs.Known.{IsItem};
 ghost use Rattle.ow_kept.specs.Kept.{kept_items};
 ghost use Rattle.ow_decide.specs.Decisions.{decide, is_opening, taken_told, wants_memory};
 ghost use Rattle.ow_decide.specs.Decision.{all_changed};
 ghost use Rattle.ow_hall.specs.History.{waits_after};
 ghost use Rattle.ow_decide.specs.Making.{HasPlace, changes_of, telling};
-ghost use Rattle.ow_hall.specs.State.{CommitsEnds, Does, HasRoomOf, KeepsCommit, KeepsNotes, Makes, Notes, NotesEnds, NotesInvoked, StaysKept, all_ended};
+ghost use Rattle.ow_hall.specs.State.{KeepsNotes, Makes, NotesMoves, kept_with};
 ghost use Rattle.ow_tenant.specs.Table.{Table};
 
 use ow_counts::Counts;
-use ow_decide::{Event, FireStep, Now, Step, Wait, Waits, step_for, take};
-use ow_floor::{Floor, FloorRefusal};
+use ow_decide::{Event, Now, Step, Wait, Waits, step_for, take};
+use ow_floor::{Floor, FloorRefusal, Moves};
 use ow_keep::known_entities;
-use ow_kept::{Commit, Keeping};
-use ow_names::EntityName;
-use ow_records::Record;
+use ow_kept::{Following, Keeping};
 use ow_tables::{Ready, Tables};
 use ow_tenant::Tenants;
-use ow_value::{NoMemory, PlainData, Shared};
+use ow_value::NoMemory;
 use std::alloc::Global;
 use std::marker::Model;
 
@@ -89,13 +88,6 @@ impl HallState {
         self.floor.owed()
     }
 
-    /// How many activations have ended, with those of an earlier run.
-    pub(crate) fn ended(&self) -> usize
-        ensures { result ≡ length (all_ended self.now.floor.now) }
-    {
-        self.floor.records().len()
-    }
-
     /// Makes known that each item that is kept of rows and floor is what its type tells.
     pub(crate) fn known_items(&self)
         ensures { (T : Trace) → Stands self.now.floor.now T → AllByRecursion IsItem (kept_items self.now.rows T) }
@@ -117,8 +109,8 @@ impl HallState {
         take(&mut self.floor, now, event)
     }
 
-    /// Does what is decided at an event, and holds it, with all that is to be committed of it. There is room then for the notes of a
-    /// fire, or for that of an invocation. Without memory all is as before.
+    /// Does what is decided at an event, and holds it, with all that is to be committed of it. There is room then for the notes of all
+    /// that moved. Without memory all is as before.
     pub(crate) fn attempt(
         &mut self,
         alloc: Global,
@@ -128,20 +120,20 @@ impl HallState {
     ) -> Result<Step, NoMemory>
         requires memory { wants_memory event.now ≡ true }
         requires later { is_opening event.now ≡ false }
-        ensures ok { IfOk result (Does self.old self.new.floor.now tenants.now now (λ S. decide S event.now)) }
+        ensures ok { IfOk result (Makes self.old self.new.floor.now tenants.now now (λ S. decide S event.now)) }
         ensures held { OnOk result (self.new.floor.before ≡ Some self.old.floor.now) }
         ensures place { IfOk result (λ s. HasPlace s.change self.new.row_room) }
-        ensures room { OnOk result ((1 ≤ self.new.wait_room) × (1 ≤ self.new.keeping.room)) }
-        ensures counter { IfOk result (λ s. HasRoomOf s.fire s.invoked self.new.counts) }
+        ensures room { OnOk result (1 ≤ self.new.wait_room) }
+        ensures counter { IfOk result (λ s. HasRoomForMoves s.moves self.new.counts) }
         ensures rest { (self.new.rows ≡ self.old.rows) × (self.new.waits ≡ self.old.waits) }
         ensures counts { KeepsNotes self.old.counts self.new.counts }
-        ensures kept { StaysKept self.old.keeping self.new.keeping }
+        ensures keeping { self.new.keeping ≡ self.old.keeping }
         ensures err { OnErr result (self.new.floor.now ≡ self.old.floor.now) }
         ensures free { OnErr result (self.old.floor.before ≡ None → self.new.floor.before ≡ None) }
     {
         self.reserve()?;
         self.hold();
-        match self.whole_step(alloc, tenants, now, event) {
+        match self.counted_step(alloc, tenants, now, event) {
             Ok(step) => Ok(step),
             Err(e) => {
                 self.settle(false);
@@ -183,85 +175,40 @@ impl HallState {
         }
     }
 
-    /// Notes for the limits what a fire did, if there is one. Else it notes that an activation was accepted, which is charged to a
-    /// namespace, where no other caused it, and which have ended after the first `before`. This takes no memory.
-    pub(crate) fn note(
-        &mut self,
-        fire: &Option<FireStep>,
-        invoked: Option<EntityName>,
-        at: u64,
-        before: usize,
-    )
-        requires room { HasRoomOf fire.now invoked self.old.counts }
-        requires ends { before ≤ length (all_ended self.old.floor.now) }
-        ensures counts { Notes fire.now invoked at (drop before (all_ended self.old.floor.now)) self.old.counts self.new.counts }
+    /// Notes for the limits all that moved. This takes no memory.
+    pub(crate) fn note_moves(&mut self, moves: &Moves)
+        requires { HasRoomForMoves moves.now self.old.counts }
+        ensures counts { NotesMoves moves.now self.old.counts self.new.counts }
         ensures floor { self.new.floor ≡ self.old.floor }
         ensures rest { (self.new.rows ≡ self.old.rows) × (self.new.waits ≡ self.old.waits) }
         ensures keeping { self.new.keeping ≡ self.old.keeping }
     {
-        match fire {
-            Some(fire) => {
-                drop(invoked);
-                self.counts.note_moves(fire.moves.items());
-            }
-            None => {
-                note_invoked(&mut self.counts, invoked, at);
-                note_ends(&mut self.counts, &self.floor.records().items()[before..]);
-            }
+        self.counts.note_moves(moves.items());
+    }
+
+    /// What was committed is kept, where there was something to commit. This takes no memory.
+    pub(crate) fn follow(&mut self, commit: Option<Following>)
+        ensures keeping { self.new.keeping ≡ kept_with commit self.old.keeping }
+        ensures floor { self.new.floor ≡ self.old.floor }
+        ensures rest { (self.new.rows ≡ self.old.rows) × (self.new.waits ≡ self.old.waits) }
+        ensures counts { self.new.counts ≡ self.old.counts }
+    {
+        if let Some(following) = commit {
+            self.keeping.follow(following);
         }
     }
 }
 
 impl HallState {
-    /// What was committed of a fire is kept, or else of another step. This takes no memory.
-    pub(crate) fn keep(&mut self, fire: Option<FireStep>, commit: Option<Commit>)
-        requires { 1 ≤ self.old.keeping.room }
-        ensures keeping { KeepsCommit fire commit self.old.keeping self.new.keeping }
-        ensures floor { self.new.floor ≡ self.old.floor }
-        ensures rest { (self.new.rows ≡ self.old.rows) × (self.new.waits ≡ self.old.waits) }
-        ensures counts { self.new.counts ≡ self.old.counts }
-    {
-        match fire {
-            Some(fire) => {
-                drop(commit);
-                self.follow(fire);
-            }
-            None => self.keep_alone(commit),
-        }
-    }
-
-    fn follow(&mut self, fire: FireStep)
-        ensures keeping { KeepsCommit (Some fire) None self.old.keeping self.new.keeping }
-        ensures floor { self.new.floor ≡ self.old.floor }
-        ensures rest { (self.new.rows ≡ self.old.rows) × (self.new.waits ≡ self.old.waits) }
-        ensures counts { self.new.counts ≡ self.old.counts }
-    {
-        let FireStep { moves, commit } = fire;
-        drop(moves);
-        self.keeping.follow(commit);
-    }
-
-    fn keep_alone(&mut self, commit: Option<Commit>)
-        requires { 1 ≤ self.old.keeping.room }
-        ensures keeping { KeepsCommit None commit self.old.keeping self.new.keeping }
-        ensures floor { self.new.floor ≡ self.old.floor }
-        ensures rest { (self.new.rows ≡ self.old.rows) × (self.new.waits ≡ self.old.waits) }
-        ensures counts { self.new.counts ≡ self.old.counts }
-    {
-        if let Some(commit) = commit {
-            self.keeping.keep(commit);
-        }
-    }
-
-    // Makes room for one who waits, and for one more activation.
+    // Makes room for one who waits.
     fn reserve(&mut self) -> Result<(), NoMemory>
         ensures same { (self.new.floor ≡ self.old.floor) × (self.new.rows ≡ self.old.rows) × (self.new.waits ≡ self.old.waits) }
         ensures counts { self.new.counts ≡ self.old.counts }
-        ensures kept { StaysKept self.old.keeping self.new.keeping }
-        ensures room { OnOk result ((1 ≤ self.new.wait_room) × (1 ≤ self.new.keeping.room)) }
+        ensures keeping { self.new.keeping ≡ self.old.keeping }
+        ensures room { OnOk result (1 ≤ self.new.wait_room) }
     {
         self.waits.reserve(1)?;
-        self.keeping.reserve()
+        Ok(())
     }
 
     fn hold(&mut self)
@@ -274,35 +221,7 @@ impl HallState {
         self.floor.hold();
     }
 
-    // A step, with what is committed of all that has ended in it. A fire has that already.
-    fn whole_step(
-        &mut self,
-        alloc: Global,
-        tenants: &Tenants,
-        now: Now,
-        event: &Event,
-    ) -> Result<Step, NoMemory>
-        requires memory { wants_memory event.now ≡ true }
-        requires later { is_opening event.now ≡ false }
-        requires held { self.old.floor.before ≡ Some self.old.floor.now }
-        ensures ok { IfOk result (Does self.old self.new.floor.now tenants.now now (λ S. decide S event.now)) }
-        ensures place { IfOk result (λ s. HasPlace s.change self.new.row_room) }
-        ensures before { self.new.floor.before ≡ self.old.floor.before }
-        ensures rest { (self.new.rows ≡ self.old.rows) × (self.new.waits ≡ self.old.waits) × (self.new.wait_room ≡ self.old.wait_room) }
-        ensures counter { IfOk result (λ s. HasRoomOf s.fire s.invoked self.new.counts) }
-        ensures counts { KeepsNotes self.old.counts self.new.counts }
-        ensures keeping { self.new.keeping ≡ self.old.keeping }
-    {
-        let before = self.ended();
-        let step = self.counted_step(alloc, tenants, now, event)?;
-        if step.fire.is_some() {
-            return Ok(step);
-        }
-        let ends = behind(self.floor.records().items(), before);
-        with_ends(alloc, &self.keeping, ends, step)
-    }
-
-    // A step, with room for the notes of a fire, or for that of an invocation.
+    // A step, with room for the notes of all that moved.
     fn counted_step(
         &mut self,
         alloc: Global,
@@ -317,12 +236,12 @@ impl HallState {
         ensures place { IfOk result (λ s. HasPlace s.change self.new.row_room) }
         ensures before { self.new.floor.before ≡ self.old.floor.before }
         ensures rest { (self.new.rows ≡ self.old.rows) × (self.new.waits ≡ self.old.waits) × (self.new.wait_room ≡ self.old.wait_room) }
-        ensures counter { IfOk result (λ s. HasRoomOf s.fire s.invoked self.new.counts) }
+        ensures counter { IfOk result (λ s. HasRoomForMoves s.moves self.new.counts) }
         ensures counts { KeepsNotes self.old.counts self.new.counts }
         ensures keeping { self.new.keeping ≡ self.old.keeping }
     {
         let step = self.step(alloc, tenants, now, event)?;
-        let Ok(()) = reserve_for(&mut self.counts, alloc, &step.fire, &step.invoked) else {
+        let Ok(()) = self.counts.reserve_moves(alloc, step.moves.items()) else {
             drop(step);
             return Err(NoMemory);
         };
@@ -357,107 +276,5 @@ impl HallState {
             now,
             event,
         )
-    }
-}
-
-// Those behind the first so many.
-fn behind(all: &[Shared<Record>], before: usize) -> &[Shared<Record>]
-    ensures { result.now ≡ drop (min before (length all.now)) all.now }
-{
-    &all[before.min(all.len())..]
-}
-
-// A step behind which these activations have ended: what is committed of that is committed with it. Where any has ended, nothing
-// else is to be committed.
-fn with_ends(
-    alloc: Global,
-    keeping: &Keeping,
-    ends: &[Shared<Record>],
-    step: Step,
-) -> Result<Step, NoMemory>
-    ensures same { IfOk result (λ s. (s.told ≡ step.told) × (s.change ≡ step.change) × (s.waits ≡ step.waits) × (s.invoked ≡ step.invoked)) }
-    ensures fire { IfOk result (λ s. s.fire ≡ step.fire) }
-    ensures commit { IfOk result (λ s. CommitsEnds keeping.now ends.now step.commit s.commit) }
-{
-    if ends.is_empty() {
-        return Ok(step);
-    }
-    let Ok(commit) = keeping.ending(alloc, ends) else {
-        drop(step);
-        return Err(NoMemory);
-    };
-    let Step {
-        told,
-        change,
-        waits,
-        invoked,
-        fire,
-        ..
-    } = step;
-    Ok(Step {
-        told,
-        change,
-        waits,
-        invoked,
-        commit: Some(commit),
-        fire,
-    })
-}
-
-// Makes room for the notes of a fire, if there is one, or else for that of an invocation.
-fn reserve_for(
-    counts: &mut Counts,
-    alloc: Global,
-    fire: &Option<FireStep>,
-    invoked: &Option<EntityName>,
-) -> Result<(), NoMemory>
-    ensures keeps { KeepsNotes counts.old counts.new }
-    ensures room { OnOk result (HasRoomOf fire.now invoked.now counts.new) }
-{
-    match fire {
-        Some(fire) => counts.reserve_moves(alloc, fire.moves.items()),
-        None => reserve_alone(counts, alloc, invoked),
-    }
-}
-
-// Makes room for the note of an invocation that is charged to a namespace, if any.
-fn reserve_alone(
-    counts: &mut Counts,
-    alloc: Global,
-    invoked: &Option<EntityName>,
-) -> Result<(), NoMemory>
-    ensures keeps { KeepsNotes counts.old counts.new }
-    ensures room { OnOk result (HasRoomOf None invoked.now counts.new) }
-{
-    match invoked {
-        Some(namespace) => counts.reserve(alloc, namespace),
-        None => Ok(()),
-    }
-}
-
-// Notes an invocation that is charged to a namespace, if any.
-fn note_invoked(counts: &mut Counts, invoked: Option<EntityName>, at: u64)
-    requires { HasRoomOf None invoked counts.old }
-    ensures { NotesInvoked invoked at counts.old counts.new }
-{
-    if let Some(namespace) = invoked {
-        counts.invoked(&namespace, at);
-    }
-}
-
-// Notes each end of an activation that no other caused.
-fn note_ends(counts: &mut Counts, ends: &[Shared<Record>])
-    ensures { NotesEnds ends.now counts.old counts.new }
-{
-    for end in ends {
-        note_end(counts, end.get());
-    }
-}
-
-fn note_end(counts: &mut Counts, end: &Record)
-    ensures { NotesEnds (end.now ∷ []) counts.old counts.new }
-{
-    if end.cause.is_none() {
-        counts.ended(&end.namespace);
     }
 }

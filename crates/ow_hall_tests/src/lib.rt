@@ -2,6 +2,8 @@
 #![tactic(auto)]
 
 #[cfg(test)]
+mod of_compositions;
+#[cfg(test)]
 mod of_fires;
 #[cfg(test)]
 mod of_floor;

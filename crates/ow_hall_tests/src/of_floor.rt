@@ -6,7 +6,7 @@ use ow_entity::{Action, EntityParams, Exec, Limits, ProgramName};
 use ow_floor::{Answered, Drain, Floor, FloorRefusal, Happened, Happening, Order, Plan};
 use ow_names::{EntityName, read_name, resolve};
 use ow_packages::Effective;
-use ow_records::Id;
+use ow_records::{Form, Id, Role};
 use ow_traits::{Kind, RunReply};
 use ow_value::{Items, Lines, NoMemory, Params, PlainData, Shared, Str};
 use std::alloc::Global;
@@ -66,6 +66,10 @@ fn plan(alloc: Global, id: Id) -> Result<Plan, Fail>
         subject,
         cause: None,
         until: None,
+        form: Form::Leaf,
+        role: Role::Alone,
+        top: id,
+        depth: 0,
     })
 }
 

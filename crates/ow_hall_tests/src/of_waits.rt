@@ -1,11 +1,11 @@
 // Invocations, those who wait for their ends, and what is read of them.
 use crate::of_hall::{Office, called_at, office, request_by, shows, text_of, written};
 use ow_decide::{HallCollected, Reply};
-use ow_floor::Order;
+use ow_floor::{Answered, Order};
 use ow_http::{Answer, Request, read_request};
 use ow_records::Id;
 use ow_traits::RunReply;
-use ow_value::{Lines, Str, decimal_of};
+use ow_value::{Lines, Params, PlainData, Str, Val, decimal_of, read_val};
 use std::alloc::Global;
 use std::test::Fail;
 
@@ -143,28 +143,43 @@ fn is_called(alloc: Global, hall: &mut Office, row: &Row, path: &str) -> Result<
     Ok(u64::from(refusal) == number_of(row.shown))
 }
 
+// Whether parameters are those of a text, where one is given.
+fn are_params(alloc: Global, params: &Params, text: &str) -> Result<bool, Fail> {
+    if text.is_empty() {
+        return Ok(true);
+    }
+    match read_val(alloc, text.as_bytes())? {
+        Val::Object(wanted) => Ok(params.same(&wanted)),
+        _ => Ok(false),
+    }
+}
+
+// Whether a run of this number is ordered, with these parameters; or nothing.
 fn is_ordered(alloc: Global, hall: &mut Office, row: &Row) -> Result<bool, Fail> {
     match hall.next(alloc, row.at)? {
         Order::Run(run) => Ok(
             row.status
                 .split_once("run ")
-                .is_some_and(|p| number_of(p.1) == run.run),
+                .is_some_and(|p| number_of(p.1) == run.run)
+                && are_params(alloc, &run.params, row.body)?,
         ),
+        Order::Nothing(_) => Ok(row.status == "nothing"),
         _ => Ok(false),
     }
 }
 
-// Whether the answer of this run, with one line beside it, is recorded.
+// Whether the answer of this run, with one line beside it, is recorded, or late.
 fn is_ended(alloc: Global, hall: &mut Office, row: &Row, run: u64) -> Result<bool, Fail> {
     let text = Str::of(alloc, row.body)?;
     let line = Str::of(alloc, "a line")?;
     let mut lines = Vec::new(alloc);
     lines.push(line)?;
     let logs = Lines::from_vec(lines)?;
-    Ok(
-        hall.answered(alloc, row.at, run, RunReply::Answer { text, logs })
-            .is_ok(),
-    )
+    match hall.answered(alloc, row.at, run, RunReply::Answer { text, logs }) {
+        Ok(Answered::Recorded(_)) => Ok(row.status == "recorded"),
+        Ok(Answered::Late { .. }) => Ok(row.status == "late"),
+        Err(_) => Ok(false),
+    }
 }
 
 fn is_drained(alloc: Global, hall: &mut Office, row: &Row) -> Result<bool, Fail> {

@@ -3,4 +3,8 @@ pub mod HallLaws
 pub mod ListLaws
 pub mod HiddenRows
 pub mod UnseenLaws
+pub mod CauseLaws
+pub mod StepLaws
 pub mod FireLaws
+pub mod InvokeLaws
+pub mod ReplyLaws

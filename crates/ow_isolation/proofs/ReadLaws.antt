@@ -1,6 +1,7 @@
 -- A read is answered of what its key may see, and leaves all as it was.
-use Rattle.std.proofs.Common.{◌≡◌, ◌++◌, ◌∙◌, ℕ, List, [], ◌∷◌, Bool, true, false, if◌then◌else◌, Option, Some, None, Result, Ok, Err, option_map, refl, ap}
+use Rattle.std.proofs.Common.{◌≡◌, ◌++◌, ◌∙◌, ℕ, List, [], ◌∷◌, Bool, true, false, if◌then◌else◌, Option, Some, None, Result, Ok, Err, option_map, refl, sym, ap, subst}
 use Rattle.ow_floor.specs.Trace.{Trace, all_records}
+use Rattle.ow_value.specs.Value.{V}
 use Rattle.ow_http.specs.Pair.{Pair}
 use Rattle.ow_http.specs.Parts.{Parts}
 use Rattle.ow_http.specs.Refused.{refusal_of}
@@ -12,7 +13,7 @@ use Rattle.ow_http.specs.declared.route.Route.{Route}
 use Rattle.ow_http.specs.declared.route.Route.TheVariants as route
 use Rattle.ow_http.specs.declared.verb.Verb.{Verb}
 use Rattle.ow_reads.specs.Acts.{act_of}
-use Rattle.ow_reads.specs.Reading.{read_answer}
+use Rattle.ow_reads.specs.Reading.{read_answer, read_done}
 use Rattle.ow_reads.specs.Reasons.{no_route}
 use Rattle.ow_reads.specs.Steps.{or_else, unless}
 use Rattle.ow_reads.specs.Tenants.{asker}
@@ -24,7 +25,7 @@ use Rattle.ow_tables.specs.Contents.{Change}
 use Rattle.ow_tenant.specs.Table.{Table}
 use Rattle.ow_tenant.specs.Tenants.{holder_of}
 use Rattle.ow_tenant.specs.declared.entries.Holder.{Holder}
-use Rattle.ow_decide.specs.Asking.{Done, Shown, Changed, Invoked, Quiet, Fired, act_done, IsOfView, ReadsChangeNothing, ask_decision, at_once, request_done}
+use Rattle.ow_decide.specs.Asking.{Done, IsOfView, ReadsChangeNothing, act_done, ask_decision, at_once, request_done, shown_done}
 use Rattle.ow_decide.specs.Decision.{Decision, all_changed}
 use Rattle.ow_decide.specs.Decisions.{decide}
 use Rattle.ow_decide.specs.Reasons.{book_full}
@@ -54,14 +55,14 @@ in_order S r method key query raw headers body size close act is = refl
 
 -- where the log is full that is the answer
 full_so : (S : Sight) (reading : Reading) (p : Parts) → act_of p.route p.method ≡ Some (Reads reading) → is_full S.counted p.size ≡ true
-    → (ask_decision S.moment (request_done S p)).told ≡ told.Full (refusal_of book_full)
+    → (ask_decision (request_done S p)).told ≡ told.Full (refusal_of book_full)
 full_so S reading p act full =
-    ap (λ (d : Result Done Reason). (ask_decision S.moment d).told) (in_order S p.route p.method p.key p.query p.raw_query p.headers p.body p.size p.close (Reads reading) act)
-    ∙ (ap (λ (o : Option Act). (ask_decision S.moment (or_else o no_route >>= (λ (a : Act). room_for S p.size >>= (λ (u : Unit {0}). asker S.tenants p.key >>= (λ (k : Holder). act_done S k a p))))).told) act
-    ∙ ap (λ (b : Bool). (ask_decision S.moment (unless b book_full >>= (λ (u : Unit {0}). asker S.tenants p.key >>= (λ (k : Holder). act_done S k (Reads reading) p)))).told) full)
+    ap (λ (d : Result Done Reason). (ask_decision d).told) (in_order S p.route p.method p.key p.query p.raw_query p.headers p.body p.size p.close (Reads reading) act)
+    ∙ (ap (λ (o : Option Act). (ask_decision (or_else o no_route >>= (λ (a : Act). room_for S p.size >>= (λ (u : Unit {0}). asker S.tenants p.key >>= (λ (k : Holder). act_done S k a p))))).told) act
+    ∙ ap (λ (b : Bool). (ask_decision (unless b book_full >>= (λ (u : Unit {0}). asker S.tenants p.key >>= (λ (k : Holder). act_done S k (Reads reading) p)))).told) full)
 
 told_by : (viewed : (S : Sight) → IsOfView S) (S : Sight) (h : Holder) (reading : Reading) (p : Parts) (full : Bool) → act_of p.route p.method ≡ Some (Reads reading) → holder_of p.key S.tenants ≡ Some h → is_full S.counted p.size ≡ full
-    → (ask_decision S.moment (request_done S p)).told ≡ (if full then told.Full (refusal_of book_full) else at_once (read_answer (view_of S h) reading p))
+    → (ask_decision (request_done S p)).told ≡ (if full then told.Full (refusal_of book_full) else at_once (read_answer (view_of S h) reading p))
 told_by viewed S h reading p true act held full = full_so S reading p act full
 told_by viewed S h reading p false act held full = viewed S h reading p act full held
 
@@ -78,14 +79,24 @@ answers_of_view viewed t B at r reading W reads sees =
 
 -- ---- what is left
 
--- nobody begins to wait where nothing happened
-keeps_so : (at : ℕ) (d : Result Done Reason) → (ask_decision at d).items ≡ [] → (ask_decision at d).waits ≡ Keep
-keeps_so at (Ok (Shown value)) none = refl
-keeps_so at (Ok (Changed change value)) none = refl
-keeps_so at (Ok (Invoked plan shows)) none = cc
-keeps_so at (Ok Quiet) none = refl
-keeps_so at (Ok (Fired items id)) none = refl
-keeps_so at (Err reason) none = refl
+-- nobody begins to wait
+abbrev KeepWaits : Result Done Reason → Type 0
+KeepWaits d = (ask_decision d).waits ≡ Keep
+
+keeps_then : {A : Type 0} (r : Result A Reason) (f : A → Result Done Reason) → ((x : A) → KeepWaits (f x)) → KeepWaits (r >>= f)
+keeps_then (Ok x) f keeps = keeps x
+keeps_then (Err reason) f keeps = refl
+
+shown_keeps : (r : Result V Reason) → KeepWaits (shown_done r)
+shown_keeps (Ok value) = refl
+shown_keeps (Err reason) = refl
+
+read_keeps : (S : Sight) (reading : Reading) (p : Parts) → act_of p.route p.method ≡ Some (Reads reading) → KeepWaits (request_done S p)
+read_keeps S reading p act =
+    subst KeepWaits (sym (in_order S p.route p.method p.key p.query p.raw_query p.headers p.body p.size p.close (Reads reading) act))
+    (subst (λ (o : Option Act). KeepWaits (or_else o no_route >>= (λ (a : Act). room_for S p.size >>= (λ (u : Unit {0}). asker S.tenants p.key >>= (λ (k : Holder). act_done S k a p))))) (sym act)
+    (keeps_then (room_for S p.size) (λ (u : Unit {0}). asker S.tenants p.key >>= (λ (k : Holder). act_done S k (Reads reading) p)) (λ u.
+    keeps_then (asker S.tenants p.key) (λ (k : Holder). act_done S k (Reads reading) p) (λ k. shown_keeps (read_done (view_of S k) reading p)))))
 
 abbrev made : List Change → Trace → Waits → Seen → Seen
 made cs items ws s = record { rows = all_changed cs s.rows; trace = items ++ s.trace; waits = waits_after ws s.waits }
@@ -99,7 +110,7 @@ after_nothing d s items changes waits =
 read_leaves : ReadsChangeNothing → (S : Sight) (r : Request) (reading : Reading) (s : Seen) → act_of r.route r.method ≡ Some (Reads reading) → after (decide S (events.Asked r)) s ≡ s
 read_leaves quiet S r reading s reads =
     let leaves = quiet S reading (parts_of r) reads in
-    after_nothing (decide S (events.Asked r)) s leaves.0 leaves.1 (keeps_so S.moment (request_done S (parts_of r)) leaves.0)
+    after_nothing (decide S (events.Asked r)) s leaves.0 leaves.1 (read_keeps S reading (parts_of r) reads)
 
 pub leaves_all : ReadsChangeNothing → (t : Table) (B : History) → LeavesAll t B
 leaves_all quiet t B e r reading read =

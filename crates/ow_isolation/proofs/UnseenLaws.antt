@@ -6,17 +6,36 @@ use Rattle.std.specs.List.{AllByRecursion}
 use Rattle.ow_entity.specs.declared.rows.Row.{Row}
 use Rattle.ow_records.specs.Records.{id_key, sorted_by}
 use Rattle.ow_records.specs.declared.record.Record.{Record}
-use Rattle.ow_floor.specs.Trace.{Trace, all_records, records, resumed}
+use Rattle.ow_floor.specs.Trace.{Item, Resumed, Trace, all_records, records, resumed}
 use Rattle.ow_reads.specs.View.{View, is_visible_record, view_over, visible_rows}
 use Rattle.ow_tenant.specs.Table.{Table}
 use Rattle.ow_tenant.specs.Tenants.{holder_of}
 use Rattle.ow_tenant.specs.declared.entries.Holder.{Holder}
+use Rattle.ow_decide.specs.Chain.{AreSteps, IsStep}
 use Rattle.ow_decide.specs.Decision.{Decision, all_changed}
+use Rattle.ow_decide.specs.Decisions.{decide, is_opening}
+use Rattle.ow_decide.specs.Sight.{Sight}
+use Rattle.ow_decide.specs.declared.events.Event.{Event}
+use Rattle.ow_decide.proofs.ChainLaws.{decided_steps}
 use Rattle.ow_decide.proofs.NotedLaws.{records_more}
 use Rattle.ow_hall.specs.History.{History, counted, decision, seen, sight}
-use Rattle.ow_hall.proofs.KeepLaws.{StayResumed, stay_resumed}
 use Rattle.ow_isolation.specs.Unseen.{IsUnseen, UnseenLeaves}
 use Rattle.ow_isolation.proofs.HiddenRows.{all_stay}
+
+-- the records of an earlier run are what they were
+abbrev StayResumed : Trace → Trace → Type 0
+StayResumed items T = resumed (items ++ T) ≡ resumed T
+
+stay_step : (S : Sight) (item : Item) (T : Trace) → IsStep S item T → StayResumed (item ∷ []) T
+stay_step S (Resumed counts rs) T step = absurd step.is
+stay_step S item T step = refl
+
+steps_stay : (S : Sight) (items : Trace) → AreSteps S items → StayResumed items S.trace
+steps_stay S [] steps = refl
+steps_stay S (item ∷ items) steps = stay_step S item (items ++ S.trace) steps.0 ∙ steps_stay S items steps.1
+
+stay_resumed : (S : Sight) (event : Event) → is_opening event ≡ false → StayResumed (decide S event).items S.trace
+stay_resumed S event later = steps_stay S (decide S event).items (decided_steps S event later)
 
 none_seen : (h : Holder) (rs : List Record) → AllByRecursion (λ r. is_visible_record h.rights r ≡ false) rs → filter (is_visible_record h.rights) rs ≡ []
 none_seen h [] hidden = refl

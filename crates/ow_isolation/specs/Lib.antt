@@ -2,3 +2,4 @@ pub mod Views
 pub mod Reads
 pub mod Lists
 pub mod Unseen
+pub mod Causes

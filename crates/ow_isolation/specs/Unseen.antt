@@ -4,13 +4,15 @@ use Rattle.std.specs.List.{AllByRecursion}
 use Rattle.ow_entity.specs.Row.{kind_of, name_of}
 use Rattle.ow_entity.specs.declared.rows.Row.{Row}
 use Rattle.ow_entity.specs.declared.rows.Row.TheVariants as rows
-use Rattle.ow_floor.specs.Trace.{records}
+use Rattle.ow_floor.specs.Trace.{Trace, live_run, open_task, records}
+use Rattle.ow_floor.specs.declared.runs.Run.{Run}
 use Rattle.ow_http.specs.declared.request.Request.{Request}
 use Rattle.ow_names.specs.Path.{home}
+use Rattle.ow_records.specs.declared.activations.Activation.{Activation}
 use Rattle.ow_reads.specs.Acts.{act_of}
 use Rattle.ow_reads.specs.Reading.{namespace_of}
 use Rattle.ow_reads.specs.View.{is_visible_record, may_read}
-use Rattle.ow_reads.specs.declared.acts.Act.TheVariants.{Fires}
+use Rattle.ow_reads.specs.declared.acts.Act.TheVariants.{Fires, Invokes}
 use Rattle.ow_tables.specs.Contents.{Change}
 use Rattle.ow_tables.specs.Rows.{changed, is_row}
 use Rattle.ow_decide.specs.Decision.{Decision}
@@ -18,6 +20,7 @@ use Rattle.ow_decide.specs.Decisions.{is_opening}
 use Rattle.ow_decide.specs.declared.events.Event.TheVariants as events
 use Rattle.ow_hall.specs.History.{History, decision, seen}
 use Rattle.ow_hall.specs.declared.entry.Entry.{Entry}
+use Rattle.ow_traits.specs.declared.replies.RunReply.{RunReply}
 use Rattle.ow_tenant.specs.Table.{Table}
 use Rattle.ow_tenant.specs.Tenants.{holder_of}
 use Rattle.ow_tenant.specs.declared.entries.Holder.{Holder}
@@ -64,3 +67,19 @@ abbrev pub FiresLeave : Table → History → Type 0
 FiresLeave t B = (e : Entry) (r : Request) (key : Option (List ℕ)) (firing h : Holder) → e.event ≡ events.Asked r → act_of r.route r.method ≡ Some Fires
     → holder_of r.key t ≡ Some firing → holder_of key t ≡ Some h → may_read h.rights (home firing.home (namespace_of r.route)) ≡ false
     → view_after t (e ∷ B) key ≡ view_after t B key
+
+-- an invocation leaves what the holder may see that may neither read in the namespace of the path nor in the own one of the key that invokes: one of
+-- the two is charged, with all that a composition calls at once
+abbrev pub InvocationsLeave : Table → History → Type 0
+InvocationsLeave t B = (e : Entry) (r : Request) (key : Option (List ℕ)) (asking h : Holder) → e.event ≡ events.Asked r → act_of r.route r.method ≡ Some Invokes
+    → holder_of r.key t ≡ Some asking → holder_of key t ≡ Some h → may_read h.rights (home asking.home (namespace_of r.route)) ≡ false → may_read h.rights asking.home ≡ false
+    → view_after t (e ∷ B) key ≡ view_after t B key
+
+-- the open activation that a live run of this number carries, if it does, is of a namespace in which the holder may not read
+abbrev pub IsHiddenRun : Holder → ℕ → Trace → Type 0
+IsHiddenRun h run T = (r : Run) (a : Activation) → live_run T run ≡ Some r → open_task T r.id ≡ Some a → may_read h.rights a.namespace ≡ false
+
+-- the reply of such a run leaves what the holder may see: also what the compositions do then that the activation is a part of
+abbrev pub RepliesLeave : Table → History → Type 0
+RepliesLeave t B = (e : Entry) (run : ℕ) (reply : RunReply) (key : Option (List ℕ)) (h : Holder) → e.event ≡ events.Answered run reply → holder_of key t ≡ Some h
+    → IsHiddenRun h run (seen t B).trace → view_after t (e ∷ B) key ≡ view_after t B key

@@ -1,8 +1,9 @@
 // Isolation of reads. The contracts are the laws; the functions call those that they rest on.
+ghost use Rattle.ow_isolation.specs.Causes.{AreOfCauses, RecordsAreSeenAsCauses};
 ghost use Rattle.ow_isolation.specs.Lists.{HallsAnswerAlike, LogsAnswerAlike};
 ghost use Rattle.ow_isolation.specs.Reads.{AnswersOfView, LeavesAll, LeavesHalls, LeavesViews, RepliesOfView};
-ghost use Rattle.ow_isolation.specs.Unseen.{FiresLeave, UnseenLeaves};
-ghost use Rattle.ow_hall.specs.History.{History};
+ghost use Rattle.ow_isolation.specs.Unseen.{FiresLeave, InvocationsLeave, RepliesLeave, UnseenLeaves};
+ghost use Rattle.ow_hall.specs.History.{History, seen};
 ghost use Rattle.ow_tenant.specs.Table.{Table};
 
 use ow_decide::{reads_are_answered_of_the_view, reads_change_nothing};
@@ -56,4 +57,22 @@ pub fn unseen_events_leave_views()
 /// A fire leaves the view of each key that may not read in the namespace of the trigger, whether it is refused or not.
 pub fn unseen_fires_leave_views()
     ensures { (t : Table) (B : History) → FiresLeave t B }
+{}
+
+/// An invocation leaves the view of each key that may not read in the namespace that is charged, also where a composition ends at once.
+pub fn unseen_invocations_leave_views()
+    ensures { (t : Table) (B : History) → InvocationsLeave t B }
+{}
+
+/// A runner's reply leaves the view of each key that may not read in the namespace of what the run carries. So do the steps that follow of the
+/// compositions that this is a part of.
+pub fn unseen_replies_leave_views()
+    ensures { (t : Table) (B : History) → RepliesLeave t B }
+{}
+
+/// Whatever a composition calls is charged to the namespace that its first activation is charged to, and made in the name of the same subject.
+/// So the record of each child is shown to a key exactly where the key may read in the namespace of its cause.
+pub fn children_are_of_their_causes()
+    ensures causes { (t : Table) (B : History) → AreOfCauses (seen t B).trace }
+    ensures shown { (t : Table) (B : History) → RecordsAreSeenAsCauses (seen t B).trace }
 {}

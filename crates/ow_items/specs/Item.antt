@@ -8,6 +8,7 @@ use Rattle.ow_entity.specs.Row.{name_of}
 use Rattle.ow_entity.specs.Written.{row_value, limits_value, shown_version}
 use Rattle.ow_entity.specs.declared.rows.Row.{Row as EntityRow}
 use Rattle.ow_entity.specs.declared.rows.Row.TheVariants as rows
+use Rattle.ow_records.specs.Form.{form_text}
 use Rattle.ow_records.specs.Id.{hex_16, id_text}
 use Rattle.ow_records.specs.Notes.{kind_text}
 use Rattle.ow_records.specs.Written.{record_value, cause_members}
@@ -56,7 +57,7 @@ open_members bound cause u =
     (codes "activationId", text (id_text u.id))
     ∷ (codes "at", whole (pos u.at))
     ∷ binding_members bound (cause_members cause (
-    (codes "form", text (codes "leaf"))
+    (codes "form", text (form_text u.form))
     ∷ (codes "kind", text (kind_text u.kind))
     ∷ (codes "limits", limits_value u.limits)
     ∷ (codes "namespace", text u.namespace)
@@ -65,7 +66,7 @@ open_members bound cause u =
     ∷ (codes "version", text (shown_version u.version))
     ∷ []))
 
--- an activation that has not ended; each is a leaf
+-- an activation that has not ended
 abbrev pub open_value : Unrecorded → V
 open_value u = object (members_of (open_members u.binding u.cause u))
 

@@ -6,6 +6,7 @@ use Rattle.ow_value.specs.Text.{value_tokens}
 use Rattle.ow_entity.specs.Written.{limits_value, shown_version}
 use Rattle.ow_names.specs.FullName.{full_text}
 use Rattle.ow_names.specs.declared.full.FullName.{FullName}
+use Rattle.ow_records.specs.Form.{form_text}
 use Rattle.ow_records.specs.Id.{id_text}
 use Rattle.ow_records.specs.Notes.{kind_text}
 use Rattle.ow_records.specs.Written.{cause_members, lines_value, response_value, status_text}
@@ -63,7 +64,7 @@ abbrev pub from_limits : Unrecorded → Pairs
 from_limits u = (codes "limits", limits_value u.limits) ∷ (codes "namespace", text u.namespace) ∷ from_path u
 
 abbrev pub from_form : Unrecorded → Pairs
-from_form u = (codes "form", text (codes "leaf")) ∷ (codes "kind", text (kind_text u.kind)) ∷ from_limits u
+from_form u = (codes "form", text (form_text u.form)) ∷ (codes "kind", text (kind_text u.kind)) ∷ from_limits u
 
 abbrev pub from_cause : Unrecorded → Pairs
 from_cause u = cause_members u.cause (from_form u)

@@ -68,7 +68,7 @@ fn write_from_form(alloc: Global, out: &mut Writer, activation: &Unrecorded) -> 
     ensures ok { OnOk result (out.new.tokens ≡ out.old.tokens ++ members_tokens (members_of (from_form activation.now))) }
     ensures before { out.new.before ≡ out.old.before }
 {
-    put_text(out, "form", "leaf")?;
+    put_text(out, "form", activation.form.text())?;
     put_text(out, "kind", activation.kind.text())?;
     write_from_limits(alloc, out, activation)
 }

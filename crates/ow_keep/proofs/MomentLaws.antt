@@ -24,7 +24,7 @@ use Rattle.ow_traits.specs.Rows.{text_of}
 use Rattle.ow_items.specs.Sorted.{Entries}
 use Rattle.ow_items.specs.declared.item.Item.{Item}
 use Rattle.ow_items.specs.declared.item.Item.TheVariants.{Version, Count, Row, Open, Done}
-use Rattle.ow_keep.specs.Allowed.{are_durations, confirmed, has_record, is_called, is_confirmed, is_drawn, is_moment, item_at}
+use Rattle.ow_keep.specs.Allowed.{are_durations, confirmed, has_record, is_called, is_confirmed, is_drawn, is_formed, is_moment, item_at}
 use Rattle.ow_keep.specs.EntityIn.{entity_from}
 use Rattle.ow_keep.specs.ItemIn.{count_with, deep_value_of, entity_of, entity_with, item_from, value_of}
 use Rattle.ow_keep.specs.Judged.{gathered, judged, or_key, versioned}
@@ -51,7 +51,8 @@ item_small all Version may order = omega arith
 item_small all (Count namespace count) may order = omega arith
 item_small all (Row r) may order = omega arith
 item_small all (Open u) may order =
-    small_at u.at (and_parts (is_moment u.at) (is_called u.cause u.version u.binding) (and_parts (is_drawn all u.id && not (has_record all u.id)) (is_moment u.at && is_called u.cause u.version u.binding) may.allowed).1).0
+    let called = is_called u.cause u.version u.binding && is_formed u.form u.kind in
+    small_at u.at (and_parts (is_moment u.at) called (and_parts (is_drawn all u.id && not (has_record all u.id)) (is_moment u.at && called) may.allowed).1).0
 item_small all (Done r) may order =
     let end = small_at r.span.end (and_parts (is_moment r.span.end) (is_called r.cause r.version r.notes.binding && are_durations r.notes) (and_parts (is_drawn all r.id) (is_moment r.span.end && (is_called r.cause r.version r.notes.binding && are_durations r.notes)) may.allowed).1).0 in
     max-le (omega (arith, order, end)) end

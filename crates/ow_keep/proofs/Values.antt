@@ -21,17 +21,20 @@ use Rattle.ow_names.specs.Name.{IsName}
 use Rattle.ow_names.specs.declared.full.FullName.{FullName}
 use Rattle.ow_names.proofs.NameLaws.{IsName-utf8}
 use Rattle.ow_entity.specs.Exec.{exec_code}
-use Rattle.ow_entity.specs.FitAction.{IsFitLimits}
+use Rattle.ow_entity.specs.FitAction.{IsFitExec, IsFitLimits}
 use Rattle.ow_entity.specs.Pairs.{pair_value, pairs_value}
-use Rattle.ow_entity.specs.Written.{action_value, binding_value, exec_value, limits_value, package_value, rule_value, shown_namespace, shown_version, trigger_value}
+use Rattle.ow_entity.specs.Written.{action_value, binding_value, exec_value, limits_value, name_value, package_value, rule_value, shown_namespace, shown_version, trigger_value}
 use Rattle.ow_entity.specs.declared.actions.Action.{Action}
 use Rattle.ow_entity.specs.declared.bounds.Limits.{Limits}
 use Rattle.ow_entity.specs.declared.exec.Exec.{Exec}
-use Rattle.ow_entity.specs.declared.exec.Exec.TheVariants.{Plain, Program}
+use Rattle.ow_entity.specs.declared.exec.Exec.TheVariants.{Plain, Program, Sequence}
 use Rattle.ow_entity.specs.Status.{status_text}
 use Rattle.ow_entity.specs.declared.packages.Package.{Package}
 use Rattle.ow_entity.specs.declared.rules.Rule.{Rule}
 use Rattle.ow_entity.specs.declared.triggers.Trigger.{Trigger}
+use Rattle.ow_records.specs.Form.{form_text}
+use Rattle.ow_records.specs.declared.forms.Form.{Form}
+use Rattle.ow_records.specs.declared.forms.Form.TheVariants as forms
 use Rattle.ow_records.specs.Id.{id_text, hex_16}
 use Rattle.ow_records.specs.Known.{AreNotes, IsKnown, IsKnownUnrecorded, IsResponse}
 use Rattle.ow_records.specs.Notes.{kind_text}
@@ -139,9 +142,15 @@ limits_are l h = named (
     ∷ (codes "timeout", whole (pos l.timeout))
     ∷ []) refl (small l.logs 10 h.logs.1 (omega arith), (small l.memory 512 h.memory.1 (omega arith), (small l.timeout 300000 h.timeout.1 (omega arith), tt)))
 
-exec_are : (e : Exec) → IsUtf8 (exec_code e) → IsValue (exec_value e)
-exec_are (Plain code) h = named ((codes "code", text code) ∷ (codes "kind", text (codes "plain:1")) ∷ []) refl (h, (ascii (codes "plain:1") refl, tt))
-exec_are (Program code) h = named ((codes "code", text code) ∷ (codes "kind", text (codes "program:1")) ∷ []) refl (h, (ascii (codes "program:1") refl, tt))
+names_are : (ns : List FullName) → AllByRecursion IsFullName ns → AreValues (items_of (map name_value ns))
+names_are [] h = tt
+names_are (n ∷ ns) h = (full_utf8 n h.0, names_are ns h.1)
+
+exec_are : (e : Exec) → IsUtf8 (exec_code e) → IsFitExec e → IsValue (exec_value e)
+exec_are (Sequence components) h k =
+    named ((codes "components", list (items_of (map name_value components))) ∷ (codes "kind", text (codes "sequence")) ∷ []) refl (names_are components k.names, (ascii (codes "sequence") refl, tt))
+exec_are (Plain code) h k = named ((codes "code", text code) ∷ (codes "kind", text (codes "plain:1")) ∷ []) refl (h, (ascii (codes "plain:1") refl, tt))
+exec_are (Program code) h k = named ((codes "code", text code) ∷ (codes "kind", text (codes "program:1")) ∷ []) refl (h, (ascii (codes "program:1") refl, tt))
 
 binding_are : (o : Option FullName) → IfSome o IsFullName → IsValue (binding_value o)
 binding_are None h = named [] refl tt
@@ -157,7 +166,7 @@ action_is a h = named (
     ∷ (codes "parameters", pairs_value a.params)
     ∷ (codes "publish", boolean a.publish)
     ∷ (codes "version", text (shown_version a.version))
-    ∷ []) refl (pairs_are a.notes h.notes, (exec_are a.exec h.code, (limits_are a.limits h.fits.limits, (IsName-utf8 a.name.name h.name.name, (shown_utf8 a.name.namespace a.name.package h.name.inside h.name.namespace, (pairs_are a.params h.params, (tt, (version_utf8 a.version h.version, tt))))))))
+    ∷ []) refl (pairs_are a.notes h.notes, (exec_are a.exec h.code h.fits.exec, (limits_are a.limits h.fits.limits, (IsName-utf8 a.name.name h.name.name, (shown_utf8 a.name.namespace a.name.package h.name.inside h.name.namespace, (pairs_are a.params h.params, (tt, (version_utf8 a.version h.version, tt))))))))
 
 pub package_is : (p : Package) → IsKnownPackage p → IsValue (package_value p)
 package_is p h = named (
@@ -208,6 +217,12 @@ id_utf8 id = IsUtf8-append (hex_16 id.namespace) (hex_16 id.count) (digits_utf8 
 kind_utf8 : (k : ExecKind) → IsUtf8 (kind_text k)
 kind_utf8 exec_kinds.Plain = ascii (codes "plain:1") refl
 kind_utf8 exec_kinds.Program = ascii (codes "program:1") refl
+kind_utf8 exec_kinds.Sequence = ascii (codes "sequence") refl
+
+form_utf8 : (f : Form) → IsUtf8 (form_text f)
+form_utf8 forms.Leaf = ascii (codes "leaf") refl
+form_utf8 forms.Sequence = ascii (codes "sequence") refl
+form_utf8 forms.Conductor = ascii (codes "conductor") refl
 
 status_utf8 : (code : ℕ) → IsUtf8 (word_of_code code)
 status_utf8 zero = ascii (codes "success") refl
@@ -304,7 +319,7 @@ record_is r h = record_by r.cause r h
 
 abbrev open_tail : Unrecorded → Pairs
 open_tail u =
-    (codes "form", text (codes "leaf"))
+    (codes "form", text (form_text u.form))
     ∷ (codes "kind", text (kind_text u.kind))
     ∷ (codes "limits", limits_value u.limits)
     ∷ (codes "namespace", text u.namespace)
@@ -314,7 +329,7 @@ open_tail u =
     ∷ []
 
 open_tail_are : (u : Unrecorded) → IsKnownUnrecorded u → AllByRecursion (λ p. IsValue p.1) (open_tail u)
-open_tail_are u h = (ascii (codes "leaf") refl, (kind_utf8 u.kind, (limits_are u.limits h.limits, (IsName-utf8 u.namespace h.namespace, (path_utf8 u.path h.path, (h.subject, (version_utf8 u.version h.version, tt)))))))
+open_tail_are u h = (form_utf8 u.form, (kind_utf8 u.kind, (limits_are u.limits h.limits, (IsName-utf8 u.namespace h.namespace, (path_utf8 u.path h.path, (h.subject, (version_utf8 u.version h.version, tt)))))))
 
 open_by : (b : Option FullName) (c : Option Id) (u : Unrecorded) → IfSome b IsFullName → IsKnownUnrecorded u → IsValue (object (members_of (open_members b c u)))
 open_by None None u hb h = named ((codes "activationId", text (id_text u.id)) ∷ (codes "at", whole (pos u.at)) ∷ open_tail u) refl

@@ -1,21 +1,27 @@
 -- Which items are allowed beside which rows, and the item of a row that is allowed.
-use Rattle.std.specs.Prelude.{ℕ, ◌&&◌, List, Bool, true, false, nat_le, is_some, not, if◌then◌else◌, option_and_then, Option, Some, None}
+use Rattle.std.specs.Prelude.{ℕ, ◌&&◌, List, [], ◌∷◌, Bool, true, false, length, nat_le, is_some, not, if◌then◌else◌, option_and_then, Option, Some, None}
 use Rattle.std.specs.Str.{bytes_eq}
 use Rattle.ow_value.specs.Value.{depth}
 use Rattle.ow_value.specs.Decimal.{digits_of}
 use Rattle.ow_value.specs.Nesting.{most_nested, most_nested_record}
 use Rattle.ow_names.specs.Path.{home}
 use Rattle.ow_names.specs.declared.full.FullName.{FullName}
+use Rattle.ow_entity.specs.Exec.{components_of}
 use Rattle.ow_entity.specs.Written.{row_value}
 use Rattle.ow_entity.specs.declared.rows.Row.{Row as EntityRow}
 use Rattle.ow_entity.specs.declared.rows.Row.TheVariants as rows
 use Rattle.ow_records.specs.Written.{record_value}
 use Rattle.ow_records.specs.declared.ids.Id.{Id}
+use Rattle.ow_records.specs.declared.forms.Form.{Form}
+use Rattle.ow_records.specs.declared.forms.Form.TheVariants as forms
+use Rattle.ow_records.specs.declared.notes.ExecKind.{ExecKind}
+use Rattle.ow_records.specs.declared.notes.ExecKind.TheVariants as exec_kinds
 use Rattle.ow_records.specs.declared.notes.Notes.{Notes}
 use Rattle.ow_records.specs.declared.record.Record.{Record}
 use Rattle.ow_records.specs.declared.unrecorded.Unrecorded.{Unrecorded}
 use Rattle.ow_traits.specs.Rows.{text_of}
 use Rattle.ow_tables.specs.Builtin.{is_builtin}
+use Rattle.ow_tables.specs.declared.sequences.TheConstants.{MOST_COMPONENTS}
 use Rattle.ow_items.specs.Item.{count_key, done_key, item_key, item_text, open_value}
 use Rattle.ow_items.specs.Sorted.{Entries}
 use Rattle.ow_items.specs.declared.item.Item.{Item}
@@ -85,16 +91,31 @@ is_binding here (Some bound) = stands_alone bound && bytes_eq (home here bound.n
 abbrev pub is_written : List ℕ → FullName → Bool
 is_written here n = bytes_eq (home here n.namespace) n.namespace
 
+abbrev pub are_written : List ℕ → List FullName → Bool
+are_written here [] = true
+are_written here (n ∷ ns) = is_written here n && are_written here ns
+
+-- no more components than a put allows
+abbrev pub are_few : List FullName → Bool
+are_few ns = nat_le (length ns) MOST_COMPONENTS
+
 -- packages, rules and triggers lie in no package
 abbrev pub is_entity : EntityRow → Bool
-is_entity (rows.Action a) = is_version a.version
+is_entity (rows.Action a) = is_version a.version && (are_few (components_of a.exec) && are_written a.name.namespace (components_of a.exec))
 is_entity (rows.Package p) = is_version p.version && (stands_alone p.name && is_binding p.name.namespace p.binding)
 is_entity (rows.Rule r) = is_version r.version && (stands_alone r.name && (is_written r.name.namespace r.trigger && is_written r.name.namespace r.action))
 is_entity (rows.Trigger t) = is_version t.version && stands_alone t.name
 
+-- the activation is that of a sequence exactly where its action is a sequence
+abbrev pub is_formed : Form → ExecKind → Bool
+is_formed forms.Sequence exec_kinds.Sequence = true
+is_formed forms.Sequence kind = false
+is_formed form exec_kinds.Sequence = false
+is_formed form kind = true
+
 -- what is asked of an activation that has not ended, whatever the other rows are
 abbrev pub is_fit_open : Unrecorded → Bool
-is_fit_open u = is_moment u.at && is_called u.cause u.version u.binding
+is_fit_open u = is_moment u.at && (is_called u.cause u.version u.binding && is_formed u.form u.kind)
 
 -- what is asked of a record so
 abbrev pub is_fit_record : Record → Bool

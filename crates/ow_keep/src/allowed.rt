@@ -7,13 +7,13 @@ ghost use Rattle.ow_value.specs.View.{view};
 ghost use Rattle.ow_names.specs.Path.{home};
 ghost use Rattle.ow_entity.specs.declared.rows.Row.TheVariants as rows;
 ghost use Rattle.ow_items.specs.declared.item.Item.TheVariants as items;
-ghost use Rattle.ow_keep.specs.Allowed.{are_durations, has_record, is_allowed, is_binding, is_called, is_cause, is_confirmed, is_drawn, is_duration, is_entity, is_moment, is_reached, is_row_of, is_written, stands_alone};
+ghost use Rattle.ow_keep.specs.Allowed.{are_durations, are_written, has_record, is_allowed, is_binding, is_called, is_cause, is_confirmed, is_drawn, is_duration, is_entity, is_formed, is_moment, is_reached, is_row_of, is_written, stands_alone};
 
-use ow_entity::{Package, Row, Rule, Trigger, write_entity};
+use ow_entity::{Action, Package, Row, Rule, Trigger, write_entity};
 use ow_items::{Item, count_key, count_row, done_key, entity_key, open_row};
 use ow_names::{EntityName, FullName};
-use ow_records::{Id, Notes, Record, Unrecorded, write_record};
-use ow_tables::is_builtin;
+use ow_records::{ExecKind, Form, Id, Notes, Record, Unrecorded, write_record};
+use ow_tables::{MOST_COMPONENTS, is_builtin};
 use ow_traits::Rows;
 use ow_value::{MOST_NESTED, MOST_NESTED_RECORD, NoMemory, Str, Val, depth, digits_of, write_val};
 use std::alloc::Global;
@@ -146,7 +146,8 @@ fn is_allowed_open(alloc: Global, all: &Rows, activation: &Unrecorded) -> Result
     let ended = has_record(alloc, all, activation.id)?;
     let moment = is_moment(activation.at);
     let called = is_called(activation.cause, activation.version, &activation.binding);
-    Ok((drawn && !ended) && (moment && called))
+    let formed = is_formed(activation.form, activation.kind);
+    Ok((drawn && !ended) && (moment && (called && formed)))
 }
 
 fn is_allowed_done(alloc: Global, all: &Rows, ended: &Record) -> Result<bool, NoMemory>
@@ -202,6 +203,22 @@ fn is_called(cause: Option<Id>, version: u32, binding: &Option<FullName>) -> boo
     cause && (1 <= version && reached)
 }
 
+// Whether the activation is that of a sequence exactly where its action is a sequence.
+fn is_formed(form: Form, kind: ExecKind) -> bool
+    ensures { result ≡ is_formed form kind }
+{
+    match form {
+        Form::Sequence => match kind {
+            ExecKind::Sequence => true,
+            ExecKind::Plain | ExecKind::Program => false,
+        },
+        Form::Leaf | Form::Conductor => match kind {
+            ExecKind::Sequence => false,
+            ExecKind::Plain | ExecKind::Program => true,
+        },
+    }
+}
+
 fn is_reached(binding: &Option<FullName>) -> bool
     ensures { result ≡ is_reached binding.now }
 {
@@ -238,11 +255,31 @@ fn is_entity(entity: &Row) -> bool
     ensures { result ≡ is_entity entity.now }
 {
     match entity {
-        Row::Action(action) => 1 <= action.get().version,
+        Row::Action(action) => is_action(action.get()),
         Row::Package(bundle) => is_package(bundle.get()),
         Row::Rule(rule) => is_rule(rule.get()),
         Row::Trigger(trigger) => is_trigger(trigger.get()),
     }
+}
+
+fn is_action(action: &Action) -> bool
+    ensures { result ≡ is_entity (rows.Action action.now) }
+{
+    let components = action.exec.components();
+    let few = components.len() <= MOST_COMPONENTS;
+    let written = are_written(&action.name.namespace, components);
+    1 <= action.version && (few && written)
+}
+
+fn are_written(here: &EntityName, names: &[FullName]) -> bool
+    ensures { result ≡ are_written here.now names.now }
+{
+    for name in names {
+        if !is_written(here, name) {
+            return false;
+        }
+    }
+    true
 }
 
 fn is_rule(rule: &Rule) -> bool

@@ -129,7 +129,7 @@ fn known_exec(exec: &Exec)
     ensures code { IsUtf8 (exec_code exec.now) }
     ensures fits { IsFitExec exec.now }
 {
-    exec.code().as_str();
+    exec.known();
 }
 
 fn known_limits(limits: Limits)

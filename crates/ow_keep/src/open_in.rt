@@ -7,7 +7,7 @@ ghost use Rattle.ow_keep.specs.OpenIn.{as_full_name, binding_in, full_name_of, o
 
 use ow_names::{FullName, NameRefusal, read_full_text};
 use ow_records::{
-    Unrecorded, cause_in, id_in, kind_in, limits_in, name_in, number_in, path_in, text_in,
+    Unrecorded, cause_in, form_in, id_in, kind_in, limits_in, name_in, number_in, path_in, text_in,
     version_in,
 };
 use ow_value::{NoMemory, Params, PlainData, Val};
@@ -27,7 +27,10 @@ pub(crate) fn open_from(alloc: Global, value: &Val) -> Result<Option<Unrecorded>
     let Some(binding) = binding_in(alloc, fields)? else {
         return Ok(None);
     };
-    let (Some(cause), Some(kind)) = (cause_in(fields), kind_in(fields, "kind")) else {
+    let (Some(cause), Some(form)) = (cause_in(fields), form_in(fields, "form")) else {
+        return Ok(None);
+    };
+    let Some(kind) = kind_in(fields, "kind") else {
         return Ok(None);
     };
     let Some(limits) = limits_in(fields, "limits") else {
@@ -51,6 +54,7 @@ pub(crate) fn open_from(alloc: Global, value: &Val) -> Result<Option<Unrecorded>
         at,
         binding,
         cause,
+        form,
         kind,
         limits,
         namespace,

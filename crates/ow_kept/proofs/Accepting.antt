@@ -1,4 +1,4 @@
--- What is committed of an acceptance makes what is kept behind it.
+-- What is committed of an acceptance makes what is kept after it.
 use Rattle.std.proofs.Common.{◌≡◌, ◌+◌, false, List, [], ◌∷◌, ◌++◌, filter, map, refl, sym, ap, ◌∙◌, subst, arith}
 use Rattle.std.specs.List.{AllByRecursion}
 use Rattle.ow_entity.specs.declared.rows.Row.{Row}
@@ -15,12 +15,10 @@ use Rattle.ow_items.specs.Bytes.{bytes_of, weight, weight_at}
 use Rattle.ow_items.specs.Item.{count_key, item_key, item_text, open_key}
 use Rattle.ow_items.specs.Lists.{Lacks}
 use Rattle.ow_items.specs.Sorted.{Entries, Makes, rows_of}
-use Rattle.ow_items.proofs.Extent.{changes_kept}
 use Rattle.ow_items.proofs.Lists.{absent, makes_then, put_end}
 use Rattle.ow_kept.specs.Commits.{accept_changes, put_of}
-use Rattle.ow_kept.specs.Keeping.{AreIds, last_bytes, row_bytes}
+use Rattle.ow_kept.specs.Keeping.{AreIds, last_bytes, open_bytes, row_bytes}
 use Rattle.ow_kept.specs.Kept.{count_item, entries, is_kept, kept, unrecorded}
-use Rattle.ow_kept.specs.Laws.{AcceptancesAreKept}
 use Rattle.ow_kept.proofs.Counting.{counted}
 use Rattle.ow_kept.proofs.Ids.{all_both, all_put, kept_ids, lacks_open, new_known, nowhere}
 use Rattle.ow_kept.proofs.RowLaws.{made_so}
@@ -43,6 +41,10 @@ accepted_open a T next sound =
     let grown : shown (Accepted a ∷ T) ≡ grow (Accepted a) (shown T) = (sound_items (Accepted a ∷ []) T ((new, tt), tt) sound).1 in
     ap (λ (v : Shown). map (λ (x : Open). unrecorded_of x.task) v.open_items) grown
     ∙ open_append (open_items T) (record { task = a; state = Waiting })
+
+pub opens_append : (us : List Unrecorded) (u : Unrecorded) → map open_bytes (us ++ u ∷ []) ≡ map open_bytes us ++ open_bytes u ∷ []
+opens_append [] u = refl
+opens_append (x ∷ us) u = ap (λ os. open_bytes x ∷ os) (opens_append us u)
 
 pub lacks_new : (a : Activation) (T : Trace) → a.id.count ≡ last T a.id.namespace + 1 → IsSound T → AllByRecursion (λ u. same_id a.id u.id ≡ false) (unrecorded T)
 lacks_new a T next sound =
@@ -114,8 +116,3 @@ accept_ids T a sound ids is next = record {
   opened = subst (λ (us : List Unrecorded). AllByRecursion (λ u. IsId u.id) us) (sym (accepted_open a T next sound)) (all_both _ (unrecorded T) (unrecorded_of a ∷ []) ids.opened (is, tt));
   ended = ids.ended;
 }
-
-pub acceptances_kept : AcceptancesAreKept
-unfolding kept
-acceptances_kept rs T a sound ids is next =
-    changes_kept (accept_changes (unrecorded_of a)) (entries rs T) (entries rs (Accepted a ∷ T)) (accept_made rs T a sound ids is next)

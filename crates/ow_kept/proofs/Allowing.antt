@@ -24,7 +24,7 @@ use Rattle.ow_items.specs.Item.{count_key, done_key, item_key, item_row, item_te
 use Rattle.ow_items.specs.Sorted.{rows_of}
 use Rattle.ow_items.proofs.Extent.{text_of-rows_of}
 use Rattle.ow_items.proofs.Lists.{absent}
-use Rattle.ow_keep.specs.Allowed.{are_durations, has_record, is_called, is_counted, is_drawn, is_entity, is_moment}
+use Rattle.ow_keep.specs.Allowed.{are_durations, has_record, is_called, is_counted, is_drawn, is_entity, is_fit_open, is_moment}
 use Rattle.ow_keep.specs.Kept.{AreKept, MayStand}
 use Rattle.ow_keep.specs.Known.{IsItem}
 use Rattle.ow_keep.specs.declared.allowed.TheConstants.{GREATEST_COUNT}
@@ -203,9 +203,9 @@ module _ (rs : List Row) (T : Trace) (sound : IsSound T) (small : AreCountsSmall
       let none = ap not (no_record_there u.id h.0.known.id h.1.0) in
       record {
         shallow = h.0.shallow;
-        allowed = and_from (is_drawn (kept rs T) u.id && not (has_record (kept rs T) u.id)) (is_moment u.at && is_called u.cause u.version u.binding)
+        allowed = and_from (is_drawn (kept rs T) u.id && not (has_record (kept rs T) u.id)) (is_fit_open u)
             (and_from (is_drawn (kept rs T) u.id) (not (has_record (kept rs T) u.id)) was_drawn none)
-            (and_parts (nat_le 1 u.id.count) (is_moment u.at && is_called u.cause u.version u.binding) h.0.fit).1;
+            (and_parts (nat_le 1 u.id.count) (is_fit_open u) h.0.fit).1;
       }
 
   done_stands : (r : Record) → IsFit (items.Done r) × (r.id.count ≤ last T r.id.namespace) → MayStand (kept rs T) (items.Done r)

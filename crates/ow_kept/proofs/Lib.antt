@@ -9,8 +9,7 @@ pub mod Ids
 pub mod Weights
 pub mod Accepting
 pub mod Ending
-pub mod Endings
-pub mod Quiet
+pub mod Stays
 pub mod Picking
 pub mod Taking
 pub mod Opening
@@ -19,5 +18,6 @@ pub mod Allowing
 pub mod Shallow
 pub mod Standing
 pub mod Moving
+pub mod Quiet
 pub mod Loops
 pub mod Removing

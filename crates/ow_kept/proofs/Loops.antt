@@ -4,37 +4,16 @@ use Rattle.std.specs.List.{flat_map}
 use Rattle.std.proofs.lemmas.List.{drop_more}
 use Rattle.ow_traits.specs.declared.change_list.Change.{Change}
 use Rattle.ow_kept.specs.Commits.{end_changes}
-use Rattle.ow_kept.specs.declared.commit.OpenBytes.{OpenBytes}
 use Rattle.ow_items.specs.declared.item.Item.TheVariants as items
-use Rattle.ow_kept.specs.Keeping.{bytes_at, done_bytes, ended_bytes, is_of, row_bytes, without_ended}
-use Rattle.ow_floor.specs.View.{remove_first}
+use Rattle.ow_kept.specs.Keeping.{done_bytes, row_bytes}
 use Rattle.ow_items.specs.Bytes.{bytes_of}
 use Rattle.ow_items.specs.Sorted.{Entries}
 use Rattle.ow_kept.specs.Opening.{abandoned, opens_bytes}
-use Rattle.ow_records.specs.declared.ids.Id.{Id}
-use Rattle.ow_records.specs.declared.record.Record.{Record}
 use Rattle.ow_records.specs.declared.unrecorded.Unrecorded.{Unrecorded}
 use Rattle.ow_records.specs.Unrecorded.{abandoned_record}
 
 pub next_left : {X : Type 0} (xs : List X) (i : ℕ) (x : X) → i < length xs → x ≡ get_or xs i x → drop i xs ≡ x ∷ drop (i + 1) xs
 next_left xs i x h is = drop_more xs i x h ∙ ap (λ y. y ∷ drop (i + 1) xs) (sym is)
-
--- of ends
-pub ends_gathered : (ends : List Record) (i : ℕ) (x : Record) (mid new start : List Change) → i < length ends → x ≡ get_or ends i x → mid ++ flat_map end_changes (drop i ends) ≡ start → new ≡ mid ++ end_changes x
-    → new ++ flat_map end_changes (drop (i + 1) ends) ≡ start
-ends_gathered ends i x mid new start h is before now =
-    ap (λ cs. cs ++ flat_map end_changes (drop (i + 1) ends)) now
-    ∙ append_assoc mid (end_changes x) (flat_map end_changes (drop (i + 1) ends))
-    ∙ ap (λ ds. mid ++ flat_map end_changes ds) (sym (next_left ends i x h is))
-    ∙ before
-
-pub ends_counted : (ends : List Record) (os : List OpenBytes) (i : ℕ) (x : Record) (mid new start : ℕ) → i < length ends → x ≡ get_or ends i x
-    → mid + ended_bytes ends os + done_bytes (drop i ends) ≡ start + done_bytes ends + ended_bytes (drop i ends) os → new + bytes_at x.id os ≡ mid + row_bytes (items.Done x)
-    → new + ended_bytes ends os + done_bytes (drop (i + 1) ends) ≡ start + done_bytes ends + ended_bytes (drop (i + 1) ends) os
-ends_counted ends os i x mid new start h is before now =
-    let done : done_bytes (drop i ends) ≡ row_bytes (items.Done x) + done_bytes (drop (i + 1) ends) = ap done_bytes (next_left ends i x h is) in
-    let ended : ended_bytes (drop i ends) os ≡ bytes_at x.id os + ended_bytes (drop (i + 1) ends) os = ap (λ ds. ended_bytes ds os) (next_left ends i x h is) in
-    omega (arith, before, now, done, ended)
 
 -- of activations that are abandoned
 pub abandoned_gathered : (at : ℕ) (us : List Unrecorded) (i : ℕ) (x : Unrecorded) (mid new start : List Change) → i < length us → x ≡ get_or us i x → mid ++ flat_map end_changes (abandoned at (drop i us)) ≡ start
@@ -59,8 +38,3 @@ pub rows_counted : (rows : Entries) (i : ℕ) (x : List ℕ × List ℕ) (total 
 rows_counted rows i x total new h is before now =
     let left : bytes_of (drop i rows) ≡ length x.0 + length x.1 + bytes_of (drop (i + 1) rows) = ap bytes_of (next_left rows i x h is) in
     omega (arith, before, now, left)
-
--- of ids
-pub ids_removed : (ids : List Id) (i : ℕ) (d : Id) (mid new start : List OpenBytes) → i < length ids → without_ended (drop i ids) mid ≡ start → new ≡ remove_first (is_of (get_or ids i d)) mid → without_ended (drop (i + 1) ids) new ≡ start
-ids_removed ids i d mid new start h before now =
-    ap (without_ended (drop (i + 1) ids)) now ∙ ap (λ xs. without_ended xs mid) (sym (drop_more ids i d h)) ∙ before

@@ -1,5 +1,5 @@
 -- What is committed of moves makes what is kept after their items.
-use Rattle.std.proofs.Common.{◌≡◌, ◌+◌, ◌-◌, ◌≤◌, ◌<◌, ℕ, zero, suc, false, List, [], ◌∷◌, ◌++◌, filter, find, length, drop, drop-cons, get_or, add-one, map, Option, Some, None, refl, sym, ap, ◌∙◌, subst, arith, append_assoc, append-nil}
+use Rattle.std.proofs.Common.{◌≡◌, ◌+◌, ◌-◌, ◌≤◌, ◌<◌, ℕ, zero, suc, false, List, [], ◌∷◌, ◌++◌, filter, find, length, drop, drop-cons, get_or, add-one, map, Option, Some, refl, sym, ap, ◌∙◌, subst, arith, append_assoc, append-nil}
 use Rattle.std.specs.List.{AllByRecursion, flat_map}
 use Rattle.ow_entity.specs.declared.rows.Row.{Row}
 use Rattle.ow_traits.specs.declared.change_list.Change.{Change}
@@ -24,18 +24,17 @@ use Rattle.ow_items.specs.Sorted.{Entries, Makes, rows_of}
 use Rattle.ow_items.proofs.Extent.{changes_kept}
 use Rattle.ow_items.proofs.Lists.{absent, makes_then, put_end}
 use Rattle.ow_kept.specs.Commits.{changes_of, put_of}
-use Rattle.ow_kept.specs.Keeping.{AreIds, AreOwn, Follows, FollowingView, FollowsOne, IsKnownMove, IsOwn, KeepingView, StandsFollowing, StandsForKept, is_of as kept_of, last_bytes, less_of, more_of, open_bytes, opens_moved, row_bytes}
+use Rattle.ow_kept.specs.Keeping.{AreIds, AreOwn, Follows, FollowingView, FollowsOne, IsKnownMove, IsOwn, KeepingView, StandsFollowing, StandsForKept, is_of as kept_of, last_bytes, less_of, more_of, open_bytes, row_bytes}
 use Rattle.ow_kept.specs.Kept.{count_item, entries, is_kept, kept, unrecorded}
 use Rattle.ow_kept.specs.Laws.{MovesAreKept}
-use Rattle.ow_kept.specs.declared.commit.OpenBytes.{OpenBytes}
-use Rattle.ow_kept.proofs.Accepting.{accept_ids, accept_made, accept_weighs, accepted_open}
+use Rattle.ow_kept.specs.declared.open_bytes.OpenBytes.{OpenBytes}
+use Rattle.ow_kept.proofs.Accepting.{accept_ids, accept_made, accept_weighs, accepted_open, opens_append}
 use Rattle.ow_kept.proofs.Counting.{counted}
 use Rattle.ow_kept.proofs.Ending.{end_goes, of_open}
-use Rattle.ow_kept.proofs.Endings.{one_right, opens_of, opens_removed, quiet, same_freed, same_open}
 use Rattle.ow_kept.proofs.Ids.{all_both, all_put, lacks_done, nowhere}
 use Rattle.ow_kept.proofs.RowLaws.{made_so}
 use Rattle.ow_kept.proofs.Sections.{count_put, done_of, done_put, entries_are, sections}
-use Rattle.ow_kept.proofs.Standing.{opens_append}
+use Rattle.ow_kept.proofs.Stays.{one_right, opens_of, opens_removed, same_freed, same_open, stays}
 use Rattle.ow_kept.proofs.Weights.{count_text, count_weighs, done_text, put_bytes}
 use Rattle.ow_records.specs.declared.ids.Id.{Id}
 use Rattle.ow_records.specs.declared.record.Record.{Record}
@@ -155,11 +154,11 @@ Before rs T bytes os = (bytes ≡ bytes_of (kept rs T)) × (os ≡ opens_of T)
 still : (rs : List Row) (item : Item) (T : Trace) (bytes after : ℕ) (os left : List OpenBytes) → unrecorded (item ∷ T) ≡ unrecorded T → drawn (item ∷ T) ≡ drawn T → all_records (item ∷ T) ≡ all_records T
     → AreIds T → Before rs T bytes os → (after ≡ bytes) × (left ≡ os) → GoesOn rs [] after left T (item ∷ T)
 still rs item T bytes after os left is_open is_drawn is_ended ids before same =
-    let q = quiet rs item T is_open is_drawn is_ended ids in
-    let b = q.goes.bytes in
+    let goes = stays rs item T is_open is_drawn is_ended ids in
+    let b = goes.bytes in
     let now = before.0 in
     let e = same.0 in
-    record { makes = q.goes.makes; stands = (omega (arith, b, now, e), same.1 ∙ (before.1 ∙ sym q.opens)); ids = q.goes.ids }
+    record { makes = goes.makes; stands = (omega (arith, b, now, e), same.1 ∙ (before.1 ∙ ap (map open_bytes) (sym is_open))); ids = goes.ids }
 
 item_follows : (rs : List Row) (item : Item) (T : Trace) (bytes after : ℕ) (os left : List OpenBytes) → unrecorded (item ∷ T) ≡ of_open (open_after item (live T) (open_items T)) → IsRight item (shown T) → IsOwn item → IsSound T → AreIds T
     → AllByRecursion IsKnownMove (moved_by item) → Before rs T bytes os → Follows (moved_by item) bytes os after left → GoesOn rs (flat_map changes_of (moved_by item)) after left T (item ∷ T)
@@ -278,16 +277,16 @@ item_makes rs (Drawn id at) T is_open right own sound ids known =
     let next : id.count ≡ last T id.namespace + 1 = right.0 ∙ ap (λ n. n + 1) (drawn_last T id.namespace) in
     (draw_made rs T id at sound ids known.0 next, draw_ids rs T id at sound ids known.0 next)
 item_makes rs (Fired r) T is_open right own sound ids known = (fire_made rs T r sound ids known.0 right.0, fire_ids rs T r sound ids known.0 right.0)
-item_makes rs (Ordered run key) T is_open right own sound ids known = let q = quiet rs (Ordered run key) T (is_open ∙ same_open waits (Running run.number) (open_items T)) refl refl ids in (q.goes.makes, q.goes.ids)
-item_makes rs (Lost run at) T is_open right own sound ids known = let q = quiet rs (Lost run at) T (is_open ∙ same_freed (find (is_number run) (live T)) (open_items T)) refl refl ids in (q.goes.makes, q.goes.ids)
-item_makes rs (Prewarming order at) T is_open right own sound ids known = let q = quiet rs (Prewarming order at) T is_open refl refl ids in (q.goes.makes, q.goes.ids)
-item_makes rs (Removed containers at) T is_open right own sound ids known = let q = quiet rs (Removed containers at) T is_open refl refl ids in (q.goes.makes, q.goes.ids)
-item_makes rs (Begun run at) T is_open right own sound ids known = let q = quiet rs (Begun run at) T is_open refl refl ids in (q.goes.makes, q.goes.ids)
-item_makes rs (Answered run alive at) T is_open right own sound ids known = let q = quiet rs (Answered run alive at) T is_open refl refl ids in (q.goes.makes, q.goes.ids)
-item_makes rs (Gone slot generation at) T is_open right own sound ids known = let q = quiet rs (Gone slot generation at) T is_open refl refl ids in (q.goes.makes, q.goes.ids)
-item_makes rs (Swept at) T is_open right own sound ids known = let q = quiet rs (Swept at) T is_open refl refl ids in (q.goes.makes, q.goes.ids)
-item_makes rs (Drained at) T is_open right own sound ids known = let q = quiet rs (Drained at) T is_open refl refl ids in (q.goes.makes, q.goes.ids)
-item_makes rs (Reopened at) T is_open right own sound ids known = let q = quiet rs (Reopened at) T is_open refl refl ids in (q.goes.makes, q.goes.ids)
+item_makes rs (Ordered run key) T is_open right own sound ids known = let goes = stays rs (Ordered run key) T (is_open ∙ same_open waits (Running run.number) (open_items T)) refl refl ids in (goes.makes, goes.ids)
+item_makes rs (Lost run at) T is_open right own sound ids known = let goes = stays rs (Lost run at) T (is_open ∙ same_freed (find (is_number run) (live T)) (open_items T)) refl refl ids in (goes.makes, goes.ids)
+item_makes rs (Prewarming order at) T is_open right own sound ids known = let goes = stays rs (Prewarming order at) T is_open refl refl ids in (goes.makes, goes.ids)
+item_makes rs (Removed containers at) T is_open right own sound ids known = let goes = stays rs (Removed containers at) T is_open refl refl ids in (goes.makes, goes.ids)
+item_makes rs (Begun run at) T is_open right own sound ids known = let goes = stays rs (Begun run at) T is_open refl refl ids in (goes.makes, goes.ids)
+item_makes rs (Answered run alive at) T is_open right own sound ids known = let goes = stays rs (Answered run alive at) T is_open refl refl ids in (goes.makes, goes.ids)
+item_makes rs (Gone slot generation at) T is_open right own sound ids known = let goes = stays rs (Gone slot generation at) T is_open refl refl ids in (goes.makes, goes.ids)
+item_makes rs (Swept at) T is_open right own sound ids known = let goes = stays rs (Swept at) T is_open refl refl ids in (goes.makes, goes.ids)
+item_makes rs (Drained at) T is_open right own sound ids known = let goes = stays rs (Drained at) T is_open refl refl ids in (goes.makes, goes.ids)
+item_makes rs (Reopened at) T is_open right own sound ids known = let goes = stays rs (Reopened at) T is_open refl refl ids in (goes.makes, goes.ids)
 
 makes_only : (rs : List Row) (items T : Trace) → AreRight items (shown T) → AreOwn items → IsSound T → AreIds T → AllByRecursion IsKnownMove (moved items)
     → Makes (flat_map changes_of (moved items)) (entries rs T) (entries rs (items ++ T)) × AreIds (items ++ T)

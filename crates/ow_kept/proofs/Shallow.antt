@@ -25,12 +25,13 @@ use Rattle.ow_records.specs.declared.ids.Id.{Id}
 use Rattle.ow_records.specs.declared.notes.ExecKind.{ExecKind}
 use Rattle.ow_records.specs.declared.notes.Notes.{Notes}
 use Rattle.ow_records.specs.declared.outcomes.Ending.{Ending}
-use Rattle.ow_records.specs.declared.outcomes.Ending.TheVariants.{Replied, Overran, Abandoned}
+use Rattle.ow_records.specs.declared.outcomes.Ending.TheVariants.{Replied, Overran, Abandoned, Composed}
 use Rattle.ow_records.specs.declared.record.Record.{Record}
 use Rattle.ow_records.specs.declared.unrecorded.Unrecorded.{Unrecorded}
 use Rattle.ow_floor.specs.Trace.{End, record_of}
 use Rattle.ow_items.specs.declared.item.Item.TheVariants as items
 use Rattle.ow_keep.specs.Allowed.{is_shallow}
+use Rattle.ow_kept.specs.Shallow.{IsShallowEnding}
 
 -- ---- of notes and lines
 
@@ -86,7 +87,7 @@ lines_flat (l ∷ ls) = max-le (omega arith) (lines_flat ls)
 -- ---- of outcomes
 
 -- the object of the result nests no deeper than the text of an answer may
-abbrev IsShallow : ResponseView → Type 0
+abbrev pub IsShallow : ResponseView → Type 0
 IsShallow r = depth (object (members_of r.result)) ≤ most_nested
 
 members_in : (ms : Members) → members_of (pairs_in ms) ≡ ms
@@ -131,11 +132,12 @@ reply_shallow (Exit status logs) = omega arith
 reply_shallow (NoStart reason) = omega arith
 reply_shallow Fault = omega arith
 
-outcome_shallow : (e : Ending) (l : Limits) → IsShallow (outcome e l)
+pub outcome_shallow : (e : Ending) (l : Limits) → IsShallowEnding e → IsShallow (outcome e l)
 unfolding outcome
-outcome_shallow (Replied reply) l = reply_shallow reply
-outcome_shallow Overran l = omega arith
-outcome_shallow Abandoned l = omega arith
+outcome_shallow (Replied reply) l h = reply_shallow reply
+outcome_shallow Overran l h = omega arith
+outcome_shallow Abandoned l h = omega arith
+outcome_shallow (Composed response children) l h = h
 
 -- ---- of records
 
@@ -146,11 +148,11 @@ record_by (Some c) r h = let notes = notes_within r.notes in let lines = lines_f
 record_shallow : (r : Record) → IsShallow r.response → is_shallow (items.Done r) ≡ true
 record_shallow r h = le-leb (depth (record_value r)) most_nested_record (record_by r.cause r h)
 
-pub ends_shallow : (e : End) → is_shallow (items.Done (record_of e)) ≡ true
-ends_shallow e = record_shallow (record_of e) (outcome_shallow e.ending e.task.action.limits)
+pub ends_shallow : (e : End) → IsShallowEnding e.ending → is_shallow (items.Done (record_of e)) ≡ true
+ends_shallow e h = record_shallow (record_of e) (outcome_shallow e.ending e.task.action.limits h)
 
 pub abandoned_shallow : (u : Unrecorded) (at : ℕ) → is_shallow (items.Done (abandoned_record u at)) ≡ true
-abandoned_shallow u at = record_shallow (abandoned_record u at) (outcome_shallow Abandoned u.limits)
+abandoned_shallow u at = record_shallow (abandoned_record u at) (outcome_shallow Abandoned u.limits tt)
 
 pub fires_shallow : (f : Fire) (lines : List (List ℕ)) → depth (object (members_of f.params)) ≤ most_nested → is_shallow (items.Done (trigger_record f lines)) ≡ true
 fires_shallow f lines h = record_shallow (trigger_record f lines) h

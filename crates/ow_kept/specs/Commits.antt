@@ -1,10 +1,10 @@
 -- What each change of a floor and of rows commits.
-use Rattle.std.specs.Prelude.{◌++◌, List, [], ◌∷◌, map, if◌then◌else◌}
+use Rattle.std.specs.Prelude.{◌++◌, List, [], ◌∷◌, if◌then◌else◌}
 use Rattle.std.specs.List.{flat_map}
 use Rattle.ow_floor.specs.declared.moves.Moved.{Moved}
 use Rattle.ow_floor.specs.declared.moves.Moved.TheVariants as moves
 use Rattle.ow_floor.specs.Calls.{moved}
-use Rattle.ow_floor.specs.Trace.{Trace, accepted, records}
+use Rattle.ow_floor.specs.Trace.{Trace}
 use Rattle.ow_items.specs.declared.item.Item.{Item}
 use Rattle.ow_items.specs.declared.item.Item.TheVariants as items
 use Rattle.ow_items.specs.Item.{item_key, item_text, open_key}
@@ -36,13 +36,6 @@ row_change c = if c.removes then Dropped (item_key (items.Row c.row)) else put_o
 abbrev pub row_changes : TableChange → List Change
 row_changes c = if is_builtin c.row then [] else row_change c ∷ []
 
--- what is committed of items, the newest of which stands first, and of changes of the rows
-abbrev pub commits_of : Trace → List TableChange → List Change
-commits_of items changes =
-    flat_map accept_changes (map unrecorded_of (accepted items))
-    ++ (flat_map row_changes changes
-    ++ flat_map end_changes (records items))
-
 -- what is committed of one move: of a fire first its id is the last of its namespace, and then its record is there
 abbrev pub changes_of : Moved → List Change
 changes_of (moves.Accepted a) = accept_changes (unrecorded_of a)
@@ -50,6 +43,6 @@ changes_of (moves.Ended r) = end_changes r
 changes_of (moves.Drawn id) = put_of (items.Count id.namespace id.count) ∷ []
 changes_of (moves.Fired r) = put_of (items.Done r) ∷ []
 
--- what is committed of changes of the rows and of items, the newest first, in the order in which they happened
-abbrev pub commits_in_order : Trace → List TableChange → List Change
-commits_in_order items changes = flat_map row_changes changes ++ flat_map changes_of (moved items)
+-- what is committed of items, the newest of which stands first, and of changes of the rows: first the changes, and then the moves in their order
+abbrev pub commits_of : Trace → List TableChange → List Change
+commits_of items changes = flat_map row_changes changes ++ flat_map changes_of (moved items)

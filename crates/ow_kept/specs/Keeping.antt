@@ -2,7 +2,7 @@
 use Rattle.std.specs.Prelude.{◌≡◌, ◌==◌, ◌≤◌, ◌+◌, ◌-◌, ◌++◌, ◌∷◌, [], ℕ, Bool, List, length, map, if◌then◌else◌, Option, Some, None}
 use Rattle.std.specs.List.{AllByRecursion}
 use Rattle.ow_entity.specs.declared.rows.Row.{Row}
-use Rattle.ow_floor.specs.Trace.{Accepted, Drawn, Fired, Item as FloorItem, Resumed, Trace, all_records, drawn}
+use Rattle.ow_floor.specs.Trace.{Item as FloorItem, Resumed, Trace, all_records, drawn}
 use Rattle.ow_floor.specs.declared.moves.Moved.{Moved}
 use Rattle.ow_floor.specs.declared.moves.Moved.TheVariants as moves
 use Rattle.ow_floor.specs.View.{remove_first}
@@ -10,7 +10,7 @@ use Rattle.ow_items.specs.declared.item.Item.{Item}
 use Rattle.ow_items.specs.declared.item.Item.TheVariants as items
 use Rattle.ow_items.specs.Bytes.{bytes_of}
 use Rattle.ow_items.specs.Item.{item_key, item_text}
-use Rattle.ow_kept.specs.declared.commit.OpenBytes.{OpenBytes}
+use Rattle.ow_kept.specs.declared.open_bytes.OpenBytes.{OpenBytes}
 use Rattle.ow_kept.specs.Kept.{kept, unrecorded}
 use Rattle.ow_records.specs.declared.ids.Id.{Id}
 use Rattle.ow_records.specs.declared.record.Record.{Record}
@@ -22,20 +22,16 @@ use Rattle.ow_tables.specs.Builtin.{is_builtin}
 use Rattle.ow_tables.specs.Contents.{Change as TableChange}
 use Rattle.ow_traits.specs.declared.change_list.Change.{Change}
 
--- how many bytes all kept rows have; of each activation that has not ended its id and those of its row, by acceptance; for how many more
--- of these there is room
+-- how many bytes all kept rows have; of each activation that has not ended its id and those of its row, by acceptance
 pub record KeepingView : Type 0 where
   pub bytes : ℕ
   pub opens : List OpenBytes
-  pub room : ℕ
 
--- changes that are to be committed; how many bytes all kept rows have then; which activation has not ended then, that was accepted, and
--- the ids of those that have ended
-pub record CommitView : Type 0 where
+-- changes that are to be committed; how many bytes all kept rows have then; of each activation that has not ended then its id and those of its row
+pub record FollowingView : Type 0 where
   pub changes : List Change
   pub bytes : ℕ
-  pub opened : Option OpenBytes
-  pub ended : List Id
+  pub opens : List OpenBytes
 
 -- those of the key and of the text
 abbrev pub row_bytes : Item → ℕ
@@ -69,11 +65,6 @@ abbrev pub bytes_at : Id → List OpenBytes → ℕ
 bytes_at id [] = 0
 bytes_at id (o ∷ os) = if is_of id o then o.bytes else bytes_at id os
 
--- those of all that ended with these records, for private clauses
-abbrev pub ended_bytes : List Record → List OpenBytes → ℕ
-ended_bytes [] os = 0
-ended_bytes (r ∷ rs) os = bytes_at r.id os + ended_bytes rs os
-
 -- those of the rows of records, for private clauses
 abbrev pub done_bytes : List Record → ℕ
 done_bytes [] = 0
@@ -96,52 +87,11 @@ pub record StandsForKept (v : KeepingView) (rs : List Row) (T : Trace) : Type 0 
   pub opens : v.opens ≡ map open_bytes (unrecorded T)
   pub ids : AreIds T
 
--- ---- once a commit is kept
-
-abbrev pub with_opened : Option OpenBytes → List OpenBytes → List OpenBytes
-with_opened None os = os
-with_opened (Some o) os = os ++ o ∷ []
-
-abbrev pub without_ended : List Id → List OpenBytes → List OpenBytes
-without_ended [] os = os
-without_ended (id ∷ ids) os = without_ended ids (remove_first (is_of id) os)
-
--- it is kept
-abbrev pub keeping_after : CommitView → KeepingView → KeepingView
-keeping_after c v = record { bytes = c.bytes; opens = without_ended c.ended (with_opened c.opened v.opens); room = v.room }
-
--- with the commit it stands as what is kept of these rows and this trace
-abbrev pub StandsAfter : CommitView → KeepingView → List Row → Trace → Type 0
-StandsAfter c v rs T = StandsForKept (keeping_after c v) rs T
-
-abbrev pub HasRoomIn : ℕ → Option OpenBytes → Type 0
-HasRoomIn room None = Unit {0}
-HasRoomIn room (Some o) = 1 ≤ room
-
--- there is room for what has not ended then
-abbrev pub HasRoomFor : CommitView → KeepingView → Type 0
-HasRoomFor c v = HasRoomIn v.room c.opened
-
--- ---- what comes later than an acceptance
-
--- the item accepts no activation, is of no fire, and takes over nothing of an earlier run
-abbrev pub IsLater : FloorItem → Type 0
-IsLater (Accepted a) = ⊥
-IsLater (Resumed counts rs) = ⊥
-IsLater (Drawn id at) = ⊥
-IsLater (Fired r) = ⊥
-IsLater item = Unit {0}
-
-abbrev pub AreLater : Trace → Type 0
-AreLater items = AllByRecursion IsLater items
+-- once it is kept, it stands as what is kept of these rows and this trace
+abbrev pub StandsFollowing : FollowingView → List Row → Trace → Type 0
+StandsFollowing c rs T = StandsForKept (record { bytes = c.bytes; opens = c.opens }) rs T
 
 -- ---- what follows from moves
-
--- changes that are to be committed; how many bytes all kept rows have then; of each activation that has not ended then its id and those of its row
-pub record FollowingView : Type 0 where
-  pub changes : List Change
-  pub bytes : ℕ
-  pub opens : List OpenBytes
 
 -- the bytes that a move takes from the kept rows, over the activations that have not ended
 abbrev pub less_of : Moved → List OpenBytes → ℕ
@@ -187,7 +137,3 @@ IsOwn item = Unit {0}
 
 abbrev pub AreOwn : Trace → Type 0
 AreOwn items = AllByRecursion IsOwn items
-
--- once it is kept, it stands as what is kept of these rows and this trace
-abbrev pub StandsFollowing : FollowingView → List Row → Trace → Type 0
-StandsFollowing c rs T = StandsForKept (record { bytes = c.bytes; opens = c.opens; room = 0 }) rs T

@@ -8,15 +8,22 @@ use Rattle.ow_keep.specs.Allowed.{is_shallow}
 use Rattle.ow_records.specs.Fire.{trigger_record}
 use Rattle.ow_records.specs.Unrecorded.{abandoned_record}
 use Rattle.ow_records.specs.declared.fires.Fire.{Fire}
+use Rattle.ow_records.specs.declared.outcomes.Ending.{Ending}
+use Rattle.ow_records.specs.declared.outcomes.Ending.TheVariants.{Composed}
 use Rattle.ow_records.specs.declared.unrecorded.Unrecorded.{Unrecorded}
 
 -- no row of an activation that has not ended nests deeper than it is read
 abbrev pub OpensAreShallow : Type 0
 OpensAreShallow = (u : Unrecorded) → is_shallow (items.Open u) ≡ true
 
--- nor does one of a record that an end makes
+-- the response of a sequence or a conductor nests no deeper than it is read; that of another ending never does
+abbrev pub IsShallowEnding : Ending → Type 0
+IsShallowEnding (Composed response children) = depth (object (members_of response.result)) ≤ most_nested
+IsShallowEnding ending = Unit {0}
+
+-- nor does one of a record that such an end makes
 abbrev pub EndsAreShallow : Type 0
-EndsAreShallow = (e : End) → is_shallow (items.Done (record_of e)) ≡ true
+EndsAreShallow = (e : End) → IsShallowEnding e.ending → is_shallow (items.Done (record_of e)) ≡ true
 
 -- nor one of an activation that is abandoned
 abbrev pub AbandonedAreShallow : Type 0

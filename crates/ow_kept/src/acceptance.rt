@@ -4,8 +4,8 @@ ghost use Rattle.ow_items.specs.declared.item.Item.TheVariants as items;
 ghost use Rattle.ow_kept.specs.Commits.{accept_changes};
 ghost use Rattle.ow_kept.specs.Keeping.{last_bytes, open_bytes, row_bytes};
 
-use crate::commit::OpenBytes;
 use crate::gathered::{Gathered, row_bytes};
+use crate::open_bytes::OpenBytes;
 use ow_items::{count_row, open_row};
 use ow_records::Unrecorded;
 use ow_value::NoMemory;

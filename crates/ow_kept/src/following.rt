@@ -1,14 +1,14 @@
 // What is committed of moves, in their order.
-ghost use Rattle.std.specs.Prelude.{◌≡◌, ◌+◌, ◌-◌, ◌++◌, ◌∷◌, [], ℕ, List, IfOk, OnOk};
+ghost use Rattle.std.specs.Prelude.{◌≡◌, ◌+◌, ◌-◌, ◌++◌, IfOk, OnOk};
 ghost use Rattle.std.specs.List.{AllByRecursion, flat_map};
 ghost use Rattle.ow_items.specs.declared.item.Item.TheVariants as items;
 ghost use Rattle.ow_kept.specs.Commits.{changes_of};
 ghost use Rattle.ow_kept.specs.Keeping.{Follows, FollowsOne, IsKnownMove, last_bytes, row_bytes};
 
 use crate::acceptance::{accept, last_bytes};
-use crate::commit::OpenBytes;
 use crate::ends::{end, remove};
 use crate::gathered::Gathered;
+use crate::open_bytes::OpenBytes;
 use ow_floor::Moved;
 use ow_items::{count_row, done_row};
 use ow_records::{Activation, Id, Record, Unrecorded, known_id};

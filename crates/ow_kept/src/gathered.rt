@@ -2,8 +2,6 @@
 ghost use Rattle.std.specs.Prelude.{◌≡◌, ◌+◌, ◌++◌, ◌∷◌, [], length, IfOk, OnOk};
 ghost use Rattle.ow_traits.specs.declared.change_list.Change.TheVariants as changes;
 
-use crate::commit::{Commit, OpenBytes};
-use ow_records::Id;
 use ow_traits::{Change, Changes};
 use ow_value::{NoMemory, Str};
 use std::alloc::Global;
@@ -49,27 +47,6 @@ impl Gathered {
         self.changes.push(Change::Drop(key))?;
         Ok(())
     }
-
-    /// The commit of them. It tells too which activation has not ended then, that was accepted, and which have ended.
-    pub(crate) fn commit(
-        self,
-        opened: Option<OpenBytes>,
-        ended: Vec<Id>,
-    ) -> Result<Commit, NoMemory>
-        ensures { IfOk result (λ c. c ≡ record { changes = self.changes.items; bytes = self.bytes; opened = opened; ended = ended.items }) }
-    {
-        let Gathered { changes, bytes } = self;
-        let Ok(changes) = Changes::from_vec(changes) else {
-            drop(ended);
-            return Err(NoMemory);
-        };
-        Ok(Commit {
-            changes,
-            bytes,
-            opened,
-            ended,
-        })
-    }
 }
 
 /// How many bytes the key and the text have.
@@ -84,7 +61,7 @@ pub(crate) fn row_bytes(row: &(Str, Str)) -> Result<u64, NoMemory>
     }
 }
 
-// So many bytes less and then so many more. A count that the type doesn't hold is as want of memory.
+// So many bytes less and then so many more. A count that the type doesn't hold is as running out of memory.
 fn changed_bytes(bytes: u64, less: u64, more: u64) -> Result<u64, NoMemory>
     ensures { IfOk result (λ n. n + less ≡ bytes + more) }
 {

@@ -1,40 +1,35 @@
 // What is known of the kept rows.
-ghost use Rattle.std.specs.Prelude.{◌≡◌, ◌≤◌, ◌+◌, ◌-◌, ◌++◌, ◌∷◌, ℕ, List, [], vec_capacity, vec_len, IfOk, OnOk};
+ghost use Rattle.std.specs.Prelude.{◌≡◌, ◌++◌, ℕ, List, [], IfOk};
 ghost use Rattle.std.specs.List.{flat_map};
 ghost use Rattle.std.specs.Option.{option_copied};
 ghost use Rattle.ow_entity.specs.declared.rows.Row.{Row};
 ghost use Rattle.ow_entity.specs.Row.{kind_of, name_of};
 ghost use Rattle.ow_floor.specs.Growth.{AreRight};
 ghost use Rattle.ow_floor.specs.Laws.{IsSound};
-ghost use Rattle.ow_floor.specs.Trace.{Accepted, Trace, last, records, shown};
+ghost use Rattle.ow_floor.specs.Trace.{Trace, shown};
 ghost use Rattle.ow_items.specs.Bytes.{bytes_of};
-ghost use Rattle.ow_records.specs.declared.activations.Activation.{Activation};
-ghost use Rattle.ow_records.specs.Unrecorded.{unrecorded_of};
 ghost use Rattle.ow_tables.specs.Rows.{changed as rows_changed, found, resumed};
 ghost use Rattle.ow_traits.specs.Changes.{changed};
 ghost use Rattle.ow_floor.specs.Calls.{moved};
-ghost use Rattle.ow_kept.specs.Commits.{accept_changes, changes_of, end_changes, row_changes};
-ghost use Rattle.ow_kept.specs.Keeping.{AreLater, AreOwn, HasRoomFor, HasRoomIn, KeepingView, StandsAfter, StandsFollowing, StandsForKept, keeping_after, with_opened};
+ghost use Rattle.ow_kept.specs.Commits.{changes_of, row_changes};
+ghost use Rattle.ow_kept.specs.Keeping.{AreOwn, StandsFollowing, StandsForKept};
 ghost use Rattle.ow_kept.specs.Kept.{kept};
 ghost use Rattle.ow_kept.specs.Opening.{AreNotBuiltin, opened_trace, opening_changes};
 ghost use Rattle.ow_keep.specs.Split.{HoldsItems, parts_of};
 ghost use Rattle.ow_tables.specs.Builtin.{builtin};
 ghost use Rattle.ow_traits.specs.declared.prewarms.Prewarm.{Prewarm};
 
-use crate::acceptance::accept;
-use crate::commit::{Commit, OpenBytes};
-use crate::ends::{end_all, ids_of, remove_all};
 use crate::following::{Following, follow_all};
 use crate::gathered::Gathered;
+use crate::open_bytes::OpenBytes;
 use crate::openings::{abandon_all, bytes_of, put_version};
 use crate::table_rows::change;
 use ow_entity::Row;
 use ow_floor::Moved;
 use ow_keep::Kept;
-use ow_records::{Record, Unrecorded, known_id};
 use ow_tables::Ready;
 use ow_traits::Rows;
-use ow_value::{NoMemory, Shared};
+use ow_value::NoMemory;
 use std::alloc::Global;
 use std::marker::Model;
 
@@ -46,7 +41,6 @@ pub struct Keeping {
 }
 
 impl Model for Keeping {
-    ghost use Rattle.std.specs.Prelude.{◌-◌, vec_len, vec_capacity};
     ghost use Rattle.std.specs.Coded.{codes};
     ghost use Rattle.ow_value.specs.Code.{value_code};
     ghost use Rattle.ow_kept.specs.Keeping.{KeepingView};
@@ -55,7 +49,7 @@ impl Model for Keeping {
 
     ghost coded = { Prim.hlevel (codes, value_code) };
 
-    ghost view = { λ k. record { bytes = k.bytes; opens = k.opens.items; room = vec_capacity k.opens - vec_len k.opens } };
+    ghost view = { λ k. record { bytes = k.bytes; opens = k.opens.items } };
 }
 
 impl Keeping {
@@ -71,17 +65,17 @@ impl Keeping {
     }
 
     /// What an opening commits at this moment, in milliseconds, over the rows and what they hold.
-    pub fn opening(alloc: Global, at: u64, rows: &Rows, kept: &Kept) -> Result<Commit, NoMemory>
+    pub fn opening(alloc: Global, at: u64, rows: &Rows, kept: &Kept) -> Result<Following, NoMemory>
         ensures changes { IfOk result (λ c. c.changes ≡ opening_changes at (parts_of kept.now).unrecorded) }
-        ensures stands { IfOk result (λ c. (v : KeepingView) (pool : ℕ) (wants : List Prewarm) → v.opens ≡ [] → HoldsItems rows.now (parts_of kept.now)
-            → AreNotBuiltin (parts_of kept.now).entities → StandsAfter c v (resumed (parts_of kept.now).entities builtin) (opened_trace at (parts_of kept.now) pool wants)) }
+        ensures stands { IfOk result (λ c. (pool : ℕ) (wants : List Prewarm) → HoldsItems rows.now (parts_of kept.now)
+            → AreNotBuiltin (parts_of kept.now).entities → StandsFollowing c (resumed (parts_of kept.now).entities builtin) (opened_trace at (parts_of kept.now) pool wants)) }
     {
         let bytes = bytes_of(rows.as_slice())?;
         let mut gathered = Gathered::new(alloc, bytes);
         put_version(alloc, &mut gathered, rows)?;
         abandon_all(alloc, &mut gathered, at, &kept.unrecorded)?;
-        let commit = gathered.commit(None, Vec::new(alloc))?;
-        Ok(commit)
+        let following = gathered.following(Vec::new(alloc))?;
+        Ok(following)
     }
 
     /// How many bytes all kept rows have: those of their keys and of their texts.
@@ -89,55 +83,6 @@ impl Keeping {
         ensures { result ≡ self.now.bytes }
     {
         self.bytes
-    }
-
-    /// What is committed where this activation is accepted, whose id is the next of its namespace.
-    pub fn accepting(&self, alloc: Global, activation: &Unrecorded) -> Result<Commit, NoMemory>
-        ensures changes { IfOk result (λ c. c.changes ≡ accept_changes activation.now) }
-        ensures bytes { IfOk result (λ c. (rs : List Row) (T : Trace) (a : Activation) → StandsForKept self.now rs T → IsSound T
-            → a.id.count ≡ last T a.id.namespace + 1 → activation.now ≡ unrecorded_of a → c.bytes ≡ bytes_of (changed c.changes (kept rs T))) }
-        ensures stands { IfOk result (λ c. (rs : List Row) (T : Trace) (a : Activation) → StandsForKept self.now rs T → IsSound T
-            → a.id.count ≡ last T a.id.namespace + 1 → activation.now ≡ unrecorded_of a → StandsAfter c self.now rs (Accepted a ∷ T)) }
-    {
-        known_id(activation.id);
-        let mut gathered = Gathered::new(alloc, self.bytes());
-        let opened = accept(alloc, &mut gathered, activation)?;
-        let commit = gathered.commit(Some(opened), Vec::new(alloc))?;
-        Ok(commit)
-    }
-
-    /// What is committed where this change of the rows is made. The old row is that of its kind and name, where there is one.
-    pub fn changing(
-        &self,
-        alloc: Global,
-        old: Option<&Row>,
-        ready: &Ready,
-    ) -> Result<Commit, NoMemory>
-        ensures changes { IfOk result (λ c. c.changes ≡ row_changes ready.now) }
-        ensures bytes { IfOk result (λ c. (rs : List Row) (T : Trace) → StandsForKept self.now rs T
-            → option_copied old.entry ≡ found (kind_of ready.now.row) (name_of ready.now.row) rs → c.bytes ≡ bytes_of (changed c.changes (kept rs T))) }
-        ensures stands { IfOk result (λ c. (rs : List Row) (T : Trace) → StandsForKept self.now rs T
-            → option_copied old.entry ≡ found (kind_of ready.now.row) (name_of ready.now.row) rs → StandsAfter c self.now (rows_changed ready.now rs) T) }
-    {
-        let mut gathered = Gathered::new(alloc, self.bytes());
-        change(alloc, &mut gathered, old, ready)?;
-        let commit = gathered.commit(None, Vec::new(alloc))?;
-        Ok(commit)
-    }
-
-    /// What is committed where activations have ended with these records. What else happened but acceptances isn't kept.
-    pub fn ending(&self, alloc: Global, ends: &[Shared<Record>]) -> Result<Commit, NoMemory>
-        ensures changes { IfOk result (λ c. c.changes ≡ flat_map end_changes ends.now) }
-        ensures bytes { IfOk result (λ c. (rs : List Row) (T items : Trace) → StandsForKept self.now rs T → IsSound T → AreRight items (shown T)
-            → AreLater items → ends.now ≡ records items → c.bytes ≡ bytes_of (changed c.changes (kept rs T))) }
-        ensures stands { IfOk result (λ c. (rs : List Row) (T items : Trace) → StandsForKept self.now rs T → IsSound T → AreRight items (shown T)
-            → AreLater items → ends.now ≡ records items → StandsAfter c self.now rs (items ++ T)) }
-    {
-        let mut gathered = Gathered::new(alloc, self.bytes());
-        end_all(alloc, &mut gathered, self.opens(), ends)?;
-        let ended = ids_of(alloc, ends)?;
-        let commit = gathered.commit(None, ended)?;
-        Ok(commit)
     }
 
     /// What is committed of all that moved, in its order, whatever else happened that isn't kept.
@@ -155,7 +100,7 @@ impl Keeping {
         Ok(following)
     }
 
-    /// What is committed where this change of the rows is made, as `changing` has it.
+    /// What is committed where this change of the rows is made. The old row is that of its kind and name, where there is one.
     pub fn following_change(
         &self,
         alloc: Global,
@@ -186,34 +131,6 @@ impl Keeping {
         self.opens = opens;
     }
 
-    /// Makes room for one more activation that has not ended.
-    pub fn reserve(&mut self) -> Result<(), NoMemory>
-        ensures bytes { self.new.bytes ≡ self.old.bytes }
-        ensures opens { self.new.opens ≡ self.old.opens }
-        ensures room { OnOk result (1 ≤ self.new.room) }
-    {
-        self.opens.reserve(1)?;
-        Ok(())
-    }
-
-    /// The commit was made. This takes no memory.
-    pub fn keep(&mut self, commit: Commit)
-        requires room { HasRoomFor commit self.old }
-        ensures bytes { self.new.bytes ≡ commit.bytes }
-        ensures opens { self.new.opens ≡ (keeping_after commit self.old).opens }
-        ensures stands { (rs : List Row) (T : Trace) → StandsAfter commit self.old rs T → StandsForKept self.new rs T }
-    {
-        let Commit {
-            bytes,
-            opened,
-            ended,
-            ..
-        } = commit;
-        self.bytes = bytes;
-        add(&mut self.opens, opened);
-        remove_all(&mut self.opens, &ended);
-    }
-
     // Of each activation that has not ended.
     fn opens(&self) -> &[OpenBytes]
         ensures { result.now ≡ self.now.opens }
@@ -228,14 +145,4 @@ fn copied(alloc: Global, opens: &[OpenBytes]) -> Result<Vec<OpenBytes>, NoMemory
     let mut copy = Vec::new(alloc);
     copy.extend_from_slice(opens)?;
     Ok(copy)
-}
-
-// With what has not ended, where something was accepted.
-fn add(opens: &mut Vec<OpenBytes>, opened: Option<OpenBytes>)
-    requires { HasRoomIn (vec_capacity opens.old - vec_len opens.old) opened }
-    ensures { opens.new.items ≡ with_opened opened opens.old.items }
-{
-    if let Some(row) = opened {
-        opens.push_reserved(row);
-    }
 }

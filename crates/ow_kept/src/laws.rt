@@ -1,25 +1,13 @@
 // What is true of what is kept. The functions do nothing: their contracts are the laws.
 ghost use Rattle.ow_kept.specs.Fit.{KeptIsAllowed};
-ghost use Rattle.ow_kept.specs.Laws.{AcceptancesAreKept, ChangesOfRowsAreKept, EndsAreKept, MovesAreKept, QuietItemsAreKept};
+ghost use Rattle.ow_kept.specs.Laws.{ChangesOfRowsAreKept, ItemsWithoutMovesAreKept, MovesAreKept};
 ghost use Rattle.ow_kept.specs.Opening.{HeldRowsAreNotBuiltin, MayBeResumed, OpeningsAreKept, ResumedIdsAreKnown};
 ghost use Rattle.ow_kept.specs.Shallow.{AbandonedAreShallow, EndsAreShallow, FiresAreShallow, OpensAreShallow};
-
-/// What is committed of an acceptance makes what is kept behind it.
-#[tactic(auto, using(crate::proofs::Accepting::acceptances_kept))]
-pub fn acceptances_are_kept()
-    ensures { AcceptancesAreKept }
-{}
 
 /// What is committed of a change of the rows makes what is kept of the rows behind it.
 #[tactic(auto, using(crate::proofs::RowLaws::rows_kept))]
 pub fn changes_of_rows_are_kept()
     ensures { ChangesOfRowsAreKept }
-{}
-
-/// What is committed of ends makes what is kept behind them, whatever else happened but acceptances.
-#[tactic(auto, using(crate::proofs::Endings::ends_kept))]
-pub fn ends_are_kept()
-    ensures { EndsAreKept }
 {}
 
 /// What is committed of moves, in their order, makes what is kept after them.
@@ -28,9 +16,9 @@ pub fn moves_are_kept()
     ensures { MovesAreKept }
 {}
 
-/// Where nothing is accepted and nothing ends, what is known of the kept rows stands for what is kept behind it.
-pub fn quiet_items_are_kept()
-    ensures { QuietItemsAreKept }
+/// Where nothing moved, what is known of the kept rows stands for what is kept after the items.
+pub fn items_without_moves_are_kept()
+    ensures { ItemsWithoutMovesAreKept }
 {}
 
 /// What an opening commits makes what is kept of what it takes over.
@@ -46,7 +34,8 @@ pub fn kept_rows_may_be_resumed()
     ensures entities { HeldRowsAreNotBuiltin }
 {}
 
-/// No row of an activation nests deeper than it is read back, ended or not; nor does one of a fire whose parameters don't.
+/// No row of an activation nests deeper than it is read back, ended or not; nor does one of a sequence or a conductor whose response doesn't, or of a fire
+/// whose parameters don't.
 pub fn rows_of_activations_are_shallow()
     ensures opened { OpensAreShallow }
     ensures ended { EndsAreShallow }

@@ -2,20 +2,19 @@
 
 //! What of a floor and of rows is kept, and what each change of them commits.
 mod acceptance;
-mod commit;
 mod ends;
 mod following;
 mod gathered;
 mod keeping;
 mod laws;
+mod open_bytes;
 mod openings;
 mod table_rows;
 
-pub use commit::{Commit, OpenBytes};
 pub use following::Following;
 pub use keeping::Keeping;
 pub use laws::{
-    acceptances_are_kept, changes_of_rows_are_kept, ends_are_kept, kept_rows_may_be_resumed,
-    moves_are_kept, openings_are_kept, quiet_items_are_kept, rows_of_activations_are_shallow,
-    what_is_kept_is_allowed,
+    changes_of_rows_are_kept, items_without_moves_are_kept, kept_rows_may_be_resumed,
+    moves_are_kept, openings_are_kept, rows_of_activations_are_shallow, what_is_kept_is_allowed,
 };
+pub use open_bytes::OpenBytes;

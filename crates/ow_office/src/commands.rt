@@ -3,7 +3,7 @@ ghost use Rattle.std.specs.Prelude.{◌≡◌, ◌⊎◌, ℕ, List, Some, None,
 ghost use Rattle.ow_traits.specs.Streams.{Rose, Takes, TakesFront};
 ghost use Rattle.ow_traits.specs.Prewarms.{AreWantsSized};
 ghost use Rattle.ow_tenant.specs.Table.{IsPoolSized, Table};
-ghost use Rattle.ow_hall.specs.Beginnings.{KeepsEach, KeepsLimits};
+ghost use Rattle.ow_hall.specs.Beginnings.{KeepsEach, KeepsLimits, KeepsSteps};
 ghost use Rattle.ow_hall.specs.History.{History, IsLegal};
 ghost use Rattle.ow_words.specs.Status.{IsPassed, err_text};
 ghost use Rattle.ow_words.specs.Words.{command_of, takes_options};
@@ -46,10 +46,11 @@ pub fn office<T: Source, S: Source, O: Sink, E: Sink, P: Keeper + Drop>(
         (sides (source T.left T.faults table.old) (source S.left S.faults day.old) (sink O.taken O.faults out.old) (P.telling store))
         (sides (source T.left T.faults table.new) (source S.left S.faults day.new) (sink O.taken O.faults out.new) (P.telling back)) result.0) }
 
-    // Each activation, and that no acceptance passes the limits of its namespace, by every legal book and each of its beginnings;
-    // and the books of days are legal.
+    // Each activation, that no acceptance passes the limits of its namespace, and what sequences and conductors do, by every legal
+    // book and each of its beginnings; and the books of days are legal.
     ensures kept { (t : Table) (B : History) → IsLegal t B → KeepsEach t B }
     ensures limits { (t : Table) (B : History) → IsLegal t B → KeepsLimits t B }
+    ensures steps { (t : Table) (B : History) → IsLegal t B → KeepsSteps t B }
     ensures legal { (t : Table) (bytes : List ℕ) → HasLegalBooks t bytes }
 
     // What was written of the end.

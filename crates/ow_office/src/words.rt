@@ -84,7 +84,8 @@ Below each statement stand the forms of its answer.
                        reply M               on the lines behind it its M bytes, and a newline
                        waiting ID            the request waits for this activation: see collect
   call NAME TEXT     calls an action with this object
-                       accepted ID           it waits
+                       accepted ID           it waits; a sequence or a conductor has also the lines of
+                                             what it does next: see answer
                        refused NUMBER WHY    it was not accepted
   next               asks what is to be done
                        run RUN ID slot SLOT gen GEN START
@@ -107,6 +108,9 @@ Below each statement stand the forms of its answer.
                        refused 29 WHY        no such run awaits it
   answer RUN TEXT    is a runner's answer to that run, of at most 1048576 bytes
                        recorded ID CODE      0 success, 1 it has the name error, 2 no such object
+                       accepted ID, recorded ID CODE
+                                             what a sequence or a conductor does next, a line for each:
+                                             its next component waits, or it has ended
                        late RUN MOMENT       a sweep ended what it carries, at that moment
                        refused 29 WHY        no such run is under way
   logged RUN K TEXT  is such an answer with logs: K lines follow, of at most 8388608 bytes each
@@ -124,14 +128,15 @@ Below each statement stand the forms of its answer.
                        ok                    its slot is free, once its run is replied to or lost
                        refused 28 WHY        the slot has no container of that generation to go
   sweep              ends what has run longer than its time limit
-                       recorded ID 2         for each
-                       swept N               behind these: there were N
+                       recorded ID 2         for each, with the lines of what a sequence or a conductor
+                                             does next
+                       swept N               behind these: there were N that ran too long
   collect ID         is how a request that waits for this activation is answered by now
                        reply M               as below ask
                        not yet               it has not ended, and its request still waits
                        refused 14 WHY        no request waits for it
   drain              takes no more invocations from now on
-                       drained N             all N that were accepted have ended
+                       drained N             all N that were accepted have ended, with components
                        open N                N have not ended
   reopen             begins anew over what is kept: no container or run of before is there
                        recorded ID 3         for each that had not ended

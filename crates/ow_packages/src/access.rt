@@ -66,11 +66,7 @@ pub fn package_of(alloc: Global, name: &FullName) -> Result<Option<FullName>, No
 }
 
 /// What the name is called in the package.
-pub(crate) fn lying_in(
-    alloc: Global,
-    bundle: &FullName,
-    name: &EntityName,
-) -> Result<FullName, NoMemory>
+pub fn lying_in(alloc: Global, bundle: &FullName, name: &EntityName) -> Result<FullName, NoMemory>
     ensures { IfOk result (λ n. n ≡ lying_in bundle.now name.now) }
 {
     let namespace = bundle.namespace.copy(alloc)?;

@@ -9,7 +9,7 @@ mod effective_action;
 mod fixed;
 mod refusal;
 
-pub use access::{is_shared, package_of, reached_package};
+pub use access::{is_shared, lying_in, package_of, reached_package};
 pub use behind::effective;
 pub use binding::check_binding;
 pub use effective_action::Effective;

@@ -25,7 +25,7 @@ use Rattle.ow_records.specs.Written.{record_value, response_value}
 use Rattle.ow_records.specs.WrittenNotes.{kind_note, limits_note, mark_note, moment_note, name_note, notes_value, path_text, word_note}
 use Rattle.ow_records.specs.declared.ids.Id.{Id}
 use Rattle.ow_records.specs.declared.notes.ExecKind.{ExecKind}
-use Rattle.ow_records.specs.declared.notes.ExecKind.TheVariants.{Plain, Program}
+use Rattle.ow_records.specs.declared.notes.ExecKind.TheVariants.{Plain, Program, Sequence}
 use Rattle.ow_records.specs.declared.notes.Notes.{Notes}
 use Rattle.ow_records.specs.declared.record.Record.{Record}
 use Rattle.ow_records.proofs.Confirmed.{confirmed_if}
@@ -64,6 +64,7 @@ limits_back l h = λ i. limits_with (within-between _ _ l.timeout h.timeout i) (
 pub kind_back : (k : ExecKind) → kind_named (kind_text k) ≡ Some k
 kind_back Plain = refl
 kind_back Program = refl
+kind_back Sequence = refl
 
 -- ---- annotations
 

@@ -1,5 +1,7 @@
 pub mod FieldsIn
 pub mod Fire
+pub mod Form
+pub mod Frame
 pub mod Id
 pub mod Known
 pub mod Laws

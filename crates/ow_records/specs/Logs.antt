@@ -1,10 +1,11 @@
 -- The logs of an activation that has ended.
-use Rattle.std.specs.Prelude.{◌+◌, ◌-◌, ◌*◌, ℕ, List, [], ◌∷◌, length, nat_lt, if◌then◌else◌, codes}
+use Rattle.std.specs.Prelude.{◌+◌, ◌-◌, ◌*◌, ℕ, List, [], ◌∷◌, length, map, nat_lt, if◌then◌else◌, codes}
 use Rattle.ow_traits.specs.declared.replies.RunReply.{RunReply}
 use Rattle.ow_traits.specs.declared.replies.RunReply.TheVariants.{Answer, Exit, NoStart, Fault}
 use Rattle.ow_value.specs.Size.{megabyte}
+use Rattle.ow_records.specs.Id.{id_text}
 use Rattle.ow_records.specs.declared.outcomes.Ending.{Ending}
-use Rattle.ow_records.specs.declared.outcomes.Ending.TheVariants.{Replied, Overran, Abandoned}
+use Rattle.ow_records.specs.declared.outcomes.Ending.TheVariants.{Replied, Overran, Abandoned, Composed}
 
 -- the lines of a run's reply; what a run that did not start tells is one line
 abbrev pub reply_lines : RunReply → List (List ℕ)
@@ -18,6 +19,7 @@ abbrev pub lines_of : Ending → List (List ℕ)
 lines_of (Replied reply) = reply_lines reply
 lines_of Overran = []
 lines_of Abandoned = []
+lines_of (Composed response children) = map id_text children
 
 -- the first lines, while the sum of their bytes, one more for each, is at most this; if any is left off, a line that tells it
 abbrev pub fitting : ℕ → List (List ℕ) → List (List ℕ)
@@ -28,3 +30,10 @@ fitting room (line ∷ lines) =
 -- the lines that a limit of so many MB lets stand
 abbrev pub kept_lines : ℕ → List (List ℕ) → List (List ℕ)
 kept_lines limit lines = fitting (limit * megabyte) lines
+
+-- the logs of the record: the lines that the limit lets stand, or the ids of a composite's children, which no limit holds for
+abbrev pub logs_of : ℕ → Ending → List (List ℕ)
+logs_of limit (Replied reply) = kept_lines limit (lines_of (Replied reply))
+logs_of limit Overran = kept_lines limit (lines_of Overran)
+logs_of limit Abandoned = kept_lines limit (lines_of Abandoned)
+logs_of limit (Composed response children) = lines_of (Composed response children)

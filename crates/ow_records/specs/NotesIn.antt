@@ -8,13 +8,14 @@ use Rattle.ow_entity.specs.declared.bounds.TheConstants.{LEAST_TIMEOUT, MOST_TIM
 use Rattle.ow_entity.specs.declared.bounds.Limits.{Limits}
 use Rattle.ow_records.specs.FieldsIn.{as_number, as_path, as_text, number_in}
 use Rattle.ow_records.specs.declared.notes.ExecKind.{ExecKind}
-use Rattle.ow_records.specs.declared.notes.ExecKind.TheVariants.{Plain, Program}
+use Rattle.ow_records.specs.declared.notes.ExecKind.TheVariants.{Plain, Program, Sequence}
 use Rattle.ow_records.specs.declared.notes.Notes.{Notes}
 
 abbrev pub kind_named : List ℕ → Option ExecKind
 kind_named s =
     if bytes_eq s (codes "plain:1") then Some Plain
     else if bytes_eq s (codes "program:1") then Some Program
+    else if bytes_eq s (codes "sequence") then Some Sequence
     else None
 
 abbrev pub as_kind : V → Option ExecKind

@@ -11,7 +11,7 @@ use Rattle.ow_value.specs.Size.{megabyte}
 use Rattle.ow_value.specs.declared.reader.ValueRefusal.{ValueRefusal}
 use Rattle.ow_records.specs.Response.{ResponseView}
 use Rattle.ow_records.specs.declared.outcomes.Ending.{Ending}
-use Rattle.ow_records.specs.declared.outcomes.Ending.TheVariants.{Replied, Overran, Abandoned}
+use Rattle.ow_records.specs.declared.outcomes.Ending.TheVariants.{Replied, Overran, Abandoned, Composed}
 use Rattle.ow_entity.specs.declared.bounds.Limits.{Limits}
 
 -- an error with this text
@@ -56,3 +56,4 @@ unfoldable pub outcome : Ending → Limits → ResponseView
 outcome (Replied reply) limits = of_reply reply
 outcome Overran limits = of_overrun limits.timeout
 outcome Abandoned limits = failure 3 (codes "The activation was abandoned.")
+outcome (Composed response children) limits = response

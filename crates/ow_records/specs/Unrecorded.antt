@@ -1,10 +1,11 @@
 -- What is kept of an activation that has not ended, and its record where it is abandoned.
-use Rattle.std.specs.Prelude.{ℕ, max, false, [], Some, None}
+use Rattle.std.specs.Prelude.{ℕ, max, is_some, [], Some, None}
 use Rattle.ow_records.specs.declared.activations.Activation.{Activation}
 use Rattle.ow_records.specs.declared.notes.Notes.{Notes}
 use Rattle.ow_records.specs.declared.outcomes.Ending.TheVariants.{Abandoned}
 use Rattle.ow_records.specs.declared.record.Record.{Record}
 use Rattle.ow_records.specs.declared.unrecorded.Unrecorded.{Unrecorded}
+use Rattle.ow_records.specs.Form.{is_topmost}
 use Rattle.ow_records.specs.Notes.{kind_of}
 use Rattle.ow_records.specs.Outcome.{outcome}
 
@@ -14,6 +15,7 @@ unrecorded_of a = record {
   at = a.at;
   binding = a.binding;
   cause = a.cause;
+  form = a.form;
   kind = kind_of a.action.exec;
   limits = a.action.limits;
   namespace = a.namespace;
@@ -26,12 +28,12 @@ unrecorded_of a = record {
 abbrev pub abandoned_notes : Unrecorded → Notes
 abandoned_notes u = record {
   binding = u.binding;
-  caused_by = false;
+  caused_by = is_some u.cause;
   init_time = None;
   kind = Some u.kind;
   limits = Some u.limits;
   path = Some u.path;
-  topmost = false;
+  topmost = is_topmost u.form u.cause;
   wait_time = None;
 }
 

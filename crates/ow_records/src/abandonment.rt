@@ -2,6 +2,7 @@
 ghost use Rattle.std.specs.Prelude.{◌≡◌, IfOk};
 ghost use Rattle.ow_records.specs.Unrecorded.{abandoned_notes, abandoned_record};
 
+use crate::forms::is_topmost;
 use crate::{Ending, Notes, Record, Span, Unrecorded, outcome};
 use ow_several::{copied3, joined3};
 use ow_value::{Lines, NoMemory, PlainData};
@@ -38,12 +39,12 @@ fn abandoned_notes(alloc: Global, activation: &Unrecorded) -> Result<Notes, NoMe
     let binding = activation.binding.copy(alloc)?;
     Ok(Notes {
         binding,
-        caused_by: false,
+        caused_by: activation.cause.is_some(),
         init_time: None,
         kind: Some(activation.kind),
         limits: Some(activation.limits),
         path: Some(path),
-        topmost: false,
+        topmost: is_topmost(activation.form, activation.cause),
         wait_time: None,
     })
 }

@@ -1,10 +1,10 @@
 // Activations, as they were accepted.
 ghost use Rattle.std.specs.Prelude.{◌≡◌, ◌↔◌, IsTrue, IfOk};
 
-use crate::Id;
+use crate::{Form, Id, Role};
 use ow_entity::Action;
 use ow_names::{EntityName, FullName};
-use ow_several::copied5;
+use ow_several::{copied3, joined2};
 use ow_value::{NoMemory, Params, PlainData, Shared, Str};
 use std::alloc::Global;
 
@@ -29,6 +29,16 @@ pub struct Activation {
     pub cause: Option<Id>,
     /// Up to which moment, in milliseconds, the request that made it waits for the end.
     pub until: Option<u64>,
+    /// What it does.
+    pub form: Form,
+    /// What part it has in its cause.
+    pub role: Role,
+    /// The first activation of its composition, or itself.
+    pub top: Id,
+    /// How many composites stand from the first one of its composition down to this activation.
+    pub depth: u32,
+    /// The parameters of a conductor itself, with which each of its runs is made; none for others.
+    pub own: Params,
 }
 
 impl PlainData for Activation {
@@ -42,17 +52,17 @@ impl PlainData for Activation {
             && self.subject.same(&other.subject)
             && self.cause == other.cause
             && self.until == other.until
+            && self.form == other.form
+            && self.role == other.role
+            && self.top == other.top
+            && self.depth == other.depth
+            && self.own.same(&other.own)
     }
 
     fn copy(&self, alloc: Global) -> Result<Activation, NoMemory> {
-        let (namespace, action, binding, params, subject) = copied5(
-            alloc,
-            &self.namespace,
-            &self.action,
-            &self.binding,
-            &self.params,
-            &self.subject,
-        )?;
+        let called = copied3(alloc, &self.namespace, &self.action, &self.binding);
+        let given = copied3(alloc, &self.params, &self.subject, &self.own);
+        let ((namespace, action, binding), (params, subject, own)) = joined2(called, given)?;
         Ok(Activation {
             id: self.id,
             at: self.at,
@@ -63,6 +73,11 @@ impl PlainData for Activation {
             subject,
             cause: self.cause,
             until: self.until,
+            form: self.form,
+            role: self.role,
+            top: self.top,
+            depth: self.depth,
+            own,
         })
     }
 }

@@ -1,12 +1,12 @@
 // The id of an activation.
-ghost use Rattle.std.specs.Prelude.{◌≡◌, ◌++◌, IfOk, OnOk};
+ghost use Rattle.std.specs.Prelude.{◌≡◌, ◌↔◌, ◌++◌, IsTrue, IfOk, OnOk};
 
 use crate::digits::{hex_16, hex_number};
-use ow_value::{NoMemory, Str};
+use ow_value::{NoMemory, PlainData, Str};
 use std::alloc::Global;
 
 /// The number of a namespace, and a count of its activations, of which the first is 1.
-#[derive(Clone, Copy, Debug, PartialEq, Eq)]
+#[derive(Clone, Copy, Debug, PartialEq, Eq, Drop)]
 pub struct Id {
     /// The number of the namespace.
     pub namespace: u64,
@@ -50,5 +50,15 @@ impl Id {
         let count = hex::encode(alloc, self.count.to_be_bytes())?;
         text.push_str(count.as_str())?;
         Str::from_string(text)
+    }
+}
+
+impl PlainData for Id {
+    fn same(&self, other: &Id) -> bool {
+        *self == *other
+    }
+
+    fn copy(&self, _alloc: Global) -> Result<Id, NoMemory> {
+        Ok(*self)
     }
 }

@@ -1,11 +1,14 @@
 #![tactic(auto)]
 
-//! Activations and their ids, what ends an activation, the response that follows from it, and what is kept of it.
+//! Activations and their ids, what ends an activation, the response that follows from it, what is kept of it, and of a
+//! composite while it is open.
 mod abandonment;
 mod activations;
 mod digits;
 mod fields_in;
 mod fires;
+mod forms;
+mod frames;
 mod ids;
 mod known;
 mod laws;
@@ -31,6 +34,8 @@ pub use abandonment::abandoned;
 pub use activations::Activation;
 pub use fields_in::{cause_in, id_in, lines_in, name_in, number_in, path_in, text_in, version_in};
 pub use fires::{Fire, trigger_record};
+pub use forms::{Form, Role, form_in};
+pub use frames::{Frame, Heard, Used};
 pub use ids::Id;
 pub use known::{
     known_activation, known_id, known_ids, known_record, known_records, known_unrecorded,

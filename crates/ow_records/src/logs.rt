@@ -1,18 +1,22 @@
 // The logs of an activation that has ended.
-ghost use Rattle.std.specs.Prelude.{◌≡◌, ◌++◌, ◌∷◌, [], IfOk, codes};
-ghost use Rattle.ow_records.specs.Logs.{fitting, kept_lines, lines_of, reply_lines};
+ghost use Rattle.std.specs.Prelude.{◌≡◌, ◌++◌, ◌∷◌, [], IfOk, codes, map};
+ghost use Rattle.ow_records.specs.Id.{id_text};
+ghost use Rattle.ow_records.specs.Logs.{fitting, kept_lines, lines_of, logs_of, reply_lines};
 
-use crate::Ending;
+use crate::{Ending, Id};
 use ow_traits::RunReply;
 use ow_value::{Lines, MEGABYTE, NoMemory, PlainData, Str, copy_slice};
 use std::alloc::Global;
 
-/// The lines of the ending that the limit lets stand, which is told in MB.
+/// The logs of the record of what ended so; the limit is told in MB.
 pub(crate) fn logs_of(alloc: Global, ending: &Ending, limit: u32) -> Result<Lines, NoMemory>
-    ensures { IfOk result (λ r. r ≡ kept_lines limit (lines_of ending.now)) }
+    ensures { IfOk result (λ r. r ≡ logs_of limit ending.now) }
 {
     let lines = lines_of(alloc, ending)?;
-    fitting(alloc, limit as u64 * MEGABYTE, &lines)
+    match ending {
+        Ending::Composed { .. } => Ok(lines),
+        _ => fitting(alloc, limit as u64 * MEGABYTE, &lines),
+    }
 }
 
 fn lines_of(alloc: Global, ending: &Ending) -> Result<Lines, NoMemory>
@@ -21,7 +25,18 @@ fn lines_of(alloc: Global, ending: &Ending) -> Result<Lines, NoMemory>
     match ending {
         Ending::Replied(reply) => reply_lines(alloc, reply),
         Ending::Overran | Ending::Abandoned => Ok(Lines::new()),
+        Ending::Composed { children, .. } => id_texts(alloc, children.as_slice()),
     }
+}
+
+fn id_texts(alloc: Global, ids: &[Id]) -> Result<Lines, NoMemory>
+    ensures { IfOk result (λ r. r ≡ map id_text ids.now) }
+{
+    let mut lines = Vec::with_capacity(alloc, ids.len())?;
+    for id in ids {
+        lines.push(id.text(alloc)?)?;
+    }
+    Lines::from_vec(lines)
 }
 
 fn reply_lines(alloc: Global, reply: &RunReply) -> Result<Lines, NoMemory>

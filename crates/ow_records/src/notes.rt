@@ -14,6 +14,8 @@ pub enum ExecKind {
     Plain,
     /// A program of the office.
     Program,
+    /// A list of components.
+    Sequence,
 }
 
 impl ExecKind {
@@ -24,6 +26,7 @@ impl ExecKind {
         match exec {
             Exec::Plain { .. } => ExecKind::Plain,
             Exec::Program { .. } => ExecKind::Program,
+            Exec::Sequence { .. } => ExecKind::Sequence,
         }
     }
 
@@ -34,6 +37,7 @@ impl ExecKind {
         match self {
             ExecKind::Plain => "plain:1",
             ExecKind::Program => "program:1",
+            ExecKind::Sequence => "sequence",
         }
     }
 }

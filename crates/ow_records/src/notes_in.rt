@@ -40,6 +40,8 @@ fn kind_named(text: &str) -> Option<ExecKind>
         Some(ExecKind::Plain)
     } else if text == "program:1" {
         Some(ExecKind::Program)
+    } else if text == "sequence" {
+        Some(ExecKind::Sequence)
     } else {
         None
     }

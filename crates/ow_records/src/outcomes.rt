@@ -3,11 +3,13 @@ ghost use Rattle.std.specs.Prelude.{◌≡◌, ◌≤◌, ◌↔◌, IsTrue, IfO
 ghost use Rattle.ow_value.specs.View.{view};
 ghost use Rattle.ow_records.specs.Outcome.{failure, of_exit, of_object, of_overrun, of_reply, of_text, of_value, outcome};
 
-use crate::Response;
+use crate::{Id, Response};
 use ow_entity::Limits;
+use ow_several::copied2;
 use ow_traits::RunReply;
 use ow_value::{
-    Fields, MEGABYTE, NoMemory, Params, PlainData, Scratch, Str, Val, ValueRefusal, read_val_in,
+    Fields, Items, MEGABYTE, NoMemory, Params, PlainData, Scratch, Str, Val, ValueRefusal,
+    read_val_in,
 };
 use std::alloc::Global;
 
@@ -20,6 +22,13 @@ pub enum Ending {
     Overran,
     /// The service was opened again.
     Abandoned,
+    /// A composite was done with its children.
+    Composed {
+        /// What it answers.
+        response: Response,
+        /// Its direct children, by their acceptance.
+        children: Items<Id>,
+    },
 }
 
 impl PlainData for Ending {
@@ -28,6 +37,13 @@ impl PlainData for Ending {
             (Ending::Replied(reply), Ending::Replied(other_reply)) => reply.same(other_reply),
             (Ending::Overran, Ending::Overran) => true,
             (Ending::Abandoned, Ending::Abandoned) => true,
+            (
+                Ending::Composed { response, children },
+                Ending::Composed {
+                    response: other_response,
+                    children: other_children,
+                },
+            ) => response.same(other_response) && children.same(other_children),
             _ => false,
         }
     }
@@ -37,6 +53,10 @@ impl PlainData for Ending {
             Ending::Replied(reply) => Ok(Ending::Replied(reply.copy(alloc)?)),
             Ending::Overran => Ok(Ending::Overran),
             Ending::Abandoned => Ok(Ending::Abandoned),
+            Ending::Composed { response, children } => {
+                let (response, children) = copied2(alloc, response, children)?;
+                Ok(Ending::Composed { response, children })
+            }
         }
     }
 }
@@ -62,6 +82,7 @@ pub fn outcome_in(
         Ending::Replied(reply) => replied(alloc, scratch, reply),
         Ending::Overran => overran(alloc, limits.timeout.get()),
         Ending::Abandoned => failed(alloc, 3, "The activation was abandoned."),
+        Ending::Composed { response, .. } => response.copy(alloc),
     }
 }
 

@@ -1,9 +1,10 @@
 // Records of activations that have ended.
 ghost use Rattle.std.specs.Prelude.{◌≡◌, ◌↔◌, IsTrue, IfOk};
-ghost use Rattle.ow_records.specs.Logs.{kept_lines, lines_of};
+ghost use Rattle.ow_records.specs.Logs.{logs_of};
 ghost use Rattle.ow_records.specs.Outcome.{outcome};
 ghost use Rattle.ow_records.specs.Record.{init_of, notes_of, record_of, start_of, wait_of};
 
+use crate::forms::is_topmost;
 use crate::logs::logs_of;
 use crate::{Activation, Ending, ExecKind, Id, Notes, Response, Span, outcome_in};
 use ow_entity::Limits;
@@ -77,7 +78,7 @@ fn told_of(
     ending: &Ending,
     limits: &Limits,
 ) -> Result<(Lines, Response), NoMemory>
-    ensures { IfOk result (λ t. t ≡ (kept_lines limits.now.logs (lines_of ending.now), outcome ending.now limits.now)) }
+    ensures { IfOk result (λ t. t ≡ (logs_of limits.now.logs ending.now, outcome ending.now limits.now)) }
 {
     let logs = logs_of(alloc, ending, limits.logs.get());
     let response = outcome_in(alloc, scratch, ending, limits);
@@ -107,12 +108,12 @@ fn notes_of(
     let binding = task.binding.copy(alloc)?;
     Ok(Notes {
         binding,
-        caused_by: false,
+        caused_by: task.cause.is_some(),
         init_time: init_of(ending, start, begun),
         kind: Some(ExecKind::of(&action.exec)),
         limits: Some(action.limits),
         path: Some(path),
-        topmost: false,
+        topmost: is_topmost(task.form, task.cause),
         wait_time: wait_of(task.at, ending, start),
     })
 }
@@ -131,7 +132,7 @@ fn wait_of(accepted: u64, ending: &Ending, start: u64) -> Option<u64>
 {
     match ending {
         Ending::Replied(_) | Ending::Overran => Some(start.saturating_sub(accepted)),
-        Ending::Abandoned => None,
+        Ending::Abandoned | Ending::Composed { .. } => None,
     }
 }
 

@@ -2,7 +2,7 @@
 ghost use Rattle.std.specs.Prelude.{◌≡◌, ◌↔◌, IsTrue, IfOk};
 ghost use Rattle.ow_records.specs.Unrecorded.{unrecorded_of};
 
-use crate::{Activation, ExecKind, Id};
+use crate::{Activation, ExecKind, Form, Id};
 use ow_entity::Limits;
 use ow_names::{EntityName, FullName};
 use ow_value::{NoMemory, PlainData, Str};
@@ -19,6 +19,8 @@ pub struct Unrecorded {
     pub binding: Option<FullName>,
     /// The activation that it is a part of.
     pub cause: Option<Id>,
+    /// What it does.
+    pub form: Form,
     /// What kind of code the action has.
     pub kind: ExecKind,
     /// The limits of the action.
@@ -48,6 +50,7 @@ impl Unrecorded {
             at: activation.at,
             binding,
             cause: activation.cause,
+            form: activation.form,
             kind: ExecKind::of(&action.exec),
             limits: action.limits,
             namespace,
@@ -64,6 +67,7 @@ impl PlainData for Unrecorded {
             && self.at == other.at
             && self.binding.same(&other.binding)
             && self.cause == other.cause
+            && self.form == other.form
             && self.kind == other.kind
             && self.limits == other.limits
             && self.namespace.same(&other.namespace)
@@ -82,6 +86,7 @@ impl PlainData for Unrecorded {
             at: self.at,
             binding,
             cause: self.cause,
+            form: self.form,
             kind: self.kind,
             limits: self.limits,
             namespace,

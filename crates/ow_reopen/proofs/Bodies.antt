@@ -13,6 +13,6 @@ old_so name None h = tt
 old_so name (Some r) h = (record { shallow = h.0.shallow; entity = h.0.fit }, h.1)
 
 pub bodies_last : RowsOfBodiesAreWritable → RowsOfBodies
-bodies_last core kind name body d old r placed within drafted finished before =
-    let w = core kind name body d old r placed within drafted finished (old_so name old before) in
+bodies_last core kind name body d old r placed within drafted finished before short =
+    let w = core kind name body d old r placed within drafted finished (old_so name old before) short in
     record { shallow = w.shallow; fit = w.entity }

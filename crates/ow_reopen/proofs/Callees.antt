@@ -4,12 +4,13 @@ use Rattle.std.specs.Str.{bytes_eq}
 use Rattle.std.proofs.lemmas.Bool.{and_from, and_parts}
 use Rattle.std.proofs.lemmas.Option.{IfSome_then}
 use Rattle.ow_names.specs.declared.full.FullName.{FullName}
+use Rattle.ow_entity.specs.Exec.{components_of}
 use Rattle.ow_entity.specs.declared.actions.Action.{Action}
 use Rattle.ow_entity.specs.declared.kinds.EntityKind.TheVariants as kinds
 use Rattle.ow_entity.specs.declared.packages.Package.{Package}
 use Rattle.ow_entity.specs.declared.rows.Row.{Row}
 use Rattle.ow_entity.specs.declared.rows.Row.TheVariants as rows
-use Rattle.ow_keep.specs.Allowed.{is_binding, is_called, is_version, stands_alone}
+use Rattle.ow_keep.specs.Allowed.{are_few, are_written, is_binding, is_called, is_version, stands_alone}
 use Rattle.ow_entity.specs.Finish.{as_action, as_package}
 use Rattle.ow_packages.specs.Access.{action_at, if_reached, is_reached as is_open_to, lying_in, package_at, package_of, reached_package}
 use Rattle.ow_packages.specs.Effective.{Behind, behind, behind_bare, behind_in, behind_name, behind_package, effective, effective_of}
@@ -30,7 +31,7 @@ IsGoodPackage p = stands_alone p.name ≡ true
 
 as_action_good : (o : Option Row) → IfSome o IsLastingRow → IfSome (as_action o) IsGoodAction
 as_action_good None h = tt
-as_action_good (Some (rows.Action a)) h = h.lasts.fit
+as_action_good (Some (rows.Action a)) h = (and_parts (is_version a.version) (are_few (components_of a.exec) && are_written a.name.namespace (components_of a.exec)) h.lasts.fit).0
 as_action_good (Some (rows.Package p)) h = tt
 as_action_good (Some (rows.Rule r)) h = tt
 as_action_good (Some (rows.Trigger t)) h = tt

@@ -35,7 +35,7 @@ use Rattle.ow_reopen.proofs.Writable.{AreWithin, most_within, trigger_read, with
 -- ---- how deep merged parameters nest
 
 -- the values of parameters nest one less deep than the object of them, which is a result
-abbrev most_given : ℕ
+abbrev pub most_given : ℕ
 most_given = 99
 
 members_within : (n : ℕ) (ps : Pairs) → AreWithin n ps → members_depth (members_of ps) ≤ n
@@ -64,7 +64,7 @@ merge_within n a (p ∷ ps) h k = with_within n (merge a ps) p.0 p.1 (merge_with
 abbrev pub IsShallowGiven : Pairs → Type 0
 IsShallowGiven ps = depth (object (members_of ps)) ≤ most_nested
 
-given_within : (ps : Pairs) → IsShallowGiven ps → AreWithin most_given ps
+pub given_within : (ps : Pairs) → IsShallowGiven ps → AreWithin most_given ps
 given_within ps h = within_members most_given ps (omega (arith, h))
 
 shallow_given : (ps : Pairs) → AreWithin most_given ps → IsShallowGiven ps
@@ -75,7 +75,7 @@ merged_shallow own given h k = shallow_given (merge own given) (merge_within mos
 
 -- ---- what a request gives
 
-members_back : (ms : Members) → members_of (pairs_in ms) ≡ ms
+pub members_back : (ms : Members) → members_of (pairs_in ms) ≡ ms
 members_back no_members = refl
 members_back (member k v ms) = ap (member k v) (members_back ms)
 

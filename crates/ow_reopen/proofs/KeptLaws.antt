@@ -11,10 +11,12 @@ use Rattle.ow_floor.proofs.Among.{all_among}
 use Rattle.ow_floor.proofs.Apart.{all_both as paired}
 use Rattle.ow_floor.proofs.Firsts.{all_more}
 use Rattle.ow_items.specs.declared.item.Item.TheVariants as items
-use Rattle.ow_keep.specs.Allowed.{are_durations, is_called, is_duration, is_moment}
+use Rattle.ow_keep.specs.Allowed.{are_durations, is_called, is_duration, is_formed, is_moment}
+use Rattle.ow_records.specs.Notes.{kind_of}
 use Rattle.ow_keep.specs.declared.allowed.TheConstants.{GREATEST_MOMENT}
 use Rattle.ow_keep.proofs.Opens.{opens_shallow}
 use Rattle.ow_kept.specs.Kept.{count_item, is_kept, unrecorded}
+use Rattle.ow_kept.specs.Shallow.{IsShallowEnding}
 use Rattle.ow_kept.proofs.Allowing.{first_of, rest_of, to_mapped}
 use Rattle.ow_kept.proofs.Ids.{all_both, all_put}
 use Rattle.ow_kept.proofs.Knowing.{picked}
@@ -22,7 +24,7 @@ use Rattle.ow_kept.proofs.Shallow.{ends_shallow}
 use Rattle.ow_records.specs.declared.activations.Activation.{Activation}
 use Rattle.ow_records.specs.declared.ids.Id.{Id}
 use Rattle.ow_records.specs.declared.outcomes.Ending.{Ending}
-use Rattle.ow_records.specs.declared.outcomes.Ending.TheVariants.{Abandoned, Overran, Replied}
+use Rattle.ow_records.specs.declared.outcomes.Ending.TheVariants.{Abandoned, Composed, Overran, Replied}
 use Rattle.ow_records.specs.declared.record.Record.{Record}
 use Rattle.ow_records.specs.declared.unrecorded.Unrecorded.{Unrecorded}
 use Rattle.ow_records.specs.Record.{init_of, start_of, wait_of}
@@ -54,15 +56,18 @@ timely : (item : Item) (xs : List Activation) → IsEarly item → AllByRecursio
 timely (Accepted a) xs h all = all_both IsTimely xs (a ∷ []) all (h, tt)
 timely item xs h all = all
 
-all_timely : (T : Trace) → AreEarly T → AllByRecursion IsTimely (accepted T)
+pub all_timely : (T : Trace) → AreEarly T → AllByRecursion IsTimely (accepted T)
 all_timely [] early = tt
 all_timely (item ∷ T) early = timely item (accepted T) early.0 (all_timely T early.1)
 
 open_lasts : (a : Activation) → IsTimely a → IsLasting (items.Open (unrecorded_of a))
 open_lasts a h = record {
   shallow = opens_shallow (unrecorded_of a);
-  fit = and_from (nat_le 1 a.id.count) (is_moment a.at && is_called a.cause a.action.version a.binding) (le-leb 1 a.id.count h.counted)
-      (and_from (is_moment a.at) (is_called a.cause a.action.version a.binding) (le-leb a.at GREATEST_MOMENT h.early) h.called);
+  fit =
+      let called = is_called a.cause a.action.version a.binding in
+      let formed = is_formed a.form (kind_of a.action.exec) in
+      and_from (nat_le 1 a.id.count) (is_moment a.at && (called && formed)) (le-leb 1 a.id.count h.counted)
+      (and_from (is_moment a.at) (called && formed) (le-leb a.at GREATEST_MOMENT h.early) (and_from called formed h.called h.formed));
 }
 
 open_one : (P : Unrecorded → Type 0) (a : Activation) (s : Option State) (rest : List Open) → P (unrecorded_of a) → AllByRecursion P (map (λ (o : Open). unrecorded_of o.task) rest)
@@ -95,7 +100,7 @@ all_taken (item ∷ T) early = taken item (resumed T) early.0 (all_taken T early
 -- ---- what has ended
 
 abbrev IsEarlyEnd : End → Type 0
-IsEarlyEnd e = (e.at ≤ GREATEST_MOMENT) × IfSome e.run IsDue
+IsEarlyEnd e = (e.at ≤ GREATEST_MOMENT) × IfSome e.run IsDue × IsShallowEnding e.ending
 
 ended : (item : Item) (es : List End) → IsEarly item → AllByRecursion IsEarlyEnd es → AllByRecursion IsEarlyEnd (ends_after item es)
 ended (Ended e) es h all = all_both IsEarlyEnd es (e ∷ []) all (h, tt)
@@ -134,6 +139,7 @@ start_early accepted (Replied reply) (Some r) h k = k.ordered
 start_early accepted Overran None h k = h
 start_early accepted Overran (Some r) h k = k.ordered
 start_early accepted Abandoned run h k = h
+start_early accepted (Composed response children) run h k = h
 
 less : (m n most : ℕ) → m ≤ most → nat_le (m - n) most ≡ true
 less m n most h = le-leb (m - n) most (omega (arith, h))
@@ -142,6 +148,7 @@ wait_short : (accepted : ℕ) (ending : Ending) (start : ℕ) → start ≤ GREA
 wait_short accepted (Replied reply) start h = less start accepted GREATEST_MOMENT h
 wait_short accepted Overran start h = less start accepted GREATEST_MOMENT h
 wait_short accepted Abandoned start h = refl
+wait_short accepted (Composed response children) start h = refl
 
 init_by : (ending : Ending) (start : ℕ) (begun : Option ℕ) → IfSome begun (λ at. at ≤ GREATEST_MOMENT) → is_duration (init_of ending start begun) ≡ true
 init_by (Replied reply) start None h = refl
@@ -149,6 +156,7 @@ init_by (Replied reply) start (Some at) h = less at start GREATEST_MOMENT h
 init_by Overran start None h = refl
 init_by Overran start (Some at) h = less at start GREATEST_MOMENT h
 init_by Abandoned start begun h = refl
+init_by (Composed response children) start begun h = refl
 
 began_early : (run : Option Run) → IfSome run IsDue → IfSome (began run) (λ at. at ≤ GREATEST_MOMENT)
 began_early None h = tt
@@ -160,7 +168,7 @@ end_lasts e h early =
     let last_moment : ℕ = max (start_of e.task.at e.ending (started e.run)) e.at in
     let last : last_moment ≤ GREATEST_MOMENT = omega (arith, start, early.0) in
     record {
-      shallow = ends_shallow e;
+      shallow = ends_shallow e early.2;
       fit = and_from (nat_le 1 e.task.id.count) (is_moment last_moment && (is_called e.task.cause e.task.action.version e.task.binding && are_durations (record_of e).notes)) (le-leb 1 e.task.id.count h.counted)
           (and_from (is_moment last_moment) (is_called e.task.cause e.task.action.version e.task.binding && are_durations (record_of e).notes) (le-leb last_moment GREATEST_MOMENT last)
           (and_from (is_called e.task.cause e.task.action.version e.task.binding) (are_durations (record_of e).notes) h.called

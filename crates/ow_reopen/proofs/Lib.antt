@@ -5,6 +5,9 @@ pub mod Names
 pub mod RowsLaws
 pub mod Callees
 pub mod Fires
-pub mod TraceLaws
+pub mod Composing
+pub mod Framing
 pub mod KeptLaws
+pub mod Children
+pub mod TraceLaws
 pub mod BookLaws

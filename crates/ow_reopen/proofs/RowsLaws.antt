@@ -1,8 +1,8 @@
 -- The rows that last still do behind what is decided.
-use Rattle.std.proofs.Common.{◌≡◌, ◌≤◌, ◌&&◌, ℕ, List, [], ◌∷◌, Bool, true, false, cond, map, nat_le, not, IfSome, IfOk, Option, Some, None, Result, Ok, Err, Ordering, Less, Equal, Greater, refl, sym, ◌∙◌, subst, arith}
+use Rattle.std.proofs.Common.{◌≡◌, ◌≤◌, ◌&&◌, ℕ, List, [], ◌∷◌, Bool, true, false, cond, length, map, nat_le, nat_lt, not, IfSome, IfOk, Option, Some, None, Result, Ok, Err, Ordering, Less, Equal, Greater, refl, sym, ◌∙◌, subst, arith}
 use Rattle.std.specs.List.{AllByRecursion}
 use Rattle.std.specs.Ordering.{match_ordering}
-use Rattle.std.proofs.lemmas.Bool.{and_parts, leb-true}
+use Rattle.std.proofs.lemmas.Bool.{and_parts, le-leb, leb-true, ltb-false}
 use Rattle.std.proofs.lemmas.Option.{IfSome_then}
 use Rattle.std.proofs.lemmas.Slice.Eq.{bytes_eq-Decides}
 use Rattle.ow_value.specs.Nesting.{most_nested}
@@ -17,6 +17,8 @@ use Rattle.ow_names.specs.declared.full.FullName.{FullName}
 use Rattle.ow_names.specs.declared.refusal.NameRefusal.{NameRefusal}
 use Rattle.ow_names.proofs.PathLaws.{full_text-inj}
 use Rattle.ow_entity.specs.Body.{entity_of}
+use Rattle.ow_entity.specs.Chain.{first_some}
+use Rattle.ow_entity.specs.Exec.{components_of}
 use Rattle.ow_entity.specs.Finish.{as_rule, finished_row}
 use Rattle.ow_entity.specs.Row.{draft_kind, draft_name, name_of}
 use Rattle.ow_entity.specs.Written.{row_value}
@@ -34,6 +36,7 @@ use Rattle.ow_http.specs.CallOf.{active_of, as_call, bare_call, body_draft, body
 use Rattle.ow_http.specs.Pair.{Pair}
 use Rattle.ow_http.specs.Parts.{Parts}
 use Rattle.ow_http.specs.Request.{parts_of}
+use Rattle.ow_http.specs.Steps.{◌>>=◌}
 use Rattle.ow_http.specs.declared.call.Call.{Call}
 use Rattle.ow_http.specs.declared.call_kind.CallKind.{CallKind}
 use Rattle.ow_http.specs.declared.call_kind.CallKind.TheVariants.{ListEntities, ListActivations, PutEntity, Invoke}
@@ -57,7 +60,10 @@ use Rattle.ow_kept.specs.Opening.{resumed_records}
 use Rattle.ow_kept.proofs.Knowing.{picked}
 use Rattle.ow_rules.specs.Status.{has_status, status_change, with_status}
 use Rattle.ow_tables.specs.Builtin.{builtin, is_builtin}
-use Rattle.ow_tables.specs.Refusal.{old_row}
+use Rattle.ow_tables.specs.Refusal.{exists_refusal, finish_refusal, old_row, package_refusal, put_refusal, rule_refusal, target_of, target_refusal}
+use Rattle.ow_tables.specs.Sequences.{long_refusal, loop_refusal, sequence_refusal}
+use Rattle.ow_tables.specs.declared.refusal.TableRefusal.TheVariants.{SequenceTooLong}
+use Rattle.ow_tables.specs.declared.sequences.TheConstants.{MOST_COMPONENTS}
 use Rattle.ow_tables.specs.Joined.{rule_at}
 use Rattle.ow_tables.specs.Contents.{Change}
 use Rattle.ow_tables.specs.Rows.{changed, found, is_row, key, key_of, standing, with_row, without}
@@ -68,7 +74,7 @@ use Rattle.ow_tenant.specs.Tenants.{holder_of}
 use Rattle.ow_tenant.specs.declared.entries.Holder.{Holder}
 use Rattle.ow_tenant.proofs.HomeLaws.{some_if}
 use Rattle.ow_decide.specs.Asking.{ask_decision, put_of, request_done}
-use Rattle.ow_decide.specs.Calling.{call_decision, call_plan}
+use Rattle.ow_decide.specs.Calling.{admitted_plan, call_plan, called_decision}
 use Rattle.ow_decide.specs.Decision.{all_changed}
 use Rattle.ow_decide.specs.Decisions.{decide}
 use Rattle.ow_decide.specs.Opening.{are_resumable, is_fresh, opened_decision, parts_taken, taken_if}
@@ -80,7 +86,8 @@ use Rattle.ow_decide.specs.declared.events.Event.TheVariants as events
 use Rattle.ow_decide.proofs.RowLaws.{request_rows}
 use Rattle.ow_hall.proofs.Joined.{ok_of}
 use Rattle.ow_reopen.specs.Bodies.{RowsOfBodies}
-use Rattle.ow_reopen.specs.RowsKept.{IsPlaced}
+use Rattle.ow_reopen.specs.RowsKept.{IsPlaced, IsShort}
+use Rattle.ow_packages.specs.Access.{package_of}
 use Rattle.ow_reopen.specs.Lasting.{AreWritable, IsLasting, IsLastingRow}
 use Rattle.ow_reopen.specs.Laws.{RowsLast}
 use Rattle.ow_reopen.proofs.Callees.{found_lasts}
@@ -328,20 +335,53 @@ set_so : (r : Rule) (active : Bool) (c : Change) (b : Bool) → cond b None (Som
 set_so r active c true is = cc
 set_so r active c false is = cc
 
+-- ---- the components of a row that is put
+
+first_none : {X : Type 0} (a b : Option X) → first_some (a ∷ b ∷ []) ≡ None → a ≡ None
+first_none None b none = refl
+first_none (Some x) b none = cc
+
+last_none : {X : Type 0} (a b c d e f : Option X) → first_some (a ∷ b ∷ c ∷ d ∷ e ∷ f ∷ []) ≡ None → f ≡ None
+last_none None None None None None None none = refl
+last_none None None None None None (Some x) none = cc
+last_none None None None None (Some x) f none = cc
+last_none None None None (Some x) e f none = cc
+last_none None None (Some x) d e f none = cc
+last_none None (Some x) c d e f none = cc
+last_none (Some x) b c d e f none = cc
+
+few_by : (n : ℕ) (b : Bool) → nat_lt MOST_COMPONENTS n ≡ b → cond b (Some SequenceTooLong) None ≡ None → nat_le n MOST_COMPONENTS ≡ true
+few_by n true e none = cc
+few_by n false e none = le-leb n MOST_COMPONENTS (ltb-false MOST_COMPONENTS n e)
+
+few_of : (rs : List Row) (r : Row) → sequence_refusal rs (Ok r) ≡ None → IsShort r
+few_of rs (rows.Action a) none =
+    few_by (length (components_of a.exec)) (nat_lt MOST_COMPONENTS (length (components_of a.exec))) refl (first_none (long_refusal a) (loop_refusal (standing rs) (length rs) a) none)
+few_of rs (rows.Package p) none = tt
+few_of rs (rows.Rule r) none = tt
+few_of rs (rows.Trigger t) none = tt
+
+-- what may be put has no more components than a put allows
+put_short : (d : Draft) (overwrite : Bool) (rs : List Row) (r : Row) → put_refusal d overwrite rs ≡ None → finished_row d (old_row d rs) ≡ Ok r → IsShort r
+put_short d overwrite rs r none made =
+    let fits = last_none (rule_refusal d rs) (package_refusal (package_of (draft_name d)) rs) (target_refusal (target_of d) (draft_name d).namespace rs)
+    (exists_refusal overwrite (old_row d rs)) (finish_refusal d (old_row d rs)) (sequence_refusal rs (finished_row d (old_row d rs))) none in
+    few_of rs r (subst (λ (x : Result Row EntityRefusal). sequence_refusal rs x ≡ None) made fits)
+
 -- ---- what is done
 
 module _ (core : RowsOfBodies) (S : Sight) (all : AreWritable S.rows) where
-  made : (d : Draft) (r : Row) → IsGiven d → finished_row d (old_row d S.rows) ≡ Ok r → IsLastingRow r
-  made d r g e =
+  made : (d : Draft) (r : Row) → IsGiven d → IsShort r → finished_row d (old_row d S.rows) ≡ Ok r → IsLastingRow r
+  made d r g short e =
       let drafted : draft_name d ≡ g.name = ok_of (λ (x : Draft). draft_name x ≡ g.name) (entity_of g.kind g.name g.body) d g.drafted (entity_named g.kind g.name g.body) in
       let called_so : name_of r ≡ draft_name d = ok_of (λ (x : Row). name_of x ≡ draft_name d) (finished_row d (old_row d S.rows)) r e (finished_named d (old_row d S.rows)) in
       record {
-        lasts = core g.kind g.name g.body d (old_row d S.rows) r g.placed g.within g.drafted e (old_lasts d g.name S.rows g.full drafted all);
+        lasts = core g.kind g.name g.body d (old_row d S.rows) r g.placed g.within g.drafted e (old_lasts d g.name S.rows g.full drafted all) short;
         named = subst IsFullName (sym (called_so ∙ drafted)) g.full;
       }
 
-  put_good : (c : Call) (d : Draft) (r : Row) → IsGivenCall c → c.draft ≡ Some d → finished_row d (old_row d S.rows) ≡ Ok r → AreWritable (with_row r S.rows)
-  put_good c d r given is e = all_with IsLastingRow r S.rows (made d r (subst IsGivenSome is given) e) all
+  put_good : (c : Call) (d : Draft) (r : Row) → IsGivenCall c → c.draft ≡ Some d → put_refusal d c.overwrite S.rows ≡ None → finished_row d (old_row d S.rows) ≡ Ok r → AreWritable (with_row r S.rows)
+  put_good c d r given is free e = all_with IsLastingRow r S.rows (made d r (subst IsGivenSome is given) (put_short d c.overwrite S.rows r free e) e) all
 
   removed_good : (kind : EntityKind) (name : FullName) → AreWritable (without kind name S.rows)
   removed_good kind name = picked IsLastingRow (λ (r : Row). not (is_row kind name r)) S.rows all
@@ -352,18 +392,18 @@ module _ (core : RowsOfBodies) (S : Sight) (all : AreWritable S.rows) where
       subst (λ (x : Change). AreWritable (changed x S.rows)) (set_so r active c (has_status active r) is)
       (all_with IsLastingRow (rows.Rule (with_status active r)) S.rows (set_lasts r active (rule_good name r S.rows all stands)) all)
 
-  asked_rows : (p : Parts) → AreHomes S.tenants → AreWritable (all_changed (ask_decision S.moment (request_done S p)).changes S.rows)
+  asked_rows : (p : Parts) → AreHomes S.tenants → AreWritable (all_changed (ask_decision (request_done S p)).changes S.rows)
   asked_rows p homes =
       request_rows S p (λ (h : Holder). IsName h.home) IsGivenCall AreWritable (asker_home S.tenants p.key homes) (λ h home. call_given h.home p home) all put_good removed_good set_good
 
-  called_rows : (r : Result Plan Reason) → AreWritable (all_changed (call_decision S r).changes S.rows)
+  called_rows : (r : Result Plan Reason) → AreWritable (all_changed (called_decision S r).changes S.rows)
   called_rows (Ok plan) = all
   called_rows (Err reason) = all
 
   by_event : (event : Event) → AreHomes S.tenants → AreWritable (all_changed (decide S event).changes S.rows)
   by_event (events.Opened rows) homes = opened_rows S.moment S.trace (judged rows) S.rows (rows_read rows) all
   by_event (events.Asked r) homes = asked_rows (parts_of r) homes
-  by_event (events.Called name params) homes = called_rows (call_plan S name params)
+  by_event (events.Called name params) homes = called_rows (call_plan S name params >>= admitted_plan S)
   by_event event homes = all
 
 -- where the rows that bodies make last

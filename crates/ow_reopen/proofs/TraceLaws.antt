@@ -1,5 +1,5 @@
 -- What happened stays within the greatest moment behind what is decided, and what is taken over may be read again.
-use Rattle.std.proofs.Common.{◌≡◌, ◌≤◌, ◌+◌, ◌++◌, ◌&&◌, ℕ, Bool, true, false, List, [], ◌∷◌, max, nat_le, not, option_and_then, Option, Some, None, Result, Ok, Err, IfOk, IfSome, refl, sym, ap, ◌∙◌, subst, arith}
+use Rattle.std.proofs.Common.{◌≡◌, ◌≤◌, ◌++◌, ◌&&◌, ◌⊎◌, ℕ, Bool, true, false, List, [], ◌∷◌, inl, inr, max, nat_le, not, option_and_then, Option, Some, None, Result, Ok, Err, IfOk, IfSome, refl, sym, ap, ◌∙◌, subst, arith}
 use Rattle.std.specs.List.{AllByRecursion}
 use Rattle.std.proofs.Math.Nat.{max-le}
 use Rattle.std.proofs.lemmas.Bool.{and_from, and_parts, le-leb, leb-true}
@@ -11,13 +11,13 @@ use Rattle.ow_records.specs.Unrecorded.{abandoned_record}
 use Rattle.ow_traits.specs.Rows.{text_of}
 use Rattle.ow_floor.specs.declared.runs.Run.{Run}
 use Rattle.ow_floor.specs.View.{begun, is_number}
-use Rattle.ow_floor.specs.Trace.{Accepted, Answered, Begun, Drawn, Ended, Fired, Item, Lost, Ordered, Reopened, Resumed, Trace, last, live, live_after}
+use Rattle.ow_floor.specs.Trace.{Accepted, Answered, Begun, Drawn, End, Ended, Fired, Item, Lost, Ordered, Reopened, Resumed, Trace, last, live, live_after}
 use Rattle.ow_floor.proofs.Firsts.{all_push, all_removed, all_updated}
 use Rattle.ow_items.specs.Item.{count_key}
 use Rattle.ow_items.specs.Sorted.{Entries}
 use Rattle.ow_items.specs.declared.item.Item.{Item as KeptItem}
 use Rattle.ow_items.specs.declared.item.Item.TheVariants as items
-use Rattle.ow_keep.specs.Allowed.{are_durations, has_record, is_called, is_counted, is_drawn, is_moment}
+use Rattle.ow_keep.specs.Allowed.{are_durations, has_record, is_called, is_counted, is_drawn, is_fit_open, is_formed, is_moment}
 use Rattle.ow_keep.specs.Judged.{judged}
 use Rattle.ow_keep.specs.Kept.{MayStand}
 use Rattle.ow_keep.specs.Split.{Parts as KeptParts, split}
@@ -25,15 +25,20 @@ use Rattle.ow_keep.specs.declared.allowed.TheConstants.{GREATEST_COUNT, GREATEST
 use Rattle.ow_keep.proofs.Whole.{judged-sound}
 use Rattle.ow_kept.proofs.Shallow.{abandoned_shallow}
 use Rattle.ow_kept.specs.Opening.{abandoned, resumed_records}
-use Rattle.ow_kept.specs.Shallow.{AbandonedAreShallow}
+use Rattle.ow_kept.specs.Shallow.{AbandonedAreShallow, IsShallowEnding}
 use Rattle.ow_kept.proofs.Ids.{all_both}
 use Rattle.ow_kept.proofs.Picking.{counts_picked, dones_picked, each_picked, opens_picked, pick_count, pick_done, pick_open}
+use Rattle.ow_records.specs.declared.outcomes.Ending.{Ending}
+use Rattle.ow_records.specs.declared.outcomes.Ending.TheVariants.{Abandoned, Composed, Overran, Replied}
+use Rattle.ow_tables.specs.Rows.{standing}
+use Rattle.ow_trees.specs.Driven.{IsDriven}
+use Rattle.ow_trees.proofs.Children.{child_of, end_of}
 use Rattle.ow_decide.specs.declared.events.Event.{Event}
 use Rattle.ow_decide.specs.declared.events.Event.TheVariants as events
 use Rattle.ow_decide.specs.Sight.{Sight}
 use Rattle.ow_decide.specs.Opening.{are_resumable, is_fresh, opened_decision, parts_taken, taken_if}
 use Rattle.ow_decide.specs.Decisions.{decide}
-use Rattle.ow_decide.specs.Chain.{AreSteps, IsAccepted, IsFired, IsOneOf, IsStep}
+use Rattle.ow_decide.specs.Chain.{AreSteps, IsAccepted, IsEnd, IsEndBy, IsFired, IsOneOf, IsStep}
 use Rattle.ow_decide.proofs.ChainLaws.{all_one_of, decided_steps}
 use Rattle.ow_entity.specs.declared.actions.Action.{Action}
 use Rattle.ow_http.specs.declared.call.Call.{Call}
@@ -43,6 +48,7 @@ use Rattle.ow_records.specs.declared.activations.Activation.{Activation}
 use Rattle.ow_reopen.specs.Lasting.{AreEarly, AreWritable, IsDue, IsEarly, IsLasting, IsTimely}
 use Rattle.ow_reopen.specs.Laws.{TracesLast}
 use Rattle.ow_reopen.proofs.Callees.{callee_good}
+use Rattle.ow_reopen.proofs.Children.{above, child_timely, composed_early, form_fits}
 use Rattle.ow_reopen.proofs.Fires.{IsShallowCall, call_shallow, fire_lasts, trigger_good}
 
 -- ---- ids that were drawn
@@ -57,9 +63,6 @@ drawn_counted all id e = count_some id (option_and_then digits_of (text_of (coun
 
 within_both : (m n most : ℕ) → nat_le m most ≡ true → n ≤ most → nat_le (max m n) most ≡ true
 within_both m n most h k = le-leb (max m n) most (max-le (leb-true m most h) k)
-
-above : (n last : ℕ) → n ≡ last + 1 → 1 ≤ n
-above n last e = omega (arith, e)
 
 -- ---- live runs
 
@@ -90,6 +93,7 @@ timely S a T small all now ok = record {
       ∙ (ap (λ (x : Action). is_called None x.version a.binding) ok.callee.action
       ∙ (ap (λ (n : Option FullName). is_called None ok.callee.called.action.version n) ok.callee.binding
       ∙ callee_good S.rows all ok.callee.callee.0 ok.callee.callee.1.0 ok.callee.called ok.callee.callee.1.1));
+  formed = form_fits a ok.callee.called.action ok.callee.action ok.callee.form;
 }
 
 fired : (S : Sight) (r : Record) (T : Trace) → S.moment ≤ GREATEST_MOMENT → AreWritable S.rows → IsFired S r T → IsLasting (items.Done r)
@@ -105,20 +109,43 @@ run_due : (S : Sight) (r : Option Run) → IfSome r (λ x. IsOneOf x (live S.tra
 run_due S None one due = tt
 run_due S (Some r) one due = all_one_of IsDue r (live S.trace) one due
 
-early_step : (S : Sight) (item : Item) (T : Trace) → S.moment ≤ GREATEST_MOMENT → AreWritable S.rows → AllByRecursion IsDue (live S.trace) → IsStep S item T → IsEarly item
-early_step S (Accepted a) T small all due step = timely S a T small all step.at step.is
-early_step S (Ordered r key) T small all due step =
-    let now : r.at ≡ S.moment = step.at in record { ordered = omega (arith, small, now); began = subst (λ (o : Option ℕ). IfSome o (λ at. at ≤ GREATEST_MOMENT)) (sym step.is) tt }
-early_step S (Begun run at) T small all due step = let now : at ≡ S.moment = step.at in omega (arith, small, now)
-early_step S (Ended e) T small all due step = (let now : e.at ≡ S.moment = step.at in omega (arith, small, now), run_due S e.run step.is.live due)
-early_step S (Resumed counts rs) T small all due step = absurd step.is
-early_step S (Drawn id at) T small all due step = above id.count (last T id.namespace) step.is
-early_step S (Fired r) T small all due step = fired S r T small all step.is
-early_step S item T small all due step = tt
+-- an end that a floor makes by itself is no composite's
+not_composed : (at : ℕ) (ending : Ending) (run : Option Run) (task : Activation) → IsEndBy at ending run task → IsShallowEnding ending
+not_composed at (Replied reply) run task by = tt
+not_composed at Overran run task by = tt
+not_composed at Abandoned run task by = tt
+not_composed at (Composed response children) None task by = absurd by
+not_composed at (Composed response children) (Some r) task by = absurd by
 
-early_steps : (S : Sight) (items : Trace) → S.moment ≤ GREATEST_MOMENT → AreWritable S.rows → AllByRecursion IsDue (live S.trace) → AreSteps S items → AreEarly items
-early_steps S [] small all due steps = tt
-early_steps S (item ∷ items) small all due steps = (early_step S item (items ++ S.trace) small all due steps.0, early_steps S items small all due steps.1)
+-- what was accepted: called by name, or a child
+accepted_early : (S : Sight) (a : Activation) (T : Trace) → S.moment ≤ GREATEST_MOMENT → AreWritable S.rows → AreEarly T → a.at ≡ S.moment
+    → IsAccepted S a T ⊎ IsDriven (standing S.rows) S.moment (Accepted a) T → IsTimely a
+accepted_early S a T small all before now (inl ok) = timely S a T small all now ok
+accepted_early S a T small all before now (inr driven) =
+    child_timely S.rows S.moment driven.composite.task a T small all before (child_of (standing S.rows) S.moment a T driven)
+
+-- what has ended: by a run, or as a composite
+ended_early : (S : Sight) (e : End) (T : Trace) → S.moment ≤ GREATEST_MOMENT → AllByRecursion IsDue (live S.trace) → AreEarly T → e.at ≡ S.moment
+    → IsEnd S e ⊎ IsDriven (standing S.rows) S.moment (Ended e) T → IsEarly (Ended e)
+ended_early S e T small due before now (inl ok) = (omega (arith, small, now), run_due S e.run ok.live due, not_composed S.moment e.ending e.run e.task ok.by)
+ended_early S e T small due before now (inr driven) = composed_early S.moment e T small before (end_of (standing S.rows) S.moment e T driven)
+
+early_step : (S : Sight) (item : Item) (T : Trace) → S.moment ≤ GREATEST_MOMENT → AreWritable S.rows → AllByRecursion IsDue (live S.trace) → AreEarly T → IsStep S item T → IsEarly item
+early_step S (Accepted a) T small all due before step = accepted_early S a T small all before step.at step.is
+early_step S (Ordered r key) T small all due before step =
+    let now : r.at ≡ S.moment = step.at in record { ordered = omega (arith, small, now); began = subst (λ (o : Option ℕ). IfSome o (λ at. at ≤ GREATEST_MOMENT)) (sym step.is) tt }
+early_step S (Begun run at) T small all due before step = let now : at ≡ S.moment = step.at in omega (arith, small, now)
+early_step S (Ended e) T small all due before step = ended_early S e T small due before step.at step.is
+early_step S (Resumed counts rs) T small all due before step = absurd step.is
+early_step S (Drawn id at) T small all due before step = above id.count (last T id.namespace) step.is
+early_step S (Fired r) T small all due before step = fired S r T small all step.is
+early_step S item T small all due before step = tt
+
+early_steps : (S : Sight) (items : Trace) → S.moment ≤ GREATEST_MOMENT → AreWritable S.rows → AreEarly S.trace → AreSteps S items → AreEarly items
+early_steps S [] small all early steps = tt
+early_steps S (item ∷ items) small all early steps =
+    let before = early_steps S items small all early steps.1 in
+    (early_step S item (items ++ S.trace) small all (live_due S.trace early) (all_both IsEarly items S.trace before early) steps.0, before)
 
 -- ---- what is taken over
 
@@ -155,14 +182,15 @@ module _ (shallow : AbandonedAreShallow) (at : ℕ) (small : at ≤ GREATEST_MOM
 
   open_lasts : (all : Entries) (u : Unrecorded) → MayStand all (items.Open u) → LastsAbandoned u
   open_lasts all u may =
-      let parts = and_parts (is_drawn all u.id && not (has_record all u.id)) (is_moment u.at && is_called u.cause u.version u.binding) may.allowed in
+      let parts = and_parts (is_drawn all u.id && not (has_record all u.id)) (is_fit_open u) may.allowed in
       let drawn = and_parts (is_drawn all u.id) (not (has_record all u.id)) parts.0 in
-      let times = and_parts (is_moment u.at) (is_called u.cause u.version u.binding) parts.1 in
+      let times = and_parts (is_moment u.at) (is_called u.cause u.version u.binding && is_formed u.form u.kind) parts.1 in
+      let called = and_parts (is_called u.cause u.version u.binding) (is_formed u.form u.kind) times.1 in
       record {
         shallow = shallow u at;
         fit = and_from (nat_le 1 u.id.count) (is_moment (max u.at at) && (is_called u.cause u.version u.binding && true)) (drawn_counted all u.id drawn.0)
             (and_from (is_moment (max u.at at)) (is_called u.cause u.version u.binding && true) (within_both u.at at GREATEST_MOMENT times.0 small)
-            (and_from (is_called u.cause u.version u.binding) true times.1 refl));
+            (and_from (is_called u.cause u.version u.binding) true called.0 refl));
       }
 
   open_told : (all : Entries) (i : KeptItem) (u : Unrecorded) → pick_open i ≡ Some u → MayStand all i → LastsAbandoned u
@@ -197,7 +225,7 @@ module _ (shallow : AbandonedAreShallow) (at : ℕ) (small : at ≤ GREATEST_MOM
 
 early_decided : AbandonedAreShallow → (S : Sight) (event : Event) → S.moment ≤ GREATEST_MOMENT → AreWritable S.rows → AreEarly S.trace → AreEarly (decide S event).items
 early_decided shallow S (events.Opened rows) small all early = early_opened shallow S.moment small S.trace rows (judged rows) refl
-early_decided shallow S event small all early = early_steps S (decide S event).items small all (live_due S.trace early) (decided_steps S event refl)
+early_decided shallow S event small all early = early_steps S (decide S event).items small all early (decided_steps S event refl)
 
 -- what happened lasts, where records of abandoned activations nest no deeper than they are read
 pub traces_last : TracesLast

@@ -17,17 +17,20 @@ use Rattle.ow_names.specs.Name.{first_fault}
 use Rattle.ow_names.specs.Path.{home, named, named_in, of_parts, or_fault, parts, resolved}
 use Rattle.ow_names.specs.declared.full.FullName.{FullName}
 use Rattle.ow_names.specs.declared.refusal.NameRefusal.{NameRefusal}
-use Rattle.ow_entity.specs.Body.{action_draft, binding_field, binding_given, binding_in, bound_in, draft_of, draft_unless, entity_of, first_refusal, name_field, name_given, or_bad_name, package_draft, rule_draft, text_field, trigger_draft}
+use Rattle.ow_entity.specs.Body.{action_draft, are_texts, binding_field, binding_given, binding_in, bound_in, components_field, components_given, draft_of, draft_unless, entity_of, exec_field, exec_given, exec_in, exec_of_kind, first_refusal, if_some, name_field, name_given, name_in, names_in, or_bad_name, package_draft, plain_exec, program_exec, rule_draft, sequence_exec, text_field, trigger_draft}
 use Rattle.ow_entity.specs.Chain.{and_then, result_map}
+use Rattle.ow_entity.specs.Code.{plain_code, program_name}
+use Rattle.ow_entity.specs.Exec.{components_of}
 use Rattle.ow_entity.specs.FieldName.{field_name}
 use Rattle.ow_entity.specs.Finish.{action_made, action_over, as_action, as_package, as_rule, as_trigger, default_action, default_package, default_rule, default_trigger, finished_row, new_action, new_rule, package_made, package_over, rule_made, rule_over, trigger_made, trigger_over}
 use Rattle.ow_entity.specs.Pairs.{pair_of, pair_value, pair_with, pairs_field, pairs_given, pairs_listed, pairs_of_list, pairs_size, with_pairs}
 use Rattle.ow_entity.specs.PlainCode.{name_count}
 use Rattle.ow_entity.specs.Row.{name_of}
-use Rattle.ow_entity.specs.Written.{action_value, binding_value, package_value, row_value, rule_value, trigger_value}
+use Rattle.ow_entity.specs.Written.{action_value, binding_value, exec_value, name_value, package_value, row_value, rule_value, trigger_value}
 use Rattle.ow_entity.specs.declared.actions.Action.{Action}
 use Rattle.ow_entity.specs.declared.actions.ActionDraft.{ActionDraft}
 use Rattle.ow_entity.specs.declared.exec.Exec.{Exec}
+use Rattle.ow_entity.specs.declared.exec.Exec.TheVariants as execs
 use Rattle.ow_entity.specs.declared.field_name.FieldName.{FieldName}
 use Rattle.ow_entity.specs.declared.field_name.FieldName.TheVariants as fields
 use Rattle.ow_entity.specs.declared.finishing.TheConstants.{FIRST_VERSION}
@@ -36,7 +39,7 @@ use Rattle.ow_entity.specs.declared.kinds.EntityKind.TheVariants as kinds
 use Rattle.ow_entity.specs.declared.packages.Package.{Package}
 use Rattle.ow_entity.specs.declared.packages.PackageDraft.{PackageDraft}
 use Rattle.ow_entity.specs.declared.refusal.EntityRefusal.{EntityRefusal}
-use Rattle.ow_entity.specs.declared.refusal.EntityRefusal.TheVariants.{LastVersion, TooLarge}
+use Rattle.ow_entity.specs.declared.refusal.EntityRefusal.TheVariants.{LastVersion, TooLarge, UnknownKind, WrongType}
 use Rattle.ow_entity.specs.declared.rows.Draft.{Draft}
 use Rattle.ow_entity.specs.declared.rows.Draft.TheVariants as drafts
 use Rattle.ow_entity.specs.declared.rows.Row.{Row}
@@ -45,8 +48,8 @@ use Rattle.ow_entity.specs.declared.rules.Rule.{Rule}
 use Rattle.ow_entity.specs.declared.rules.RuleDraft.{RuleDraft}
 use Rattle.ow_entity.specs.declared.triggers.Trigger.{Trigger}
 use Rattle.ow_entity.specs.declared.triggers.TriggerDraft.{TriggerDraft}
-use Rattle.ow_keep.specs.Allowed.{is_binding, is_version, is_written, stands_alone}
-use Rattle.ow_reopen.specs.RowsKept.{IsPlaced, IsWritable}
+use Rattle.ow_keep.specs.Allowed.{are_few, are_written, is_binding, is_version, is_written, stands_alone}
+use Rattle.ow_reopen.specs.RowsKept.{IsPlaced, IsShort, IsWritable}
 
 -- ---- what holds of what is made, if anything is made
 
@@ -260,9 +263,82 @@ given_written name here (Some (object ms)) = tt
 field_written : (name : FieldName) (here : List ℕ) (body : V) → IfSome (result_unwrap_or (name_field name here body) None) (IsWritten here)
 field_written name here body = unwrapped (IsWritten here) (name_field name here body) (given_written name here (field (field_name name) body))
 
+-- ---- the components that a body lists
+
+abbrev AreNamed : List ℕ → List FullName → Type 0
+AreNamed here ns = are_written here ns ≡ true
+
+abbrev IsExecWritten : List ℕ → Exec → Type 0
+IsExecWritten here x = AreNamed here (components_of x)
+
+item_written : (here : List ℕ) (v : V) → IfOk (name_in here v) (IsWritten here)
+item_written here null = tt
+item_written here (boolean b) = tt
+item_written here (whole z) = tt
+item_written here (text s) = or_bad_holds (IsWritten here) (resolved here s) (parts_written here (parts s))
+item_written here (list vs) = tt
+item_written here (object ms) = tt
+
+both_written : (here : List ℕ) (r : Result FullName EntityRefusal) (s : Result (List FullName) EntityRefusal) → IfOk r (IsWritten here) → IfOk s (AreNamed here)
+    → IfOk (and_then r (λ n. result_map (λ ns. n ∷ ns) s)) (AreNamed here)
+both_written here (Err e) s h k = tt
+both_written here (Ok n) (Err e) h k = tt
+both_written here (Ok n) (Ok ns) h k = and_from (is_written here n) (are_written here ns) h k
+
+names_written : (here : List ℕ) (vs : Items) → IfOk (names_in here vs) (AreNamed here)
+names_written here no_items = refl
+names_written here (item v vs) = both_written here (name_in here v) (names_in here vs) (item_written here v) (names_written here vs)
+
+some_written : (here : List ℕ) (r : Result (List FullName) EntityRefusal) → IfOk r (AreNamed here) → IfOk (and_then r if_some) (AreNamed here)
+some_written here (Ok []) h = tt
+some_written here (Ok (n ∷ ns)) h = h
+some_written here (Err e) h = tt
+
+either_way : {A : Type 0} (P : A → Type 0) (b : Bool) (r s : Result A EntityRefusal) → IfOk r P → IfOk s P → IfOk (cond b r s) P
+either_way P true r s h k = h
+either_way P false r s h k = k
+
+components_written : (here : List ℕ) (o : Option V) → IfOk (components_given here o) (AreNamed here)
+components_written here None = tt
+components_written here (Some null) = tt
+components_written here (Some (boolean b)) = tt
+components_written here (Some (whole z)) = tt
+components_written here (Some (text s)) = tt
+components_written here (Some (list vs)) =
+    either_way (AreNamed here) (are_texts vs) (and_then (names_in here vs) if_some) (Err (WrongType fields.Components)) (some_written here (names_in here vs) (names_written here vs)) tt
+components_written here (Some (object ms)) = tt
+
+kind_written : (here : List ℕ) (v : V) (kind : List ℕ) → IfOk (exec_of_kind here v kind) (IsExecWritten here)
+kind_written here v kind =
+    either_way (IsExecWritten here) (bytes_eq kind (codes "plain:1")) (plain_exec v) _
+    (mapped (λ (code : List ℕ). Unit {0}) (IsExecWritten here) execs.Plain (and_then (text_field fields.Code v) plain_code) (λ code u. refl) (any (and_then (text_field fields.Code v) plain_code)))
+    (either_way (IsExecWritten here) (bytes_eq kind (codes "program:1")) (program_exec v) _
+    (mapped (λ (code : List ℕ). Unit {0}) (IsExecWritten here) execs.Program (and_then (text_field fields.Code v) program_name) (λ code u. refl) (any (and_then (text_field fields.Code v) program_name)))
+    (either_way (IsExecWritten here) (bytes_eq kind (codes "sequence")) (sequence_exec here v) (Err UnknownKind)
+    (mapped (AreNamed here) (IsExecWritten here) execs.Sequence (components_field here v) (λ ns h. h) (components_written here (field (field_name fields.Components) v))) tt))
+  where
+    any : {A : Type 0} (r : Result A EntityRefusal) → IfOk r (λ (x : A). Unit {0})
+    any (Ok x) = tt
+    any (Err e) = tt
+
+exec_given_written : (here : List ℕ) (o : Option V) → IfOk (exec_given here o) (λ (g : Option Exec). IfSome g (IsExecWritten here))
+exec_given_written here None = tt
+exec_given_written here (Some null) = tt
+exec_given_written here (Some (boolean b)) = tt
+exec_given_written here (Some (whole z)) = tt
+exec_given_written here (Some (text s)) = tt
+exec_given_written here (Some (list vs)) = tt
+exec_given_written here (Some (object ms)) =
+    some_mapped (IsExecWritten here) (exec_in here (object ms)) (after (IsExecWritten here) (text_field fields.Kind (object ms)) (exec_of_kind here (object ms)) (kind_written here (object ms)))
+
+exec_written : (here : List ℕ) (body : V) → IfSome (result_unwrap_or (exec_field here body) None) (IsExecWritten here)
+exec_written here body = unwrapped (IsExecWritten here) (exec_field here body) (exec_given_written here (field (codes "exec") body))
+
 -- ---- drafts
 
-record IsActionDraft (n : ℕ) (d : ActionDraft) : Type 0 where
+record IsActionDraft (n : ℕ) (name : FullName) (d : ActionDraft) : Type 0 where
+  name_is : d.name ≡ name
+  exec : IfSome d.exec (IsExecWritten name.namespace)
   params : IfSome d.params (AreWithin n)
   notes : IfSome d.notes (AreWithin n)
 
@@ -287,7 +363,7 @@ record IsTriggerDraft (n : ℕ) (name : FullName) (d : TriggerDraft) : Type 0 wh
   notes : IfSome d.notes (AreWithin n)
 
 abbrev IsGoodDraft : ℕ → FullName → Draft → Type 0
-IsGoodDraft n name (drafts.Action d) = IsActionDraft n d
+IsGoodDraft n name (drafts.Action d) = IsActionDraft n name d
 IsGoodDraft n name (drafts.Package d) = IsPackageDraft n name d
 IsGoodDraft n name (drafts.Rule d) = IsRuleDraft n name d
 IsGoodDraft n name (drafts.Trigger d) = IsTriggerDraft n name d
@@ -298,6 +374,8 @@ draft_by n name (Some e) d h = tt
 
 drafts_good : (n : ℕ) (kind : EntityKind) (name : FullName) (body : V) → IsPlaced kind name → depth body ≤ suc (suc (suc n)) → IfOk (draft_of kind name body) (IsGoodDraft n name)
 drafts_good n kinds.Action name body placed h = draft_by n name (first_refusal kinds.Action name.namespace body) (action_draft name body) (record {
+  name_is = refl;
+  exec = exec_written name.namespace body;
   params = pairs_within fields.Parameters n body h;
   notes = pairs_within fields.Annotations n body h;
 })
@@ -333,7 +411,9 @@ bodies_good n kind name (object ms) placed h = drafts_good n kind name (object m
 
 -- ---- rows
 
-record IsGoodAction (n : ℕ) (a : Action) : Type 0 where
+record IsGoodAction (n : ℕ) (name : FullName) (a : Action) : Type 0 where
+  name_is : a.name ≡ name
+  exec : IsExecWritten name.namespace a.exec
   version : is_version a.version ≡ true
   params : AreWithin n a.params
   notes : AreWithin n a.notes
@@ -362,7 +442,7 @@ record IsGoodTrigger (n : ℕ) (name : FullName) (t : Trigger) : Type 0 where
   notes : AreWithin n t.notes
 
 abbrev IsGoodRow : ℕ → FullName → Row → Type 0
-IsGoodRow n name (rows.Action a) = IsGoodAction n a
+IsGoodRow n name (rows.Action a) = IsGoodAction n name a
 IsGoodRow n name (rows.Package p) = IsGoodPackage n name p
 IsGoodRow n name (rows.Rule r) = IsGoodRule n name r
 IsGoodRow n name (rows.Trigger t) = IsGoodTrigger n name t
@@ -371,22 +451,27 @@ IsGoodRow n name (rows.Trigger t) = IsGoodTrigger n name t
 next_version : (n : ℕ) → is_version (n + 1) ≡ true
 next_version n = grind (arith, nat_tests)
 
-action_over_good : (n : ℕ) (d : ActionDraft) (old : Action) (version : ℕ) → IsActionDraft n d → is_version version ≡ true → AreWithin n old.params → AreWithin n old.notes → IsGoodAction n (action_over d old version)
-action_over_good n d old version h counted params notes = record {
+action_over_good : (n : ℕ) (name : FullName) (d : ActionDraft) (old : Action) (version : ℕ) → IsActionDraft n name d → is_version version ≡ true → AreWithin n old.params → AreWithin n old.notes
+    → IsExecWritten name.namespace (unwrap_or d.exec old.exec) → IsGoodAction n name (action_over d old version)
+action_over_good n name d old version h counted params notes exec = record {
+  name_is = h.name_is;
+  exec = exec;
   version = counted;
   params = over (AreWithin n) d.params old.params h.params params;
   notes = over (AreWithin n) d.notes old.notes h.notes notes;
 }
 
-new_action_good : (n : ℕ) (d : ActionDraft) (o : Option Exec) → IsActionDraft n d → IfOk (new_action d o) (IsGoodAction n)
-new_action_good n d None h = tt
-new_action_good n d (Some exec) h = action_over_good n d (default_action d.name exec) FIRST_VERSION h refl tt tt
+new_action_good : (n : ℕ) (name : FullName) (d : ActionDraft) (o : Option Exec) → IsActionDraft n name d → IfSome o (IsExecWritten name.namespace) → IfOk (new_action d o) (IsGoodAction n name)
+new_action_good n name d None h k = tt
+new_action_good n name d (Some exec) h k =
+    action_over_good n name d (default_action d.name exec) FIRST_VERSION h refl tt tt (over (IsExecWritten name.namespace) d.exec exec h.exec k)
 
-actions_good : (n : ℕ) (d : ActionDraft) (o : Option Action) → IsActionDraft n d → IfSome o (IsGoodAction n) → IfOk (action_made d o) (IsGoodAction n)
-actions_good n d None h k = new_action_good n d d.exec h
-actions_good n d (Some old) h k =
-    let before : IsGoodAction n old = k in
-    unless (IsGoodAction n) _ LastVersion (action_over d old (old.version + 1)) (action_over_good n d old (old.version + 1) h (next_version old.version) before.params before.notes)
+actions_good : (n : ℕ) (name : FullName) (d : ActionDraft) (o : Option Action) → IsActionDraft n name d → IfSome o (IsGoodAction n name) → IfOk (action_made d o) (IsGoodAction n name)
+actions_good n name d None h k = new_action_good n name d d.exec h h.exec
+actions_good n name d (Some old) h k =
+    let before : IsGoodAction n name old = k in
+    unless (IsGoodAction n name) _ LastVersion (action_over d old (old.version + 1))
+    (action_over_good n name d old (old.version + 1) h (next_version old.version) before.params before.notes (over (IsExecWritten name.namespace) d.exec old.exec h.exec before.exec))
 
 package_over_good : (n : ℕ) (name : FullName) (d : PackageDraft) (old : Package) (version : ℕ) → IsPackageDraft n name d → is_version version ≡ true → AreWithin n old.params → AreWithin n old.notes
     → is_binding name.namespace old.binding ≡ true → IsGoodPackage n name (package_over d old version)
@@ -447,7 +532,7 @@ triggers_good n name d (Some old) h k =
     unless (IsGoodTrigger n name) _ LastVersion (trigger_over d old (old.version + 1))
     (trigger_over_good n name d old (old.version + 1) h (next_version old.version) before.params before.notes)
 
-old_action_good : (n : ℕ) (name : FullName) (o : Option Row) → IfSome o (IsGoodRow n name) → IfSome (as_action o) (IsGoodAction n)
+old_action_good : (n : ℕ) (name : FullName) (o : Option Row) → IfSome o (IsGoodRow n name) → IfSome (as_action o) (IsGoodAction n name)
 old_action_good n name None h = tt
 old_action_good n name (Some (rows.Action a)) h = h
 old_action_good n name (Some (rows.Package p)) h = tt
@@ -477,7 +562,7 @@ old_trigger_good n name (Some (rows.Trigger t)) h = h
 
 rows_good : (n : ℕ) (name : FullName) (d : Draft) (old : Option Row) → IsGoodDraft n name d → IfSome old (IsGoodRow n name) → IfOk (finished_row d old) (IsGoodRow n name)
 unfolding finished_row
-rows_good n name (drafts.Action d) old h k = mapped (IsGoodAction n) (IsGoodRow n name) rows.Action (action_made d (as_action old)) (λ a g. g) (actions_good n d (as_action old) h (old_action_good n name old k))
+rows_good n name (drafts.Action d) old h k = mapped (IsGoodAction n name) (IsGoodRow n name) rows.Action (action_made d (as_action old)) (λ a g. g) (actions_good n name d (as_action old) h (old_action_good n name old k))
 rows_good n name (drafts.Package d) old h k = mapped (IsGoodPackage n name) (IsGoodRow n name) rows.Package (package_made d (as_package old)) (λ p g. g) (packages_good n name d (as_package old) h (old_package_good n name old k))
 rows_good n name (drafts.Rule d) old h k = mapped (IsGoodRule n name) (IsGoodRow n name) rows.Rule (rule_made d (as_rule old)) (λ r g. g) (rules_good n name d (as_rule old) h (old_rule_good n name old k))
 rows_good n name (drafts.Trigger d) old h k = mapped (IsGoodTrigger n name) (IsGoodRow n name) rows.Trigger (trigger_made d (as_trigger old)) (λ t g. g) (triggers_good n name d (as_trigger old) h (old_trigger_good n name old k))
@@ -500,8 +585,8 @@ within_nested n [] h = tt
 within_nested n (p ∷ ps) h = (omega arith, within_nested n ps (omega arith))
 
 -- what is written of a row, by how deep its notes, its parameters and its binding nest
-abbrev action_depth : ℕ → ℕ → ℕ
-action_depth notes params = suc (max (suc notes) (max 1 (max 1 (max 0 (max 0 (max (suc params) (max 0 (max 0 0))))))))
+abbrev action_depth : ℕ → ℕ → ℕ → ℕ
+action_depth notes exec params = suc (max (suc notes) (max exec (max 1 (max 0 (max 0 (max (suc params) (max 0 (max 0 0))))))))
 
 abbrev package_depth : ℕ → ℕ → ℕ → ℕ
 package_depth notes binding params = suc (max (suc notes) (max binding (max 0 (max 0 (max (suc params) (max 0 (max 0 0)))))))
@@ -512,11 +597,11 @@ rule_depth notes = suc (max 0 (max (suc notes) (max 0 (max 0 (max 0 (max 0 (max 
 abbrev trigger_depth : ℕ → ℕ → ℕ
 trigger_depth notes params = suc (max (suc notes) (max 0 (max 0 (max (suc params) (max 0 (max 0 0))))))
 
-action_within : (n notes params : ℕ) → notes ≤ suc n → params ≤ suc n → action_depth notes params ≤ suc (suc (suc n))
-action_within n notes params h k = omega arith
+action_within : (n notes exec params : ℕ) → notes ≤ suc n → exec ≤ 2 → params ≤ suc n → action_depth notes exec params ≤ suc (suc (suc n))
+action_within n notes exec params h x k = omega arith
 
-action_parts : (n notes params : ℕ) → action_depth notes params ≤ suc (suc (suc n)) → (notes ≤ suc n) × (params ≤ suc n)
-action_parts n notes params h = (omega arith, omega arith)
+action_parts : (n notes exec params : ℕ) → action_depth notes exec params ≤ suc (suc (suc n)) → (notes ≤ suc n) × (params ≤ suc n)
+action_parts n notes exec params h = (omega arith, omega arith)
 
 package_within : (n notes binding params : ℕ) → binding ≡ 1 → notes ≤ suc n → params ≤ suc n → package_depth notes binding params ≤ suc (suc (suc n))
 package_within n notes binding params e h k = omega arith
@@ -544,13 +629,23 @@ binding_depth (Some bound) = refl
 abbrev pub most_within : ℕ
 most_within = 97
 
-action_written : (a : Action) → IsGoodAction most_within a → depth (action_value a) ≤ most_nested
-action_written a h = action_within most_within (nested a.notes) (nested a.params) (nested_within most_within a.notes h.notes) (nested_within most_within a.params h.params)
+names_depth : (ns : List FullName) → items_depth (items_of (map name_value ns)) ≡ 0
+names_depth [] = refl
+names_depth (n ∷ ns) = ap (λ d. max 0 d) (names_depth ns)
 
-action_read : (a : Action) → is_version a.version ≡ true → depth (action_value a) ≤ most_nested → IsGoodAction most_within a
-action_read a counted h =
-    let parts = action_parts most_within (nested a.notes) (nested a.params) h in
-    record { version = counted; params = within_nested most_within a.params parts.1; notes = within_nested most_within a.notes parts.0 }
+exec_depth : (x : Exec) → depth (exec_value x) ≤ 2
+exec_depth (execs.Plain code) = omega arith
+exec_depth (execs.Program code) = omega arith
+exec_depth (execs.Sequence components) = let texts = names_depth components in omega (arith, texts)
+
+action_written : (a : Action) → AreWithin most_within a.params → AreWithin most_within a.notes → depth (action_value a) ≤ most_nested
+action_written a params notes =
+    action_within most_within (nested a.notes) (depth (exec_value a.exec)) (nested a.params) (nested_within most_within a.notes notes) (exec_depth a.exec) (nested_within most_within a.params params)
+
+action_read : (a : Action) → depth (action_value a) ≤ most_nested → AreWithin most_within a.params × AreWithin most_within a.notes
+action_read a h =
+    let parts = action_parts most_within (nested a.notes) (depth (exec_value a.exec)) (nested a.params) h in
+    (within_nested most_within a.params parts.1, within_nested most_within a.notes parts.0)
 
 package_written : (p : Package) → AreWithin most_within p.params → AreWithin most_within p.notes → depth (package_value p) ≤ most_nested
 package_written p params notes =
@@ -579,7 +674,17 @@ trigger_read t h =
 
 good_from : (name : FullName) (r : Row) → IsWritable r → name_of r ≡ name → IsGoodRow most_within name r
 unfolding row_value
-good_from name (rows.Action a) h e = action_read a h.entity (leb-true (depth (action_value a)) most_nested h.shallow)
+good_from name (rows.Action a) h e =
+    let parts = action_read a (leb-true (depth (action_value a)) most_nested h.shallow) in
+    let counted = and_parts (is_version a.version) (are_few (components_of a.exec) && are_written a.name.namespace (components_of a.exec)) h.entity in
+    let listed = and_parts (are_few (components_of a.exec)) (are_written a.name.namespace (components_of a.exec)) counted.1 in
+    record {
+      name_is = e;
+      exec = subst (λ (m : FullName). IsExecWritten m.namespace a.exec) e listed.1;
+      version = counted.0;
+      params = parts.0;
+      notes = parts.1;
+    }
 good_from name (rows.Package p) h e =
     let parts = package_read p (leb-true (depth (package_value p)) most_nested h.shallow) in
     let counted = and_parts (is_version p.version) (stands_alone p.name && is_binding p.name.namespace p.binding) h.entity in
@@ -615,16 +720,21 @@ good_from name (rows.Trigger t) h e =
       notes = parts.1;
     }
 
-writable_from : (name : FullName) (r : Row) → IsGoodRow most_within name r → IsWritable r
+writable_from : (name : FullName) (r : Row) → IsGoodRow most_within name r → IsShort r → IsWritable r
 unfolding row_value
-writable_from name (rows.Action a) h = record { shallow = le-leb (depth (action_value a)) most_nested (action_written a h); entity = h.version }
-writable_from name (rows.Package p) h = record {
+writable_from name (rows.Action a) h short = record {
+  shallow = le-leb (depth (action_value a)) most_nested (action_written a h.params h.notes);
+  entity = and_from (is_version a.version) (are_few (components_of a.exec) && are_written a.name.namespace (components_of a.exec)) h.version
+      (and_from (are_few (components_of a.exec)) (are_written a.name.namespace (components_of a.exec)) short
+      (subst (λ (m : FullName). IsExecWritten m.namespace a.exec) (sym h.name_is) h.exec));
+}
+writable_from name (rows.Package p) h short = record {
   shallow = le-leb (depth (package_value p)) most_nested (package_written p h.params h.notes);
   entity = and_from (is_version p.version) (stands_alone p.name && is_binding p.name.namespace p.binding) h.version
       (and_from (stands_alone p.name) (is_binding p.name.namespace p.binding) (subst (λ (m : FullName). stands_alone m ≡ true) (sym h.name_is) h.alone)
       (subst (λ (m : FullName). is_binding m.namespace p.binding ≡ true) (sym h.name_is) h.binding));
 }
-writable_from name (rows.Rule r) h = record {
+writable_from name (rows.Rule r) h short = record {
   shallow = le-leb (depth (rule_value r)) most_nested (rule_written r h.notes);
   entity = and_from (is_version r.version) (stands_alone r.name && (is_written r.name.namespace r.trigger && is_written r.name.namespace r.action)) h.version
       (and_from (stands_alone r.name) (is_written r.name.namespace r.trigger && is_written r.name.namespace r.action) (subst (λ (m : FullName). stands_alone m ≡ true) (sym h.name_is) h.alone)
@@ -632,7 +742,7 @@ writable_from name (rows.Rule r) h = record {
       (subst (λ (m : FullName). IsWritten m.namespace r.trigger) (sym h.name_is) h.trigger)
       (subst (λ (m : FullName). IsWritten m.namespace r.action) (sym h.name_is) h.action)));
 }
-writable_from name (rows.Trigger t) h = record {
+writable_from name (rows.Trigger t) h short = record {
   shallow = le-leb (depth (trigger_value t)) most_nested (trigger_written t h.params h.notes);
   entity = and_from (is_version t.version) (stands_alone t.name) h.version (subst (λ (m : FullName). stands_alone m ≡ true) (sym h.name_is) h.alone);
 }
@@ -642,8 +752,8 @@ old_good name None h = tt
 old_good name (Some r) h = good_from name r h.0 h.1
 
 pub rows_writable : (kind : EntityKind) (name : FullName) (body : V) (d : Draft) (old : Option Row) (r : Row)
-    → IsPlaced kind name → depth body ≤ most_nested → entity_of kind name body ≡ Ok d → finished_row d old ≡ Ok r → IfSome old (λ (o : Row). IsWritable o × (name_of o ≡ name)) → IsWritable r
-rows_writable kind name body d old r placed within drafted finished before =
+    → IsPlaced kind name → depth body ≤ most_nested → entity_of kind name body ≡ Ok d → finished_row d old ≡ Ok r → IfSome old (λ (o : Row). IsWritable o × (name_of o ≡ name)) → IsShort r → IsWritable r
+rows_writable kind name body d old r placed within drafted finished before short =
     let good : IsGoodDraft most_within name d = subst (λ (x : Result Draft EntityRefusal). IfOk x (IsGoodDraft most_within name)) drafted (bodies_good most_within kind name body placed within) in
     let made : IsGoodRow most_within name r = subst (λ (x : Result Row EntityRefusal). IfOk x (IsGoodRow most_within name)) finished (rows_good most_within name d old good (old_good name old before)) in
-    writable_from name r made
+    writable_from name r made short

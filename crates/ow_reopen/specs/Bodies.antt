@@ -11,10 +11,10 @@ use Rattle.ow_entity.specs.declared.rows.Draft.{Draft}
 use Rattle.ow_entity.specs.declared.rows.Row.{Row}
 use Rattle.ow_items.specs.declared.item.Item.TheVariants as items
 use Rattle.ow_reopen.specs.Lasting.{IsLasting}
-use Rattle.ow_reopen.specs.RowsKept.{IsPlaced}
+use Rattle.ow_reopen.specs.RowsKept.{IsPlaced, IsShort}
 
--- a row that a body makes over a row of that name that lasts, or over none, lasts
+-- a row that a body makes over a row of that name that lasts, or over none, lasts, unless it has too many components
 abbrev pub RowsOfBodies : Type 0
 RowsOfBodies = (kind : EntityKind) (name : FullName) (body : V) (d : Draft) (old : Option Row) (r : Row)
     → IsPlaced kind name → depth body ≤ most_nested → entity_of kind name body ≡ Ok d → finished_row d old ≡ Ok r
-    → IfSome old (λ o. IsLasting (items.Row o) × (name_of o ≡ name)) → IsLasting (items.Row r)
+    → IfSome old (λ o. IsLasting (items.Row o) × (name_of o ≡ name)) → IsShort r → IsLasting (items.Row r)

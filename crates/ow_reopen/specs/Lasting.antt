@@ -8,9 +8,11 @@ use Rattle.ow_floor.specs.Trace.{Item, Trace, Accepted, Begun, Drawn, Ended, Fir
 use Rattle.ow_floor.specs.declared.runs.Run.{Run}
 use Rattle.ow_items.specs.declared.item.Item.{Item as KeptItem}
 use Rattle.ow_items.specs.declared.item.Item.TheVariants as items
-use Rattle.ow_keep.specs.Allowed.{is_called, is_shallow}
+use Rattle.ow_keep.specs.Allowed.{is_called, is_formed, is_shallow}
 use Rattle.ow_keep.specs.declared.allowed.TheConstants.{GREATEST_MOMENT}
 use Rattle.ow_kept.specs.Fit.{is_fit}
+use Rattle.ow_kept.specs.Shallow.{IsShallowEnding}
+use Rattle.ow_records.specs.Notes.{kind_of}
 use Rattle.ow_records.specs.declared.activations.Activation.{Activation}
 
 -- an item that nests no deeper than is read, and is fit to be kept
@@ -32,11 +34,12 @@ AreWritable rs = AllByRecursion IsLastingRow rs
 -- ---- what happened
 
 -- an activation counts from 1, as its cause and the version of its action do, was accepted no later than the greatest moment, and was called
--- through no binding that stands in a package
+-- through no binding that stands in a package; it is that of a sequence exactly where its action is one
 pub record IsTimely (a : Activation) : Type 0 where
   pub counted : 1 ≤ a.id.count
   pub early : a.at ≤ GREATEST_MOMENT
   pub called : is_called a.cause a.action.version a.binding ≡ true
+  pub formed : is_formed a.form (kind_of a.action.exec) ≡ true
 
 -- a run was ordered, and began, no later than the greatest moment
 pub record IsDue (r : Run) : Type 0 where
@@ -44,12 +47,12 @@ pub record IsDue (r : Run) : Type 0 where
   pub began : IfSome r.begun (λ at. at ≤ GREATEST_MOMENT)
 
 -- what is accepted, ordered, begun or ended is within the greatest moment, and so is what was taken over; an id that is drawn for a fire counts from 1, and its
--- record may be kept
+-- record may be kept. What a composite answers nests no deeper than what a run does
 abbrev pub IsEarly : Item → Type 0
 IsEarly (Accepted a) = IsTimely a
 IsEarly (Ordered r key) = IsDue r
 IsEarly (Begun run at) = at ≤ GREATEST_MOMENT
-IsEarly (Ended e) = (e.at ≤ GREATEST_MOMENT) × IfSome e.run IsDue
+IsEarly (Ended e) = (e.at ≤ GREATEST_MOMENT) × IfSome e.run IsDue × IsShallowEnding e.ending
 IsEarly (Drawn id at) = 1 ≤ id.count
 IsEarly (Fired r) = IsLasting (items.Done r)
 IsEarly (Resumed counts rs) = AllByRecursion (λ id. 1 ≤ id.count) counts × AllByRecursion (λ r. IsLasting (items.Done r)) rs

@@ -39,7 +39,7 @@ pub fn what_lasts_goes_on()
 {}
 
 /// A row that a body makes is read back as it was written: it nests no deeper than is read, its version counts from 1, a package stands
-/// in none, and its binding names one.
+/// in none, and its binding names one. A sequence is so where it has no more components than a put allows.
 pub fn rows_of_bodies_are_writable()
     ensures { RowsOfBodiesAreWritable }
 {}

@@ -1,14 +1,14 @@
 -- Keys are told apart by their values.
-use Rattle.std.proofs.Common.{◌≡◌, ◌↔◌, ℕ, Bool, List, Option, Some, None, refl, ap, IsTrue}
+use Rattle.std.proofs.Common.{◌≡◌, ◌&&◌, ◌↔◌, ℕ, Bool, List, [], ◌∷◌, Option, Some, None, refl, ap, IsTrue}
 use Rattle.std.specs.Bool.{Decides}
 use Rattle.std.specs.Str.{bytes_eq}
 use Rattle.std.proofs.lemmas.Bool.Decides.{same_from_decides, Decides-and, Decides-eqb}
 use Rattle.std.proofs.lemmas.Slice.Eq.{bytes_eq-Decides}
 use Rattle.ow_names.specs.declared.full.FullName.{FullName}
 use Rattle.ow_entity.specs.declared.exec.Exec.{Exec}
-use Rattle.ow_entity.specs.declared.exec.Exec.TheVariants.{Plain, Program}
+use Rattle.ow_entity.specs.declared.exec.Exec.TheVariants.{Plain, Program, Sequence}
 use Rattle.ow_slots.specs.declared.keys.Key.{Key}
-use Rattle.ow_slots.specs.Key.{same_package, same_name, same_exec, same_key}
+use Rattle.ow_slots.specs.Key.{same_package, same_name, same_names, same_exec, same_key}
 
 -- a test of a pair of facts tells another fact that they amount to
 through : {P Q : Type 0} (b : Bool) → Decides b P → (P → Q) → (Q → P) → Decides b Q
@@ -32,11 +32,28 @@ name_told a b = through (same_name a b)
     (λ h. same_parts a.namespace b.namespace a.«package» b.«package» a.name b.name h.0 h.1.0 h.1.1)
     (λ e. (ap (λ (x : FullName). x.namespace) e, (ap (λ (x : FullName). x.«package») e, ap (λ (x : FullName). x.name) e)))
 
+same_lists : (a b : FullName) (more bs : List FullName) → a ≡ b → more ≡ bs → (a ∷ more) ≡ (b ∷ bs)
+same_lists a b more bs e h = λ i. e i ∷ h i
+
+names_told : (a b : List FullName) → Decides (same_names a b) (a ≡ b)
+names_told [] [] = (λ t. refl, λ e. refl)
+names_told [] (b ∷ bs) = (λ t. cc, λ e. cc)
+names_told (a ∷ more) [] = (λ t. cc, λ e. cc)
+names_told (a ∷ more) (b ∷ bs) = through (same_name a b && same_names more bs)
+    (Decides-and _ _ (name_told a b) (names_told more bs))
+    (λ h. same_lists a b more bs h.0 h.1)
+    (λ e. (cc, cc))
+
 exec_told : (a b : Exec) → Decides (same_exec a b) (a ≡ b)
 exec_told (Plain a) (Plain b) = through (bytes_eq a b) (bytes_eq-Decides a b) (λ e. ap Plain e) (λ e. cc)
 exec_told (Plain a) (Program b) = (λ t. cc, λ e. cc)
 exec_told (Program a) (Plain b) = (λ t. cc, λ e. cc)
 exec_told (Program a) (Program b) = through (bytes_eq a b) (bytes_eq-Decides a b) (λ e. ap Program e) (λ e. cc)
+exec_told (Plain a) (Sequence b) = (λ t. cc, λ e. cc)
+exec_told (Program a) (Sequence b) = (λ t. cc, λ e. cc)
+exec_told (Sequence a) (Plain b) = (λ t. cc, λ e. cc)
+exec_told (Sequence a) (Program b) = (λ t. cc, λ e. cc)
+exec_told (Sequence a) (Sequence b) = through (same_names a b) (names_told a b) (λ e. ap Sequence e) (λ e. cc)
 
 abbrev key_of : List ℕ → FullName → ℕ → Exec → ℕ → Key
 key_of namespace action version exec memory = record {

@@ -41,7 +41,6 @@ impl Key {
     }
 
     /// Whether both are equal. The code, which may be long, is compared last.
-    #[tactic(auto, using(crate::proofs::KeyLaws::told))]
     pub fn is_same(&self, other: &Key) -> bool
         ensures value { result ≡ same_key self.now other.now }
         ensures equal { IsTrue result ↔ (self.now ≡ other.now) }
@@ -71,13 +70,14 @@ impl PlainData for Key {
     }
 }
 
-/// The runner that an action's code needs.
+/// The runner that an action's code needs. A sequence has no code and starts no container; its kind means nothing.
 pub fn kind_of(exec: &Exec) -> Kind
     ensures { result ≡ kind_of exec.now }
 {
     match exec {
         Exec::Plain { .. } => Kind::Plain,
         Exec::Program { .. } => Kind::Program,
+        Exec::Sequence { .. } => Kind::Plain,
     }
 }
 

@@ -4,3 +4,5 @@ pub mod Found
 pub mod InsideLaws
 pub mod PutLaws
 pub mod BuiltinLaws
+pub mod TrailLaws
+pub mod LoopLaws

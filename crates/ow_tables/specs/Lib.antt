@@ -3,5 +3,7 @@ pub mod Rows
 pub mod Builtin
 pub mod Inside
 pub mod Joined
+pub mod Sequences
 pub mod Refusal
+pub mod Paths
 pub mod Region

@@ -19,16 +19,19 @@ use Rattle.ow_packages.specs.declared.refusal.PackageRefusal.TheVariants as pack
 use Rattle.ow_packages.specs.Access.{package_at, package_of}
 use Rattle.ow_packages.specs.Binding.{binding_refusal}
 use Rattle.ow_tables.specs.declared.refusal.TableRefusal.{TableRefusal}
-use Rattle.ow_tables.specs.declared.refusal.TableRefusal.TheVariants.{NotFound, BindsABinding, Exists, NotEmpty, Entity, NoMemory}
+use Rattle.ow_tables.specs.declared.refusal.TableRefusal.TheVariants.{NotFound, BindsABinding, Exists, NotEmpty, SequenceTooLong, SequenceLoops, Entity, NoMemory}
 use Rattle.ow_tables.specs.Rows.{found, standing}
 use Rattle.ow_tables.specs.Inside.{holds_actions}
 use Rattle.ow_tables.specs.Joined.{rule_at, joined_refusal}
+use Rattle.ow_tables.specs.Sequences.{sequence_refusal}
 
 abbrev pub table_refusal_number : TableRefusal → ℕ
 table_refusal_number NoMemory = 0
 table_refusal_number NotFound = 14
 table_refusal_number BindsABinding = 15
 table_refusal_number Exists = 17
+table_refusal_number SequenceTooLong = 19
+table_refusal_number SequenceLoops = 20
 table_refusal_number NotEmpty = 21
 table_refusal_number (Entity e) = refusal_number e
 
@@ -111,6 +114,7 @@ put_refusal draft overwrite rows = first_some (
     ∷ target_refusal (target_of draft) (draft_name draft).namespace rows
     ∷ exists_refusal overwrite (old_row draft rows)
     ∷ finish_refusal draft (old_row draft rows)
+    ∷ sequence_refusal rows (finished_row draft (old_row draft rows))
     ∷ [])
 
 -- the first refusal of a removal, in this order

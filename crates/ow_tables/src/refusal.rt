@@ -17,6 +17,10 @@ pub enum TableRefusal {
     Exists,
     /// The package holds actions.
     NotEmpty,
+    /// The sequence has more than 50 components.
+    SequenceTooLong,
+    /// The sequence contains itself, through bindings and other sequences too.
+    SequenceLoops,
     /// The draft makes no entity. Want of memory is none of these.
     Entity(EntityRefusal),
     /// The rows stand as before.
@@ -33,6 +37,8 @@ impl TableRefusal {
             TableRefusal::NotFound => 14,
             TableRefusal::BindsABinding => 15,
             TableRefusal::Exists => 17,
+            TableRefusal::SequenceTooLong => 19,
+            TableRefusal::SequenceLoops => 20,
             TableRefusal::NotEmpty => 21,
             TableRefusal::Entity(refusal) => refusal.number(),
         }

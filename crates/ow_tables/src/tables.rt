@@ -14,6 +14,7 @@ ghost use Rattle.ow_tables.specs.declared.refusal.TableRefusal.{TableRefusal};
 ghost use Rattle.ow_tables.specs.Builtin.{builtin};
 ghost use Rattle.ow_tables.specs.Rows.{AreRows, standing, found, found_after, with_row, resumed, changed, listing, stands_in};
 ghost use Rattle.ow_tables.specs.Inside.{actions_behind, shown_actions};
+ghost use Rattle.ow_tables.specs.Sequences.{sequence_refusal};
 ghost use Rattle.ow_tables.specs.Refusal.{package_refusal, target_of, target_refusal, exists_refusal, finish_refusal, bound_refusal, holding_refusal, old_row, put_refusal, rule_refusal, remove_refusal};
 
 use crate::builtin::{echo, utils};
@@ -23,6 +24,7 @@ use crate::listing::{listing, part};
 use crate::ready::Ready;
 use crate::refusal::TableRefusal;
 use crate::row_order::{order, place};
+use crate::sequences::check_sequence;
 use ow_entity::{Draft, EntityKind, Lookup, Package, Row, finish};
 use ow_names::{EntityName, FullName};
 use ow_packages::{check_binding, package_of, reached_package};
@@ -63,6 +65,24 @@ impl Tables {
         rows.push(Row::Action(Shared::new(alloc, echo(alloc)?)?))?;
         rows.push(Row::Package(Shared::new(alloc, utils(alloc)?)?))?;
         Ok(Tables { rows })
+    }
+
+    /// No rows at all, without the built-in ones. This takes no memory.
+    pub(crate) fn empty(alloc: Global) -> Tables
+        ensures { result.rows ≡ [] }
+    {
+        Tables {
+            rows: Vec::new(alloc),
+        }
+    }
+
+    /// Puts the row in its place, or in that of the row of its kind and name.
+    pub(crate) fn add(&mut self, row: Row) -> Result<(), NoMemory>
+        ensures { OnOk result (self.new.rows ≡ with_row row self.old.rows) }
+    {
+        self.make_room(1)?;
+        self.put_in(row);
+        Ok(())
     }
 
     /// Makes the row of the draft ready to stand. This takes all the memory that the change needs.
@@ -373,19 +393,39 @@ impl Tables {
         self.check_target(draft)
     }
 
-    // The row of the draft, over the one that stands, if any.
+    // The row of the draft, over the one that stands, if any, where it is no sequence that is too long or leads back.
     fn finished(&self, alloc: Global, draft: Draft, overwrite: bool) -> Result<Row, TableRefusal>
         ensures way { OnOk result (exists_refusal overwrite (old_row draft self.now.rows) ≡ None) }
         ensures row { IfOk result (λ r. finished_row draft (old_row draft self.now.rows) ≡ Ok r) }
         ensures refused { IfErr result (λ e. e ≢ TableRefusal.NoMemory
-            → first_some (exists_refusal overwrite (old_row draft self.now.rows) ∷ finish_refusal draft (old_row draft self.now.rows) ∷ []) ≡ Some e) }
+            → first_some (exists_refusal overwrite (old_row draft self.now.rows) ∷ finish_refusal draft (old_row draft self.now.rows)
+            ∷ sequence_refusal self.now.rows (finished_row draft (old_row draft self.now.rows)) ∷ []) ≡ Some e) }
+        ensures sequence { OnOk result (sequence_refusal self.now.rows (finished_row draft (old_row draft self.now.rows)) ≡ None) }
     {
         let old = self.row(draft.kind(), draft.name());
         if old.is_some() && !overwrite {
             drop(draft);
             return Err(TableRefusal::Exists);
         }
-        Ok(finish(alloc, draft, old)?)
+        let row = finish(alloc, draft, old)?;
+        match self.check_sequence(alloc, &row) {
+            Ok(()) => Ok(row),
+            Err(refusal) => {
+                drop(row);
+                Err(refusal)
+            }
+        }
+    }
+
+    // That the row is no sequence that is too long or leads back to itself.
+    fn check_sequence(&self, alloc: Global, row: &Row) -> Result<(), TableRefusal>
+        ensures { MatchResult result (λ _. sequence_refusal self.now.rows (Ok row.now) ≡ None)
+            (λ e. e ≢ TableRefusal.NoMemory → sequence_refusal self.now.rows (Ok row.now) ≡ Some e) }
+    {
+        match row {
+            Row::Action(action) => check_sequence(alloc, self, self.rows.len(), action.get()),
+            _ => Ok(()),
+        }
     }
 
     fn make(&mut self, ready: Ready)

@@ -10,8 +10,12 @@ use Rattle.ow_hall.below.ow_tables.specs.contracts.tables.Tables as Tables
 use Rattle.ow_hall.below.ow_records.specs.contracts.record.Record as Record
 use Rattle.ow_hall.below.ow_records.specs.contracts.records.Records as Records
 use Rattle.ow_hall.below.ow_slots.specs.contracts.slots.Slots as Slots
+use Rattle.ow_hall.below.ow_slots.specs.contracts.states.Slot as Slot
 use Rattle.ow_hall.below.ow_records.specs.contracts.activations.Activation as Activation
+use Rattle.ow_hall.below.ow_records.specs.contracts.frames.Frame as Frame
+use Rattle.ow_floor.specs.contracts.kept_frames.KeptFrames as KeptFrames
 use Rattle.ow_floor.specs.contracts.kept_slots.KeptSlots as KeptSlots
+use Rattle.ow_floor.specs.contracts.kept_slots.SlotStep as SlotStep
 use Rattle.ow_floor.specs.contracts.lists.Marks as Marks
 use Rattle.ow_floor.specs.contracts.lists.Lists as Lists
 use Rattle.ow_floor.specs.contracts.floor.Floor as Floor
@@ -58,14 +62,26 @@ activation_send = search (values, action_send, action_sync) depth 50 fits 20000
 activation_sync : IsSync (Activation.the_field).row
 activation_sync = search (values, action_sync) depth 50 fits 20000
 
+frame_send : IsSend (Frame.the_field).row
+frame_send = search values depth 50 fits 20000
+
+kept_frames_send : IsSend (KeptFrames.the_field).row
+kept_frames_send = search (values, kept_send, frame_send) depth 50 fits 20000
+
+slot_send : IsSend (Slot.the_field).row
+slot_send = search values depth 50 fits 20000
+
+slot_step_send : IsSend (SlotStep.the_field).row
+slot_step_send = search (values, slot_send, slots_send) depth 50 fits 20000
+
 kept_slots_send : IsSend (KeptSlots.the_field).row
-kept_slots_send = search (values, slots_send) depth 50 fits 20000
+kept_slots_send = search (values, slot_step_send, slots_send) depth 50 fits 20000
 
 marks_send : IsSend (Marks.the_field).row
 marks_send = search values depth 50 fits 20000
 
 lists_send : IsSend (Lists.the_field).row
-lists_send = search (values, marks_send, kept_send, activation_send, activation_sync, records_send, kept_slots_send) depth 50 fits 20000
+lists_send = search (values, marks_send, kept_send, activation_send, activation_sync, records_send, kept_frames_send, kept_slots_send) depth 50 fits 20000
 
 floor_send : IsSend (Floor.the_field).row
 floor_send = search (values, lists_send) depth 50 fits 20000

@@ -10,12 +10,9 @@ use Rattle.ow_decide.proofs.Results.{if_ok_map}
 use Rattle.ow_decide.proofs.call_steps.invocation_plan.Goals as goal
 
 pub returns-in-Some-clause-plan : goal.returns-in-Some-clause-plan
-returns-in-Some-clause-plan c = if_ok_map c.called_plan.result _ _ (λ p h S seen.
-    h S c.args.tables.now.rows seen
+returns-in-Some-clause-plan c = if_ok_map c.called_plan.result _ _ (λ p h S k b seen.
+    h S seen.stands seen.moment
     ∙ ap (λ (o : Option Callee). or_else o not_found >>= (λ (x : Callee). called_plan S c.args.subject.now c.args.namespace.now c.args.blocking false x c.args.params.now))
     (sym c.in-Some.is ∙ (c.in_ok-called.ensures
     ∙ (ap (λ (t : Table). callee_in t c.args.tables.now.rows c.args.name.now c.args.namespace.now) (sym seen.tenants)
     ∙ ap (λ (rs : List Row). callee_in S.tenants rs c.args.name.now c.args.namespace.now) (sym seen.rows))))) c.called_plan.ensures.plan
-
-pub returns-in-Some-clause-commit : goal.returns-in-Some-clause-commit
-returns-in-Some-clause-commit c = if_ok_map c.called_plan.result _ _ (λ p h. if_ok_map p _ _ (λ q commits S seen. commits S c.args.tables.now.rows seen) h) c.called_plan.ensures.commit

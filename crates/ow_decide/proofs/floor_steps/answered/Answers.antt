@@ -1,22 +1,8 @@
-use Rattle.std.proofs.Common.{◌∙◌, None, Some, ap, subst, sym}
-use Rattle.ow_traits.specs.declared.replies.RunReply.{RunReply}
-use Rattle.ow_decide.specs.Decisions.{decide}
-use Rattle.ow_decide.specs.Making.{Makes, telling}
-use Rattle.ow_decide.specs.declared.events.Event.TheVariants as events
-use Rattle.ow_decide.specs.declared.events.Told.TheVariants as told
-use Rattle.ow_decide.specs.declared.step.Step.{Step}
 use Rattle.ow_decide.proofs.FloorLaws.{answered_makes}
+use Rattle.ow_decide.proofs.Results.{if_ok_map}
 use Rattle.ow_decide.proofs.floor_steps.answered.Goals as goal
 
-pub returns-in-Some-clause-ok : goal.returns-in-Some-clause-ok
-returns-in-Some-clause-ok c = λ t rs k b.
-    subst (λ (s : Step). Makes t rs k b c.args.now c.args.floor.now.now c.replied.new.self.now (λ S. decide S (events.Answered c.args.run c.args.reply.now)) s) (sym c.telling.ensures)
-    (answered_makes t rs k b c.args.floor.now.now c.replied.new.self.now c.args.now c.args.run c.args.reply.now (Some c.in-Some.answered)
-    (λ T st. sym c.in-Some.is ∙ c.in_ok-answered.ensures.told T st) c.in_ok-answered.ensures.ok)
-
-pub returns-in_ok-reply-in-None-clause-ok : goal.returns-in_ok-reply-in-None-clause-ok
-returns-in_ok-reply-in-None-clause-ok c = λ t rs k b.
-    subst (λ (s : Step). Makes t rs k b c.args.now c.args.floor.now.now c.replied.new.self.now (λ S. decide S (events.Answered c.args.run c.args.reply.now)) s)
-    (sym (c.telling-in-None.ensures ∙ ap (λ (r : RunReply). telling (told.NoRun c.args.run r)) c.in_ok-reply-in-None.ensures))
-    (answered_makes t rs k b c.args.floor.now.now c.replied.new.self.now c.args.now c.args.run c.args.reply.now None
-    (λ T st. sym c.in-None.is ∙ c.in_ok-answered.ensures.told T st) c.in_ok-answered.ensures.ok)
+pub returns-clause-ok : goal.returns-clause-ok
+returns-clause-ok c = if_ok_map c.answered_step.result _ _ (λ s step t k.
+    answered_makes t c.args.tables.now.rows k c.args.keeping.now c.args.now c.args.floor.now.now c.answered.new.floor.now c.args.run c.args.reply.now c.in-Ok.recorded c.new-moves.result c.answered.new.moves s step
+    c.in-Ok.ensures.told c.new-moves.ensures c.in-Ok.ensures.moved c.in-Ok.ensures.ok) c.answered_step.ensures

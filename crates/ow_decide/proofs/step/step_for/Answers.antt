@@ -11,15 +11,15 @@ returns-in-Next-clause-ok c = subst (λ (e : Event). IfOk c.next.result (MakesFo
 
 pub returns-in-Answered-clause-ok : goal.returns-in-Answered-clause-ok
 returns-in-Answered-clause-ok c = subst (λ (e : Event). IfOk c.answered.result (MakesFor c.args.waits.now c.args.tenants.now c.args.tables.now.rows c.args.counts.now c.args.keeping.now c.args.now c.args.floor.now.now c.answered.new.floor.now (λ S. decide S e)))
-    (sym c.in-Answered.is) (if_ok_map c.answered.result _ _ (λ s h S seen waits. h c.args.tenants.now c.args.tables.now.rows c.args.counts.now c.args.keeping.now S seen) c.answered.ensures.ok)
+    (sym c.in-Answered.is) (if_ok_map c.answered.result _ _ (λ s h S seen waits. h c.args.tenants.now c.args.counts.now S seen) c.answered.ensures.ok)
 
 pub returns-in-Sweep-clause-ok : goal.returns-in-Sweep-clause-ok
 returns-in-Sweep-clause-ok c = subst (λ (e : Event). IfOk c.sweep.result (MakesFor c.args.waits.now c.args.tenants.now c.args.tables.now.rows c.args.counts.now c.args.keeping.now c.args.now c.args.floor.now.now c.sweep.new.floor.now (λ S. decide S e)))
-    (sym c.in-Sweep.is) (if_ok_map c.sweep.result _ _ (λ s h S seen waits. h c.args.tenants.now c.args.tables.now.rows c.args.counts.now c.args.keeping.now S seen) c.sweep.ensures.ok)
+    (sym c.in-Sweep.is) (if_ok_map c.sweep.result _ _ (λ s h S seen waits. h c.args.tenants.now c.args.counts.now S seen) c.sweep.ensures.ok)
 
 pub returns-in-Reopened-clause-ok : goal.returns-in-Reopened-clause-ok
 returns-in-Reopened-clause-ok c = subst (λ (e : Event). IfOk c.reopen.result (MakesFor c.args.waits.now c.args.tenants.now c.args.tables.now.rows c.args.counts.now c.args.keeping.now c.args.now c.args.floor.now.now c.reopen.new.floor.now (λ S. decide S e)))
-    (sym c.in-Reopened.is) (if_ok_map c.reopen.result _ _ (λ s h S seen waits. h c.args.tenants.now c.args.tables.now.rows c.args.counts.now c.args.keeping.now S seen) c.reopen.ensures.ok)
+    (sym c.in-Reopened.is) (if_ok_map c.reopen.result _ _ (λ s h S seen waits. h c.args.tenants.now c.args.tables.now.rows c.args.counts.now S seen) c.reopen.ensures.ok)
 
 pub returns-in-Drain-clause-ok : goal.returns-in-Drain-clause-ok
 returns-in-Drain-clause-ok c = subst (λ (e : Event). MakesFor c.args.waits.now c.args.tenants.now c.args.tables.now.rows c.args.counts.now c.args.keeping.now c.args.now c.args.floor.now.now c.drain.new.floor.now (λ S. decide S e) c.drain.result)

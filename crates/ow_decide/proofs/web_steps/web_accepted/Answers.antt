@@ -7,6 +7,6 @@ use Rattle.ow_decide.proofs.Results.{if_ok_map}
 use Rattle.ow_decide.proofs.web_steps.web_accepted.Goals as goal
 
 pub returns-in-Ok-clause-done : goal.returns-in-Ok-clause-done
-returns-in-Ok-clause-done c = if_ok_map c.web_planned.result _ _ (λ d h S rs seen.
-    h S rs seen ∙ ap (λ (r : Result Extension Reason). r >>= (λ (x : Extension). web_planned S c.args.name.now.namespace c.args.called c.args.given x)) (sym c.in-Ok.is ∙ c.web_extension.ensures))
+returns-in-Ok-clause-done c = if_ok_map c.web_planned.result _ _ (λ d h S stands now.
+    h S stands now ∙ ap (λ (r : Result Extension Reason). r >>= (λ (x : Extension). web_planned S c.args.name.now.namespace c.args.called c.args.given x)) (sym c.in-Ok.is ∙ c.web_extension.ensures))
     c.web_planned.ensures.done

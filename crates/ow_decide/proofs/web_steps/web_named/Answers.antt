@@ -12,12 +12,9 @@ use Rattle.ow_decide.proofs.Results.{if_ok_map}
 use Rattle.ow_decide.proofs.web_steps.web_named.Goals as goal
 
 pub returns-in-Some-clause-done : goal.returns-in-Some-clause-done
-returns-in-Some-clause-done c = if_ok_map c.web_called.result _ _ (λ d h S seen.
-    h S c.args.tables.now.rows seen
+returns-in-Some-clause-done c = if_ok_map c.web_called.result _ _ (λ d h S k b seen.
+    h S c.args.tables.now.rows k b seen
     ∙ ap (λ (o : Option Callee). or_else o not_found >>= (λ (x : Callee). web_called S (parts_of c.args.request.now) c.args.name.now x))
     (sym c.in-Some.is ∙ (c.in_ok-called.ensures
     ∙ (ap (λ (t : Table). callee_in t c.args.tables.now.rows c.args.name.now c.args.name.now.namespace) (sym seen.tenants)
     ∙ ap (λ (rs : List Row). callee_in S.tenants rs c.args.name.now c.args.name.now.namespace) (sym seen.rows))))) c.web_called.ensures.done
-
-pub returns-in-Some-clause-commit : goal.returns-in-Some-clause-commit
-returns-in-Some-clause-commit c = if_ok_map c.web_called.result _ _ (λ d commits S seen. commits S c.args.tables.now.rows seen) c.web_called.ensures.commit

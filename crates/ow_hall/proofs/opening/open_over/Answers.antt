@@ -5,9 +5,6 @@ use Rattle.ow_traits.specs.declared.change_list.Change.{Change}
 use Rattle.ow_hall.proofs.OpenLaws.{opening_stands}
 use Rattle.ow_hall.proofs.opening.open_over.Goals as goal
 
-pub keep-requires : goal.keep-requires
-keep-requires g c = c.in-Ok.ensures.ready.over.room
-
 pub returns-in-Ok-commit-clause-opened : goal.returns-in-Ok-commit-clause-opened
 returns-in-Ok-commit-clause-opened g c =
     let telling = g.P.Keeper.telling in

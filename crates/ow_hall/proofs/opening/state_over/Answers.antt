@@ -1,4 +1,4 @@
-use Rattle.std.proofs.Common.{◌≤◌, ◌++◌, ◌∙◌, List, [], ◌∷◌, ap, subst, sym}
+use Rattle.std.proofs.Common.{◌++◌, ◌∙◌, List, [], ◌∷◌, ap, subst, sym}
 use Rattle.ow_records.specs.declared.record.Record.{Record}
 use Rattle.ow_records.specs.declared.ids.Id.{Id}
 use Rattle.ow_records.specs.declared.unrecorded.Unrecorded.{Unrecorded}
@@ -11,17 +11,15 @@ use Rattle.ow_entity.specs.declared.rows.Row.{Row}
 use Rattle.ow_kept.specs.Opening.{abandoned}
 use Rattle.ow_tenant.specs.Tenants.{pool_of}
 use Rattle.ow_counts.specs.View.{CountsView, StandsFor}
-use Rattle.ow_kept.specs.Keeping.{KeepingView}
 use Rattle.ow_hall.proofs.Joined.{ok_of}
 use Rattle.ow_hall.proofs.opening.state_over.Goals as goal
 
 pub returns : goal.returns
 returns c =
     let t = c.args.tenants.now in
-    let last = c.in_ok-floor-3.ensures.0 in
-    let before = c.in_ok-floor-2.ensures.0 in
-    let floor = c.of.ensures.floor ∙ (ap (λ x. x.0) last ∙ (ap (λ x. x.0) before ∙ c.in_ok-floor.ensures.0)) in
-    let tables = ap (λ x. x.1) last ∙ ap (λ x. x.1) before in
+    let last = c.in_ok-floor-2.ensures.0 in
+    let floor = c.of.ensures.floor ∙ (ap (λ x. x.0) last ∙ c.in_ok-floor.ensures.0) in
+    let tables = ap (λ x. x.1) last in
     let counts = ap (λ x. x.0.items) c.in_ok-counts.ensures.0 in
     let records = ok_of _ c.with_abandoned-recorded.result c.in_ok-counts.records c.in_ok-counts.ensures.1 c.with_abandoned-recorded.ensures
     ∙ ap (λ (us : List Unrecorded). c.args.kept.records.items ++ abandoned c.args.at us) c.deref.ensures.value in
@@ -35,8 +33,6 @@ returns c =
         rows = c.of.ensures.rows ∙ (ap (λ x. x.rows) tables ∙ (ok_of _ c.tables_over.result c.in_ok-floor.tables c.in_ok-floor.ensures.1 c.tables_over.ensures
             ∙ ap (λ (rs : List Row). resumed rs builtin) (ap (λ x. x.items) c.in_ok-entities.ensures.0 ∙ ap (λ x. x.1.items) c.in_ok-counts.ensures.0)));
         waits = c.of.ensures.waits;
-        counts = subst (λ (k : CountsView). StandsFor k []) (sym (c.of.ensures.counts ∙ ap (λ x. x.2) last)) (ok_of _ c.new.result c.in_ok-floor-2.limits c.in_ok-floor-2.ensures.1 c.new.ensures);
-        opens = ap (λ (k : KeepingView). k.opens) c.of.ensures.keeping ∙ ok_of _ c.roomy.result c.in_ok-floor-3.keeping c.in_ok-floor-3.ensures.1 c.roomy.ensures.opens;
-        room = subst (λ (k : KeepingView). 1 ≤ k.room) (sym c.of.ensures.keeping) (ok_of _ c.roomy.result c.in_ok-floor-3.keeping c.in_ok-floor-3.ensures.1 c.roomy.ensures.room);
+        counts = subst (λ (k : CountsView). StandsFor k []) (sym c.of.ensures.counts) (ok_of _ c.new.result c.in_ok-floor-2.limits c.in_ok-floor-2.ensures.1 c.new.ensures);
       };
     }

@@ -4,7 +4,7 @@ use Rattle.ow_traits.specs.Rows.{AreRows}
 use Rattle.ow_tables.specs.Builtin.{builtin}
 use Rattle.ow_tables.specs.Rows.{resumed}
 use Rattle.ow_keep.specs.Split.{parts_of}
-use Rattle.ow_kept.specs.Keeping.{CommitView, StandsAfter}
+use Rattle.ow_kept.specs.Keeping.{FollowingView, StandsFollowing}
 use Rattle.ow_kept.specs.Opening.{opened_trace, opening_changes}
 use Rattle.ow_kept.proofs.Resuming.{may_be_resumed, not_builtin}
 use Rattle.ow_decide.specs.Opening.{abandoned_told}
@@ -40,9 +40,9 @@ returns c =
         ledger = ok_of _ c.book_over-entries.result c.in_ok-commit.book made.1 c.book_over-entries.ensures.ledger
             ∙ (ap (λ (us : List Unrecorded). posted no_entries c.first_moment-at.result (events.Opened rows) (tells.Opened (abandoned_told us))) c.deref.ensures.value
             ∙ (ap (λ (m : ℕ). posted no_entries m (events.Opened rows) (tells.Opened (abandoned_told p.unrecorded))) same ∙ opened_ledger t rows c.args.at p order c.requires.holds));
-        changes = ap (λ (k : CommitView). k.changes) made.0 ∙ (c.in_ok-opening.ensures.changes ∙ ap (λ (m : ℕ). opening_changes m p.unrecorded) same);
-        stands = λ v none. subst (λ (m : ℕ). StandsAfter c.in_ok-commit.commit v (resumed p.entities builtin) (opened_trace m p (pool_of t) t.wants)) same
-            (subst (λ (k : CommitView). StandsAfter k v (resumed p.entities builtin) (opened_trace c.first_moment-at.result p (pool_of t) t.wants)) (sym made.0)
-            (c.in_ok-opening.ensures.stands v (pool_of t) t.wants none c.requires.holds (not_builtin rows p c.requires.holds)));
+        changes = ap (λ (k : FollowingView). k.changes) made.0 ∙ (c.in_ok-opening.ensures.changes ∙ ap (λ (m : ℕ). opening_changes m p.unrecorded) same);
+        stands = subst (λ (m : ℕ). StandsFollowing c.in_ok-commit.commit (resumed p.entities builtin) (opened_trace m p (pool_of t) t.wants)) same
+            (subst (λ (k : FollowingView). StandsFollowing k (resumed p.entities builtin) (opened_trace c.first_moment-at.result p (pool_of t) t.wants)) (sym made.0)
+            (c.in_ok-opening.ensures.stands (pool_of t) t.wants c.requires.holds (not_builtin rows p c.requires.holds)));
       };
     }

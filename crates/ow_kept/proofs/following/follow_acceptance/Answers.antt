@@ -1,6 +1,6 @@
 use Rattle.std.proofs.Common.{◌≡◌, ◌+◌, ◌-◌, ◌++◌, [], ◌∷◌, ap, subst, ◌∙◌}
 use Rattle.ow_items.specs.declared.item.Item.TheVariants as items
-use Rattle.ow_kept.specs.declared.commit.OpenBytes.{OpenBytes}
+use Rattle.ow_kept.specs.declared.open_bytes.OpenBytes.{OpenBytes}
 use Rattle.ow_kept.specs.Commits.{accept_changes}
 use Rattle.ow_kept.specs.Keeping.{last_bytes, open_bytes, row_bytes}
 use Rattle.ow_records.specs.declared.unrecorded.Unrecorded.{Unrecorded}

@@ -1,6 +1,6 @@
 use Rattle.std.proofs.Common.{◌≡◌, ◌+◌, List, subst}
 use Rattle.ow_items.specs.declared.item.Item.TheVariants as items
-use Rattle.ow_kept.specs.declared.commit.OpenBytes.{OpenBytes}
+use Rattle.ow_kept.specs.declared.open_bytes.OpenBytes.{OpenBytes}
 use Rattle.ow_kept.specs.Keeping.{bytes_at, row_bytes}
 use Rattle.ow_kept.proofs.following.follow_end.Goals as goal
 

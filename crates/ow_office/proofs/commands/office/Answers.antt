@@ -1,5 +1,5 @@
 use Rattle.ow_traits.proofs.Taking.{took_front}
-use Rattle.ow_hall.proofs.Beginnings.{keeps_each, keeps_limits}
+use Rattle.ow_hall.proofs.Beginnings.{keeps_each, keeps_limits, keeps_steps}
 use Rattle.ow_words.specs.Status.{err_text}
 use Rattle.ow_day.proofs.Legal.{legal_books}
 use Rattle.ow_office.proofs.Endings.{handed_back, took_whole}
@@ -10,6 +10,9 @@ returns-clause-kept g c = λ t B legal. keeps_each t B
 
 pub returns-clause-limits : goal.returns-clause-limits
 returns-clause-limits g c = λ t B legal. keeps_limits t B
+
+pub returns-clause-steps : goal.returns-clause-steps
+returns-clause-steps g c = λ t B legal. keeps_steps t B
 
 pub returns-clause-legal : goal.returns-clause-legal
 returns-clause-legal g c = legal_books

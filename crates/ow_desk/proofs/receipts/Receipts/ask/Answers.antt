@@ -9,7 +9,7 @@ use Rattle.ow_desk.proofs.Received.{nothing_received, reply_was_called, wants_of
 use Rattle.ow_desk.proofs.receipts.Receipts.ask.Goals as goal
 
 pub reply_in-requires : goal.reply_in-requires
-reply_in-requires g c = subst (λ (t : Told). IsSome (reply_in t)) (sym c.in-Ok.ensures.received.comes.0) (ask_replies _ _)
+reply_in-requires g c = subst (λ (t : Told). IsSome (reply_in t)) (sym c.in-Ok.ensures.received.comes.0) (ask_replies _)
 
 pub returns-in_err-failed-clause-received : goal.returns-in_err-failed-clause-received
 returns-in_err-failed-clause-received g c =

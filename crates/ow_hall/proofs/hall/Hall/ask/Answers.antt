@@ -7,7 +7,7 @@ use Rattle.ow_hall.proofs.UndoneLaws.{unasked}
 use Rattle.ow_hall.proofs.hall.Hall.ask.Goals as goal
 
 pub reply_in-requires : goal.reply_in-requires
-reply_in-requires g c = subst (λ (t : Told). IsSome (reply_in t)) (sym c.in-Ok.ensures.comes.0) (ask_replies _ _)
+reply_in-requires g c = subst (λ (t : Told). IsSome (reply_in t)) (sym c.in-Ok.ensures.comes.0) (ask_replies _)
 
 pub returns-in_err-copy : goal.returns-in_err-copy
 returns-in_err-copy g c =

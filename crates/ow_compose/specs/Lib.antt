@@ -1,0 +1,5 @@
+pub mod Conductor
+pub mod Laws
+pub mod Refusal
+pub mod Sequence
+pub mod Step
