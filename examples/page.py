@@ -1,6 +1,20 @@
 #!/usr/bin/env python3
 # A web page, as a program for an action of the kind program:1. GET shows a form; POST answers what was typed into it.
 # The web route turns `statusCode`, `headers` and `body` of the answer into the answer of HTTP.
+# It is a row of the table of a service:
+#
+#     { cat examples/office.csv; echo "program,page,$PWD/examples/page.py,,,"; } > pages.csv
+#     crates/ow_whisk/out/ow_whisk serve --port 3233 --table pages.csv
+#
+# and in another terminal
+#
+#     client/whisk property set --apihost localhost:3233 --auth k1
+#     client/whisk action create page page --kind program:1 --web true
+#     client/whisk action create start examples/redirect.json --web true
+#     client/whisk action get page --url
+#
+# The last command prints http://localhost:3233/api/v1/web/guest/default/page, where a browser shows the page. The address that ends in
+# `start` leads there too.
 import html
 import json
 import sys

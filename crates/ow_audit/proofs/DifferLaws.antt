@@ -37,7 +37,7 @@ unbooked_wrong book ps d w place held kept among wrong right = record {
   kept = kept ∙ ap (λ (n : ℕ). side_of (slice_get book n)) (sym place);
 }
 
--- ---- a book whose oldest entry stands first
+-- ---- a book with the oldest entry first
 
 oldest_first : (book : List Entry) (B : History) → reverse book ≡ B → reverse B ≡ book
 oldest_first book B e = ap reverse (sym e) ∙ reverse-reverse book
@@ -59,7 +59,7 @@ module _ (all : List Notes) (L : Ledger) (book : List Entry) (e : reverse book �
   pub is_drained : (o : Option Difference) → MatchOption o (ends_drained (reverse book) ≡ true) (Undrained (reverse book)) → o ≡ None → ends_drained L.entries ≡ true
   is_drained o m none = subst (λ (B : History). ends_drained B ≡ true) e (MatchOption-at_none (ends_drained (reverse book) ≡ true) (Undrained (reverse book)) none m)
 
--- ---- how many times each place stands
+-- ---- how many times each place occurs
 
 pub are_once : (all : List Notes) (book : List Entry) (counts : List ℕ) → AreTimes (length book) (placed all) counts → ((k : ℕ) → IsRight book (placed all) k)
     → ((k : ℕ) → k < length counts → slice_index counts k ≤ 1) → AreOnce all

@@ -38,7 +38,7 @@ found_last test [] = refl
 found_last test (e ∷ B) =
     ap (λ (xs : List Entry). option_and_then (slice_get xs) (last_place test (e ∷ B))) (reverse_onto B e []) ∙ found_by test e B (test e) (found_last test B)
 
--- the entry of a kind that stands last, of a book whose oldest entry stands first
+-- the last entry of a kind, of a book with the oldest entry first
 pub found_in : (test : Entry → Bool) (book : List Entry) → option_and_then (slice_get book) (last_place test (reverse book)) ≡ find test (reverse book)
 found_in test book =
     subst (λ (xs : List Entry). option_and_then (slice_get xs) (last_place test (reverse book)) ≡ find test (reverse book)) (reverse-reverse book) (found_last test (reverse book))

@@ -136,7 +136,7 @@ first_falls (p ∷ ps) a b found rises = falls p ps a b found rises
 some_falls : (all : List Notes) (a b : ℕ) → first_fall_of all ≡ Some (a, b) → All (λ n. Rises n.entries) all → ⊥
 some_falls all a b found rise = some_first (λ n. first_fall n.entries) (λ n. Rises n.entries) (a, b) (λ n h rises. first_falls n.entries a b h rises) all found rise
 
--- two neighbours at one place: it stands there twice
+-- two neighbours at one place: that place occurs twice
 once_more : (a : ℕ) (p : Placed) (ps : List Placed) → times a (p ∷ ps) ≡ cond (eqb p.place a) 1 0 + times a ps
 once_more a p ps = sum_by-cons (λ q. cond (eqb q.place a) 1 0) p ps
 

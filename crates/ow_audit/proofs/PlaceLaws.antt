@@ -1,4 +1,4 @@
--- What stands where, and how often.
+-- Which entries are at a place, and how often a place occurs.
 use Rattle.std.proofs.Common.{◌≡◌, ℕ, zero, suc, ◌+◌, ◌<◌, ◌≤◌, Bool, true, false, cond, eqb, ltb, leb, List, [], ◌∷◌, ◌++◌, Option, Some, None, length, get_or, map, arith, refl, sym, take, ap, ◌∙◌, subst}
 use Rattle.std.specs.List.{All, Contains, filter}
 use Rattle.std.specs.Option.{option_to_list}
@@ -66,7 +66,7 @@ soonest_of_more book rs i r ps p q o lt item held before one is =
     subst (λ (r : Option Placed). IsSoonest book (placed (notes_of (take (i + 1) rs))) r) (sym is)
     (subst (λ (xs : List Placed). IsSoonest book xs (sooner p q)) (sym more) (soonest_append book (placed (notes_of (take i rs))) ps p q before one))
 
--- ---- what stands at a place
+-- ---- the entries at a place
 
 same_by : (book : List Entry) (k : ℕ) (p : Placed) (ps : List Placed) (t : Bool) → eqb p.place k ≡ t → (p.place ≡ k → IsBooked book p) → All (λ e. slice_get book k ≡ Some e) (standing_at k ps)
     → All (λ e. slice_get book k ≡ Some e) (map (λ q. q.entry) (cond t (p ∷ filter (λ q. eqb q.place k) ps) (filter (λ q. eqb q.place k) ps)))
@@ -96,7 +96,7 @@ stands_by_index [] w i lt e = absurd (omega arith)
 stands_by_index (p ∷ ps) w zero lt e = contains_first p w ps (eqb p.place w.place) refl e
 stands_by_index (p ∷ ps) w (suc i) lt e = contains_by w.place p w ps (eqb p.place w.place) (stands_by_index ps w i (omega arith) e)
 
--- an entry of receipts stands at its place
+-- an entry of receipts is among the entries at its place
 pub stands : (ps : List Placed) (w : Placed) → Contains ps w → Contains (standing_at w.place ps) w.entry
 stands ps w h = stands_by_index ps w h.0 h.1 h.2
 
@@ -118,7 +118,7 @@ right_all book ps k booked there = record {
   stands = there;
 }
 
--- a right place that stands at most once has what the book has there
+-- a right place that occurs at most once has what the book has there
 once_by : (book : List Entry) (k : ℕ) (es : List Entry) (o : Option Entry) → slice_get book k ≡ o → All (λ e. slice_get book k ≡ Some e) es → (k < length book → 0 < length es) → length es ≤ 1 → es ≡ option_to_list o
 once_by book k [] None is all there few = refl
 once_by book k [] (Some e) is all there few = let lt = slice_get_within book k e is in let more = there lt in absurd (omega arith)
@@ -128,7 +128,7 @@ once_by book k (e ∷ f ∷ es) o is all there few = absurd (omega arith)
 pub once_right : (book : List Entry) (ps : List Placed) (k : ℕ) → IsRight book ps k → times k ps ≤ 1 → standing_at k ps ≡ option_to_list (slice_get book k)
 once_right book ps k right few = once_by book k (standing_at k ps) (slice_get book k) refl right.same (λ lt. let there = right.stands lt in omega (arith, times_standing k ps)) (omega (arith, times_standing k ps))
 
--- behind the book nothing right stands
+-- beyond the end of the book no entry is right
 none_past : (book : List Entry) (k : ℕ) (es : List Entry) → length book ≤ k → All (λ e. slice_get book k ≡ Some e) es → length es ≡ 0
 none_past book k [] le all = refl
 none_past book k (e ∷ es) le all = let past = slice_get_past book k le in let is = All-head (λ x. slice_get book k ≡ Some x) e es all in cc

@@ -14,8 +14,8 @@ use Rattle.ow_audit.specs.Places.{IsRight, Rises, first_fall_of, placed, standin
 use Rattle.ow_audit.specs.Numbers.{NumbersMatch, WrongNumber, capped}
 use Rattle.ow_audit.specs.Drains.{ends_drained, is_asked, is_drain, last_place}
 
--- receipts match a book: at each place stands the book's entry, once; in each receipts the places rise; the numbers are the book's; and
--- the book ends drained
+-- receipts match a book: at each place they have the book's entry, once; in each receipts the places rise; the numbers are the book's;
+-- and the book ends drained
 pub record Matches (all : List Notes) (L : Ledger) : Type 0 where
   pub entries : (k : ℕ) → standing_at k (placed all) ≡ option_to_list (slice_get (reverse L.entries) k)
   pub rise : All (λ n. Rises n.entries) all
@@ -29,7 +29,7 @@ abbrev pub side_of : Option Entry → Side
 side_of None = sides.Nothing
 side_of (Some e) = sides.One e
 
--- at a place that isn't right: an entry there that isn't the book's, or nothing where none stands
+-- what the receipts have at a place that isn't right: an entry that isn't the book's, or nothing where no entry has that place
 abbrev pub HeldWrongly : List Entry → List Placed → ℕ → Side → Type 0
 HeldWrongly book ps k (sides.One e) = Contains (standing_at k ps) e × (slice_get book k ≢ Some e)
 HeldWrongly book ps k (sides.Count n) = ⊥
@@ -47,14 +47,14 @@ pub record Counts (at m n : ℕ) (d : Difference) : Type 0 where
   pub held : d.held ≡ sides.Count m
   pub kept : d.kept ≡ sides.Count n
 
--- no drain that answered that all is drained stands behind the last request: the last drain, and that request
+-- after the last request no drain answered that all is drained. The difference has the last drain, and that request
 pub record Undrained (B : History) (d : Difference) : Type 0 where
   pub undrained : ends_drained B ≡ false
   pub place : d.place ≡ unwrap_or (last_place is_asked B) (length B)
   pub held : d.held ≡ side_of (find is_drain B)
   pub kept : d.kept ≡ side_of (find is_asked B)
 
--- the first place that stands more than once, and how many times
+-- the first place that occurs more than once, and how many times
 pub record Twice (ps : List Placed) (d : Difference) : Type 0 where
   pub before : (k : ℕ) → k < d.place → times k ps ≤ 1
   pub twice : 1 < times d.place ps
@@ -66,12 +66,12 @@ pub record Twice (ps : List Placed) (d : Difference) : Type 0 where
 abbrev pub AreRight : List Notes → Ledger → Type 0
 AreRight all L = (k : ℕ) → IsRight (reverse L.entries) (placed all) k
 
--- no place stands more than once
+-- no place occurs more than once
 abbrev pub AreOnce : List Notes → Type 0
 AreOnce all = (k : ℕ) → times k (placed all) ≤ 1
 
--- where receipts and a book differ: an entry at a place; where there is none, a number; where there is none, the drain; where there is
--- none, a place that stands more than once; and where there is none, places that don't rise in one receipts
+-- the first of these in which receipts and a book differ: an entry at a place; a number; the drain; a place that occurs more than
+-- once; places that don't rise in one receipts
 pub data Differs (all : List Notes) (L : Ledger) (d : Difference) : Type 0 where
   entry : WrongEntry (reverse L.entries) (placed all) d → Differs all L d
   number : (held kept : ℕ) → AreRight all L → WrongNumber all L held kept → Counts (length L.entries) held kept d → Differs all L d
@@ -82,7 +82,7 @@ pub data Differs (all : List Notes) (L : Ledger) (d : Difference) : Type 0 where
 
 -- ---- the two sides
 
--- neither a request nor a drain stands there
+-- none of the entries is a request or a drain
 abbrev pub HasNeither : List Placed → Type 0
 HasNeither ps = All (λ p. (is_asked p.entry ≡ false) × (is_drain p.entry ≡ false)) ps
 

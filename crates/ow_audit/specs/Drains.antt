@@ -32,7 +32,7 @@ is_drain e = asks_drain e.event
 abbrev pub is_drained : Entry → Bool
 is_drained e = is_drain e && tells_drained e.answer
 
--- such a drain stands in a book, and no request behind it
+-- a book has such a drain, and no request after it
 abbrev pub ends_drained : History → Bool
 ends_drained [] = false
 ends_drained (e ∷ B) = is_drained e || (not (is_asked e) && ends_drained B)

@@ -8,7 +8,7 @@ use Rattle.ow_hall.specs.History.{counted}
 use Rattle.ow_hall.specs.Ledger.{Ledger}
 use Rattle.ow_audit.specs.First.{first_found}
 
--- a sum stands still at the greatest u64
+-- a sum saturates at the greatest u64
 abbrev pub capped : ℕ → ℕ
 capped n = min n (2 ^ 64 - 1)
 

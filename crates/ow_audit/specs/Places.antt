@@ -1,4 +1,4 @@
--- Where the entries of receipts stand.
+-- The places of the entries of receipts.
 use Rattle.std.specs.Prelude.{◌≡◌, ◌<◌, ◌==◌, ℕ, List, [], ◌∷◌, Option, Some, None, cond, length, map, nat_le, nat_lt, slice_get, slice_index}
 use Rattle.std.specs.List.{All, AllPairs, Contains, count_by, filter, flat_map}
 use Rattle.ow_hall.specs.declared.entry.Entry.{Entry}
@@ -7,7 +7,7 @@ use Rattle.ow_desk.specs.Notes.{Notes, ReceiptsView}
 use Rattle.ow_audit.specs.First.{first_found}
 use Rattle.ow_audit.specs.Numbers.{capped}
 
--- ---- what stands at a place
+-- ---- the entries at a place
 
 -- what all receipts hold
 abbrev pub notes_of : List ReceiptsView → List Notes
@@ -17,11 +17,11 @@ notes_of receipts = map (λ r. r.notes) receipts
 abbrev pub placed : List Notes → List Placed
 placed all = flat_map (λ n. n.entries) all
 
--- the entries that stand at a place
+-- the entries at a place
 abbrev pub standing_at : ℕ → List Placed → List Entry
 standing_at k ps = map (λ p. p.entry) (filter (λ p. p.place == k) ps)
 
--- how many times a place stands there
+-- how many of the entries are at a place
 abbrev pub times : ℕ → List Placed → ℕ
 times k ps = count_by (λ p. p.place == k) ps
 
@@ -29,19 +29,19 @@ times k ps = count_by (λ p. p.place == k) ps
 abbrev pub IsBooked : List Entry → Placed → Type 0
 IsBooked book p = slice_get book p.place ≡ Some p.entry
 
--- each entry at this place is the book's, and one stands there where the book has one
+-- each entry at this place is the book's, and there is one where the book has one
 pub record IsRight (book : List Entry) (ps : List Placed) (k : ℕ) : Type 0 where
   pub same : All (λ e. slice_get book k ≡ Some e) (standing_at k ps)
   pub stands : k < length book → 0 < times k ps
 
--- for each place of the book how many times it stands there, for private clauses
+-- for each place of the book how many entries are at it, for private clauses
 pub record AreTimes (book : ℕ) (ps : List Placed) (counts : List ℕ) : Type 0 where
   pub len : length counts ≡ book
   pub counted : (k : ℕ) → k < book → slice_index counts k ≡ capped (times k ps)
 
 -- ---- the least place with an entry that isn't the book's
 
--- of two entries the one at the lesser place, the first where they stand at one, for private clauses
+-- of two entries the one at the lesser place, or the first where both are at one place, for private clauses
 abbrev pub sooner : Option Placed → Option Placed → Option Placed
 sooner None q = q
 sooner (Some p) None = Some p
@@ -57,7 +57,7 @@ IsSoonest book ps (Some w) = Contains ps w × (IsBooked book w → ⊥) × All (
 abbrev pub Rises : List Placed → Type 0
 Rises ps = AllPairs (λ p q. p.place < q.place) ps
 
--- of the places behind a last one, where there is one, the first that doesn't rise, with the one before it
+-- of the places after a last one, where there is one, the first that doesn't rise, with the one before it
 abbrev pub fall_behind : Option ℕ → List Placed → Option (ℕ × ℕ)
 fall_behind last [] = None
 fall_behind None (p ∷ ps) = fall_behind (Some p.place) ps

@@ -16,7 +16,7 @@ use ow_value::NoMemory;
 use std::alloc::Global;
 
 /// The first difference between all receipts of a service and its book, or `None` where they match. In this order: an entry at a place,
-/// a number, the drain, a place that stands more than once, places that don't rise in one receipts. The only error is want of memory. It
+/// a number, the drain, a place that occurs more than once, places that don't rise in one receipts. The only error is out of memory. It
 /// takes a u64 for each entry of the book, and its time is linear: each entry of the receipts is compared once with the book's.
 pub fn first_difference<P: Keeper + Drop>(
     alloc: Global,

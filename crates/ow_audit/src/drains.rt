@@ -1,4 +1,4 @@
-// The drain of a book. Its entries stand the oldest first.
+// The drain of a book that has its oldest entry first.
 ghost use Rattle.std.specs.Prelude.{◌≡◌, true, reverse, slice_get, IfOk, MatchOption};
 ghost use Rattle.std.specs.Option.{option_and_then};
 ghost use Rattle.ow_audit.specs.Differs.{Undrained, side_of};
@@ -12,7 +12,7 @@ use ow_hall::Entry;
 use ow_value::NoMemory;
 use std::alloc::Global;
 
-/// The last drain and the last request, where no drain behind that request answered that all is drained.
+/// The last drain and the last request, where no drain after that request answered that all is drained.
 pub(crate) fn undrained(alloc: Global, book: &[Entry]) -> Result<Option<Difference>, NoMemory>
     ensures { IfOk result (λ r. MatchOption r (ends_drained (reverse book.now) ≡ true) (Undrained (reverse book.now))) }
 {
@@ -36,7 +36,7 @@ fn side_of(alloc: Global, book: &[Entry], place: Option<u64>) -> Result<Side, No
     }
 }
 
-// Whether a drain answered that all is drained, and no request stands behind it.
+// Whether a drain answered that all is drained, and no request comes after it.
 fn ends_drained(book: &[Entry]) -> bool
     ensures { result ≡ ends_drained (reverse book.now) }
 {

@@ -8,7 +8,7 @@ use ow_desk::{Mark, Receipts};
 use ow_hall::Book;
 use ow_traits::Keeper;
 
-/// How many calls of all receipts came to what leaves no entry. Each number stands still at the greatest u64.
+/// How many calls of all receipts had an outcome that leaves no entry, by its kind. Each number saturates at the greatest u64.
 #[derive(Clone, Copy)]
 struct Numbers {
     stored: u64,

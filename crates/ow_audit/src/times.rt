@@ -1,4 +1,4 @@
-// How many times each place of a book stands in receipts.
+// How many times each place of a book occurs in receipts.
 ghost use Rattle.std.specs.Prelude.{◌≡◌, ◌+◌, ◌<◌, ◌≤◌, ◌==◌, ℕ, Some, None, cond, length, slice_index, IfOk, MatchOption};
 ghost use Rattle.ow_audit.specs.Numbers.{capped};
 ghost use Rattle.ow_audit.specs.Places.{AreTimes, notes_of, placed, times};
@@ -8,7 +8,7 @@ use ow_traits::Keeper;
 use ow_value::NoMemory;
 use std::alloc::Global;
 
-/// For each place of a book of so many entries how many times it stands in the receipts. A count stands still at the greatest u64.
+/// For each place of a book of `len` entries how many times it occurs in the receipts. A count saturates at the greatest u64.
 pub(crate) fn times_of<P: Keeper + Drop>(
     alloc: Global,
     receipts: &[Receipts<P>],
@@ -42,7 +42,7 @@ fn count(counts: &mut [u64], place: u64)
     }
 }
 
-/// The first place that doesn't stand there.
+/// The first place that doesn't occur there.
 pub(crate) fn first_missing(counts: &[u64]) -> Option<u64>
     ensures { MatchOption result ((k : ℕ) → k < length counts.now → 0 < slice_index counts.now k)
         (λ p. (p < length counts.now) × (slice_index counts.now p ≡ 0) × ((k : ℕ) → k < p → 0 < slice_index counts.now k)) }
@@ -55,7 +55,7 @@ pub(crate) fn first_missing(counts: &[u64]) -> Option<u64>
     None
 }
 
-/// The first place that stands there more than once, with how many times.
+/// The first place that occurs there more than once, with how many times.
 pub(crate) fn first_twice(counts: &[u64]) -> Option<(u64, u64)>
     ensures { MatchOption result ((k : ℕ) → k < length counts.now → slice_index counts.now k ≤ 1)
         (λ p. (p.0 < length counts.now) × (slice_index counts.now p.0 ≡ p.1) × (1 < p.1) × ((k : ℕ) → k < p.0 → slice_index counts.now k ≤ 1)) }

@@ -12,8 +12,8 @@ use ow_traits::Keeper;
 use ow_value::{NoMemory, PlainData};
 use std::alloc::Global;
 
-/// The first place of the book that isn't right in the receipts. The book's entries stand the oldest first, and the counts say how many
-/// times each place stands.
+/// The first place of the book that isn't right in the receipts. The book has its oldest entry first, and the counts say how many
+/// times each place occurs.
 pub(crate) fn wrong_entry<P: Keeper + Drop>(
     alloc: Global,
     receipts: &[Receipts<P>],
@@ -50,7 +50,7 @@ fn unbooked(alloc: Global, book: &[Entry], held: &Placed) -> Result<Difference, 
     })
 }
 
-// No entry stands at this place.
+// No entry of the receipts is at this place.
 fn unheld(alloc: Global, book: &[Entry], place: u64) -> Result<Difference, NoMemory>
     ensures { IfOk result (λ d. (d.place ≡ place) × (d.held ≡ Side.Nothing) × (d.kept ≡ side_of (slice_get book.now place))) }
 {

@@ -33,10 +33,10 @@ const POST: &str =
 const MOST: u64 = 1_073_741_696;
 
 // What is done, how many receipts are compared, and the first difference from the book of the first hall. A step is the receipts (A to
-// D), the hall (0 or 1), what is done there, and the moment: g gets, f gets with the greatest size, p puts, i invokes, n asks what is to
-// be run, b tells that a run began which isn't live, d drains. A holds the opening of the first hall, and each store fails at its first
-// put. A difference is a place, what the receipts have and what the book has: what was done with its moment, a number behind #, or - for
-// nothing.
+// D), the hall (0 or 1), what is done there, and the moment. What is done: g gets, f gets with the greatest size, p puts, i invokes,
+// n asks what is to be run, b reports that a run began which isn't live, d drains. A holds the opening of the first hall, and each
+// store fails at its first put. A difference is a place, what the receipts have and what the book has: what was done with its moment,
+// a number after #, or - for nothing.
 const DAYS: &str = "B0g1 C0n2 C0n3 C0b4 A0d5|3|match
 A0d1|1|match
 B0g1 C0p2 C0p3 A0d4 A0d5|3|match
@@ -137,7 +137,7 @@ fn asks(
     Ok(())
 }
 
-// Does what a letter stands for.
+// Does what a letter means.
 fn does(alloc: Global, held: &mut Held, desk: &mut Office, act: u8, at: u64) -> Result<(), Fail> {
     match act {
         b'g' => asks(alloc, held, desk, at, &request(alloc, GET)?),
@@ -242,7 +242,7 @@ fn shown(alloc: Global, difference: &Option<Difference>) -> Result<String, Fail>
     Ok(text)
 }
 
-// What is shown once the steps are done, where so many receipts are compared.
+// What is shown once the steps are done, where `count` receipts are compared.
 fn compared(alloc: Global, days: &mut Days, steps: &str, count: usize) -> Result<String, Fail> {
     for it in steps.split_whitespace() {
         step(alloc, days, it)?;

@@ -1,5 +1,5 @@
-// What tests hold and compare. What is held lies in boxes, since each way out of a function lets go of what it holds: of
-// a box by one call, of a record by its fields and their variants.
+// What tests hold and compare. What they hold is in boxes, since each return path of a function drops what the function
+// holds: a box by one call, a record by its fields and their variants.
 use ow_value::{NoMemory, PlainData};
 use std::alloc::Global;
 use std::fmt::Debug;

@@ -1,7 +1,7 @@
 // Kept rows that are read as items, and items that are written as rows.
 use crate::held::held;
-use ow_items::{Item, row_text};
 use ow_keep::{KeepRefusal, kept_items};
+use ow_row_text::{Item, row_text};
 use ow_traits::Rows;
 use ow_value::{NoMemory, Str};
 use std::alloc::{AllocError, Global};
@@ -103,7 +103,7 @@ const BOTH: (&str, &str) = (
     r#"{"activationId":"00000000000000010000000000000001","at":0,"form":"leaf","kind":"plain:1","limits":{"logs":10,"memory":256,"timeout":60000},"namespace":"guest","path":"guest/hello","subject":"office","version":"0.0.1"}"#,
 );
 
-// A space behind a colon.
+// A space after a colon.
 const SPACED: (&str, &str) = (
     "row/package/guest/tools",
     r#"{"annotations": [],"binding":{},"name":"tools","namespace":"guest","parameters":[],"publish":false,"version":"0.0.1"}"#,
@@ -295,7 +295,7 @@ fn are_written(alloc: Global, items: &[Item], pairs: &[(&str, &str)]) -> Result<
     Ok(items.len() == pairs.len() && has_all(&rows, pairs))
 }
 
-// Whether the rows are read as items that are written so, or this key is told.
+// Whether the rows are read as items that are written as these rows, or refused with the key `bad`.
 fn is_told(alloc: Global, pairs: &[(&str, &str)], bad: &str) -> Result<bool, Fail> {
     let rows = rows_of(alloc, pairs)?;
     let read = kept_items(alloc, &rows);
@@ -307,7 +307,7 @@ fn is_told(alloc: Global, pairs: &[(&str, &str)], bad: &str) -> Result<bool, Fai
     }
 }
 
-// The first of the cases, from 0 on, that comes to something else.
+// The first of the cases, counted from 0, with another result than expected.
 fn first_wrong(alloc: Global) -> Result<Option<usize>, Fail> {
     for (number, (pairs, bad)) in CASES.iter().enumerate() {
         if !is_told(alloc, pairs, bad)? {
@@ -323,7 +323,7 @@ fn kept_rows_are_read_as_items(rt: HostRuntime) -> Result<(), Fail> {
     Ok(())
 }
 
-// The text of a sequence of one component more than so many.
+// The text of a sequence of `count` components and one more.
 fn sequence_of(alloc: Global, count: usize) -> Result<String, AllocError> {
     let more = "\"/guest/tools/hi\",".repeat(alloc, count)?;
     format!(in alloc;
@@ -331,7 +331,7 @@ fn sequence_of(alloc: Global, count: usize) -> Result<String, AllocError> {
     )
 }
 
-// How many components a sequence has beside one, and the key of the first bad row, or none.
+// How many components a sequence has besides one, and the key of the first bad row, or none.
 const LENGTHS: [(usize, &str); 2] = [(49, ""), (50, "row/action/guest/tools/both")];
 
 #[test]

@@ -45,7 +45,7 @@ fn names_are_read_where_they_are_names(rt: HostRuntime) -> Result<(), Fail> {
     Ok(())
 }
 
-// How many bytes of a name of so many are read.
+// How many bytes are read of a name of `bytes` bytes.
 fn read_length(alloc: Global, bytes: usize) -> Result<usize, NameRefusal> {
     let Ok(text) = "a".repeat(alloc, bytes) else {
         return Err(NameRefusal::NoMemory);
@@ -61,7 +61,7 @@ fn a_name_has_256_bytes_at_most(rt: HostRuntime) {
     assert_eq!(rt; NameRefusal::TooLong.number(), 5);
 }
 
-// The full text of what the path is for one who stands in the namespace guest.
+// The full text of the path, read in the namespace guest.
 fn resolved(alloc: Global, path: &str) -> Result<String, NameRefusal> {
     written(alloc, full(alloc, path))
 }
@@ -159,7 +159,7 @@ fn texts_of_other_forms_are_refused(rt: HostRuntime) -> Result<(), Fail> {
     Ok(())
 }
 
-// The full text of the parts for one who stands in the namespace guest.
+// The full text of the parts, read in the namespace guest.
 fn within(alloc: Global, namespace: &str, package: Option<&[u8]>) -> Result<String, NameRefusal> {
     let guest = name(alloc, "guest")?;
     written(
@@ -203,7 +203,7 @@ fn order_of_parts(alloc: Global, a: &str, b: &str) -> Result<Ordering, Fail> {
     Ok(a.compare_as_part(&b))
 }
 
-// A slash comes behind a space, a dot and a hyphen, and before all other bytes of a name.
+// A slash comes after a space, a dot and a hyphen, and before all other bytes of a name.
 const RISING: [&str; 7] = [
     "/a b/x", "/a/p.q/x", "/a/p/x", "/a/p/y", "/a/p0", "/a/q", "/ab/p",
 ];

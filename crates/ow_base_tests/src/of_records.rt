@@ -134,7 +134,7 @@ fn what_answers_come_to(rt: HostRuntime) -> Result<(), Fail> {
     Ok(())
 }
 
-// A text of so many bytes that is an object.
+// A text of `bytes` bytes that is an object.
 fn padded(alloc: Global, bytes: usize) -> Result<String, AllocError> {
     let mut text = String::from_str(alloc, "{}")?;
     for _ in 2..bytes {

@@ -33,7 +33,7 @@ fn comes_to(alloc: Global, text: &str, want: Result<&str, ValueRefusal>) -> Resu
     }
 }
 
-// An empty list inside lists, so many in all.
+// An empty list inside lists, `depth` lists in all.
 fn nested(alloc: Global, depth: usize) -> Result<String, NoMemory> {
     let mut text = String::new(alloc);
     for _ in 0..depth {
@@ -289,7 +289,7 @@ fn lists_are_copied_and_told_apart(rt: HostRuntime) -> Result<(), Fail> {
     Ok(())
 }
 
-// A copy of what was shared, which is let go of.
+// A copy of a shared value. The first owner is dropped.
 fn copied(alloc: Global) -> Result<Shared<Lines>, NoMemory> {
     let shared = Shared::new(alloc, line(alloc)?)?;
     shared.copy(alloc)

@@ -59,7 +59,7 @@ fn two<R: Threads>(
     x.wrapping_add(y)
 }
 
-/// The same in four threads, on slots that are so far apart.
+/// The same in four threads, on slots whose numbers are `apart` apart.
 fn four<R: Threads + Sync>(
     rt: &R,
     board: &Board<u64>,
@@ -84,7 +84,7 @@ fn four<R: Threads + Sync>(
     x.wrapping_add(y)
 }
 
-/// Times four threads on slots that are so far apart.
+/// Times four threads on slots whose numbers are `apart` apart.
 fn time_four<R: Threads + Print + Clock + Sync>(
     rt: &R,
     board: &Board<u64>,

@@ -63,7 +63,7 @@ untold_text Components = codes "The composition has too many components."
 untold_text Depth = codes "The composition is nested too deep."
 untold_text Bytes = codes "The parameters have too many bytes."
 
--- the object that tells an error
+-- the object that reports an error
 abbrev pub error_object : List ℕ → Pairs
 error_object message = (codes "error", text message) ∷ []
 

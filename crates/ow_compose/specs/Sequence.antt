@@ -19,7 +19,7 @@ abbrev pub first_call : Option FullName → Pairs → Option Step
 first_call None params = None
 first_call (Some name) params = Some (call_of name params)
 
--- the next component gets what the last child answered; behind the last component that is the sequence's own answer
+-- the next component gets what the last child answered; after the last component that is the sequence's own answer
 abbrev pub call_or_done : Option FullName → ResponseView → Step
 call_or_done None r = Done r
 call_or_done (Some name) r = call_of name r.result

@@ -16,7 +16,7 @@ use ow_records::Used;
 use ow_value::{NoMemory, Params};
 use std::alloc::Global;
 
-/// What the text calls for a composition that is charged to the namespace `from`, and whose action stands in `home`, if anything.
+/// What the text calls for a composition that is charged to the namespace `from`, and whose action is in `home`, if anything.
 pub fn find_component<T: Lookup>(
     alloc: Global,
     rows: &T,
@@ -60,7 +60,8 @@ fn reached<T: Lookup>(
     }
 }
 
-/// The component's parameters with what is given over them, or why it isn't called: below a composite of this depth, and in a tree that has used so many.
+/// The component's parameters with what is given over them, or why it isn't called: below a composite of depth `depth`, in a tree that has
+/// used `used`.
 pub fn check_component(
     alloc: Global,
     called: &Effective,

@@ -12,8 +12,8 @@ use ow_records::{Frame, Heard, Response, Role, Used};
 use ow_value::{NoMemory, Params, PlainData, Str, Val, merge};
 use std::alloc::Global;
 
-/// What the conductor does next, or none while its last child is open. It was called with these parameters, has `own` itself, and its tree has used so
-/// many activations.
+/// What the conductor does next, or none while its last child is open. It was called with `params`, its action has the parameters `own`,
+/// and `used` is what its tree has used.
 pub fn conduct_next(
     alloc: Global,
     own: &Params,

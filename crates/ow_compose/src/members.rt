@@ -53,7 +53,7 @@ fn one_member(alloc: Global, name: &str, value: Val) -> Result<Params, NoMemory>
     fields.into_params()
 }
 
-/// The object that tells an error.
+/// The object that reports an error.
 pub(crate) fn error_object(alloc: Global, message: &str) -> Result<Params, NoMemory>
     ensures { IfOk result (λ ps. ps ≡ error_object message.now) }
 {
@@ -70,7 +70,7 @@ pub(crate) fn failed(alloc: Global, message: &str) -> Result<Step, NoMemory>
     })
 }
 
-/// Ends with this result, which tells an error where it has the name `error`. This takes no memory.
+/// Ends with this result, which reports an error where it has the name `error`. This takes no memory.
 pub(crate) fn done_with(members: Params) -> Step
     ensures { result ≡ Step.Done (of_object members) }
 {

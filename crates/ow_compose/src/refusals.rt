@@ -39,8 +39,8 @@ impl Untold {
     }
 }
 
-/// What a composite of this form does where a component isn't called: a sequence ends, a conductor runs its code. `own` are a conductor's own
-/// parameters, and `conducted` is what its code answered last.
+/// What a composite of this form does where a component isn't called: a sequence ends, a conductor runs its code. `own` are a conductor's
+/// own parameters, and `conducted` is what its code answered last.
 pub fn refused(
     alloc: Global,
     form: Form,

@@ -1,4 +1,4 @@
--- Of what was accepted so many have not ended as the others have: what is accepted is open or has ended, once.
+-- What is accepted is open or has ended, once. So the open ones are counted as the accepted ones less the ended ones.
 use Rattle.std.proofs.Common.{◌≡◌, ◌+◌, ◌≤◌, ◌++◌, ℕ, Bool, true, false, cond, List, [], ◌∷◌, inl, inr, map, refl, sym, ap, ◌∙◌, subst, arith}
 use Rattle.std.specs.Prelude.{◌&&◌, count_by, is_none}
 use Rattle.std.specs.List.{find, AllByRecursion}
@@ -78,7 +78,7 @@ out_more e es id apart = rw apart refl
 in_first : (e : End) (es : List End) (id : Id) → same_id e.task.id id ≡ true → is_out (e ∷ es) id ≡ false
 in_first e es id same = rw same refl
 
--- an id that stands nowhere isn't found
+-- an id that appears nowhere isn't found
 out_at : (e : End) (es : List End) (id : Id) (b : Bool) → same_id id e.task.id ≡ b → times id (ended_ids (e ∷ es)) ≡ 0 → (times id (ended_ids es) ≡ 0 → is_out es id ≡ true) → is_out (e ∷ es) id ≡ true
 out_at e es id true same none rest = absurd (let h : 1 + times id (ended_ids es) ≡ 0 = rw same at none in omega (arith, h))
 out_at e es id false apart none rest =
@@ -89,7 +89,7 @@ out_of : (es : List End) (id : Id) → times id (ended_ids es) ≡ 0 → is_out 
 out_of [] id none = refl
 out_of (e ∷ es) id none = out_at e es id (same_id id e.task.id) refl none (out_of es id)
 
--- the first of ends whose ids stand once isn't among the others
+-- the first of ends whose ids appear once isn't among the others
 first_out : (e : End) (es : List End) → times e.task.id (ended_ids (e ∷ es)) ≤ 1 → is_out es e.task.id ≡ true
 first_out e es once =
     let h : 1 + times e.task.id (ended_ids es) ≤ 1 = rw (same_id_refl e.task.id) at once in

@@ -1,4 +1,4 @@
--- How what is kept for the counts stands to one more note, and what it admits.
+-- How the counts follow one more note, and what they admit.
 use Rattle.std.proofs.Common.{◌≡◌, ◌+◌, ◌-◌, ◌≤◌, ◌<◌, ℕ, Bool, true, false, cond, List, ◌∷◌, Result, Ok, Err, refl, sym, ap, ◌∙◌, arith}
 use Rattle.std.specs.Prelude.{nat_le}
 use Rattle.std.proofs.lemmas.Bool.{le-leb, lt-leb}
@@ -51,7 +51,7 @@ of_tests true b x y = refl
 of_tests false true x y = refl
 of_tests false false x y = refl
 
--- where so many are busy
+-- where `most_busy` invocations or more have not ended
 pub busy_refused : (T : Trace) (v : CountsView) (n : List ℕ) (limits : NamespaceLimits) (now : ℕ) → StandsFor v (notes_of T) → IsSound T → most_busy ≤ v.busy
     → Err OfficeBusy ≡ admitted T n limits now
 busy_refused T v n limits now h sound many =

@@ -1,4 +1,4 @@
--- How what is kept for the counts stands to what happened.
+-- How the counts agree with what happened.
 use Rattle.std.specs.Prelude.{◌≡◌, ◌+◌, ◌&&◌, ◌^◌, ◌≤◌, ◌<◌, ℕ, List, [], ◌∷◌, Bool, true, false, count_by, is_none, length, if◌then◌else◌}
 use Rattle.std.specs.List.{AllByRecursion}
 use Rattle.std.specs.Str.{bytes_eq}
@@ -84,12 +84,12 @@ pub record CountsView : Type 0 where
   pub windows : ByText Window
   pub busy : ℕ
 
--- it stands as these notes say
+-- the counts agree with these notes
 pub record StandsFor (v : CountsView) (notes : Notes) : Type 0 where
   pub windows : StandsAs v.windows notes
   pub busy : v.busy + count_by is_end notes ≡ count_by is_invocation notes
 
--- there is room for so many more invocations of a namespace
+-- there is room for `count` more invocations of a namespace
 pub record HasRoomFor (namespace : List ℕ) (count : ℕ) (v : CountsView) : Type 0 where
   pub window : HasRoomIn namespace count 0 v.windows
   pub counter : v.busy + count < 2 ^ 64

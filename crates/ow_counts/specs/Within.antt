@@ -9,7 +9,7 @@ use Rattle.ow_counts.specs.Counts.{busy, concurrent, fires, minute, most_busy}
 abbrev pub LimitsByName : Type 0
 LimitsByName = List ℕ → NamespaceLimits
 
--- as it was accepted, behind these items, its namespace and the service had not reached their limits
+-- as it was accepted, after these items, its namespace and the service had not reached their limits
 pub record HadRoom (limits : LimitsByName) (a : Activation) (T : Trace) : Type 0 where
   pub busy : busy T < most_busy
   pub minute : minute T a.namespace a.at < (limits a.namespace).per_minute

@@ -62,7 +62,8 @@ impl Counts {
         }
     }
 
-    /// Whether the limits allow one more invocation of the namespace now, in milliseconds, after these moves, which the counts don't have yet.
+    /// Whether the limits allow one more invocation of the namespace now, in milliseconds, after these moves, which the counts don't have
+    /// yet.
     pub fn admit_after(
         &self,
         moves: &[Moved],

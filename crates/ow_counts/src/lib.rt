@@ -1,7 +1,7 @@
 #![tactic(auto)]
 
-//! What counts against the limits: how many invocations were accepted and how many triggers fired in the last minute, and how many invocations have not
-//! ended.
+//! What counts against the limits: how many invocations were accepted and how many triggers fired in the last minute, and how many
+//! invocations have not ended.
 mod counts;
 mod laws;
 mod moves;

@@ -14,7 +14,7 @@ pub enum LimitRefusal {
 }
 
 impl LimitRefusal {
-    /// By which a client tells the refusals apart.
+    /// The number by which a client distinguishes the refusals.
     pub fn number(self) -> u32
         ensures { result ≡ limit_number self }
     {

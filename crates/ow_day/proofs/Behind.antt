@@ -1,8 +1,8 @@
--- Machines that stand behind others: the book goes on whatever comes of an event.
+-- Machines that follow others: the book only grows, whatever the outcome of an event.
 use Rattle.std.proofs.Common.{◌≡◌, ◌++◌, ◌∙◌, ℕ, false, List, [], ◌∷◌, None, inl, inr, refl, sym, ap, append_assoc}
 use Rattle.ow_traits.specs.Telling.{Telling}
 use Rattle.ow_hall.specs.Comes.{Answers, Comes, Fails, HallView, Outcome, Wants, at_hall}
-use Rattle.ow_hall.specs.History.{posting}
+use Rattle.ow_hall.specs.History.{IsGivenEvent, posting}
 use Rattle.ow_hall.specs.Ledger.{Ledger, posted, posted_as}
 use Rattle.ow_hall.specs.declared.entry.Entry.{Entry}
 use Rattle.ow_hall.specs.declared.posting.Posting.{Posting}
@@ -11,7 +11,7 @@ use Rattle.ow_decide.specs.Decisions.{is_opening}
 use Rattle.ow_decide.specs.declared.events.Event.{Event}
 use Rattle.ow_decide.specs.declared.events.Told.{Told}
 use Rattle.ow_invoker.specs.Turns.{Chain, ChainTo, ChainUndone, Exchange}
-use Rattle.ow_day.specs.declared.done.Done.{Done}
+use Rattle.ow_day.specs.declared.statement_outcome.StatementOutcome.{StatementOutcome}
 use Rattle.ow_day.specs.Statement.{Statement}
 use Rattle.ow_day.specs.Machine.{Machine, Does, IsBehind, hall_of, counts_faults}
 use Rattle.ow_day.proofs.Each.{each_statement}
@@ -70,9 +70,9 @@ module _ {P : Type 0} (telling : P → Telling) where
 
 -- ---- statements
 
-answered : (M N : Machine) (before after : ℕ) (event : Event) (t : Told) → is_opening event ≡ false
+answered : (M N : Machine) (before after : ℕ) (event : Event) (t : Told) → is_opening event ≡ false → IsGivenEvent event
     → Comes {P = ℕ} counts_faults (hall_of M before) (hall_of N after) M.given event (Answers t) → IsBehind M N
-answered M N before after event t later comes = comes_behind {P = ℕ} counts_faults (hall_of M before) (hall_of N after) M.given event (Answers t) comes
+answered M N before after event t later given comes = comes_behind {P = ℕ} counts_faults (hall_of M before) (hall_of N after) M.given event (Answers t) comes
 
-pub done_behind : (M N : Machine) (s : Statement) (failed : ℕ) (done : Done) → Does M s failed done N → IsBehind M N
-done_behind M N s failed done does = each_statement (λ M N. IsBehind M N) behind_same behind_then answered M N s failed done does
+pub done_behind : (M N : Machine) (s : Statement) (failed : ℕ) (outcome : StatementOutcome) → Does M s failed outcome N → IsBehind M N
+done_behind M N s failed outcome does = each_statement (λ M N. IsBehind M N) behind_same behind_then answered M N s failed outcome does

@@ -1,4 +1,4 @@
--- What a choice between two values tells of its test, and tests of numbers.
+-- What a choice between two values says of its test, and tests of numbers.
 use Rattle.std.proofs.Common.{◌≡◌, ◌<◌, ◌==◌, ℕ, Bool, true, false, nat_lt, Option, Some, None, if◌then◌else◌, refl, arith}
 use Rattle.std.proofs.lemmas.Bool.Decides.{nat_tests}
 use Rattle.std.proofs.lemmas.Option.{none-some}

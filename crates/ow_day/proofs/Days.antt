@@ -53,7 +53,7 @@ statement_goes_on End day not_end = absurd (not_end refl)
 pub with_both : (a b : List Statement) (day : Day) → with_statements a (with_statements b day) ≡ with_statements (a ++ b) day
 with_both a b day = ap (λ t. record { statements = t; ending = day.ending }) (sym (append_assoc a b day.statements))
 
--- ---- what stands at the front of bytes, and what follows them
+-- ---- the first statement of bytes, and what follows them
 
 abbrev pub extended : List ℕ → First → First
 extended later (Found s rest) = Found s (rest ++ later)
@@ -126,7 +126,7 @@ longer_at more bytes later None true is long found =
     let lt : most_line < length bytes = ltb-true most_line (length bytes) long in
     rw (position-append_none is_newline bytes later is, long_at more bytes later (position is_newline later) lt, long, too_long bytes lt) refl
 
--- what stands at the front stays there, whatever follows
+-- what the first bytes hold stays the same, whatever follows
 pub first_longer : (more : Bool) (bytes later : List ℕ) → (first_statement true bytes ≡ Cut → ⊥) → first_statement more (bytes ++ later) ≡ extended later (first_statement true bytes)
 unfolding first_statement
 first_longer more bytes later found = longer_at more bytes later _ _ refl refl found

@@ -1,4 +1,4 @@
--- The first place in a list that passes, and lists that are put behind one another.
+-- The first place in a list that passes a test, and lists that are appended to one another.
 use Rattle.std.proofs.Common.{◌≡◌, ◌≤◌, ◌+◌, ◌-◌, ◌++◌, ℕ, zero, suc, Bool, true, false, List, [], ◌∷◌, Option, Some, None, length, take, drop, refl, sym, ap, ◌∙◌, arith, position, length-take, length-drop}
 use Rattle.std.specs.Option.{option_map}
 use Rattle.std.proofs.lemmas.List.{take-append-drop, drop-drop, take_rest}
@@ -29,7 +29,7 @@ none_at p x xs ys false is none rest =
     ∙ ap (option_map suc) (rest (none_of (position p xs) (sym (position-cons_fails p x xs is) ∙ none)))
     ∙ plus_suc (length xs) (position p ys)
 
--- where none passes in front, the first place is that behind
+-- where no element of the first list passes, the first place is in the second list
 pub position-append_none : (p : ℕ → Bool) (xs ys : List ℕ) → position p xs ≡ None → position p (xs ++ ys) ≡ option_map (λ k. length xs + k) (position p ys)
 position-append_none p [] ys none = plus_zero (position p ys)
 position-append_none p (x ∷ xs) ys none = none_at p x xs ys (p x) refl none (position-append_none p xs ys)
@@ -44,7 +44,7 @@ some_at p x xs ys k false is some rest =
     ∙ ap (option_map suc) (rest (k - 1) (some_of (position p xs) k there))
     ∙ ap Some (suc_back (position p xs) k there)
 
--- the first place isn't moved by what stands behind
+-- the first place doesn't depend on what follows it
 pub position-append_some : (p : ℕ → Bool) (xs ys : List ℕ) (k : ℕ) → position p xs ≡ Some k → position p (xs ++ ys) ≡ Some k
 position-append_some p [] ys k some = cc
 position-append_some p (x ∷ xs) ys k some = some_at p x xs ys k (p x) refl some (λ (j : ℕ). position-append_some p xs ys j)

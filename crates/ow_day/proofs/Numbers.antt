@@ -15,7 +15,7 @@ use Rattle.ow_day.proofs.Choices.{if_later}
 not_zero : (c : ℕ) → 48 < c → (c == 48) ≡ false
 not_zero c more = grind (arith, nat_tests)
 
--- where no 0 stands in front, they are digits like any others
+-- where the first digit isn't 0, they are digits like any others
 as_digits : (ds : List ℕ) → 48 < get_or ds 0 0 → decimal_of ds ≡ digits_of ds
 as_digits [] first = refl
 as_digits (c ∷ []) first = refl

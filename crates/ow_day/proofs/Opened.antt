@@ -3,12 +3,12 @@ use Rattle.std.proofs.Common.{◌≡◌, ◌≤◌, ℕ, false, List, [], Option
 use Rattle.ow_traits.specs.Telling.{Telling}
 use Rattle.ow_hall.specs.Comes.{HoldsBook}
 use Rattle.ow_hall.specs.History.{IsLegal}
-use Rattle.ow_items.specs.Sorted.{Entries}
+use Rattle.ow_row_text.specs.Sorted.{Entries}
 use Rattle.ow_tenant.specs.Table.{Table}
-use Rattle.ow_day.specs.declared.run.Run.{Run}
+use Rattle.ow_day.specs.declared.run.DayReader.{DayReader}
 use Rattle.ow_day.specs.declared.session.Session.{Session}
-use Rattle.ow_words.specs.declared.status.Status.{Status}
-use Rattle.ow_words.specs.declared.status.Status.TheVariants as statuses
+use Rattle.ow_command_line.specs.declared.status.Status.{Status}
+use Rattle.ow_command_line.specs.declared.status.Status.TheVariants as statuses
 use Rattle.ow_day.specs.Carried.{IsCarriedOut, IsOpenedOver, IsOpeningFault, IsOverTable, IsUnopened, TellsDay}
 use Rattle.ow_day.specs.Reads.{IsAnsweredOver, LeavesRest}
 use Rattle.ow_day.specs.Run.{IsOfDay, IsUnderWay, Opening, Turns}
@@ -35,6 +35,8 @@ over_table (statuses.BadTable row) never = absurd never
 over_table statuses.NoMemory of = tt
 over_table statuses.DayTooLong of = tt
 over_table (statuses.BadKept key) never = absurd never
+over_table (statuses.BadManifest number text) never = absurd never
+over_table (statuses.Undeployed place number text) never = absurd never
 over_table (statuses.Passed words tenants) never = absurd never
 
 pub no_opening : (status : Status) → IsOfDay status → IsOpeningFault status → ⊥
@@ -48,6 +50,8 @@ no_opening (statuses.BadTable row) of never = never
 no_opening statuses.NoMemory of never = never
 no_opening statuses.DayTooLong of never = never
 no_opening (statuses.BadKept key) never fault = never
+no_opening (statuses.BadManifest number text) never fault = never
+no_opening (statuses.Undeployed place number text) never fault = never
 no_opening (statuses.Passed words tenants) never fault = never
 
 module _ {P : Type 0} (telling : P → Telling) (t : Table) (store : P) where
@@ -55,14 +59,14 @@ module _ {P : Type 0} (telling : P → Telling) (t : Table) (store : P) where
   opening loaded = record { tenants = t; rows = loaded; met = (telling store).faults }
 
   -- the service was opened, and so far the day is carried out
-  pub record IsBegun (day before left taken : Option (List ℕ)) (r : Run P) : Type 0 where
+  pub record IsBegun (day before left taken : Option (List ℕ)) (r : DayReader P) : Type 0 where
     pub loaded : Entries
     pub opened : IsOpenedOver (telling store) loaded
     pub behind : IsBehind (start t loaded) (machine_of r.session)
     pub later : (telling store).faults ≤ (telling r.session.hall.store).faults
     pub under_way : (bytes : List ℕ) → day ≡ Some bytes → IsUnderWay telling (opening loaded) bytes before left taken r
 
-  pub begun : (day taken : Option (List ℕ)) (s : Session P) (r : Run P) → Begins telling store t s → r.session ≡ s → r.input.pending ≡ [] → r.input.taken ≡ 0 → r.answers.items ≡ []
+  pub begun : (day taken : Option (List ℕ)) (s : Session P) (r : DayReader P) → Begins telling store t s → r.session ≡ s → r.input.pending ≡ [] → r.input.taken ≡ 0 → r.answers.items ≡ []
       → r.number ≡ 1 → r.ended ≡ false → IsBegun day taken day taken r
   begun day taken s r b same pending read answers number unended =
       let at : machine_of r.session ≡ start t b.loaded = ap machine_of same ∙ b.machine in
@@ -75,7 +79,7 @@ module _ {P : Type 0} (telling : P → Telling) (t : Table) (store : P) where
         under_way = λ bytes told. begins telling bytes day taken r told at count pending read answers number unended;
       }
 
-  pub begun_on : (day before left left' taken taken' : Option (List ℕ)) (old new : Run P) → IsLater telling old.session new.session → Turns telling left left' taken taken' old new None
+  pub begun_on : (day before left left' taken taken' : Option (List ℕ)) (old new : DayReader P) → IsLater telling old.session new.session → Turns telling left left' taken taken' old new None
       → IsBegun day before left taken old → IsBegun day before left' taken' new
   begun_on day before left left' taken taken' old new on turns b = record {
     loaded = b.loaded;
@@ -87,7 +91,7 @@ module _ {P : Type 0} (telling : P → Telling) (t : Table) (store : P) where
 
   -- ---- its end
 
-  carried_by : (day day' before left left' taken taken' : Option (List ℕ)) (old new : Run P) (status : Status) → day' ≡ day → IsLater telling old.session new.session
+  carried_by : (day day' before left left' taken taken' : Option (List ℕ)) (old new : DayReader P) (status : Status) → day' ≡ day → IsLater telling old.session new.session
       → Turns telling left left' taken taken' old new (Some status) → IsLegal new.session.hall.tenants new.session.hall.ledger.entries
       → HoldsBook (telling new.session.hall.store).rows new.session.hall.tenants new.session.hall.ledger → IsBegun day before left taken old
       → IsCarriedOut t (telling store) (telling new.session.hall.store) day' before taken' status
@@ -123,10 +127,12 @@ module _ {P : Type 0} (telling : P → Telling) (t : Table) (store : P) where
   tells_of before after day old new statuses.NoMemory of c = inr c
   tells_of before after day old new statuses.DayTooLong of c = c
   tells_of before after day old new (statuses.BadKept key) never c = absurd never
+  tells_of before after day old new (statuses.BadManifest number text) never c = absurd never
+  tells_of before after day old new (statuses.Undeployed place number text) never c = absurd never
   tells_of before after day old new (statuses.Passed words tenants) never c = absurd never
 
-  -- what is told, by the status
-  pub day_told : (day before left left' taken taken' : Option (List ℕ)) (old new : Run P) (status : Status) (back : P) → back ≡ new.session.hall.store → IsOfDay status → IsLater telling old.session new.session
+  -- the claim of the day, by its status
+  pub day_told : (day before left left' taken taken' : Option (List ℕ)) (old new : DayReader P) (status : Status) (back : P) → back ≡ new.session.hall.store → IsOfDay status → IsLater telling old.session new.session
       → Turns telling left left' taken taken' old new (Some status) → IsLegal new.session.hall.tenants new.session.hall.ledger.entries
       → HoldsBook (telling new.session.hall.store).rows new.session.hall.tenants new.session.hall.ledger → IsBegun day before left taken old
       → TellsDay t (telling store) (telling back) day before taken' status
@@ -134,23 +140,23 @@ module _ {P : Type 0} (telling : P → Telling) (t : Table) (store : P) where
       subst (λ s. TellsDay t (telling store) (telling s) day before taken' status) (sym is)
       (tells_of _ _ day before taken' status of (carried_by day day before left left' taken taken' old new status refl on turns legal holds b))
 
-  leaves_by : (day day' before left left' taken taken' : Option (List ℕ)) (old new : Run P) (status : Status) → day' ≡ day → Turns telling left left' taken taken' old new (Some status) → IsBegun day before left taken old
+  leaves_by : (day day' before left left' taken taken' : Option (List ℕ)) (old new : DayReader P) (status : Status) → day' ≡ day → Turns telling left left' taken taken' old new (Some status) → IsBegun day before left taken old
       → IfSome day' (λ bytes. LeavesRest bytes left')
   leaves_by day None before left left' taken taken' old new status is turns b = tt
   leaves_by day (Some bytes) before left left' taken taken' old new status is turns b = (turns (opening b.loaded) bytes before (b.under_way bytes (sym is))).leaves
 
   -- what is left of the day
-  pub day_leaves : (day before left left' taken taken' : Option (List ℕ)) (old new : Run P) (status : Status) → Turns telling left left' taken taken' old new (Some status) → IsBegun day before left taken old
+  pub day_leaves : (day before left left' taken taken' : Option (List ℕ)) (old new : DayReader P) (status : Status) → Turns telling left left' taken taken' old new (Some status) → IsBegun day before left taken old
       → IfSome day (λ bytes. LeavesRest bytes left')
   day_leaves day before left left' taken taken' old new status turns b = leaves_by day day before left left' taken taken' old new status refl turns b
 
-  answers_by : (day day' before left left' taken taken' : Option (List ℕ)) (old new : Run P) (status : Status) → day' ≡ day → status ≡ statuses.ReadFault → Turns telling left left' taken taken' old new (Some status)
+  answers_by : (day day' before left left' taken taken' : Option (List ℕ)) (old new : DayReader P) (status : Status) → day' ≡ day → status ≡ statuses.ReadFault → Turns telling left left' taken taken' old new (Some status)
       → IsBegun day before left taken old → IfSome day' (λ bytes. IsAnsweredOver t (telling store) bytes left' before taken')
   answers_by day None before left left' taken taken' old new status is fault turns b = tt
   answers_by day (Some bytes) before left left' taken taken' old new status is fault turns b =
       inr (b.loaded, (b.opened, (turns (opening b.loaded) bytes before (b.under_way bytes (sym is))).answered fault))
 
   -- that all that was read is answered, where it could not be read on
-  pub day_answers : (day before left left' taken taken' : Option (List ℕ)) (old new : Run P) (status : Status) → status ≡ statuses.ReadFault → Turns telling left left' taken taken' old new (Some status)
+  pub day_answers : (day before left left' taken taken' : Option (List ℕ)) (old new : DayReader P) (status : Status) → status ≡ statuses.ReadFault → Turns telling left left' taken taken' old new (Some status)
       → IsBegun day before left taken old → IfSome day (λ bytes. IsAnsweredOver t (telling store) bytes left' before taken')
   day_answers day before left left' taken taken' old new status fault turns b = answers_by day day before left left' taken taken' old new status refl fault turns b

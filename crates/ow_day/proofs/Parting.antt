@@ -15,7 +15,7 @@ use Rattle.ow_day.specs.Statement.{parted, parted_at}
 use Rattle.ow_day.specs.Printed.{HasNo}
 use Rattle.ow_day.proofs.Newlines.{position-append_none}
 
--- a byte that stands nowhere has no first place
+-- a byte that doesn't occur has no first place
 pub none_there : (byte : ℕ) (xs : List ℕ) → HasNo byte xs → position (λ c. c == byte) xs ≡ None
 none_there byte [] none = refl
 none_there byte (x ∷ xs) none =
@@ -41,7 +41,7 @@ none_in_decimal byte n low small = none_in_digits byte (decimal n) low (let k = 
 pub is_itself : (n : ℕ) → (n == n) ≡ true
 is_itself n = grind (arith, nat_tests)
 
--- the first place of a byte is behind the bytes that have none
+-- the first place of a byte comes after the bytes among which it doesn't occur
 pub first_behind : (byte : ℕ) (xs ys : List ℕ) → position (λ c. c == byte) xs ≡ None → position (λ c. c == byte) (xs ++ byte ∷ ys) ≡ Some (length xs)
 first_behind byte xs ys none =
     position-append_none (λ c. c == byte) xs (byte ∷ ys) none
@@ -102,7 +102,7 @@ none_by byte x xs true is none rest = absurd (none-some 0 (sym none ∙ position
 none_by byte x xs false is none rest =
     All-cons (λ c. (c == byte) ≡ false) x xs is (rest (none_of (position (λ c. c == byte) xs) (sym (position-cons_fails (λ c. c == byte) x xs is) ∙ none)))
 
--- a byte that has no first place stands nowhere
+-- a byte that has no first place doesn't occur
 pub nowhere : (byte : ℕ) (xs : List ℕ) → position (λ c. c == byte) xs ≡ None → HasNo byte xs
 nowhere byte [] none = All-nil (λ c. (c == byte) ≡ false)
 nowhere byte (x ∷ xs) none = none_by byte x xs (x == byte) refl none (nowhere byte xs)

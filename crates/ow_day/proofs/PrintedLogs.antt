@@ -15,7 +15,7 @@ use Rattle.ow_day.proofs.Parting.{back_of, first_behind, front_of, none_there, n
 
 -- ---- what is printed is read
 
--- what stands behind the line in front of lines of logs
+-- what follows the line before the lines of logs
 abbrev pub rest_of : List (List ℕ) → List ℕ → List ℕ
 rest_of [] later = later
 rest_of (line ∷ lines) later = line ++ 10 ∷ rest_of lines later
@@ -110,7 +110,7 @@ line_by more bytes l r false is e = place_by more bytes l r (position is_newline
 line_found : (more : Bool) (bytes l r : List ℕ) → first_line more bytes ≡ LineIs l r → IsLogLine l × IsLineAt bytes l r
 line_found more bytes l r e = line_by more bytes l r (length bytes == 0) refl e
 
--- so many lines were printed, and these bytes stand behind the newline in front of them
+-- `count` lines were printed, and these bytes follow the newline before them
 pub record ArePrinted (count : ℕ) (bytes : List ℕ) (logs : List (List ℕ)) (later : List ℕ) : Type 0 where
   pub all : All IsLogLine logs
   pub size : length logs ≡ count

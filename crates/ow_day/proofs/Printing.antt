@@ -133,7 +133,7 @@ gone_line : (rest : List ℕ) → length (codes "gone " ++ rest) ≤ most_line �
 unfolding line_of worded reply_of container_of
 gone_line rest fits = rw (le-ltb most_line (length (codes "gone " ++ rest)) fits, parted_word (codes "gone") rest refl) refl
 
--- ---- a line and the bytes behind it
+-- ---- a line and the bytes after it
 
 behind_newline : (more : Bool) (line later : List ℕ) → position (λ c. c == 10) line ≡ None → first_statement more (line ++ 10 ∷ later) ≡ behind_line more (line_of line) later
 unfolding first_statement
@@ -164,7 +164,7 @@ asked_last request = rw (le-ltb (length request) (length request) (omega arith),
 abbrev asking : List ℕ → List ℕ
 asking request = codes "ask " ++ decimal (length request)
 
--- a request behind its line
+-- a request after its line
 request_back : (request : List ℕ) → length request ≤ most_line → IsReadBack (Ask request)
 unfolding printed
 request_back request most =

@@ -1,4 +1,4 @@
--- What a read gives, and what is left behind it.
+-- What a read gives, and what is left after it.
 use Rattle.std.proofs.Common.{◌≡◌, ◌≤◌, ℕ, List, [], Option, Some, None, Ok, IfSome, length, take, drop, refl, sym, arith, length-take}
 use Rattle.std.proofs.lemmas.List.{take-append-drop}
 use Rattle.ow_traits.specs.Streams.{ReadsSome}

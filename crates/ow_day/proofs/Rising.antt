@@ -11,7 +11,7 @@ rose_none before now later = (later, λ most. omega arith)
 pub rose_once : (before now : ℕ) → before ≤ now → Rose before now → RoseBy 1 before now
 rose_once before now later rose = (later, λ most. let more : before < now = rose (omega arith) in omega arith)
 
--- one rise behind another
+-- one rise after another
 pub rose_then : (m n before mid now : ℕ) → RoseBy m before mid → RoseBy n mid now → RoseBy (m + n) before now
 rose_then m n before mid now (later, rose) (later', rose') = (
   omega arith,

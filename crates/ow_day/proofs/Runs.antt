@@ -6,11 +6,11 @@ use Rattle.std.proofs.Math.Seq.{take-append-add, take-nil, take-append_seam, tak
 use Rattle.ow_traits.specs.Telling.{Telling}
 use Rattle.ow_traits.specs.Streams.{Takes, TakesFront}
 use Rattle.ow_traits.proofs.Taking.{Takes-none, Takes-then, TakesFront-then, took_nothing}
-use Rattle.ow_day.specs.declared.run.Run.{Run}
-use Rattle.ow_day.specs.declared.session.Step.{Step}
-use Rattle.ow_day.specs.declared.session.Step.TheVariants as steps
-use Rattle.ow_words.specs.declared.status.Status.{Status}
-use Rattle.ow_words.specs.declared.status.Status.TheVariants as statuses
+use Rattle.ow_day.specs.declared.run.DayReader.{DayReader}
+use Rattle.ow_day.specs.declared.session.StepOutcome.{StepOutcome}
+use Rattle.ow_day.specs.declared.session.StepOutcome.TheVariants as steps
+use Rattle.ow_command_line.specs.declared.status.Status.{Status}
+use Rattle.ow_command_line.specs.declared.status.Status.TheVariants as statuses
 use Rattle.ow_day.specs.declared.input.Filled.TheVariants.{More}
 use Rattle.ow_day.specs.Limits.{most_bytes}
 use Rattle.ow_day.specs.Input.{Fills, Gives}
@@ -27,7 +27,7 @@ use Rattle.ow_day.proofs.Days.{at_no_bytes, by_first, cut_nothing, extended, ext
 
 module _ {P : Type 0} (telling : P → Telling) where
   -- at the start nothing is read, carried out or written
-  pub begins : {t : Opening} (bytes : List ℕ) (left taken : Option (List ℕ)) (r : Run P) → left ≡ Some bytes → machine_of r.session ≡ begin t → t.met ≤ (telling r.session.hall.store).faults → r.input.pending ≡ [] → r.input.taken ≡ 0 → r.answers.items ≡ []
+  pub begins : {t : Opening} (bytes : List ℕ) (left taken : Option (List ℕ)) (r : DayReader P) → left ≡ Some bytes → machine_of r.session ≡ begin t → t.met ≤ (telling r.session.hall.store).faults → r.input.pending ≡ [] → r.input.taken ≡ 0 → r.answers.items ≡ []
       → r.number ≡ 1 → r.ended ≡ false → IsUnderWay telling t bytes taken left taken r
   unfolding in_window window
   begins {t = t} bytes left taken r told at later pending read answers number unended = record {
@@ -48,7 +48,7 @@ module _ {P : Type 0} (telling : P → Telling) where
   }
 
   -- the day ends here with this ending
-  ends_so : {t : Opening} (bytes : List ℕ) (before left taken : Option (List ℕ)) (r new : Run P) (u : IsUnderWay telling t bytes before left taken r) (ending : DayEnd)
+  ends_so : {t : Opening} (bytes : List ℕ) (before left taken : Option (List ℕ)) (r new : DayReader P) (u : IsUnderWay telling t bytes before left taken r) (ending : DayEnd)
       → new.answers.items ≡ r.answers.items → new.session ≡ r.session
       → day_from u.count (has_more bytes) r.number (r.input.pending ++ in_window r.input.taken u.rest) ≡ ended ending → IsAtEnd telling t bytes before taken new ending
   ends_so bytes before left taken r new u ending answers session is =
@@ -80,14 +80,14 @@ module _ {P : Type 0} (telling : P → Telling) where
   has_more-true bytes lt = lt-ltb most_bytes (length bytes) lt
 
   -- where the end was read, all that was read has its place in the window
-  at_end : {t : Opening} (bytes : List ℕ) (before left taken : Option (List ℕ)) (r : Run P) (u : IsUnderWay telling t bytes before left taken r) → r.input.taken ≤ most_bytes → r.ended ≡ true
+  at_end : {t : Opening} (bytes : List ℕ) (before left taken : Option (List ℕ)) (r : DayReader P) (u : IsUnderWay telling t bytes before left taken r) → r.input.taken ≤ most_bytes → r.ended ≡ true
       → (in_window r.input.taken u.rest ≡ []) × (has_more bytes ≡ false)
   at_end bytes before left taken r u most end =
       let none : u.rest ≡ [] = u.none end in
       (rw none (in_window-nil r.input.taken), has_more-false bytes (omega (arith, u.all, ap length none, most)))
 
   -- the day goes by the first statement of the bytes that wait
-  first_at : {t : Opening} (bytes : List ℕ) (before left taken : Option (List ℕ)) (r : Run P) (u : IsUnderWay telling t bytes before left taken r) (b : Bool) → r.input.taken ≤ most_bytes → r.ended ≡ b
+  first_at : {t : Opening} (bytes : List ℕ) (before left taken : Option (List ℕ)) (r : DayReader P) (u : IsUnderWay telling t bytes before left taken r) (b : Bool) → r.input.taken ≤ most_bytes → r.ended ≡ b
       → (first_statement (not b) r.input.pending ≡ Cut → ⊥)
       → first_statement (has_more bytes) (r.input.pending ++ in_window r.input.taken u.rest) ≡ extended (in_window r.input.taken u.rest) (first_statement (not b) r.input.pending)
   first_at bytes before left taken r u false most is found = first_longer (has_more bytes) r.input.pending (in_window r.input.taken u.rest) found
@@ -95,7 +95,7 @@ module _ {P : Type 0} (telling : P → Telling) where
       let e = at_end bytes before left taken r u most is in
       rw (e.0, e.1, append-nil r.input.pending) (sym (extended-nil (first_statement false r.input.pending)))
 
-  goes_by : {t : Opening} (bytes : List ℕ) (before left taken : Option (List ℕ)) (r : Run P) (u : IsUnderWay telling t bytes before left taken r) (f : First) → r.input.taken ≤ most_bytes → 0 < length r.input.pending
+  goes_by : {t : Opening} (bytes : List ℕ) (before left taken : Option (List ℕ)) (r : DayReader P) (u : IsUnderWay telling t bytes before left taken r) (f : First) → r.input.taken ≤ most_bytes → 0 < length r.input.pending
       → f ≡ first_statement (not r.ended) r.input.pending → (f ≡ Cut → ⊥)
       → day_from u.count (has_more bytes) r.number (r.input.pending ++ in_window r.input.taken u.rest)
       ≡ day_step r.number (extended (in_window r.input.taken u.rest) f) (λ rest. day_from (u.count - 1) (has_more bytes) (r.number + 1) rest)
@@ -111,12 +111,12 @@ module _ {P : Type 0} (telling : P → Telling) where
   found_more bytes s rest b unended is = sym (rw unended at is)
 
   -- a statement is carried out
-  pub statement_done : {t : Opening} (bytes : List ℕ) (before left taken : Option (List ℕ)) (old new : Run P) (s : Statement) (used : ℕ) → old.input.taken ≤ most_bytes → 0 < length old.input.pending
+  pub statement_done : {t : Opening} (bytes : List ℕ) (before left taken : Option (List ℕ)) (old new : DayReader P) (s : Statement) (used : ℕ) → old.input.taken ≤ most_bytes → 0 < length old.input.pending
       → Found s (drop used old.input.pending) ≡ first_statement (not old.ended) old.input.pending → used ≤ length old.input.pending → 0 < used
       → (s ≡ End → ⊥) → Performs telling old.session new.session s old.answers.items new.answers.items
       → new.input.pending ≡ drop used old.input.pending → new.input.taken ≡ old.input.taken → new.number ≡ old.number + 1 → new.ended ≡ old.ended
       → IsUnderWay telling t bytes before left taken old → IsUnderWay telling t bytes before left taken new
-  statement_done {t = t} bytes before left taken old new s used most some is within moves not_end (done, ((here, (does, rose)), lines)) pending read number unended u =
+  statement_done {t = t} bytes before left taken old new s used most some is within moves not_end (outcome, ((here, (does, rose)), lines)) pending read number unended u =
       let later = in_window old.input.taken u.rest in
       let rest = drop used old.input.pending ++ later in
       let found : Found s (drop used old.input.pending) ≡ Cut → ⊥ = λ e. cc in
@@ -135,26 +135,26 @@ module _ {P : Type 0} (telling : P → Telling) where
         none = λ end. u.none (sym unended ∙ end);
         enough = rw (pending, read) (omega (arith, u.enough, length-append old.input.pending later, length-append (drop used old.input.pending) later, length-drop used old.input.pending));
         took = u.took;
-        carried = rw (lines, ← append_assoc u.written old.answers.items (lines_of done))
-            (carried_more (begin t) (machine_of old.session) (machine_of new.session) u.done s done (u.written ++ old.answers.items) u.failed here u.carried does);
+        carried = rw (lines, ← append_assoc u.written old.answers.items (lines_of outcome))
+            (carried_more (begin t) (machine_of old.session) (machine_of new.session) u.done s outcome (u.written ++ old.answers.items) u.failed here u.carried does);
         rose = rose_then u.failed here t.met (telling old.session.hall.store).faults (telling new.session.hall.store).faults u.rose rose;
         whole = rw (pending, read, number) (u.whole ∙ ap (with_statements u.done) e ∙ with_both u.done (s ∷ []) (day_from (u.count - 1) (has_more bytes) (old.number + 1) rest));
       }
 
   -- what is no statement ends the day, and `end`
-  pub wrong_ends : (old new : Run P) → old.input.taken ≤ most_bytes → 0 < length old.input.pending → Wrong ≡ first_statement (not old.ended) old.input.pending
+  pub wrong_ends : (old new : DayReader P) → old.input.taken ≤ most_bytes → 0 < length old.input.pending → Wrong ≡ first_statement (not old.ended) old.input.pending
       → new.answers.items ≡ old.answers.items → new.session ≡ old.session → new.number ≡ old.number → EndsSo telling old new (Bad new.number)
   wrong_ends old new most some is answers session number = λ t bytes before left taken u.
       let P : ℕ → Type 0 = λ n. IsAtEnd telling t bytes before taken new (Bad n) in
       subst P (sym number) (ends_so bytes before left taken old new u (Bad old.number) answers session (goes_by bytes before left taken old u Wrong most some is (λ e. cc)))
 
-  pub end_ends : (old new : Run P) (rest : List ℕ) → old.input.taken ≤ most_bytes → 0 < length old.input.pending → Found End rest ≡ first_statement (not old.ended) old.input.pending
+  pub end_ends : (old new : DayReader P) (rest : List ℕ) → old.input.taken ≤ most_bytes → 0 < length old.input.pending → Found End rest ≡ first_statement (not old.ended) old.input.pending
       → new.answers.items ≡ old.answers.items → new.session ≡ old.session → EndsSo telling old new Finished
   end_ends old new rest most some is answers session = λ t bytes before left taken u.
       ends_so bytes before left taken old new u Finished answers session (goes_by bytes before left taken old u (Found End rest) most some is (λ e. cc))
 
   -- nothing waits, and the end was read
-  pub nothing_ends : (old : Run P) → old.input.taken ≤ most_bytes → length old.input.pending ≡ 0 → old.ended ≡ true → EndsSo telling old old Finished
+  pub nothing_ends : (old : DayReader P) → old.input.taken ≤ most_bytes → length old.input.pending ≡ 0 → old.ended ≡ true → EndsSo telling old old Finished
   nothing_ends old most none end = λ t bytes before left taken u.
       let e = at_end bytes before left taken old u most end in
       let all : old.input.pending ++ in_window old.input.taken u.rest ≡ old.input.pending = rw e.0 (append-nil old.input.pending) in
@@ -163,16 +163,16 @@ module _ {P : Type 0} (telling : P → Telling) where
 
   -- ---- a step
 
-  idle_at : (old : Run P) (step : Step) → IsBounded old → length old.input.pending ≡ 0 → (b : Bool) → old.ended ≡ b → step ≡ (if b then steps.End else steps.Cut) → StepsOn telling old old step
+  idle_at : (old : DayReader P) (step : StepOutcome) → IsBounded old → length old.input.pending ≡ 0 → (b : Bool) → old.ended ≡ b → step ≡ (if b then steps.End else steps.Cut) → StepsOn telling old old step
   idle_at old step bounded none true end is = subst (StepsOn telling old old) (sym is) (nothing_ends old bounded.most none end)
   idle_at old step bounded none false unended is = subst (StepsOn telling old old) (sym is) (refl, unended, cut_nothing old.input.pending none)
 
   -- nothing waits: the day ends, or more is to be read
-  pub idle_steps : (old : Run P) (step : Step) → IsBounded old → length old.input.pending ≡ 0 → step ≡ (if old.ended then steps.End else steps.Cut) → StepsOn telling old old step
+  pub idle_steps : (old : DayReader P) (step : StepOutcome) → IsBounded old → length old.input.pending ≡ 0 → step ≡ (if old.ended then steps.End else steps.Cut) → StepsOn telling old old step
   idle_steps old step bounded none is = idle_at old step bounded none old.ended refl is
 
   -- the first statement was found
-  pub found_steps : (old new : Run P) (s : Statement) (used : ℕ) (step : Step) → IsBounded old → 0 < length old.input.pending
+  pub found_steps : (old new : DayReader P) (s : Statement) (used : ℕ) (step : StepOutcome) → IsBounded old → 0 < length old.input.pending
       → Found s (drop used old.input.pending) ≡ first_statement (not old.ended) old.input.pending → used ≤ length old.input.pending → 0 < used
       → Carries telling old.session new.session s old.answers.items new.answers.items step
       → (step ≡ steps.Done → (new.input.pending ≡ drop used old.input.pending) × (new.number ≡ old.number + 1)) → new.input.taken ≡ old.input.taken → new.ended ≡ old.ended → StepsOn telling old new step
@@ -185,22 +185,22 @@ module _ {P : Type 0} (telling : P → Telling) where
   found_steps old new s used steps.Cut bounded some is within moves never goes read unended = absurd never
   found_steps old new s used steps.NoMemory bounded some is within moves later goes read unended = later
 
-  cut_at : (old new : Run P) (b : Bool) → old.ended ≡ b → Cut ≡ first_statement (not b) old.input.pending → new ≡ old → StepsOn telling old new steps.Cut
+  cut_at : (old new : DayReader P) (b : Bool) → old.ended ≡ b → Cut ≡ first_statement (not b) old.input.pending → new ≡ old → StepsOn telling old new steps.Cut
   cut_at old new true end is same = absurd (first_last old.input.pending (sym is))
   cut_at old new false unended is same = (same, unended, sym is)
 
   -- more of it is to be read
-  pub cut_steps : (old new : Run P) → Cut ≡ first_statement (not old.ended) old.input.pending → new ≡ old → StepsOn telling old new steps.Cut
+  pub cut_steps : (old new : DayReader P) → Cut ≡ first_statement (not old.ended) old.input.pending → new ≡ old → StepsOn telling old new steps.Cut
   cut_steps old new is same = cut_at old new old.ended refl is same
 
   -- ---- what is written
 
-  -- a front of the statements
+  -- the first statements
   front_is : (done later : List Statement) → take (length done) (done ++ later) ≡ done
   front_is done later = take-append_seam done later
 
-  -- what is written so far is a front of the day's lines
-  pub front_with : {t : Opening} (bytes : List ℕ) (before left taken taken' : Option (List ℕ)) (old : Run P) → TakesFront taken taken' old.answers.items
+  -- what is written so far is a prefix of the day's lines
+  pub front_with : {t : Opening} (bytes : List ℕ) (before left taken taken' : Option (List ℕ)) (old : DayReader P) → TakesFront taken taken' old.answers.items
       → (u : IsUnderWay telling t bytes before left taken old) → WroteFront t.tenants t.rows before taken' (day_of bytes).statements u.failed (machine_of old.session)
   front_with bytes before left taken taken' old front u =
       let later = (day_from u.count (has_more bytes) old.number (old.input.pending ++ in_window old.input.taken u.rest)).statements in
@@ -213,7 +213,7 @@ module _ {P : Type 0} (telling : P → Telling) where
       }
 
   -- the answers are written
-  pub written : {t : Opening} (bytes : List ℕ) (before left taken taken' : Option (List ℕ)) (old new : Run P) → Takes taken taken' old.answers.items → new.answers.items ≡ [] → new.input ≡ old.input → new.session ≡ old.session
+  pub written : {t : Opening} (bytes : List ℕ) (before left taken taken' : Option (List ℕ)) (old new : DayReader P) → Takes taken taken' old.answers.items → new.answers.items ≡ [] → new.input ≡ old.input → new.session ≡ old.session
       → new.number ≡ old.number → new.ended ≡ old.ended → IsUnderWay telling t bytes before left taken old → IsUnderWay telling t bytes before left taken' new
   written bytes before left taken taken' old new took none input session number unended u = record {
     rest = u.rest;
@@ -233,7 +233,7 @@ module _ {P : Type 0} (telling : P → Telling) where
   }
 
   -- a statement is carried out, and then the answers are written or not
-  pub done_turns : (left taken taken' : Option (List ℕ)) (old mid new : Run P) (result : Option Status) → StepsOn telling old mid steps.Done → WritesOn telling taken taken' mid new result
+  pub done_turns : (left taken taken' : Option (List ℕ)) (old mid new : DayReader P) (result : Option Status) → StepsOn telling old mid steps.Done → WritesOn telling taken taken' mid new result
       → Turns telling left left taken taken' old new result
   done_turns left taken taken' old mid new None steps writes = λ t bytes before u. writes left t bytes before (steps t bytes before left taken u)
   done_turns left taken taken' old mid new (Some status) steps writes = λ t bytes before u. writes left t bytes before (steps t bytes before left taken u)
@@ -254,7 +254,7 @@ module _ {P : Type 0} (telling : P → Telling) where
       let e : rest ≡ bytes = cc in
       (gives.0, gives.1, e ∙ gives.2)
 
-  pub filled : {t : Opening} (bytes : List ℕ) (before left left' taken : Option (List ℕ)) (old new : Run P) → Fills left left' old.input new.input (Ok More) → new.session ≡ old.session → new.answers.items ≡ old.answers.items
+  pub filled : {t : Opening} (bytes : List ℕ) (before left left' taken : Option (List ℕ)) (old new : DayReader P) → Fills left left' old.input new.input (Ok More) → new.session ≡ old.session → new.answers.items ≡ old.answers.items
       → new.number ≡ old.number → new.ended ≡ old.ended → old.ended ≡ false → first_statement true old.input.pending ≡ Cut → IsUnderWay telling t bytes before left taken old → IsUnderWay telling t bytes before left' taken new
   filled bytes before left left' taken old new (piece, some, short, pending, read, most, gives) session answers number same unended cut u =
       let g = given_rest left left' piece u.rest u.told gives in
@@ -284,7 +284,7 @@ module _ {P : Type 0} (telling : P → Telling) where
   nothing_left (Some bytes) rest told none = let e : bytes ≡ rest = cc in sym e ∙ none
 
   -- the end was read, which changes nothing else
-  pub end_read : {t : Opening} (bytes : List ℕ) (before left left' taken : Option (List ℕ)) (old new : Run P) → left' ≡ left → IfSome left (λ b. b ≡ []) → old.ended ≡ false → new.ended ≡ true → new.input ≡ old.input → new.session ≡ old.session
+  pub end_read : {t : Opening} (bytes : List ℕ) (before left left' taken : Option (List ℕ)) (old new : DayReader P) → left' ≡ left → IfSome left (λ b. b ≡ []) → old.ended ≡ false → new.ended ≡ true → new.input ≡ old.input → new.session ≡ old.session
       → new.answers.items ≡ old.answers.items → new.number ≡ old.number → IsUnderWay telling t bytes before left taken old → IsUnderWay telling t bytes before left' taken new
   end_read bytes before left left' taken old new same none unended end input session answers number u = record {
     rest = u.rest;
@@ -305,7 +305,7 @@ module _ {P : Type 0} (telling : P → Telling) where
 
   -- ---- the status
 
-  wrote : {t : Opening} (bytes : List ℕ) (before taken taken' : Option (List ℕ)) (r : Run P) (ending : DayEnd) → Takes taken taken' r.answers.items → (e : IsAtEnd telling t bytes before taken r ending)
+  wrote : {t : Opening} (bytes : List ℕ) (before taken taken' : Option (List ℕ)) (r : DayReader P) (ending : DayEnd) → Takes taken taken' r.answers.items → (e : IsAtEnd telling t bytes before taken r ending)
       → ((day_of bytes).ending ≡ ending) × Wrote t.tenants t.rows before taken' (day_of bytes).statements e.failed (machine_of r.session)
   wrote bytes before taken taken' r ending took e = (
     e.ends,
@@ -316,7 +316,7 @@ module _ {P : Type 0} (telling : P → Telling) where
     },
   )
 
-  wrote_front : {t : Opening} (bytes : List ℕ) (before taken taken' : Option (List ℕ)) (r : Run P) (ending : DayEnd) → TakesFront taken taken' r.answers.items → (e : IsAtEnd telling t bytes before taken r ending)
+  wrote_front : {t : Opening} (bytes : List ℕ) (before taken taken' : Option (List ℕ)) (r : DayReader P) (ending : DayEnd) → TakesFront taken taken' r.answers.items → (e : IsAtEnd telling t bytes before taken r ending)
       → WroteFront t.tenants t.rows before taken' (day_of bytes).statements e.failed (machine_of r.session)
   wrote_front bytes before taken taken' r ending front e = record {
     count = length (day_of bytes).statements;
@@ -325,7 +325,7 @@ module _ {P : Type 0} (telling : P → Telling) where
     took = TakesFront-then before taken taken' e.written r.answers.items e.took front;
   }
 
-  tells_bad : {t : Opening} (bytes : List ℕ) (before taken taken' : Option (List ℕ)) (r : Run P) (n : ℕ) (result : Status) → ClosesSo taken taken' r.answers.items (statuses.BadDay n) result → (e : IsAtEnd telling t bytes before taken r (Bad n))
+  tells_bad : {t : Opening} (bytes : List ℕ) (before taken taken' : Option (List ℕ)) (r : DayReader P) (n : ℕ) (result : Status) → ClosesSo taken taken' r.answers.items (statuses.BadDay n) result → (e : IsAtEnd telling t bytes before taken r (Bad n))
       → IsTold telling t bytes before taken' r result
   tells_bad {t = t} bytes before taken taken' r n result (inl (is, took)) e =
       let P : Status → Type 0 = λ s. IsTold telling t bytes before taken' r s in
@@ -334,7 +334,7 @@ module _ {P : Type 0} (telling : P → Telling) where
       let P : Status → Type 0 = λ s. IsTold telling t bytes before taken' r s in
       subst P (sym is) (record { failed = e.failed; tells = wrote_front bytes before taken taken' r (Bad n) front e; rose = e.rose })
 
-  tells_ok : {t : Opening} (bytes : List ℕ) (before taken taken' : Option (List ℕ)) (r : Run P) (result : Status) → ClosesSo taken taken' r.answers.items statuses.Ok result → (e : IsAtEnd telling t bytes before taken r Finished)
+  tells_ok : {t : Opening} (bytes : List ℕ) (before taken taken' : Option (List ℕ)) (r : DayReader P) (result : Status) → ClosesSo taken taken' r.answers.items statuses.Ok result → (e : IsAtEnd telling t bytes before taken r Finished)
       → IsTold telling t bytes before taken' r result
   tells_ok {t = t} bytes before taken taken' r result (inl (is, took)) e =
       let P : Status → Type 0 = λ s. IsTold telling t bytes before taken' r s in
@@ -344,12 +344,12 @@ module _ {P : Type 0} (telling : P → Telling) where
       subst P (sym is) (record { failed = e.failed; tells = wrote_front bytes before taken taken' r Finished front e; rose = e.rose })
 
   -- the same where nothing more is written
-  pub front_of : {t : Opening} (bytes : List ℕ) (before left taken : Option (List ℕ)) (old : Run P) (u : IsUnderWay telling t bytes before left taken old)
+  pub front_of : {t : Opening} (bytes : List ℕ) (before left taken : Option (List ℕ)) (old : DayReader P) (u : IsUnderWay telling t bytes before left taken old)
       → WroteFront t.tenants t.rows before taken (day_of bytes).statements u.failed (machine_of old.session)
   front_of bytes before left taken old u = front_with bytes before left taken taken old (took_nothing taken old.answers.items) u
 
   -- a fault cut what was written
-  pub write_told : {t : Opening} (bytes : List ℕ) (before left taken taken' : Option (List ℕ)) (old new : Run P) → new.session ≡ old.session → TakesFront taken taken' old.answers.items → IsUnderWay telling t bytes before left taken old
+  pub write_told : {t : Opening} (bytes : List ℕ) (before left taken taken' : Option (List ℕ)) (old new : DayReader P) → new.session ≡ old.session → TakesFront taken taken' old.answers.items → IsUnderWay telling t bytes before left taken old
       → IsTold telling t bytes before taken' new statuses.WriteFault
   write_told bytes before left taken taken' old new session front u = record {
     failed = u.failed;
@@ -357,8 +357,8 @@ module _ {P : Type 0} (telling : P → Telling) where
     rose = rw session u.rose;
   }
 
-  -- memory was wanted
-  pub want_told : {t : Opening} (bytes : List ℕ) (before left taken taken' : Option (List ℕ)) (old new : Run P) → (telling old.session.hall.store).faults ≤ (telling new.session.hall.store).faults → TakesFront taken taken' old.answers.items
+  -- there was no memory
+  pub want_told : {t : Opening} (bytes : List ℕ) (before left taken taken' : Option (List ℕ)) (old new : DayReader P) → (telling old.session.hall.store).faults ≤ (telling new.session.hall.store).faults → TakesFront taken taken' old.answers.items
       → IsUnderWay telling t bytes before left taken old → IsTold telling t bytes before taken' new statuses.NoMemory
   want_told {t = t} bytes before left taken taken' old new later front u = record {
     failed = u.failed;
@@ -367,7 +367,7 @@ module _ {P : Type 0} (telling : P → Telling) where
   }
 
   -- the day could not be read on
-  pub read_told : {t : Opening} (bytes : List ℕ) (before left taken : Option (List ℕ)) (old new : Run P) → new.session ≡ old.session → IsUnderWay telling t bytes before left taken old
+  pub read_told : {t : Opening} (bytes : List ℕ) (before left taken : Option (List ℕ)) (old new : DayReader P) → new.session ≡ old.session → IsUnderWay telling t bytes before left taken old
       → IsTold telling t bytes before taken new statuses.ReadFault
   read_told bytes before left taken old new session u = record {
     failed = u.failed;
@@ -375,14 +375,14 @@ module _ {P : Type 0} (telling : P → Telling) where
     rose = rw session u.rose;
   }
 
-  tells_none : {t : Opening} (bytes : List ℕ) (before left taken taken' : Option (List ℕ)) (old new : Run P) (result : Status) → (telling old.session.hall.store).faults ≤ (telling new.session.hall.store).faults → (result ≡ statuses.NoMemory) × (taken' ≡ taken)
+  tells_none : {t : Opening} (bytes : List ℕ) (before left taken taken' : Option (List ℕ)) (old new : DayReader P) (result : Status) → (telling old.session.hall.store).faults ≤ (telling new.session.hall.store).faults → (result ≡ statuses.NoMemory) × (taken' ≡ taken)
       → IsUnderWay telling t bytes before left taken old → IsTold telling t bytes before taken' new result
   tells_none {t = t} bytes before left taken taken' old new result later (is, same) u =
       let P : Status → Type 0 = λ s. IsTold telling t bytes before taken' new s in
       subst P (sym is) (rw same (want_told bytes before left taken taken old new later (took_nothing taken old.answers.items) u))
 
   -- a step that ends the day
-  pub step_tells : (old new : Run P) (left taken taken' : Option (List ℕ)) (step : Step) (result : Status) → (step ≡ steps.Done → ⊥) → (step ≡ steps.Cut → ⊥) → StepsOn telling old new step
+  pub step_tells : (old new : DayReader P) (left taken taken' : Option (List ℕ)) (step : StepOutcome) (result : Status) → (step ≡ steps.Done → ⊥) → (step ≡ steps.Cut → ⊥) → StepsOn telling old new step
       → Closes taken taken' new step result → (t : Opening) (bytes : List ℕ) (before : Option (List ℕ)) → IsUnderWay telling t bytes before left taken old → IsTold telling t bytes before taken' new result
   step_tells old new left taken taken' steps.Done result not_done not_cut on closes = absurd (not_done refl)
   step_tells old new left taken taken' steps.Cut result not_done not_cut on closes = absurd (not_cut refl)
@@ -395,7 +395,7 @@ module _ {P : Type 0} (telling : P → Telling) where
   some_left (Some bytes) rest told some = let e : bytes ≡ rest = cc in rw (← e) some
 
   -- where more bytes follow than a day may have
-  pub past_tells : {t : Opening} (bytes : List ℕ) (before left taken : Option (List ℕ)) (r new : Run P) → new.session ≡ r.session → first_statement true r.input.pending ≡ Cut → r.ended ≡ false → r.answers.items ≡ []
+  pub past_tells : {t : Opening} (bytes : List ℕ) (before left taken : Option (List ℕ)) (r new : DayReader P) → new.session ≡ r.session → first_statement true r.input.pending ≡ Cut → r.ended ≡ false → r.answers.items ≡ []
       → r.input.taken ≡ most_bytes → IfSome left (λ b. 0 < length b) → IsUnderWay telling t bytes before left taken r → IsTold telling t bytes before taken new statuses.DayTooLong
   past_tells bytes before left taken r new session cut unended answers most some u =
       let more : has_more bytes ≡ true = has_more-true bytes (omega (arith, u.all, most, some_left left u.rest u.told some)) in
@@ -409,7 +409,7 @@ pub if_some : {X : Type 0} (o : Option X) (P : X → Type 0) → ((x : X) → o 
 if_some None P holds = tt
 if_some (Some x) P holds = holds x refl
 
--- ---- what comes of writing alone
+-- ---- the outcome of writing alone
 
 pub if_none : {X P : Type 0} (o : Option X) → P → IfNone o P
 if_none None p = p
@@ -438,7 +438,7 @@ pub at_ok : {T E P : Type 0} (r : Result T E) (b : Bool) → b ≡ is_err r → 
 at_ok (Ok x) b is false_is holds = holds
 at_ok (Err x) b is false_is holds = absurd (false≢true (sym false_is ∙ is))
 
-pub begins_bounded : {P : Type 0} (r : Run P) → r.input.pending ≡ [] → r.input.taken ≡ 0 → r.number ≡ 1 → IsBounded r
+pub begins_bounded : {P : Type 0} (r : DayReader P) → r.input.pending ≡ [] → r.input.taken ≡ 0 → r.number ≡ 1 → IsBounded r
 begins_bounded r pending read number = record {
   bytes = rw (pending, read, number) (omega arith);
   most = rw read (omega arith);

@@ -23,7 +23,7 @@ no_bytes n xs =
     let e : n - n ≡ 0 = omega arith in
     rw e refl
 
--- nothing is searched yet behind this place
+-- nothing is searched yet after this place
 pub searched_at : (bytes : List ℕ) (line left : ℕ) → line ≤ length bytes → Awaits bytes line left → IsSearched bytes (record { line = line; searched = line; left = left })
 searched_at bytes line left within awaits = record {
   begins = omega arith;
@@ -49,7 +49,7 @@ searched_longer bytes piece s k =
           ∙ k.awaits (piece ++ later) (ap (lines_in true s.left) (sym (append_assoc (drop s.line bytes) piece later) ∙ ap (λ t. t ++ later) (sym behind)) ∙ cut);
     }
 
--- behind the place up to which was searched no newline stands either
+-- there is no newline after the searched bytes either
 pub none_behind : (bytes : List ℕ) (s : Search) → IsSearched bytes s → position is_newline (drop s.searched bytes) ≡ None → position is_newline (drop s.line bytes) ≡ None
 none_behind bytes s k none =
     sym (newline_at is_newline bytes s.line s.searched None k.begins k.within k.none (rw (take_rest bytes s.searched) (sym none)))
@@ -104,7 +104,7 @@ line_found bytes text s used k some is short =
     let first : first_line true (behind ++ later) ≡ LineIs text (drop (s.line + used) bytes ++ later) = line_longer true behind later (λ e. cc) ∙ rw is (ap (λ t. LineIs text (t ++ later)) rest) in
     k.awaits later (lines_more true s.left (behind ++ later) text (drop (s.line + used) bytes ++ later) some first ∙ ap (with_line text) cut))
 
--- the lines of logs behind the first newline are awaited
+-- the lines of logs after the first newline are awaited
 pub awaits_behind : (bytes text : List ℕ) (place run count : ℕ) → position is_newline bytes ≡ Some place → line_of (take place bytes) ≡ Some (Logs run count text) → Awaits bytes (place + 1) count
 unfolding first_statement
 awaits_behind bytes text place run count at is = λ later cut.

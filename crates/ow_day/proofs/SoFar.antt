@@ -1,7 +1,7 @@
 -- What was read of a day: how its statements go on, and what it leaves.
 use Rattle.std.proofs.Common.{◌≡◌, ◌<◌, ◌≤◌, ◌+◌, ◌-◌, ◌++◌, ℕ, zero, suc, true, false, List, [], ◌∷◌, Option, Some, None, IfSome, length, take, drop, refl, sym, ap, ◌∙◌, arith, append_assoc, append-nil, length-append, length-drop, length-take}
 use Rattle.std.proofs.lemmas.List.{take-append-drop}
-use Rattle.ow_day.specs.declared.run.Run.{Run}
+use Rattle.ow_day.specs.declared.run.DayReader.{DayReader}
 use Rattle.ow_day.specs.Limits.{most_bytes, most_piece}
 use Rattle.ow_day.specs.Statement.{Statement, End}
 use Rattle.ow_day.specs.Day.{Day, TooLong, ended, with_statements, Found, Cut, first_statement, day_step, day_from}
@@ -60,7 +60,7 @@ all_done read done n pending cut on = ap (λ (d : Day). d.statements) (so_far re
 
 -- ---- what was read
 
-pub read_at_start : {P : Type 0} (bytes : List ℕ) (r : Run P) → r.input.pending ≡ [] → r.input.taken ≡ 0 → r.number ≡ 1 → HasRead bytes bytes [] r
+pub read_at_start : {P : Type 0} (bytes : List ℕ) (r : DayReader P) → r.input.pending ≡ [] → r.input.taken ≡ 0 → r.number ≡ 1 → HasRead bytes bytes [] r
 read_at_start bytes r pending read number = record {
   front = [];
   last = [];
@@ -72,7 +72,7 @@ read_at_start bytes r pending read number = record {
 }
 
 -- a statement is carried out
-pub read_done : {P : Type 0} (bytes rest : List ℕ) (done : List Statement) (old new : Run P) (s : Statement) (used : ℕ) → 0 < length old.input.pending
+pub read_done : {P : Type 0} (bytes rest : List ℕ) (done : List Statement) (old new : DayReader P) (s : Statement) (used : ℕ) → 0 < length old.input.pending
     → (old.ended ≡ false → first_statement true old.input.pending ≡ Found s (drop used old.input.pending)) → 0 < used → (s ≡ End → ⊥)
     → new.input.pending ≡ drop used old.input.pending → new.input.taken ≡ old.input.taken → new.number ≡ old.number + 1 → new.ended ≡ old.ended
     → HasRead bytes rest done old → HasRead bytes rest (done ++ s ∷ []) new
@@ -87,8 +87,8 @@ read_done bytes rest done old new s used some is moves not_end pending read numb
       rw (pending, number) (done_on (h.front ++ h.last) done old.number used old.input.pending s some (is unended) moves not_end (h.goes_on unended));
 }
 
--- a run that has read the same
-pub read_same : {P : Type 0} (bytes rest : List ℕ) (done : List Statement) (old new : Run P) → new.input ≡ old.input → new.number ≡ old.number → (new.ended ≡ false → old.ended ≡ false)
+-- a reader that has read the same
+pub read_same : {P : Type 0} (bytes rest : List ℕ) (done : List Statement) (old new : DayReader P) → new.input ≡ old.input → new.number ≡ old.number → (new.ended ≡ false → old.ended ≡ false)
     → HasRead bytes rest done old → HasRead bytes rest done new
 read_same bytes rest done old new input number unended h = record {
   front = h.front;
@@ -101,7 +101,7 @@ read_same bytes rest done old new input number unended h = record {
 }
 
 -- the day isn't over in what was read, and one piece more was read
-pub read_more : {P : Type 0} (bytes rest rest' piece : List ℕ) (done : List Statement) (old new : Run P) → first_statement true old.input.pending ≡ Cut → old.ended ≡ false → rest ≡ piece ++ rest'
+pub read_more : {P : Type 0} (bytes rest rest' piece : List ℕ) (done : List Statement) (old new : DayReader P) → first_statement true old.input.pending ≡ Cut → old.ended ≡ false → rest ≡ piece ++ rest'
     → length piece ≤ most_piece → new.input.pending ≡ old.input.pending ++ piece → new.input.taken ≡ old.input.taken + length piece → new.number ≡ old.number
     → HasRead bytes rest done old → HasRead bytes rest' done new
 read_more bytes rest rest' piece done old new cut unended is short pending read number h =
@@ -118,7 +118,7 @@ read_more bytes rest rest' piece done old new cut unended is short pending read 
 
 -- ---- what is left
 
-pub leaves : {P : Type 0} (bytes rest : List ℕ) (done : List Statement) (left : Option (List ℕ)) (r : Run P) → left ≡ Some rest → r.input.taken ≤ most_bytes → HasRead bytes rest done r → LeavesRest bytes left
+pub leaves : {P : Type 0} (bytes rest : List ℕ) (done : List Statement) (left : Option (List ℕ)) (r : DayReader P) → left ≡ Some rest → r.input.taken ≤ most_bytes → HasRead bytes rest done r → LeavesRest bytes left
 leaves bytes rest done left r told most h = (
   rest,
   told,
@@ -132,8 +132,8 @@ leaves bytes rest done left r told most h = (
   },
 )
 
--- one byte was taken behind the most of a day
-pub leaves_past : {P : Type 0} (bytes rest : List ℕ) (done : List Statement) (left : Option (List ℕ)) (r : Run P) → left ≡ Some (drop 1 rest) → first_statement true r.input.pending ≡ Cut → r.ended ≡ false
+-- one byte more was taken than a day may have
+pub leaves_past : {P : Type 0} (bytes rest : List ℕ) (done : List Statement) (left : Option (List ℕ)) (r : DayReader P) → left ≡ Some (drop 1 rest) → first_statement true r.input.pending ≡ Cut → r.ended ≡ false
     → r.input.taken ≤ most_bytes → HasRead bytes rest done r → LeavesRest bytes left
 leaves_past bytes rest done left r told cut unended most h =
     let seen = h.front ++ h.last in

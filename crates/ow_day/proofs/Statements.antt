@@ -31,7 +31,7 @@ ends_wrong : (more : Bool) (s : Statement) (later : List ℕ) → at_end more Wr
 ends_wrong true s later e = not_cut s later e
 ends_wrong false s later e = not_wrong s later e
 
--- the request is found, of so many bytes
+-- the request of `count` bytes is found
 record IsAsked (count : ℕ) (bytes : List ℕ) (s : Statement) (later : List ℕ) : Type 0 where
   request : List ℕ
   is : Ask request ≡ s
@@ -63,7 +63,7 @@ asked_read more count bytes later s e =
     either (slice_index bytes count == 10) _ _ _ e (λ is e. asked_some count bytes later s (over (length bytes) count enough part) is e) (λ _ e.
     absurd (not_wrong s later e))))
 
--- ---- behind a line
+-- ---- after a line
 
 ask_printed : (line bytes later : List ℕ) (s : Statement) (count : ℕ) → IsWritten line (Asks count) → IsAsked count bytes s later → IsPrintable s × IsPrintedAt (line ++ 10 ∷ bytes) s later
 unfolding printed

@@ -1,4 +1,4 @@
--- What the words of a call of the day come to: their first refusal, or the action and its parameters.
+-- What the words of a call of the day result in: their first refusal, or the action and its parameters.
 use Rattle.std.specs.Prelude.{ℕ, Bool, List, Option, Some, None, Result, Ok, Err, if◌then◌else◌}
 use Rattle.percent_encoding.specs.Percent.{percent_decode}
 use Rattle.ow_value.specs.Value.{V, Pairs}
@@ -19,7 +19,7 @@ use Rattle.ow_day.specs.declared.call_words.CallWords.TheVariants.{Refused, Call
 
 -- ---- NAME
 
--- the percent-encoded full text of a name, whose namespace stands for itself
+-- the percent-encoded full text of a name, whose namespace is taken as it is
 unfoldable pub full_name : List ℕ → Result FullName NameRefusal
 full_name name = of_full_text (percent_decode name)
 

@@ -23,7 +23,7 @@ ended ending = record { statements = []; ending = ending }
 abbrev pub with_statements : List Statement → Day → Day
 with_statements done day = record { statements = done ++ day.statements; ending = day.ending }
 
--- what stands at the front of bytes: a statement and the bytes behind it, no statement, or one that is cut, since more
+-- how bytes begin: with a statement, whose following bytes are `rest`; with no statement; or with one that is cut, since more
 -- bytes come that aren't looked at
 pub data First : Type 0 where
   Found : (statement : Statement) (rest : List ℕ) → First
@@ -38,13 +38,13 @@ line_at more bytes None = if not (nat_lt most_line (length bytes)) && more then 
 
 -- ---- lines of logs
 
--- the first line of logs that stands in bytes, and what follows it; or that there is none; or that it is cut
+-- the first line of logs in bytes, and what follows it; or that there is none; or that it is cut
 pub data FirstLine : Type 0 where
   LineIs : (line rest : List ℕ) → FirstLine
   NoLine : FirstLine
   CutLine : FirstLine
 
--- so many lines of logs and what follows them; or that one of them is none; or that they are cut
+-- lines of logs and what follows them; or that one of them is no line of logs; or that they are cut
 pub data Lines : Type 0 where
   LinesAre : (lines : List (List ℕ)) (rest : List ℕ) → Lines
   NoLines : Lines
@@ -62,7 +62,7 @@ abbrev pub line_in : Option (List ℕ × List ℕ) → FirstLine
 line_in None = CutLine
 line_in (Some parts) = line_with (log_text parts.0) parts.1
 
--- a newline ends a line, or the end of the day, in front of which the line has at least a byte
+-- a line ends at a newline, or at the end of the day, where it has at least one byte
 unfoldable pub first_line : Bool → List ℕ → FirstLine
 first_line more bytes = if length bytes == 0 then (if more then CutLine else NoLine)
     else line_in (line_at more bytes (position is_newline bytes))
@@ -77,7 +77,7 @@ lines_step CutLine then' = CutLines
 lines_step NoLine then' = NoLines
 lines_step (LineIs line rest) then' = with_line line (then' rest)
 
--- the first lines of bytes, so many
+-- the first `count` lines of bytes
 unfoldable pub lines_in : Bool → ℕ → List ℕ → Lines
 lines_in more zero bytes = LinesAre [] bytes
 lines_in more (suc count) bytes = lines_step (first_line more bytes) (λ rest. lines_in more count rest)
@@ -89,19 +89,19 @@ abbrev pub at_end : Bool → First → First
 at_end true first = Cut
 at_end false first = first
 
--- so many bytes are asked by, of these: a newline follows them, or the end of the day
+-- the first `count` of these bytes are a request: a newline follows them, or the end of the day
 unfoldable pub asked : Bool → ℕ → List ℕ → First
 asked more count bytes = if nat_lt (length bytes) count then at_end more Wrong
     else (if length bytes == count then at_end more (Found (Ask bytes) [])
     else (if slice_index bytes count == 10 then Found (Ask (take count bytes)) (drop (count + 1) bytes) else Wrong))
 
--- these lines are told beside a runner's answer
+-- these lines are reported with a runner's answer
 abbrev pub logged : ℕ → List ℕ → Lines → First
 logged run text (LinesAre lines rest) = Found (Logged run text lines) rest
 logged run text NoLines = Wrong
 logged run text CutLines = Cut
 
--- what a line and the bytes behind it begin with
+-- what a line and the bytes after it begin with
 abbrev pub behind_line : Bool → Option Reading → List ℕ → First
 behind_line more None rest = Wrong
 behind_line more (Some (Whole statement)) rest = Found statement rest

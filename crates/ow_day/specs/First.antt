@@ -1,4 +1,4 @@
--- For private clauses: what stands at the front of bytes, of the code as the day's definition has it.
+-- For private clauses: the code's `First` as the `First` of the day's definition.
 use Rattle.std.specs.Prelude.{◌≡◌, ◌<◌, ◌≤◌, ℕ, Bool, true, List, Option, Some, length, drop}
 use Rattle.ow_day.specs.declared.first.First as code
 use Rattle.ow_day.specs.declared.first.First.TheVariants as firsts
@@ -18,7 +18,7 @@ abbrev pub IsWithin : List ℕ → code.First → Type 0
 IsWithin bytes (firsts.Found said used) = (used ≤ length bytes) × (0 < length bytes → 0 < used)
 IsWithin bytes other = Unit {0}
 
--- it is cut in its lines of logs, which so many are of behind this line
+-- it is cut in its lines of logs, of which `left` follow this line
 abbrev pub IsLogs : Option Reading → ℕ → Type 0
 IsLogs (Some (Logs run count text)) left = left ≡ count
 IsLogs other left = ⊥

@@ -21,19 +21,19 @@ pub record IsInput (bytes : List ℕ) (start : ℕ) (search : Search) (taken : �
   pub most : taken ≤ most_bytes
   pub piece : length room ≡ most_piece
 
--- these bytes were read from what was left, where that is told
+-- these bytes were read from what was left, where the source reports that
 abbrev pub Gives : Option (List ℕ) → Option (List ℕ) → List ℕ → Type 0
 Gives None new piece = Unit {0}
 Gives (Some bytes) new piece = (rest : List ℕ) × (new ≡ Some rest) × (bytes ≡ piece ++ rest)
 
--- what a read does: more bytes come behind those that wait, or they stay as they are, and one byte was taken or none
+-- what a read does: it appends more bytes to the pending ones; or these stay as they are, and one byte was taken or none
 abbrev pub Fills : Option (List ℕ) → Option (List ℕ) → InputView → InputView → Result Filled FillError → Type 0
 Fills left left' old new (Ok More) = (piece : List ℕ) × (0 < length piece) × (length piece ≤ most_piece) × (new.pending ≡ old.pending ++ piece) × (new.taken ≡ old.taken + length piece) × (new.taken ≤ most_bytes) × Gives left left' piece
 Fills left left' old new (Ok End) = (new ≡ old) × (left' ≡ left) × IfSome left (λ bytes. bytes ≡ [])
 Fills left left' old new (Ok Past) = (new ≡ old) × (left' ≡ option_map (drop 1) left) × (old.taken ≡ most_bytes) × IfSome left (λ bytes. 0 < length bytes)
 Fills left left' old new (Err e) = (new ≡ old) × (left' ≡ left)
 
--- the bytes that a read puts behind others
+-- the bytes that a read appends to others
 abbrev pub ReadsBehind : Option (List ℕ) → Option (List ℕ) → List ℕ → List ℕ → ℕ → Result ℕ FillError → Type 0
 ReadsBehind left left' old new space (Ok n) = (piece : List ℕ) × (length piece ≡ n) × (n ≤ space) × (new ≡ old ++ piece) × Gives left left' piece × (n ≡ 0 → (left' ≡ left) × IfSome left (λ bytes. bytes ≡ []))
 ReadsBehind left left' old new space (Err e) = (new ≡ old) × (left' ≡ left)

@@ -13,6 +13,6 @@ most_line = 8388608
 abbrev pub most_piece : ℕ
 most_piece = 65536
 
--- where so many bytes of answers are ready, they are written, for private clauses
+-- as soon as this many bytes of answers are ready, they are written, for private clauses
 abbrev pub most_ready : ℕ
 most_ready = 1048576

@@ -12,7 +12,7 @@ read_lines (LinesAre lines rest) = lines
 read_lines NoLines = []
 read_lines CutLines = []
 
--- the lines of logs at the front of bytes, so many
+-- the first `count` lines of logs of bytes
 abbrev pub lines_of : ℕ → List ℕ → List (List ℕ)
 lines_of count bytes = read_lines (lines_in false count bytes)
 

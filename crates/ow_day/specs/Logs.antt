@@ -22,13 +22,13 @@ EndsSo more count bytes (all.Found end) = (lines : List (List ℕ)) × (end ≤ 
 EndsSo more count bytes all.Wrong = lines_in more count bytes ≡ NoLines
 EndsSo more count bytes all.Cut = lines_in more count bytes ≡ CutLines
 
--- these lines stand before others
+-- these lines come before others
 abbrev pub with_lines : List (List ℕ) → Lines → Lines
 with_lines done (LinesAre lines rest) = LinesAre (done ++ lines) rest
 with_lines done NoLines = NoLines
 with_lines done CutLines = CutLines
 
--- these lines were read of so many, and so many are left from this place on
+-- of `count` lines these were read, and `left` lines are left from this place on
 pub record AreRead (more : Bool) (count : ℕ) (bytes : List ℕ) (done : List (List ℕ)) (left from : ℕ) : Type 0 where
   pub within : from ≤ length bytes
   pub is : lines_in more count bytes ≡ with_lines done (lines_in more left (drop from bytes))

@@ -9,16 +9,16 @@ use Rattle.ow_day.specs.Limits.{most_line}
 use Rattle.ow_day.specs.Statement.{Statement, At, Call, Ask, Next, Begun, Answer, Logged, Exit, NoStart, Fault, Lost, Gone, Sweep, Turn, Collect, Drain, Reopen, End}
 use Rattle.ow_day.specs.Day.{Finished, Found, first_statement, day_of}
 
--- the lines of logs, each with a newline in front
+-- the lines of logs, each with a newline before it
 abbrev pub printed_logs : List (List ℕ) → List ℕ
 printed_logs [] = []
 printed_logs (line ∷ lines) = codes "\n" ++ (line ++ printed_logs lines)
 
--- the line in front of so many lines of logs
+-- the line before `count` lines of logs
 abbrev pub logs_head : ℕ → ℕ → List ℕ → List ℕ
 logs_head run count text = codes "logged " ++ (decimal run ++ (codes " " ++ (decimal count ++ (codes " " ++ text))))
 
--- a statement, without the newline behind it
+-- a statement, without the newline after it
 unfoldable pub printed : Statement → List ℕ
 printed (At moment) = codes "at " ++ decimal moment
 printed (Call name text) = codes "call " ++ (name ++ (codes " " ++ text))
@@ -39,7 +39,7 @@ printed Drain = codes "drain"
 printed Reopen = codes "reopen"
 printed End = codes "end"
 
--- the statements, each with a newline behind it
+-- the statements, each with a newline after it
 abbrev pub printed_day : List Statement → List ℕ
 printed_day ss = flat_map (λ s. printed s ++ codes "\n") ss
 
@@ -92,7 +92,7 @@ EndsInByte [] = Unit {0}
 EndsInByte (line ∷ []) = 0 < length line
 EndsInByte (line ∷ next ∷ lines) = EndsInByte (next ∷ lines)
 
--- the statement may end a day that has no newline behind it
+-- the statement may end a day without a newline after it
 abbrev pub MayEndDay : Statement → Type 0
 MayEndDay (Logged run text logs) = EndsInByte logs
 MayEndDay other = Unit {0}
@@ -108,7 +108,7 @@ abbrev pub IsPrintedAt : List ℕ → Statement → List ℕ → Type 0
 IsPrintedAt bytes s later = (bytes ≡ printed s ++ (codes "\n" ++ later))
     ⊎ (later ≡ []) × ((bytes ≡ printed s) ⊎ (bytes ++ codes "\n" ≡ printed s))
 
--- the statements in front of the first `end`
+-- the statements before the first `end`
 abbrev pub before_end : List Statement → List Statement
 before_end [] = []
 before_end (End ∷ ss) = []

@@ -4,11 +4,11 @@ use Rattle.ow_traits.specs.Telling.{Telling}
 use Rattle.ow_tenant.specs.Table.{Table}
 use Rattle.ow_day.specs.Limits.{most_bytes, most_piece}
 use Rattle.ow_day.specs.Day.{Day, TooLong, day_from}
-use Rattle.ow_items.specs.Sorted.{Entries}
+use Rattle.ow_row_text.specs.Sorted.{Entries}
 use Rattle.ow_day.specs.Machine.{Machine}
 use Rattle.ow_day.specs.Carried.{IsOpenedOver, Wrote}
 
--- the statements that stand whole in these bytes, behind which more may follow
+-- the statements that are complete in these bytes, where more bytes may follow
 abbrev pub day_so_far : List ℕ → Day
 day_so_far bytes = day_from (length bytes + 1) true 1 bytes
 
@@ -16,7 +16,7 @@ day_so_far bytes = day_from (length bytes + 1) true 1 bytes
 abbrev pub IsUnfinished : List ℕ → Type 0
 IsUnfinished bytes = (day_so_far bytes).ending ≡ TooLong
 
--- of the bytes of a day the rest is left: read were a front, in which the day isn't over, and the last piece behind it
+-- of the bytes of a day `rest` is left. What was read is a prefix in which the day isn't over, and the last piece after it
 pub record IsLeft (bytes rest : List ℕ) : Type 0 where
   pub front : List ℕ
   pub last : List ℕ
@@ -25,11 +25,11 @@ pub record IsLeft (bytes rest : List ℕ) : Type 0 where
   pub piece : length last ≤ most_piece
   pub most : length front + length last ≤ most_bytes + 1
 
--- the source tells what is left of the bytes of a day
+-- the source reports what is left of the bytes of a day
 abbrev pub LeavesRest : List ℕ → Option (List ℕ) → Type 0
 LeavesRest bytes left = (rest : List ℕ) × (left ≡ Some rest) × IsLeft bytes rest
 
--- all that was read of the bytes of a day is answered: the lines of each statement that stands whole in it were written
+-- all that was read of the bytes of a day is answered: the lines of each statement that is complete in it were written
 pub record IsAnswered (t : Table) (rows : Entries) (bytes : List ℕ) (left old new : Option (List ℕ)) : Type 0 where
   pub read : List ℕ
   pub rest : List ℕ

@@ -27,8 +27,8 @@ pub data Statement : Type 0 where
   Reopen : Statement
   End : Statement
 
--- what a line is: a whole statement, or the head of one that asks by so many bytes behind it, or tells so many lines of
--- logs there
+-- what a line is: a whole statement, or the head of a request of `count` bytes after it, or the head of `count` lines of logs
+-- after it
 pub data Reading : Type 0 where
   Whole : (statement : Statement) → Reading
   Asks : (count : ℕ) → Reading
@@ -67,7 +67,7 @@ abbrev pub numbered_in : Option (List ℕ × List ℕ) → Option (ℕ × List �
 numbered_in None = None
 numbered_in (Some parts) = with_number (decimal_of parts.0) parts.1
 
--- the number in front of the first space, and what follows the space
+-- the number before the first space, and what follows the space
 unfoldable pub numbered : List ℕ → Option (ℕ × List ℕ)
 numbered rest = numbered_in (parted rest)
 
@@ -184,7 +184,7 @@ collected (Some id) = Some (Whole (Collect id))
 unfoldable pub collect_of : List ℕ → Option Reading
 collect_of rest = collected (id_of_lower rest)
 
--- the line that tells of a container
+-- a line that reports on a container
 unfoldable pub container_of : List ℕ → List ℕ → Option Reading
 container_of word rest = if bytes_eq word (codes "begun") then begun_of rest
     else (if bytes_eq word (codes "lost") then lost_of rest

@@ -36,8 +36,8 @@ use Rattle.ow_decide.specs.declared.replies.HallCollected.TheVariants as collect
 use Rattle.ow_invoker.specs.declared.turn.TurnStep.{TurnStep}
 use Rattle.ow_invoker.specs.declared.turn.TurnStep.TheVariants as steps
 use Rattle.ow_invoker.specs.declared.turn.Turned.{Turned}
-use Rattle.ow_day.specs.declared.done.Done.{Done}
-use Rattle.ow_day.specs.declared.done.Done.TheVariants as done
+use Rattle.ow_day.specs.declared.statement_outcome.StatementOutcome.{StatementOutcome}
+use Rattle.ow_day.specs.declared.statement_outcome.StatementOutcome.TheVariants as outcomes
 
 -- one line for each thing that happened
 abbrev pub happening_text : Happening → List ℕ
@@ -99,7 +99,7 @@ no_run_text run = codes "refused 29 No run " ++ (decimal run ++ codes ".\n")
 abbrev pub not_found_text : List ℕ
 not_found_text = codes "refused 14 The resource does not exist.\n"
 
--- why what is told of a container isn't taken
+-- why the report on a container isn't accepted
 abbrev pub denied_text : FloorRefusal → List ℕ
 denied_text (refusals.NoRun run) = no_run_text run
 denied_text (refusals.NoSlot slot kept) = codes "refused 28 No slot " ++ (decimal slot ++ (codes " of that generation: " ++ (decimal kept ++ codes " kept.\n")))
@@ -147,7 +147,7 @@ collected_text (collected.Reply answer) = reply_text answer
 collected_text collected.NotYet = codes "not yet\n"
 collected_text collected.Unknown = not_found_text
 
--- one line for each thing that a turn tells behind its order
+-- one line for each thing that a turn reports after its order
 abbrev pub step_text : TurnStep → List ℕ
 step_text (steps.Lost run) = codes "lost " ++ (decimal run ++ codes "\n")
 step_text (steps.Gone slot generation) = codes "gone " ++ (decimal slot ++ (codes " " ++ (decimal generation ++ codes "\n")))
@@ -158,24 +158,24 @@ abbrev pub steps_text : List TurnStep → List ℕ
 steps_text [] = []
 steps_text (step ∷ rest) = step_text step ++ steps_text rest
 
--- what was to run in a turn, and what came of it
+-- what was to run in a turn, and the outcome
 abbrev pub turned_text : Turned → List ℕ
 turned_text turned = order_text turned.order ++ steps_text turned.steps
 
--- the lines of what comes of a statement
-abbrev pub lines_of : Done → List ℕ
-lines_of done.Silent = []
-lines_of (done.Refused reason) = refused_text reason
-lines_of (done.Asked reply) = asked_text reply
-lines_of (done.Called called) = called_text called
-lines_of (done.Ordered order) = order_text order
-lines_of (done.Answered answered) = answered_text answered
-lines_of (done.NoRun run) = no_run_text run
-lines_of done.Taken = codes "ok\n"
-lines_of (done.Denied refusal) = denied_text refusal
-lines_of (done.Swept swept) = swept_text swept
-lines_of (done.Collected collected) = collected_text collected
-lines_of (done.Turned turned) = turned_text turned
-lines_of (done.Drained drain) = drain_text drain
-lines_of (done.Reopened happened) = reopened_text happened
-lines_of done.StoreFault = codes "store fault\n"
+-- the lines of the outcome of a statement
+abbrev pub lines_of : StatementOutcome → List ℕ
+lines_of outcomes.Silent = []
+lines_of (outcomes.Refused reason) = refused_text reason
+lines_of (outcomes.Asked reply) = asked_text reply
+lines_of (outcomes.Called called) = called_text called
+lines_of (outcomes.Ordered order) = order_text order
+lines_of (outcomes.Answered answered) = answered_text answered
+lines_of (outcomes.NoRun run) = no_run_text run
+lines_of outcomes.Taken = codes "ok\n"
+lines_of (outcomes.Denied refusal) = denied_text refusal
+lines_of (outcomes.Swept swept) = swept_text swept
+lines_of (outcomes.Collected collected) = collected_text collected
+lines_of (outcomes.Turned turned) = turned_text turned
+lines_of (outcomes.Drained drain) = drain_text drain
+lines_of (outcomes.Reopened happened) = reopened_text happened
+lines_of outcomes.StoreFault = codes "store fault\n"

@@ -1,4 +1,4 @@
-// What the words of a call come to.
+// What the words of a call result in.
 ghost use Rattle.std.specs.Prelude.{◌≡◌, ◌≢◌, Ok, Err, IfOk, MatchResult};
 ghost use Rattle.ow_value.specs.Read.{reading};
 ghost use Rattle.ow_value.specs.View.{view};
@@ -12,7 +12,7 @@ use ow_value::{NoMemory, Params, Scratch, Val, ValueRefusal, read_val_in};
 use percent_encoding::percent_decode;
 use std::alloc::Global;
 
-/// What the words of a call come to.
+/// What the words of a call result in.
 #[derive(Drop)]
 pub enum CallWords {
     /// They are refused.
@@ -21,7 +21,7 @@ pub enum CallWords {
     Calls { name: FullName, params: Params },
 }
 
-/// What the words of a call come to, over a book that is full or not. The book is looked at first, then the name, then
+/// What the words of a call result in, over a book that is full or not. The book is looked at first, then the name, then
 /// the text.
 pub fn call_words(
     alloc: Global,

@@ -10,10 +10,10 @@ ghost use Rattle.ow_day.specs.First.{AwaitsBehind, AwaitsLines, AwaitsNone, IsWi
 use crate::line::{LONGEST_LINE, Line, Statement, line_of};
 use crate::logs::{LogLines, lines_end};
 
-/// What stands at the front of bytes.
+/// How bytes begin.
 #[derive(Clone, Copy)]
 pub enum First<'a> {
-    /// A statement, which has so many bytes with what ends it.
+    /// A statement, which has `used` bytes together with what ends it.
     Found {
         statement: Statement<'a>,
         used: usize,
@@ -22,14 +22,14 @@ pub enum First<'a> {
     Wrong,
     /// One whose end isn't among them.
     Cut,
-    /// One whose lines of logs aren't all among them: so many, of which the first begins at this place.
+    /// One whose lines of logs aren't all among them: it has `left` of them, of which the first begins at `line`.
     Awaits {
         line: usize,
         left: u64,
     },
 }
 
-/// The first statement of the bytes, whose first newline stands at this place. `more` says that more bytes may come.
+/// The first statement of the bytes, whose first newline is at this place. `more` says that more bytes may come.
 #[tactic(auto, unfolding(crate::specs::Day::first_statement))]
 pub fn first_statement(more: bool, bytes: &[u8], newline: Option<usize>) -> First<'_>
     requires { newline ≡ position is_newline bytes.now }
@@ -62,7 +62,7 @@ fn is_cut(more: bool, bytes: &[u8]) -> bool
     bytes.len() <= LONGEST_LINE && more
 }
 
-// What begins with this line, behind which so many bytes of all are gone.
+// What begins with this line. `behind` is how many bytes the line has together with what ends it.
 fn behind_line<'a>(more: bool, line: Option<Line<'a>>, bytes: &'a [u8], behind: usize) -> First<'a>
     requires within { behind ≤ length bytes.now }
     requires some { 0 < length bytes.now → 0 < behind }
@@ -81,7 +81,7 @@ fn behind_line<'a>(more: bool, line: Option<Line<'a>>, bytes: &'a [u8], behind: 
     }
 }
 
-// The answer of a run, with so many lines of logs behind these bytes.
+// The answer of a run, with `count` lines of logs after the first `behind` bytes.
 fn logged<'a>(
     more: bool,
     run: u64,
@@ -110,7 +110,7 @@ fn logged<'a>(
     }
 }
 
-// The request of so many bytes behind these.
+// The request of `count` bytes after the first `behind` bytes.
 #[tactic(auto, unfolding(crate::specs::Day::asked))]
 fn asked(more: bool, count: usize, bytes: &[u8], behind: usize) -> First<'_>
     requires within { behind ≤ length bytes.now }

@@ -19,10 +19,10 @@ const PIECE: usize = 65_536;
 /// What was read of a day and isn't carried out yet.
 #[derive(Drop)]
 pub struct Input {
-    // Those that wait, behind the first `start`, which are carried out.
+    // The first `start` bytes are carried out. The pending bytes follow them.
     bytes: Vec<u8>,
     start: usize,
-    // How far those that wait were searched.
+    // How far the pending bytes were searched.
     search: Search,
     // How many bytes were read in all.
     taken: usize,
@@ -48,7 +48,7 @@ pub enum Filled {
     More,
     /// The end of the day.
     End,
-    /// A byte behind the most bytes that a day may have.
+    /// One byte more than a day may have.
     Past,
 }
 
@@ -103,7 +103,7 @@ impl Input {
         place
     }
 
-    /// The first statement awaits so many lines of logs, of which the first begins at this place.
+    /// The first statement awaits `left` lines of logs, of which the first begins at `line`.
     pub fn await_lines(&mut self, line: usize, left: u64)
         requires within { line ≤ length self.old.pending }
         requires awaits { Awaits self.old.pending line left }
@@ -126,7 +126,7 @@ impl Input {
         cut
     }
 
-    /// Lets go of the first `n` bytes that wait.
+    /// Drops the first `n` pending bytes.
     pub fn skip(&mut self, n: usize)
         requires { n ≤ length self.old.pending }
         ensures pending { self.new.pending ≡ drop n self.old.pending }
@@ -136,7 +136,7 @@ impl Input {
         self.search = Search::new();
     }
 
-    // Moves the bytes that wait to the front of their memory.
+    // Moves the pending bytes to the start of their memory.
     fn compact(&mut self)
         ensures { self.new ≡ self.old }
     {
@@ -150,7 +150,7 @@ impl Input {
     /// Reads a piece of what is left of the day, in one call of the source.
     pub fn fill<S: Source>(&mut self, source: &mut S) -> Result<Filled, FillError>
         ensures told { Fills (S.left source.old) (S.left source.new) self.old self.new result }
-        ensures later { S.faults source.old ≤ S.faults source.new }
+        ensures faults_grow { S.faults source.old ≤ S.faults source.new }
         ensures cause { result ≡ Err FillError.Failed → Rose (S.faults source.old) (S.faults source.new) }
     {
         self.compact();
@@ -167,7 +167,7 @@ impl Input {
     }
 }
 
-// Reads up to `space` bytes, and puts them behind those that are there. Its memory is taken before the read.
+// Reads up to `space` bytes, and appends them to `bytes`. The memory for them is taken before the read.
 fn read_behind<S: Source>(
     bytes: &mut Vec<u8>,
     source: &mut S,
@@ -177,7 +177,7 @@ fn read_behind<S: Source>(
     requires some { 0 < space }
     requires within { space ≤ length room.old }
     ensures told { ReadsBehind (S.left source.old) (S.left source.new) bytes.old.items bytes.new.items space result }
-    ensures later { S.faults source.old ≤ S.faults source.new }
+    ensures faults_grow { S.faults source.old ≤ S.faults source.new }
     ensures cause { result ≡ Err FillError.Failed → Rose (S.faults source.old) (S.faults source.new) }
 {
     if bytes.reserve(space).is_err() {
@@ -202,11 +202,11 @@ fn append(bytes: &mut Vec<u8>, piece: &[u8]) -> Result<(), FillError>
     }
 }
 
-// Looks whether a byte follows those that a day may have.
+// Whether a byte follows after the most bytes that a day may have.
 fn read_past<S: Source>(source: &mut S, room: &mut [u8]) -> Result<Filled, FillError>
     requires { 0 < length room.old }
     ensures told { IsPast (S.left source.old) (S.left source.new) result }
-    ensures later { S.faults source.old ≤ S.faults source.new }
+    ensures faults_grow { S.faults source.old ≤ S.faults source.new }
     ensures cause { result ≡ Err FillError.Failed → Rose (S.faults source.old) (S.faults source.new) }
 {
     match read_some(source, room, 1) {

@@ -17,7 +17,7 @@ pub fn read_statements_are_printed()
         → IsPrintable s × IsPrintedAt bytes s later }
 {}
 
-/// Statements that are printed one behind another are read back as a day of these statements, up to its `end`.
+/// Statements that are printed one after another are read back as a day of these statements, up to its `end`.
 pub fn printed_days_are_read_back()
     ensures { (ss : List Statement) → All IsPrintable ss → length (printed_day ss) ≤ most_bytes → DayIsReadBack ss }
 {}

@@ -32,9 +32,9 @@ pub enum Statement<'a> {
     Begun(u64),
     /// A runner's answer to the run of this number.
     Answer(u64, &'a str),
-    /// The same, with so many lines of logs at the front of these bytes.
+    /// The same, with this many lines of logs at the start of these bytes.
     Logged(u64, &'a str, u64, &'a [u8]),
-    /// The program of the run of this number ended with this status, and told nothing.
+    /// The program of the run of this number ended with this status, and gave no result.
     Exit(u64, u8),
     /// What the run of this number was to run did not start, for the reason in the text.
     NoStart(u64, &'a str),
@@ -48,11 +48,11 @@ pub enum Statement<'a> {
     Sweep,
     /// The answer to the request that waits for the activation of this id.
     Collect(Id),
-    /// What is to be done is done, and told.
+    /// What is to be done is done, and reported.
     Turn,
     /// No more calls are taken from now on.
     Drain,
-    /// The service is opened anew.
+    /// The service is reopened.
     Reopen,
     /// The day ends.
     End,
@@ -63,9 +63,9 @@ pub enum Statement<'a> {
 pub enum Line<'a> {
     /// A whole statement.
     Whole(Statement<'a>),
-    /// A request of so many bytes stands behind it.
+    /// A request of this many bytes follows it.
     Asks(usize),
-    /// An answer of the run of this number, with so many lines of logs behind it.
+    /// An answer of the run of this number, with this many lines of logs after it.
     Logs(u64, u64, &'a str),
 }
 
@@ -142,7 +142,7 @@ fn reply_of<'a>(word: &[u8], rest: &'a [u8]) -> Option<Line<'a>>
     container_of(word, rest)
 }
 
-// The line that tells of a container.
+// A line that reports on a container.
 #[tactic(auto, unfolding(crate::specs::Statement::container_of))]
 fn container_of<'a>(word: &[u8], rest: &'a [u8]) -> Option<Line<'a>>
     ensures { option_map reading result ≡ container_of word.now rest.now }
@@ -291,7 +291,7 @@ pub fn text_of(bytes: &[u8]) -> Option<&str>
     }
 }
 
-// The number in front of the first space, and what follows the space.
+// The number before the first space, and what follows the space.
 #[tactic(auto, unfolding(crate::specs::Statement::numbered))]
 fn numbered(rest: &[u8]) -> Option<(u64, &[u8])>
     ensures { option_map (λ p. (p.0, p.1.now)) result ≡ numbered rest.now }

@@ -1,4 +1,4 @@
-// The lines of logs that stand behind a statement.
+// The lines of logs that follow a statement.
 ghost use Rattle.std.specs.Prelude.{◌≡◌, ◌<◌, ◌≤◌, ◌++◌, [], ◌∷◌, length, drop, position, IfOk, OnOk};
 ghost use Rattle.ow_runners.specs.Program.{is_newline};
 ghost use Rattle.ow_day.specs.Day.{first_line, line_with, log_text};
@@ -9,10 +9,10 @@ use crate::line::{LONGEST_LINE, text_of};
 use ow_value::{Lines, NoMemory, Str};
 use std::alloc::Global;
 
-/// What stands at the front of bytes.
+/// The first line of logs of bytes.
 #[derive(Clone, Copy)]
 pub enum LogLine<'a> {
-    /// A line, which has so many bytes with what ends it.
+    /// A line, and the number of its bytes together with what ends it.
     Read(&'a str, usize),
     /// None.
     Wrong,
@@ -23,9 +23,9 @@ pub enum LogLine<'a> {
 /// Where lines of logs end.
 #[derive(Clone, Copy, Debug, PartialEq, Eq)]
 pub enum LogLines {
-    /// Behind so many bytes.
+    /// After this many bytes.
     Found(usize),
-    /// One of them is none.
+    /// One of them is no line of logs.
     Wrong,
     /// Their end isn't among the bytes.
     Cut,
@@ -73,7 +73,7 @@ fn line_with<'a>(line: &'a [u8], bytes: &[u8], used: usize) -> LogLine<'a>
     }
 }
 
-/// Where so many lines of logs end.
+/// Where `count` lines of logs end.
 pub fn lines_end(more: bool, count: u64, bytes: &[u8]) -> LogLines
     ensures { EndsSo more count bytes.now result }
 {
@@ -92,7 +92,7 @@ pub fn lines_end(more: bool, count: u64, bytes: &[u8]) -> LogLines
     LogLines::Found(from)
 }
 
-/// The lines of logs at the front of bytes, so many; none where one of them is none.
+/// The first `count` lines of logs of bytes; none at all where one of them is no line of logs.
 pub fn lines_of(alloc: Global, count: u64, bytes: &[u8]) -> Result<Lines, NoMemory>
     ensures { IfOk result (λ lines. lines ≡ lines_of count bytes.now) }
 {

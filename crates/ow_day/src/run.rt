@@ -1,5 +1,5 @@
-// A day read as a stream: each statement is carried out as soon as its bytes are there, and the answers are written before
-// more of the day is asked for, and as soon as a megabyte of them is ready.
+// A day read as a stream. Each statement is carried out as soon as its bytes are there. The answers are written before more of the
+// day is read, and as soon as a megabyte of them is ready.
 ghost use Rattle.std.specs.Prelude.{◌≡◌, ◌≢◌, ◌<◌, ◌≤◌, if◌then◌else◌, length, false, true, [], Some, None, OnOk, OnErr, IfSome, IfNone};
 ghost use Rattle.ow_hall.specs.Comes.{HoldsBook};
 ghost use Rattle.ow_hall.specs.History.{IsLegal};
@@ -14,20 +14,20 @@ ghost use Rattle.ow_day.specs.Run.{Closes, IsBounded, IsOfDay, StepsOn, Turns, W
 
 use crate::first::{First, first_statement};
 use crate::input::{FillError, Filled, Input};
-use crate::session::{Session, Step, Unopened};
+use crate::session::{Session, StepOutcome, Unopened};
+use ow_command_line::Status;
 use ow_hall::StartFault;
 use ow_tenant::Tenants;
 use ow_traits::{Failed, Keeper, Sink, Source, write_all};
-use ow_words::Status;
 use std::alloc::Global;
 
-/// Where so many bytes of answers are ready, they are written.
+/// As soon as this many bytes of answers are ready, they are written.
 const MOST_READY: usize = 1_048_576;
 
-/// A day under way: what was read of it, and the answers that aren't written yet. `number` is that of the
-/// next statement, counted from 1.
+/// The reader of a day: the session that carries out its statements, what was read of it, and the answers that aren't written yet.
+/// `number` is that of the next statement, counted from 1.
 #[derive(Drop)]
-pub struct Run<P: Keeper + Drop> {
+pub struct DayReader<P: Keeper + Drop> {
     pub session: Session<P>,
     pub input: Input,
     /// The end of the day was read.
@@ -36,7 +36,7 @@ pub struct Run<P: Keeper + Drop> {
     pub number: u64,
 }
 
-impl<P: Keeper + Drop> Run<P> {
+impl<P: Keeper + Drop> DayReader<P> {
     // Nothing is read of the day yet.
     fn new(alloc: Global, session: Session<P>, input: Input) -> Self
         ensures session { result.session ≡ session }
@@ -45,7 +45,7 @@ impl<P: Keeper + Drop> Run<P> {
         ensures answers { result.answers.items ≡ [] }
         ensures number { result.number ≡ 1 }
     {
-        Run {
+        DayReader {
             session,
             input,
             ended: false,
@@ -55,59 +55,63 @@ impl<P: Keeper + Drop> Run<P> {
     }
 
     // Carries out the first statement of what waits.
-    fn step(&mut self, alloc: Global) -> Step
+    fn step(&mut self, alloc: Global) -> StepOutcome
         requires { IsBounded self.old }
         ensures steps { StepsOn P.telling self.old self.new result }
-        ensures bounded { result ≡ Step.Done → IsBounded self.new }
-        ensures falls { result ≡ Step.Done → work self.new < work self.old }
-        ensures later { IsLater P.telling self.old.session self.new.session }
+        ensures bounded { result ≡ StepOutcome.Done → IsBounded self.new }
+        ensures falls { result ≡ StepOutcome.Done → work self.new < work self.old }
+        ensures faults_grow { IsLater P.telling self.old.session self.new.session }
     {
         if self.input.len() == 0 {
             return self.without_bytes();
         }
         if self.input.is_cut(!self.ended) {
-            return Step::Cut;
+            return StepOutcome::Cut;
         }
         let newline = self.input.newline();
         match first_statement(!self.ended, self.input.pending(), newline) {
             First::Found { statement, used } => {
                 let step = self.session.carry_out(alloc, statement, &mut self.answers);
-                if let Step::Done = step {
+                if let StepOutcome::Done = step {
                     self.input.skip(used);
                     self.number += 1;
                 }
                 step
             }
-            First::Wrong => Step::Bad,
-            First::Cut => Step::Cut,
+            First::Wrong => StepOutcome::Bad,
+            First::Cut => StepOutcome::Cut,
             First::Awaits { line, left } => {
                 self.input.await_lines(line, left);
-                Step::Cut
+                StepOutcome::Cut
             }
         }
     }
 
     // No byte waits.
-    fn without_bytes(&self) -> Step
-        ensures { result ≡ (if self.now.ended then Step.End else Step.Cut) }
+    fn without_bytes(&self) -> StepOutcome
+        ensures { result ≡ (if self.now.ended then StepOutcome.End else StepOutcome.Cut) }
     {
-        if self.ended { Step::End } else { Step::Cut }
+        if self.ended {
+            StepOutcome::End
+        } else {
+            StepOutcome::Cut
+        }
     }
 
     // Writes the answers, and ends as the step does.
-    fn close<O: Sink>(&self, out: &mut O, step: Step) -> Status
+    fn close<O: Sink>(&self, out: &mut O, step: StepOutcome) -> Status
         ensures told { Closes (O.taken out.old) (O.taken out.new) self.now step result }
         ensures own { IsOfDay result }
         ensures read { result ≢ Status.ReadFault }
         ensures write { result ≡ Status.WriteFault → Rose (O.faults out.old) (O.faults out.new) }
-        ensures later { O.faults out.old ≤ O.faults out.new }
+        ensures faults_grow { O.faults out.old ≤ O.faults out.new }
     {
         let status = match step {
-            Step::End => Status::Ok,
-            Step::Bad => Status::BadDay {
+            StepOutcome::End => Status::Ok,
+            StepOutcome::Bad => Status::BadDay {
                 statement: self.number,
             },
-            Step::Done | Step::Cut | Step::NoMemory => return Status::NoMemory,
+            StepOutcome::Done | StepOutcome::Cut | StepOutcome::NoMemory => return Status::NoMemory,
         };
         match write_all(out, &self.answers) {
             Ok(()) => status,
@@ -156,7 +160,7 @@ impl<P: Keeper + Drop> Run<P> {
         ensures session { self.new.session ≡ self.old.session }
         ensures fault { IfSome result (λ status. status ≡ Status.WriteFault) }
         ensures write { IfSome result (λ status. Rose (O.faults out.old) (O.faults out.new)) }
-        ensures later { O.faults out.old ≤ O.faults out.new }
+        ensures faults_grow { O.faults out.old ≤ O.faults out.new }
     {
         if self.answers.len() < MOST_READY {
             return None;
@@ -180,15 +184,15 @@ impl<P: Keeper + Drop> Run<P> {
         ensures falls { IfNone result (work self.new < work self.old) }
         ensures ready { IfNone result (length self.new.answers.items < most_ready) }
         ensures own { IfSome result IsOfDay }
-        ensures later { IsLater P.telling self.old.session self.new.session }
+        ensures faults_grow { IsLater P.telling self.old.session self.new.session }
         ensures read { result ≡ Some Status.ReadFault → Rose (S.faults day.old) (S.faults day.new) }
         ensures write { result ≡ Some Status.WriteFault → Rose (O.faults out.old) (O.faults out.new) }
         ensures day_later { S.faults day.old ≤ S.faults day.new }
         ensures out_later { O.faults out.old ≤ O.faults out.new }
     {
         match self.step(alloc) {
-            Step::Done => self.write_ready(out),
-            Step::Cut => self.read_on(day, out),
+            StepOutcome::Done => self.write_ready(out),
+            StepOutcome::Cut => self.read_on(day, out),
             step => Some(self.close(out, step)),
         }
     }
@@ -199,7 +203,7 @@ impl<P: Keeper + Drop> Run<P> {
         ensures legal { IsLegal self.session.hall.tenants self.session.hall.ledger.entries }
         ensures kept { HoldsBook (P.telling self.session.hall.store).rows self.session.hall.tenants self.session.hall.ledger }
     {
-        let Run { session, .. } = self;
+        let DayReader { session, .. } = self;
         session.finish()
     }
 }
@@ -233,10 +237,10 @@ pub fn run_day<S: Source, O: Sink, P: Keeper + Drop>(
             return (not_opened(why), store);
         }
     };
-    let mut run = Run::new(alloc, session, input);
+    let mut reader = DayReader::new(alloc, session, input);
     'turns: loop {
-        if let Some(status) = run.turn(alloc, day, out) {
-            return (status, run.finish());
+        if let Some(status) = reader.turn(alloc, day, out) {
+            return (status, reader.finish());
         }
     }
 }
@@ -252,7 +256,7 @@ pub fn not_opened(why: StartFault) -> Status
     }
 }
 
-// Writes the answers, and lets go of them.
+// Writes the answers, and drops them.
 fn flush<O: Sink>(answers: &mut Vec<u8>, out: &mut O) -> Result<(), Failed>
     ensures ok { OnOk result (Takes (O.taken out.old) (O.taken out.new) answers.old.items) }
     ensures none { OnOk result (answers.new.items ≡ []) }

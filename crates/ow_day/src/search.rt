@@ -6,14 +6,14 @@ ghost use Rattle.ow_day.specs.Search.{Awaits, IsCut, IsSearched};
 use crate::line::LONGEST_LINE;
 use crate::logs::{LogLine, first_line, newline_in};
 
-/// Places behind the front of the bytes that wait.
+/// Places in the pending bytes.
 #[derive(Clone, Copy, Debug, PartialEq, Eq)]
 pub struct Search {
     /// Where a line begins.
     pub line: usize,
-    /// Up to which no newline stands behind it.
+    /// From `line` up to this place there is no newline.
     pub searched: usize,
-    /// From that line on so many lines of logs belong to the first statement, where some are known to.
+    /// How many lines of logs from `line` on belong to the first statement, or 0 where none are known to.
     pub left: u64,
 }
 
@@ -30,7 +30,7 @@ impl Search {
     }
 }
 
-/// So many lines of logs are awaited, of which the first begins here.
+/// `left` lines of logs are awaited, of which the first begins at `line`.
 pub fn search_lines(bytes: &[u8], line: usize, left: u64) -> Search
     requires within { line ≤ length bytes.now }
     requires awaits { Awaits bytes.now line left }
@@ -43,7 +43,7 @@ pub fn search_lines(bytes: &[u8], line: usize, left: u64) -> Search
     }
 }
 
-/// The place of the first newline, and the search that goes on behind it.
+/// The place of the first newline, and the search from which to go on.
 pub fn search_on(bytes: &[u8], search: Search) -> (Option<usize>, Search)
     requires { IsSearched bytes.now search }
     ensures place { result.0 ≡ position is_newline bytes.now }
@@ -70,7 +70,7 @@ fn searched_whole(bytes: &[u8]) -> Search
     }
 }
 
-/// Goes over the lines of logs that are awaited, and tells whether the first statement is still cut.
+/// Goes over the lines of logs that are awaited, and returns whether the first statement is still cut.
 pub fn go_over(bytes: &[u8], search: Search) -> (bool, Search)
     requires { IsSearched bytes.now search }
     ensures cut { IsCut true bytes.now result.0 }
@@ -105,7 +105,7 @@ fn line_goes_on(bytes: &[u8], search: Search) -> (bool, Search)
     (bytes.len() - search.line <= LONGEST_LINE, next)
 }
 
-// The search behind the line, which ends.
+// The search after the line at `search.line`, or none where no complete line of logs begins there.
 fn behind_line(bytes: &[u8], search: Search) -> Option<Search>
     requires searched { IsSearched bytes.now search }
     requires left { 0 < search.left }

@@ -12,10 +12,10 @@ ghost use Rattle.ow_day.specs.Session.{Begins, CarriesOut, ComesTo, Denies, Goes
 ghost use Rattle.ow_day.specs.Statement.{Answer, Ask, At, Call, Exit, Fault, Logged, NoStart, Turn};
 
 use crate::call_words::{CallWords, call_words};
-use crate::done::Done;
 use crate::line::Statement;
 use crate::logs::lines_of;
-use crate::texts::push_done;
+use crate::statement_outcome::StatementOutcome;
+use crate::texts::push_outcome;
 use ow_decide::Reply;
 use ow_floor::{AnswerRefusal, FloorRefusal};
 use ow_hall::{Hall, StartFault, StartRefusal, SweepRefusal};
@@ -45,7 +45,7 @@ pub struct Session<P: Keeper + Drop> {
 
 /// What became of the first statement of a day.
 #[derive(Clone, Copy, Debug, PartialEq, Eq)]
-pub enum Step {
+pub enum StepOutcome {
     /// It was carried out.
     Done,
     /// It ends the day, or the day has no more.
@@ -102,26 +102,31 @@ impl<P: Keeper + Drop> Session<P> {
         store
     }
 
-    /// Carries out a statement, unless it ends the day, and puts its lines behind the answers.
-    pub fn carry_out(&mut self, alloc: Global, said: Statement<'_>, answers: &mut Vec<u8>) -> Step
+    /// Carries out a statement, unless it ends the day, and appends its lines to the answers.
+    pub fn carry_out(
+        &mut self,
+        alloc: Global,
+        said: Statement<'_>,
+        answers: &mut Vec<u8>,
+    ) -> StepOutcome
         ensures { CarriesOut P.telling self.old self.new (statement said.entry) answers.old.items answers.new.items result }
     {
         if let Statement::End = said {
-            return Step::End;
+            return StepOutcome::End;
         }
-        let Ok(done) = self.perform(alloc, said) else {
-            return Step::NoMemory;
+        let Ok(outcome) = self.perform(alloc, said) else {
+            return StepOutcome::NoMemory;
         };
-        let pushed = push_done(alloc, answers, &done);
-        drop(done);
+        let pushed = push_outcome(alloc, answers, &outcome);
+        drop(outcome);
         match pushed {
-            Ok(()) => Step::Done,
-            Err(NoMemory) => Step::NoMemory,
+            Ok(()) => StepOutcome::Done,
+            Err(NoMemory) => StepOutcome::NoMemory,
         }
     }
 
-    // What comes of a statement.
-    fn perform(&mut self, alloc: Global, said: Statement<'_>) -> Result<Done, NoMemory>
+    // The outcome of a statement.
+    fn perform(&mut self, alloc: Global, said: Statement<'_>) -> Result<StatementOutcome, NoMemory>
         ensures { ComesTo P.telling self.old self.new (Does (machine_of self.old) (statement said.entry)) result }
     {
         match said {
@@ -144,20 +149,25 @@ impl<P: Keeper + Drop> Session<P> {
             Statement::Turn => self.turn(alloc),
             Statement::Drain => self.drain(alloc),
             Statement::Reopen => self.reopen(alloc),
-            Statement::End => Ok(Done::Silent),
+            Statement::End => Ok(StatementOutcome::Silent),
         }
     }
 
     /// Sets the moment of the statements that follow, in milliseconds.
-    pub fn set_moment(&mut self, moment: u64) -> Done
+    pub fn set_moment(&mut self, moment: u64) -> StatementOutcome
         ensures { GoesTo P.telling self.old self.new (Does (machine_of self.old) (At moment)) result }
     {
         self.given = moment;
-        Done::Silent
+        StatementOutcome::Silent
     }
 
     /// Calls an action by its percent-encoded full name, with parameters as JSON text.
-    pub fn call(&mut self, alloc: Global, name: &str, text: &str) -> Result<Done, NoMemory>
+    pub fn call(
+        &mut self,
+        alloc: Global,
+        name: &str,
+        text: &str,
+    ) -> Result<StatementOutcome, NoMemory>
         ensures { ComesTo P.telling self.old self.new (Does (machine_of self.old) (Call name.now text.now)) result }
     {
         let full = self.hall.book().is_full(0);
@@ -165,23 +175,28 @@ impl<P: Keeper + Drop> Session<P> {
         self.call_with(alloc, words)
     }
 
-    fn call_with(&mut self, alloc: Global, words: CallWords) -> Result<Done, NoMemory>
+    fn call_with(&mut self, alloc: Global, words: CallWords) -> Result<StatementOutcome, NoMemory>
         ensures { ComesTo P.telling self.old self.new (Calls (machine_of self.old) words) result }
     {
         match words {
-            CallWords::Refused(reason) => Ok(Done::Refused(reason)),
+            CallWords::Refused(reason) => Ok(StatementOutcome::Refused(reason)),
             CallWords::Calls { name, params } => self.invoke(alloc, &name, params),
         }
     }
 
-    fn invoke(&mut self, alloc: Global, name: &FullName, params: Params) -> Result<Done, NoMemory>
+    fn invoke(
+        &mut self,
+        alloc: Global,
+        name: &FullName,
+        params: Params,
+    ) -> Result<StatementOutcome, NoMemory>
         ensures { ComesTo P.telling self.old self.new (Meets (machine_of self.old) (events.Called name.now params)) result }
     {
         let called = self.hall.call(alloc, self.given, name, params)?;
-        Ok(Done::Called(called))
+        Ok(StatementOutcome::Called(called))
     }
 
-    fn ask(&mut self, alloc: Global, bytes: &[u8]) -> Result<Done, NoMemory>
+    fn ask(&mut self, alloc: Global, bytes: &[u8]) -> Result<StatementOutcome, NoMemory>
         ensures { ComesTo P.telling self.old self.new (Does (machine_of self.old) (Ask bytes.now)) result }
     {
         match read(alloc, &self.routes, bytes)? {
@@ -190,21 +205,21 @@ impl<P: Keeper + Drop> Session<P> {
         }
     }
 
-    fn request(&mut self, alloc: Global, request: &Request) -> Result<Done, NoMemory>
+    fn request(&mut self, alloc: Global, request: &Request) -> Result<StatementOutcome, NoMemory>
         ensures { ComesTo P.telling self.old self.new (Meets (machine_of self.old) (events.Asked request.now)) result }
     {
         let reply = self.hall.ask(alloc, self.given, request)?;
-        Ok(Done::Asked(reply))
+        Ok(StatementOutcome::Asked(reply))
     }
 
-    fn next(&mut self, alloc: Global) -> Result<Done, NoMemory>
+    fn next(&mut self, alloc: Global) -> Result<StatementOutcome, NoMemory>
         ensures { ComesTo P.telling self.old self.new (Meets (machine_of self.old) events.Next) result }
     {
         let order = self.hall.next(alloc, self.given)?;
-        Ok(Done::Ordered(order))
+        Ok(StatementOutcome::Ordered(order))
     }
 
-    fn answer(&mut self, alloc: Global, run: u64, text: &str) -> Result<Done, NoMemory>
+    fn answer(&mut self, alloc: Global, run: u64, text: &str) -> Result<StatementOutcome, NoMemory>
         ensures { ComesTo P.telling self.old self.new (Does (machine_of self.old) (Answer run text.now)) result }
     {
         let text = Str::of(alloc, text)?;
@@ -219,7 +234,7 @@ impl<P: Keeper + Drop> Session<P> {
         text: &str,
         count: u64,
         logs: &[u8],
-    ) -> Result<Done, NoMemory>
+    ) -> Result<StatementOutcome, NoMemory>
         ensures { ComesTo P.telling self.old self.new (Does (machine_of self.old) (Logged run text.now (lines_of count logs.now))) result }
     {
         let text = Str::of(alloc, text)?;
@@ -227,66 +242,76 @@ impl<P: Keeper + Drop> Session<P> {
         self.reply(alloc, run, RunReply::Answer { text, logs })
     }
 
-    fn exit(&mut self, alloc: Global, run: u64, code: u8) -> Result<Done, NoMemory>
+    fn exit(&mut self, alloc: Global, run: u64, code: u8) -> Result<StatementOutcome, NoMemory>
         ensures { ComesTo P.telling self.old self.new (Does (machine_of self.old) (Exit run code)) result }
     {
         let ended = exited(code);
         self.reply(alloc, run, ended)
     }
 
-    fn no_start(&mut self, alloc: Global, run: u64, text: &str) -> Result<Done, NoMemory>
+    fn no_start(
+        &mut self,
+        alloc: Global,
+        run: u64,
+        text: &str,
+    ) -> Result<StatementOutcome, NoMemory>
         ensures { ComesTo P.telling self.old self.new (Does (machine_of self.old) (NoStart run text.now)) result }
     {
         let text = Str::of(alloc, text)?;
         self.reply(alloc, run, RunReply::NoStart { text })
     }
 
-    fn reply(&mut self, alloc: Global, run: u64, reply: RunReply) -> Result<Done, NoMemory>
+    fn reply(
+        &mut self,
+        alloc: Global,
+        run: u64,
+        reply: RunReply,
+    ) -> Result<StatementOutcome, NoMemory>
         ensures { ComesTo P.telling self.old self.new (Meets (machine_of self.old) (events.Answered run reply)) result }
     {
         match self.hall.answered(alloc, self.given, run, reply) {
-            Ok(answered) => Ok(Done::Answered(answered)),
+            Ok(answered) => Ok(StatementOutcome::Answered(answered)),
             Err(refused) => unanswered(refused),
         }
     }
 
-    fn begun(&mut self, run: u64) -> Done
+    fn begun(&mut self, run: u64) -> StatementOutcome
         ensures { GoesTo P.telling self.old self.new (Meets (machine_of self.old) (events.Begun run)) result }
     {
         told_of(self.hall.begun(self.given, run))
     }
 
-    fn lost(&mut self, run: u64) -> Done
+    fn lost(&mut self, run: u64) -> StatementOutcome
         ensures { GoesTo P.telling self.old self.new (Meets (machine_of self.old) (events.Lost run)) result }
     {
         told_of(self.hall.lost(self.given, run))
     }
 
-    fn gone(&mut self, slot: u32, generation: u32) -> Done
+    fn gone(&mut self, slot: u32, generation: u32) -> StatementOutcome
         ensures { GoesTo P.telling self.old self.new (Meets (machine_of self.old) (events.Gone slot generation)) result }
     {
         told_of(self.hall.gone(self.given, slot, generation))
     }
 
-    fn sweep(&mut self, alloc: Global) -> Result<Done, NoMemory>
+    fn sweep(&mut self, alloc: Global) -> Result<StatementOutcome, NoMemory>
         ensures { ComesTo P.telling self.old self.new (Meets (machine_of self.old) events.Sweep) result }
     {
         match self.hall.sweep(alloc, self.given) {
-            Ok(swept) => Ok(Done::Swept(swept)),
-            Err(SweepRefusal::StoreFault) => Ok(Done::StoreFault),
+            Ok(swept) => Ok(StatementOutcome::Swept(swept)),
+            Err(SweepRefusal::StoreFault) => Ok(StatementOutcome::StoreFault),
             Err(SweepRefusal::NoMemory) => Err(NoMemory),
         }
     }
 
-    fn collect(&mut self, alloc: Global, id: Id) -> Result<Done, NoMemory>
+    fn collect(&mut self, alloc: Global, id: Id) -> Result<StatementOutcome, NoMemory>
         ensures { ComesTo P.telling self.old self.new (Meets (machine_of self.old) (events.Collected id)) result }
     {
         let collected = self.hall.collect(alloc, self.given, &id)?;
-        Ok(Done::Collected(collected))
+        Ok(StatementOutcome::Collected(collected))
     }
 
     /// Asks what is to be done, and does it.
-    pub fn turn(&mut self, alloc: Global) -> Result<Done, NoMemory>
+    pub fn turn(&mut self, alloc: Global) -> Result<StatementOutcome, NoMemory>
         ensures { ComesTo P.telling self.old self.new (Does (machine_of self.old) Turn) result }
     {
         let turned = day_turn(
@@ -296,23 +321,23 @@ impl<P: Keeper + Drop> Session<P> {
             &mut self.runner,
             self.given,
         )?;
-        Ok(Done::Turned(turned))
+        Ok(StatementOutcome::Turned(turned))
     }
 
-    /// Takes no more invocations from now on, and tells whether all that were accepted have ended.
-    pub fn drain(&mut self, alloc: Global) -> Result<Done, NoMemory>
+    /// Takes no more invocations from now on, and returns whether all that were accepted have ended.
+    pub fn drain(&mut self, alloc: Global) -> Result<StatementOutcome, NoMemory>
         ensures { ComesTo P.telling self.old self.new (Meets (machine_of self.old) events.Drain) result }
     {
         let drain = self.hall.drain(alloc, self.given)?;
-        Ok(Done::Drained(drain))
+        Ok(StatementOutcome::Drained(drain))
     }
 
-    fn reopen(&mut self, alloc: Global) -> Result<Done, NoMemory>
+    fn reopen(&mut self, alloc: Global) -> Result<StatementOutcome, NoMemory>
         ensures { ComesTo P.telling self.old self.new (Meets (machine_of self.old) events.Reopened) result }
     {
         match self.hall.reopen_in_place(alloc, self.given) {
-            Ok(happened) => Ok(Done::Reopened(happened)),
-            Err(SweepRefusal::StoreFault) => Ok(Done::StoreFault),
+            Ok(happened) => Ok(StatementOutcome::Reopened(happened)),
+            Err(SweepRefusal::StoreFault) => Ok(StatementOutcome::StoreFault),
             Err(SweepRefusal::NoMemory) => Err(NoMemory),
         }
     }
@@ -347,14 +372,14 @@ fn read(
 }
 
 // The reply to bytes that are no request.
-fn unread(alloc: Global, refused: HttpRefusal) -> Result<Done, NoMemory>
-    ensures { IfOk result (λ done. done ≡ unread refused) }
+fn unread(alloc: Global, refused: HttpRefusal) -> Result<StatementOutcome, NoMemory>
+    ensures { IfOk result (λ outcome. outcome ≡ unread refused) }
 {
     let answer = refusal(alloc, &Reason::Http(refused))?;
-    Ok(Done::Asked(Reply::Now(answer)))
+    Ok(StatementOutcome::Asked(Reply::Now(answer)))
 }
 
-// The reply of a program that ended with this status, and told nothing.
+// The reply of a program that ended with this status, and gave no result.
 fn exited(code: u8) -> RunReply
     ensures { result ≡ replies.Exit (pos code) [] }
 {
@@ -363,23 +388,23 @@ fn exited(code: u8) -> RunReply
     RunReply::Exit { code, logs }
 }
 
-// What is told of a container was taken, or why not.
-fn told_of(told: Result<(), FloorRefusal>) -> Done
+// The report on a container was accepted, or why not.
+fn told_of(told: Result<(), FloorRefusal>) -> StatementOutcome
     ensures { result ≡ told_of told }
 {
     match told {
-        Ok(()) => Done::Taken,
-        Err(refusal) => Done::Denied(refusal),
+        Ok(()) => StatementOutcome::Taken,
+        Err(refusal) => StatementOutcome::Denied(refusal),
     }
 }
 
 // Why a runner's reply isn't taken.
-fn unanswered(refused: AnswerRefusal) -> Result<Done, NoMemory>
+fn unanswered(refused: AnswerRefusal) -> Result<StatementOutcome, NoMemory>
     ensures { Denies refused result }
 {
     match refused {
-        AnswerRefusal::NoRun { run, .. } => Ok(Done::NoRun(run)),
-        AnswerRefusal::StoreFault(_) => Ok(Done::StoreFault),
+        AnswerRefusal::NoRun { run, .. } => Ok(StatementOutcome::NoRun(run)),
+        AnswerRefusal::StoreFault(_) => Ok(StatementOutcome::StoreFault),
         AnswerRefusal::NoMemory(_) => Err(NoMemory),
     }
 }

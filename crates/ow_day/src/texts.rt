@@ -1,10 +1,10 @@
-// The lines that answer statements. Without memory a front of a line may stand behind those that are there.
+// The lines that answer statements. Out of memory, a prefix of a line may have been appended to the lines before it.
 ghost use Rattle.std.specs.Prelude.{◌≡◌, ◌++◌, OnOk, codes};
 ghost use Rattle.std.specs.Fmt.{decimal};
 ghost use Rattle.ow_records.specs.Id.{id_text};
 ghost use Rattle.ow_day.specs.Texts.{answered_text, asked_text, called_text, collected_text, container_text, containers_text, denied_text, drain_text, happening_text, happenings_text, idle_text, kind_text, late_text, lines_of, no_run_text, order_text, place_text, prewarm_text, refused_text, reopened_text, reply_text, run_text, start_text, step_text, steps_text, swept_text, turned_text};
 
-use crate::done::Done;
+use crate::statement_outcome::StatementOutcome;
 use itoa::Buffer;
 use ow_decide::{Called, HallCollected, Reply};
 use ow_floor::{
@@ -19,30 +19,34 @@ use ow_traits::Kind;
 use ow_value::NoMemory;
 use std::alloc::Global;
 
-/// Puts the lines of what comes of a statement.
-pub fn push_done(alloc: Global, answers: &mut Vec<u8>, done: &Done) -> Result<(), NoMemory>
-    ensures ok { OnOk result (answers.new.items ≡ answers.old.items ++ lines_of done.now) }
+/// Puts the lines of the outcome of a statement.
+pub fn push_outcome(
+    alloc: Global,
+    answers: &mut Vec<u8>,
+    outcome: &StatementOutcome,
+) -> Result<(), NoMemory>
+    ensures ok { OnOk result (answers.new.items ≡ answers.old.items ++ lines_of outcome.now) }
 {
-    match done {
-        Done::Silent => Ok(()),
-        Done::Refused(reason) => push_refused(alloc, answers, reason),
-        Done::Asked(reply) => push_asked(alloc, answers, reply),
-        Done::Called(called) => push_called(alloc, answers, called),
-        Done::Ordered(order) => push_order(answers, order),
-        Done::Answered(answered) => push_answered(answers, answered),
-        Done::NoRun(run) => push_no_run(answers, *run),
-        Done::Taken => push(answers, b"ok\n"),
-        Done::Denied(refusal) => push_denied(answers, *refusal),
-        Done::Swept(swept) => push_swept(answers, swept),
-        Done::Collected(collected) => push_collected(alloc, answers, collected),
-        Done::Turned(turned) => push_turned(answers, turned),
-        Done::Drained(drain) => push_drain(answers, *drain),
-        Done::Reopened(happened) => push_reopened(answers, happened),
-        Done::StoreFault => push(answers, b"store fault\n"),
+    match outcome {
+        StatementOutcome::Silent => Ok(()),
+        StatementOutcome::Refused(reason) => push_refused(alloc, answers, reason),
+        StatementOutcome::Asked(reply) => push_asked(alloc, answers, reply),
+        StatementOutcome::Called(called) => push_called(alloc, answers, called),
+        StatementOutcome::Ordered(order) => push_order(answers, order),
+        StatementOutcome::Answered(answered) => push_answered(answers, answered),
+        StatementOutcome::NoRun(run) => push_no_run(answers, *run),
+        StatementOutcome::Taken => push(answers, b"ok\n"),
+        StatementOutcome::Denied(refusal) => push_denied(answers, *refusal),
+        StatementOutcome::Swept(swept) => push_swept(answers, swept),
+        StatementOutcome::Collected(collected) => push_collected(alloc, answers, collected),
+        StatementOutcome::Turned(turned) => push_turned(answers, turned),
+        StatementOutcome::Drained(drain) => push_drain(answers, *drain),
+        StatementOutcome::Reopened(happened) => push_reopened(answers, happened),
+        StatementOutcome::StoreFault => push(answers, b"store fault\n"),
     }
 }
 
-// Puts the bytes behind those that are there.
+// Appends the bytes to the answers.
 fn push(answers: &mut Vec<u8>, bytes: &[u8]) -> Result<(), NoMemory>
     ensures ok { OnOk result (answers.new.items ≡ answers.old.items ++ bytes.now) }
 {
@@ -185,7 +189,7 @@ fn push_answered(answers: &mut Vec<u8>, answered: &Answered) -> Result<(), NoMem
     }
 }
 
-// Puts the line of a reply that comes behind the end of what its run carried.
+// Puts the line of a reply that comes after the end of what its run carried.
 fn push_late(answers: &mut Vec<u8>, run: u64, at: u64) -> Result<(), NoMemory>
     ensures ok { OnOk result (answers.new.items ≡ answers.old.items ++ late_text run at) }
 {
@@ -203,7 +207,7 @@ fn push_no_run(answers: &mut Vec<u8>, run: u64) -> Result<(), NoMemory>
     push_with(answers, b"refused 29 No run ", run, b".\n")
 }
 
-// Puts the line of what is told of a container, and isn't taken.
+// Puts the line of a report on a container that isn't accepted.
 fn push_denied(answers: &mut Vec<u8>, refusal: FloorRefusal) -> Result<(), NoMemory>
     ensures ok { OnOk result (answers.new.items ≡ answers.old.items ++ denied_text refusal) }
 {
@@ -248,7 +252,7 @@ fn push_gone(answers: &mut Vec<u8>, slot: u32, generation: u32) -> Result<(), No
     push(answers, b"\n")
 }
 
-// Puts the line of one thing that a turn tells.
+// Puts the line of one thing that a turn reports.
 fn push_step(answers: &mut Vec<u8>, step: &TurnStep) -> Result<(), NoMemory>
     ensures ok { OnOk result (answers.new.items ≡ answers.old.items ++ step_text step.now) }
 {

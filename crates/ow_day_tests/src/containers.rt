@@ -1,4 +1,4 @@
-// Days of containers: what is told of them, sweeps, and turns that keep them.
+// Days of containers: reports on them, sweeps, and turns that keep them.
 use crate::days::is_answered;
 use std::test::Fail;
 
@@ -177,7 +177,7 @@ run 3 00000000000000000000000000000002 slot 0 gen 2 cold
 recorded 00000000000000000000000000000002 0
 ",
     ),
-    // Another version starts anew.
+    // Another version starts in a new container.
     (
         b"ask 173
 PUT /api/v1/namespaces/_/actions/a HTTP/1.1\r

@@ -1,7 +1,7 @@
 // Days and words, with what the office answers and writes for them.
+use ow_command_line::Status;
 use ow_office::office;
 use ow_traits::{MemoryKeeper, MemorySink, MemorySource};
-use ow_words::Status;
 use std::alloc::Global;
 use std::test::Fail;
 
@@ -35,7 +35,7 @@ fn over_table(day: &[u8]) -> Given<'_> {
     }
 }
 
-// What came of one call of the office.
+// The outcome of one call of the office.
 #[derive(Drop)]
 pub struct Told {
     pub status: Status,
@@ -45,7 +45,7 @@ pub struct Told {
     pub err: MemorySink,
 }
 
-// The value, in a box, since each way out of a function lets go of what it holds: of a box by one call.
+// The value, in a box, since each return path of a function drops what it holds: a box by one call.
 pub fn held<T: Drop>(alloc: Global, value: T) -> Result<Box<T>, Fail> {
     match Box::new(alloc, value) {
         Ok(held) => Ok(held),
@@ -89,7 +89,7 @@ pub fn source_of(alloc: Global, bytes: &[u8], failing: &[u64]) -> Result<MemoryS
     Ok(MemorySource::new(bytes, failing.to_vec(alloc)?))
 }
 
-// What comes of a call that is given this.
+// The outcome of a call that is given this.
 pub fn office_over(alloc: Global, given: Given<'_>) -> Result<Box<Told>, Fail> {
     let words = words_of(alloc, given.words)?;
     let failing = given.failing_writes.to_vec(alloc)?;
@@ -99,7 +99,7 @@ pub fn office_over(alloc: Global, given: Given<'_>) -> Result<Box<Told>, Fail> {
     held(alloc, told_over(alloc, &words, table, day, out))
 }
 
-// Whether the day is answered by this text, and this line tells how it ends: none where all of it is carried out.
+// Whether the day is answered by this text, and this line reports how it ends: no line where all of it is carried out.
 pub fn is_answered(alloc: Global, day: &[u8], text: &[u8], line: &[u8]) -> Result<bool, Fail> {
     let told = office_over(alloc, over_table(day))?;
     Ok(told.out.bytes() == text && told.err.bytes() == line)
@@ -111,13 +111,13 @@ fn ends_in(alloc: Global, day: &[u8], text: &[u8]) -> Result<bool, Fail> {
     Ok(told.status.number() == 0 && told.out.bytes().ends_with(text))
 }
 
-// Whether so many bytes are left of a day that ends with this line.
+// Whether `left` bytes are left of a day that ends with this line.
 fn leaves(alloc: Global, day: &[u8], line: &[u8], left: usize) -> Result<bool, Fail> {
     let told = office_over(alloc, over_table(day))?;
     Ok(told.err.bytes() == line && told.left == left)
 }
 
-// A day of this text, a piece so often behind it, and this end.
+// A day of this text, then a piece this many times, then this end.
 fn long_day(
     alloc: Global,
     head: &[u8],
@@ -610,10 +610,10 @@ fn many_lines_of_logs_are_read_in_pieces(rt: HostRuntime) -> Result<(), Fail> {
     Ok(())
 }
 
-// A runner's answer of eight bytes and those that are put into its text.
+// A runner's answer of eight bytes, and the bytes that are put into its text.
 const ANSWER: &[u8] = b"call /whisk.system/utils/echo {}\nnext\nanswer 1 {\"a\":\"";
 
-// Whether a day with an answer of so many bytes ends in this line.
+// Whether a day with an answer of `size` bytes ends in this line.
 fn long_answer_ends_in(alloc: Global, size: usize, line: &[u8]) -> Result<bool, Fail> {
     let day = long_day(alloc, ANSWER, b"x", size.saturating_sub(8), b"\"}")?;
     ends_in(alloc, &day, line)
@@ -664,7 +664,7 @@ fn a_megabyte_of_answers_is_written_before_the_piece_ends(rt: HostRuntime) -> Re
     Ok(())
 }
 
-// Whether so many bytes are left of a day that ends with this line, of which 70,000 follow this head.
+// Whether `left` bytes are left of a day that ends with this line. The day is this head, and 70,000 bytes after it.
 fn leaves_behind(alloc: Global, head: &[u8], line: &[u8], left: usize) -> Result<bool, Fail> {
     let day = long_day(alloc, head, b"x", 70_000, b"")?;
     leaves(alloc, &day, line, left)

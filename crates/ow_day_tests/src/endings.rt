@@ -1,13 +1,13 @@
 // How the office ends for words, tables, days and faults.
 use crate::days::{Given, OVER_TABLE, TABLE, Told, office_over};
+use ow_command_line::{ServeWords, Status};
 use ow_office::HELP;
 use ow_tenant::Tenants;
 use ow_value::Str;
-use ow_words::{ServeWords, Status};
 use std::alloc::{AllocError, Global};
 use std::test::Fail;
 
-// What one call of the office is given, and what is to come of it.
+// What one call of the office is given, and the outcome that is expected.
 struct Ending {
     given: Given<'static>,
     // The status by its number.
@@ -21,7 +21,7 @@ struct Ending {
 // The words for a service over the table.
 const SERVE_TABLE: &[&str] = &["serve", "--port", "3233", "--table", "office.csv"];
 
-const ENDINGS: [Ending; 13] = [
+const ENDINGS: [Ending; 15] = [
     Ending {
         given: Given {
             words: OVER_TABLE,
@@ -195,6 +195,35 @@ const ENDINGS: [Ending; 13] = [
         out: b"",
         err: b"read fault\n",
     },
+    // A manifest whose second read fails, and a deployment whose line isn't written.
+    Ending {
+        given: Given {
+            words: &["deploy", "--table", "office.csv"],
+            table: TABLE,
+            failing_table: &[],
+            day: b"namespace = \"guest\"\n",
+            failing_reads: &[1],
+            failing_writes: &[],
+        },
+        status: 3,
+        left: 0,
+        out: b"",
+        err: b"read fault\n",
+    },
+    Ending {
+        given: Given {
+            words: &["deploy", "--table", "office.csv"],
+            table: TABLE,
+            failing_table: &[],
+            day: b"namespace = \"guest\"\n",
+            failing_reads: &[],
+            failing_writes: &[0],
+        },
+        status: 4,
+        left: 0,
+        out: b"",
+        err: b"write fault\n",
+    },
     // None is named, and none is read.
     Ending {
         given: Given {
@@ -302,7 +331,7 @@ fn help_is_written_whole(rt: HostRuntime) -> Result<(), Fail> {
     Ok(())
 }
 
-// Whether these words are told to be bad, and the day isn't read.
+// Whether these words are reported as bad, and the day isn't read.
 fn are_bad(alloc: Global, words: &[&str]) -> Result<bool, Fail> {
     let given = Given {
         words,
@@ -325,7 +354,7 @@ fn other_words_are_bad(rt: HostRuntime) -> Result<(), Fail> {
     Ok(())
 }
 
-// Puts a word behind a blank.
+// Appends a blank and a word.
 fn put(text: &mut String, word: &str) -> Result<(), AllocError> {
     text.push_str(" ")?;
     text.push_str(word)

@@ -6,6 +6,8 @@ mod containers;
 #[cfg(test)]
 mod days;
 #[cfg(test)]
+mod devices;
+#[cfg(test)]
 mod endings;
 #[cfg(test)]
 mod of_words;

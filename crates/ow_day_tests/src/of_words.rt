@@ -1,6 +1,6 @@
 // The command set, by its worked words.
+use ow_command_line::{Command, ServeWords, WordsRefusal, read_words};
 use ow_value::{NoMemory, Str};
-use ow_words::{Command, ServeWords, WordsRefusal, read_words};
 use std::alloc::Global;
 
 // The words, which a `|` parts.
@@ -25,7 +25,7 @@ fn named(file: &Option<Str>) -> &str {
     }
 }
 
-// Whether the words ask for a day with these files. An empty name stands for none.
+// Whether the words ask for a day with these files. An empty name means none.
 fn is_day(alloc: Global, line: &str, wants_table: &str, wants_store: &str) -> bool {
     match read(alloc, line) {
         Ok(Command::Day { table, store }) => {
@@ -35,7 +35,7 @@ fn is_day(alloc: Global, line: &str, wants_table: &str, wants_store: &str) -> bo
     }
 }
 
-// Whether the words ask for a service with these numbers and files. An empty name stands for none.
+// Whether the words ask for a service with these numbers and files. An empty name means none.
 fn is_service(
     alloc: Global,
     line: &str,

@@ -1,5 +1,5 @@
-// Days over stores: what one leaves stands in the next, and what comes of a store that fails.
-use crate::days::{held, source_of, words_of};
+// Days over stores: what one day leaves is there in the next, and what a store that fails results in.
+use crate::days::{TABLE, held, source_of, words_of};
 use ow_office::office;
 use ow_traits::{MemoryKeeper, MemorySink, MemorySource, Rows};
 use ow_value::Str;
@@ -32,7 +32,7 @@ const SECOND: &[u8] = b"next\ncall /whisk.system/utils/echo {}\n";
 
 const SECOND_OUT: &[u8] = b"nothing empty\naccepted 00000000000000000000000000000003\n";
 
-// Which call of the store fails, the load being 0 and the opening's commit 1; what the day answers then, and the line that tells
+// Which call of the store fails, the load being 0 and the opening's commit 1; what the day answers then, and the line that reports
 // how it ends.
 const FAILING: [(u64, &[u8], &[u8]); 6] = [
     (0, b"", b"store fault\n"),
@@ -111,13 +111,13 @@ drain
 
 // What a day over a store writes, and the store that it leaves.
 #[derive(Drop)]
-struct Left {
-    out: MemorySink,
-    err: MemorySink,
-    store: Option<MemoryKeeper>,
+pub struct Left {
+    pub out: MemorySink,
+    pub err: MemorySink,
+    pub store: Option<MemoryKeeper>,
 }
 
-fn left_over(
+pub fn left_over(
     alloc: Global,
     words: &[String],
     mut table: MemorySource,
@@ -152,7 +152,7 @@ fn row_at<'a>(left: &'a Left, key: &str) -> Option<&'a str> {
 }
 
 // The store that is left.
-fn store_of(alloc: Global, left: Box<Left>) -> Result<Box<MemoryKeeper>, Fail> {
+pub fn store_of(alloc: Global, left: Box<Left>) -> Result<Box<MemoryKeeper>, Fail> {
     let Left { out, err, store } = Box::into_inner(left);
     drop((out, err));
     held(alloc, store.ok_or("no store")?)
@@ -191,6 +191,51 @@ fn is_written(alloc: Global, number: u64, out: &[u8], err: &[u8]) -> Result<bool
 fn a_failed_call_of_the_store_leaves_all_as_it_was(rt: HostRuntime) -> Result<(), Fail> {
     for (number, out, err) in &FAILING {
         assert!(rt; is_written(rt.alloc(), *number, out, err)?, "call {number}");
+    }
+    Ok(())
+}
+
+// Which call of the store fails for a deployment, what it writes then, and the line that reports how it ends.
+const FAILING_DEPLOYMENTS: [(u64, &[u8], &[u8]); 4] = [
+    (0, b"", b"store fault\n"),
+    (1, b"", b"store fault\n"),
+    (2, b"", b"refused at 0 31 The store failed.\n"),
+    (3, b"deployed made 1 changed 0 same 0\n", b""),
+];
+
+const MANIFEST: &[u8] = b"namespace = \"guest\"\n[triggers.t]\n";
+
+fn deployed_over(
+    alloc: Global,
+    store: Box<MemoryKeeper>,
+    manifest: &[u8],
+) -> Result<Box<Left>, Fail> {
+    let words = words_of(alloc, &["deploy", "--table", "office.csv"])?;
+    let table = source_of(alloc, TABLE, &[])?;
+    let day = source_of(alloc, manifest, &[])?;
+    held(
+        alloc,
+        left_over(alloc, &words, table, day, Box::into_inner(store)),
+    )
+}
+
+// Whether a deployment over a store whose call of this number fails writes this, and leaves its row where it is whole.
+fn is_deployed(alloc: Global, number: u64, out: &[u8], err: &[u8]) -> Result<bool, Fail> {
+    let failing = vec![in alloc; number]?;
+    let store = held(alloc, MemoryKeeper::holding(Rows::new(alloc), failing))?;
+    let left = deployed_over(alloc, store, MANIFEST)?;
+    let is_kept = row_at(&left, "row/trigger/guest/t").is_some();
+    let is_written = left.out.bytes() == out && left.err.bytes() == err;
+    Ok(is_written && is_kept == err.is_empty())
+}
+
+#[test]
+fn a_deployment_is_kept_whole_or_not_at_all(rt: HostRuntime) -> Result<(), Fail> {
+    for (number, out, err) in &FAILING_DEPLOYMENTS {
+        assert!(rt;
+            is_deployed(rt.alloc(), *number, out, err)?,
+            "call {number}"
+        );
     }
     Ok(())
 }

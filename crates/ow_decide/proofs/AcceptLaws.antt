@@ -4,7 +4,7 @@ use Rattle.ow_value.specs.Value.{V, Pairs}
 use Rattle.ow_names.specs.declared.full.FullName.{FullName}
 use Rattle.ow_floor.specs.Trace.{Trace}
 use Rattle.ow_floor.specs.declared.activations.Plan.{Plan}
-use Rattle.ow_kept.specs.Commits.{row_changes}
+use Rattle.ow_commits.specs.Commits.{row_changes}
 use Rattle.ow_entity.specs.declared.rules.Rule.{Rule}
 use Rattle.ow_entity.specs.declared.triggers.Trigger.{Trigger}
 use Rattle.ow_records.specs.declared.fires.Fire.{Fire}

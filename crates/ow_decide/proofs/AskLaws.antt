@@ -10,6 +10,8 @@ use Rattle.ow_http.specs.declared.answer.Answer.{Answer}
 use Rattle.ow_http.specs.declared.reason.Reason.{Reason}
 use Rattle.ow_records.specs.declared.ids.Id.{Id}
 use Rattle.ow_decide.specs.declared.events.Told.TheVariants as told
+use Rattle.ow_decide.specs.declared.step.RowChange.{RowChange}
+use Rattle.ow_decide.specs.declared.step.RowChange.TheVariants as row_changes
 use Rattle.ow_decide.specs.declared.step.Step.{Step}
 use Rattle.ow_decide.specs.Asking.{Done, Shown, Changed, Invoked, Quiet, Fired, ask_decision, at_once, plan_done}
 use Rattle.ow_decide.specs.Asking.{act_done, called_done, keyed_done, reply_in}
@@ -24,7 +26,7 @@ use Rattle.ow_reads.specs.declared.acts.Reading.{Reading}
 use Rattle.ow_tenant.specs.declared.entries.Holder.{Holder}
 use Rattle.ow_decide.specs.Calling.{plan_items}
 use Rattle.ow_decide.specs.Reasons.{tells_full}
-use Rattle.ow_decide.specs.Making.{Carries, CommitsDone, IsMade, IsSeen, IsTaken, Makes, change_of, commit_of, done_of}
+use Rattle.ow_decide.specs.Making.{Carries, CommitsDone, IsMade, IsSeen, IsTaken, Makes, change_of, commit_of, done_of, one_of}
 use Rattle.ow_decide.specs.Sight.{Sight, room_for}
 use Rattle.ow_decide.specs.Waiting.{invoked_reply, waits_of}
 use Rattle.ow_decide.specs.declared.commits.Made.{Made}
@@ -37,12 +39,12 @@ use Rattle.ow_tenant.specs.Table.{Table}
 use Rattle.ow_value.specs.declared.memory.NoMemory.{NoMemory}
 use Rattle.ow_decide.specs.declared.waits.Waits.TheVariants.{Keep}
 use Rattle.ow_decide.proofs.KeptLaws.{one_change}
-use Rattle.ow_kept.specs.Keeping.{FollowingView, KeepingView}
+use Rattle.ow_commits.specs.Keeping.{FollowingView, KeepingView}
 use Rattle.ow_tables.specs.Contents.{Change}
 use Rattle.ow_decide.specs.declared.done.Done.{Done as CodeDone}
 use Rattle.ow_decide.specs.declared.done.Done.TheVariants as codes
 
--- what is done at a request, where what comes of it is what is decided
+-- what is done at a request, where its outcome is what is decided
 pub ask_makes : (old new : FloorShown) (S : Sight) (s : Step) (d e : Result Done Reason) → Stands old S.trace
     → Grows old new (λ T. (ask_decision d).items) → d ≡ e → Carries s (ask_decision d) S
     → Carries s (ask_decision e) S × Stands new ((ask_decision e).items ++ S.trace)
@@ -70,22 +72,22 @@ done_items (codes.Shown value) = refl
 done_items (codes.Changed ready shown commit) = refl
 done_items codes.Quiet = refl
 
--- nothing is added on the floor but where an activation is accepted
+-- items are added on the floor only where an activation is accepted
 pub done_grows : (v : FloorShown) (d : CodeDone) → Grows v v (λ T. (ask_decision (done_of d)).items)
 done_grows v d = λ T stands. subst (λ (items : Trace). Stands v (items ++ T)) (sym (done_items d)) stands
 
 -- ---- what is committed
 
--- a step that tells of what comes of a request, and has its change and its commit
-pub done_carries : (d : CodeDone) (t : Told) (change : Option Change) (commit : Option FollowingView) (S : Sight) → t ≡ (ask_decision (done_of d)).told
-    → change ≡ change_of d → commit ≡ commit_of d → CommitsDone d S
+-- a step with the answer to a request, its change and its commit carries what is decided
+pub done_carries : (d : CodeDone) (t : Told) (change : RowChange) (commit : Option FollowingView) (S : Sight) → t ≡ (ask_decision (done_of d)).told
+    → change ≡ one_of (change_of d) → commit ≡ commit_of d → CommitsDone d S
     → Carries (record { told = t; change = change; waits = Keep; moves = []; commit = commit }) (ask_decision (done_of d)) S
 done_carries d t change commit S told same committed commits =
-    subst (λ (x : Option Change). Carries (record { told = t; change = x; waits = Keep; moves = []; commit = commit }) (ask_decision (done_of d)) S) (sym same)
-    (subst (λ (x : Option FollowingView). Carries (record { told = t; change = change_of d; waits = Keep; moves = []; commit = x }) (ask_decision (done_of d)) S) (sym committed) (by_case d told commits))
+    subst (λ (x : RowChange). Carries (record { told = t; change = x; waits = Keep; moves = []; commit = commit }) (ask_decision (done_of d)) S) (sym same)
+    (subst (λ (x : Option FollowingView). Carries (record { told = t; change = one_of (change_of d); waits = Keep; moves = []; commit = x }) (ask_decision (done_of d)) S) (sym committed) (by_case d told commits))
   where
     by_case : (d : CodeDone) → t ≡ (ask_decision (done_of d)).told → CommitsDone d S
-        → Carries (record { told = t; change = change_of d; waits = Keep; moves = []; commit = commit_of d }) (ask_decision (done_of d)) S
+        → Carries (record { told = t; change = one_of (change_of d); waits = Keep; moves = []; commit = commit_of d }) (ask_decision (done_of d)) S
     by_case (codes.Refused reason) told commits = record { told = told; changes = refl; waits = refl; moves = refl; commit = (refl, (tt, refl)) }
     by_case (codes.Shown value) told commits = record { told = told; changes = refl; waits = refl; moves = refl; commit = (refl, (tt, refl)) }
     by_case codes.Quiet told commits = record { told = told; changes = refl; waits = refl; moves = refl; commit = (refl, (tt, refl)) }
@@ -101,13 +103,13 @@ unchanged_commits (codes.Changed ready shown commit) S none = cc
 
 -- ---- what is accepted
 
--- what comes of a plan that is admitted so
+-- the outcome for a plan that is admitted so
 abbrev done_by : Sight → Plan → Shows → Result Plan Reason → Result Done Reason
 done_by S plan shows r = r >>= (λ (admitted : Plan). Ok (Invoked (plan_items S plan) plan shows))
 
--- what is told of a plan that was made
+-- the step that answers a request whose plan was made
 abbrev pub told_invoked : Id → Option ℕ → Shows → Made → Step
-told_invoked id until shows made = record { told = told.Asked (invoked_reply id until); change = None; waits = waits_of id shows until; moves = made.moves; commit = Some made.commit }
+told_invoked id until shows made = record { told = told.Asked (invoked_reply id until); change = row_changes.Nothing; waits = waits_of id shows until; moves = made.moves; commit = Some made.commit }
 
 made_carries : (made : Made) (plan : Plan) (shows : Shows) (S : Sight) → IsMade made (plan_items S plan) S
     → Carries (told_invoked plan.id plan.until shows made) (ask_decision (Ok (Invoked (plan_items S plan) plan shows))) S
@@ -119,7 +121,7 @@ made_carries made plan shows S is = record {
   commit = record { changes = is.changes; stands = is.stands };
 }
 
--- of a plan that was taken it is told that it was accepted
+-- the answer to a plan that was accepted says so
 pub taken_carries : (made : Made) (id : Id) (until : Option ℕ) (shows : Shows) (s : Step) → s ≡ told_invoked id until shows made
     → (S : Sight) (plan : Plan) (v : FloorShown) → plan.id ≡ id → plan.until ≡ until → IsTaken (Ok made) plan S v → Carries s (ask_decision (plan_done S plan shows)) S
 taken_carries made id until shows s is S plan v same waits taken =
@@ -127,7 +129,7 @@ taken_carries made id until shows s is S plan v same waits taken =
     (ap (λ (i : Id). told_invoked i plan.until shows made) same ∙ (ap (λ (u : Option ℕ). told_invoked id u shows made) waits ∙ sym is))
     (subst (λ (r : Result Plan Reason). Carries (told_invoked plan.id plan.until shows made) (ask_decision (done_by S plan shows r)) S) (sym taken.0) (made_carries made plan shows S taken.1.0))
 
--- and of one that was refused why
+-- and the answer to one that was refused says why
 pub refused_carries : (reason : Reason) (shows : Shows) (s : Step) → ((S : Sight) → CommitsDone (codes.Refused reason) S → Carries s (ask_decision (done_of (codes.Refused reason))) S)
     → (S : Sight) (plan : Plan) (v : FloorShown) → IsTaken (Err reason) plan S v → Carries s (ask_decision (plan_done S plan shows)) S
 refused_carries reason shows s carries S plan v taken =
@@ -147,7 +149,7 @@ plan_makes t rs k b now old new plan id until shows taken (Ok s) same waits take
     (carries S plan new same waits (takes S seen), taken_stands taken plan shows S new (takes S seen))
 plan_makes t rs k b now old new plan id until shows taken (Err e) same waits takes carries = tt
 
--- what is done is what comes of the request
+-- what is done is the outcome of the request
 pub done_makes : (t : Table) (rs same : List Row) (k : CountsView) (b : KeepingView) (now : Now) (old new : FloorShown) (does done : Sight → Result Done Reason) (r : Result Step NoMemory)
     → same ≡ rs → ((S : Sight) → IsSeen S t rs k b old now → does S ≡ done S) → IfOk r (Makes t same k b now old new (λ S. ask_decision (does S)))
     → IfOk r (Makes t rs k b now old new (λ S. ask_decision (done S)))
@@ -168,7 +170,7 @@ no_read S p Invokes h calls = refl
 no_read S p Fires h calls = refl
 no_read S p Sets h calls = refl
 
--- what comes of a call is what comes of the request, whose key is known and for which the book has room
+-- the outcome of a call is that of the request, whose key is known and for which the book has room
 pub keyed_so : (S : Sight) (p : Parts) (act : Act) (h : Holder) → act_of p.route p.method ≡ Some act → Ok tt ≡ room_for S p.size → asker S.tenants p.key ≡ Ok h
     → ((reading : Reading) → act ≡ Reads reading → ⊥) → called_done S h act p ≡ keyed_done S p
 keyed_so S p act h acts room asks calls =

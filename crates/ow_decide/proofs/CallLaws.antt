@@ -6,7 +6,7 @@ use Rattle.ow_floor.specs.Laws.{Stands}
 use Rattle.ow_floor.specs.View.{Shown}
 use Rattle.ow_floor.specs.declared.activations.Plan.{Plan}
 use Rattle.ow_http.specs.declared.reason.Reason.{Reason}
-use Rattle.ow_kept.specs.Keeping.{KeepingView}
+use Rattle.ow_commits.specs.Keeping.{KeepingView}
 use Rattle.ow_tenant.specs.Table.{Table}
 use Rattle.ow_value.specs.declared.memory.NoMemory.{NoMemory}
 use Rattle.ow_decide.specs.Calling.{admitted_plan, call_decision, called_decision}
@@ -21,7 +21,7 @@ taken_stands : (taken : Result Made Reason) (plan : Plan) (S : Sight) (v : Shown
 taken_stands (Ok made) plan S v is = subst (λ (r : Result Plan Reason). Stands v ((called_decision S r).items ++ S.trace)) (sym is.0) is.1.1
 taken_stands (Err reason) plan S v is = subst (λ (r : Result Plan Reason). Stands v ((called_decision S r).items ++ S.trace)) (sym is.0) is.1
 
--- what is planned is taken or refused, and told
+-- what is planned is accepted or refused, and the answer says which
 pub call_makes : (t : Table) (rs : List Row) (k : CountsView) (b : KeepingView) (now : Now) (old new : Shown) (plan : Plan) (taken : Result Made Reason) (planned : Sight → Result Plan Reason) (r : Result Step NoMemory)
     → ((S : Sight) → IsSeen S t rs k b old now → Ok plan ≡ planned S) → ((S : Sight) → IsSeen S t rs k b old now → IsTaken taken plan S new)
     → IfOk r (λ s. (S : Sight) (p : Plan) (v : Shown) → IsTaken taken p S v → Carries s (called_decision S (admitted_plan S p)) S)

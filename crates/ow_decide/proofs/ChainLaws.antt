@@ -1,4 +1,4 @@
--- What is decided at an event is a chain of items, but for an opening.
+-- What is decided at any event except an opening is a chain of items.
 use Rattle.std.proofs.Common.{◌≡◌, ◌++◌, ◌&&◌, ◌∙◌, ℕ, Bool, true, false, cond, List, [], ◌∷◌, IfSome, Option, Some, None, Result, Ok, Err, IfOk, append_assoc, inl, inr, length, refl, sym, ap, subst}
 use Rattle.std.specs.Prelude.{is_none}
 use Rattle.std.specs.List.{AllByRecursion, find}
@@ -17,8 +17,8 @@ use Rattle.ow_pool.specs.declared.answers.Place.TheVariants as places
 use Rattle.ow_tables.specs.Rows.{standing}
 use Rattle.ow_keep.specs.Judged.{judged}
 use Rattle.ow_keep.specs.Split.{Parts as KeptParts}
-use Rattle.ow_kept.specs.Keeping.{AreOwn, IsOwn}
-use Rattle.ow_kept.proofs.Ids.{all_both}
+use Rattle.ow_commits.specs.Keeping.{AreOwn, IsOwn}
+use Rattle.ow_commits.proofs.Ids.{all_both}
 use Rattle.ow_floor.specs.declared.activations.Open.{Open}
 use Rattle.ow_floor.specs.declared.activations.Plan.{Plan}
 use Rattle.ow_floor.specs.declared.runs.Run.{Run}
@@ -41,8 +41,10 @@ use Rattle.ow_decide.specs.Asking as asking
 use Rattle.ow_decide.specs.Calling.{admitted_plan, call_plan, called_decision}
 use Rattle.ow_decide.specs.Chain.{AreSteps, IsDecided, IsEnd, IsOneOf}
 use Rattle.ow_decide.specs.Decisions.{answered_all, decide, is_opening, swept_all}
+use Rattle.ow_decide.specs.Deploying.{deployed}
 use Rattle.ow_decide.specs.Opening.{opened_decision, parts_taken}
 use Rattle.ow_decide.specs.Sight.{Sight}
+use Rattle.ow_decide.proofs.DeployLaws.{deploy_adds}
 use Rattle.ow_decide.proofs.AcceptLaws.{IsAdmittedDone, IsChain, asked_admitted, called_admitted, plan_chain}
 use Rattle.ow_decide.proofs.CalleeLaws.{IsAdmitted}
 use Rattle.ow_decide.proofs.DrivenLaws.{AreFit, IsFit, fit_steps, steps_fit}
@@ -84,9 +86,9 @@ busy_by (Some s) r rs one = one
 busy_one : (run : ℕ) (T : Trace) → IfSome (busy_run run (shown T)) (λ r. IsOneOf r (live T))
 busy_one run T = busy_by (first_with (runs run) (slots T)) (find (is_number run) (live T)) (live T) (found_one (is_number run) (live T) (find (is_number run) (live T)) refl)
 
--- ---- items of the floor's calls, but for acceptances
+-- ---- items of the floor's calls, except acceptances
 
--- it is no acceptance and of no fire, and may be decided whatever came before it
+-- the item is neither an acceptance nor part of a fire, and may be decided whatever came before it
 abbrev pub IsOfCall : Sight → Item → Type 0
 IsOfCall S (Accepted a) = ⊥
 IsOfCall S (Drawn id at) = ⊥
@@ -248,6 +250,7 @@ pub decided_steps : (S : Sight) (event : Event) → is_opening event ≡ false �
 decided_steps S (events.Opened rows) other = cc
 decided_steps S (events.Asked r) other = (asked_chain S (request_done S (parts_of r)) (asked_admitted S (parts_of r))).steps
 decided_steps S (events.Called name params) other = (called_chain S (call_plan S name params >>= admitted_plan S) (called_admitted S name params)).steps
+decided_steps S (events.Deployed drafts) other = deploy_adds (AreSteps S) (deployed S drafts) tt
 decided_steps S events.Next other = of_floor S (next_items S.moment S.trace) (of_next S) (λ sound. right_next S.moment (shown S.trace) sound.slotted.within)
 decided_steps S (events.Answered run reply) other = answered_steps S run reply
 decided_steps S (events.Begun run) other = of_floor S (begun_items S.moment run S.trace) (of_begun S run) (λ sound. right_begun S.moment run (shown S.trace) sound.slotted.within)

@@ -26,14 +26,14 @@ use Rattle.ow_http.specs.declared.call.Call.{Call}
 use Rattle.ow_http.specs.declared.reason.Reason.{Reason}
 use Rattle.ow_keep.specs.Judged.{judged}
 use Rattle.ow_keep.specs.Split.{Parts as KeptParts}
-use Rattle.ow_kept.proofs.Ids.{all_both}
+use Rattle.ow_commits.proofs.Ids.{all_both}
 use Rattle.ow_rules.specs.Fired.{fired}
 use Rattle.ow_rules.specs.Status.{status_change}
 use Rattle.ow_tables.specs.Contents.{Change}
 use Rattle.ow_tables.specs.Refusal.{remove_refusal}
 use Rattle.ow_tables.specs.Rows.{standing}
 use Rattle.ow_tenant.specs.declared.entries.Holder.{Holder}
-use Rattle.ow_kept.specs.Commits.{row_changes}
+use Rattle.ow_commits.specs.Commits.{row_changes}
 use Rattle.ow_reads.specs.Acts.{granted_call}
 use Rattle.ow_reads.specs.Reading.{name_in, read_done}
 use Rattle.ow_reads.specs.Steps.{or_else}
@@ -49,6 +49,7 @@ use Rattle.ow_decide.specs.Asking.{Done, act_done, act_for, ask_decision, called
 use Rattle.ow_decide.specs.Calling.{admitted_plan, call_plan, called_decision, callee, charged_namespace, invocation_plan, plan_items}
 use Rattle.ow_decide.specs.Decision.{items_changes}
 use Rattle.ow_decide.specs.Decisions.{answered_all, decide, swept_all}
+use Rattle.ow_decide.specs.Deploying.{deployed}
 use Rattle.ow_decide.specs.Firing.{fire_plan, number_for, shot_items, trigger_for, within_fires}
 use Rattle.ow_decide.specs.Opening.{opened_decision, parts_taken}
 use Rattle.ow_decide.specs.Sight.{Sight, room_for, store_room, view_of}
@@ -57,6 +58,7 @@ use Rattle.ow_decide.specs.declared.events.Event.{Event}
 use Rattle.ow_decide.specs.declared.events.Event.TheVariants as events
 use Rattle.ow_decide.specs.declared.waits.Shows.{Shows}
 use Rattle.ow_decide.proofs.MadeLaws as made
+use Rattle.ow_decide.proofs.DeployLaws.{deploy_adds}
 use Rattle.ow_decide.proofs.MadeLaws.{following_plain, late_steps_plain, plan_plain, through_sweep}
 use Rattle.ow_decide.proofs.Results.{then_ok}
 
@@ -217,6 +219,7 @@ pub decided_closes : (S : Sight) (event : Event) → Closes (decide S event).ite
 decided_closes S (events.Opened rows) = opened_closes S.moment (parts_taken S.moment S.trace (judged rows))
 decided_closes S (events.Asked r) = asked_closes S (request_done S (parts_of r)) (by_route S (parts_of r) (is_web (parts_of r).route))
 decided_closes S (events.Called name params) = called_closes S (call_plan S name params >>= admitted_plan S)
+decided_closes S (events.Deployed drafts) = deploy_adds Closes (deployed S drafts) (λ T none. none)
 decided_closes S events.Next = plain_closes (next_items S.moment S.trace) (plain_order S.moment (shown S.trace) (place_on (shown S.trace)) (head (shown S.trace)))
 decided_closes S (events.Answered run reply) = plain_closes (answered_all S run reply) (plain_answered S run reply)
 decided_closes S (events.Begun run) = plain_closes (items_if (begins run S.trace) (Begun run S.moment)) (plain_if (begins run S.trace) (Begun run S.moment) tt)

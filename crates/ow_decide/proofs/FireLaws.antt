@@ -20,10 +20,10 @@ use Rattle.ow_floor.specs.View.{Shown, last_of}
 use Rattle.ow_floor.specs.declared.activations.Plan.{Plan}
 use Rattle.ow_floor.specs.declared.moves.Moved.{Moved}
 use Rattle.ow_floor.proofs.Drawn.{drawn_last}
-use Rattle.ow_items.specs.Bytes.{bytes_of}
-use Rattle.ow_kept.specs.Commits.{changes_of}
-use Rattle.ow_kept.specs.Keeping.{AreOwn, FollowingView, KeepingView, StandsFollowing, StandsForKept}
-use Rattle.ow_kept.specs.Kept.{kept}
+use Rattle.ow_row_text.specs.Bytes.{bytes_of}
+use Rattle.ow_commits.specs.Commits.{changes_of}
+use Rattle.ow_commits.specs.Keeping.{AreOwn, FollowingView, KeepingView, StandsFollowing, StandsForKept}
+use Rattle.ow_commits.specs.Kept.{kept}
 use Rattle.ow_tenant.specs.Table.{Table}
 use Rattle.ow_rules.specs.Fired.{fired}
 use Rattle.ow_tables.specs.Joined.{trigger_at}
@@ -54,6 +54,7 @@ use Rattle.ow_decide.specs.Waiting.{accepted_answer}
 use Rattle.ow_decide.specs.declared.done.Done.TheVariants as codes
 use Rattle.ow_decide.specs.declared.commits.Made.{Made}
 use Rattle.ow_decide.specs.declared.step.Now.{Now}
+use Rattle.ow_decide.specs.declared.step.RowChange.TheVariants as row_changes
 use Rattle.ow_decide.specs.declared.step.Step.{Step}
 use Rattle.ow_decide.specs.declared.waits.Waits.TheVariants.{Keep}
 use Rattle.ow_decide.proofs.MadeLaws.{changes_of_moves as items_moved, moved_append, plan_noted}
@@ -195,7 +196,7 @@ shot_so S f rs bytes limit r is allowed same =
 
 -- what is answered of a fire that is made
 abbrev pub told_fired : Id → Made → Step
-told_fired id m = record { told = at_once (accepted_answer id); change = None; waits = Keep; moves = m.moves; commit = Some m.commit }
+told_fired id m = record { told = at_once (accepted_answer id); change = row_changes.Nothing; waits = Keep; moves = m.moves; commit = Some m.commit }
 
 fired_carries : (m : Made) (f : Fire) (rs : List Rule) (S : Sight) → IsMade m (shot_items S f rs) S → Carries (told_fired f.id m) (ask_decision (Ok (Fired (shot_items S f rs) f.id))) S
 fired_carries m f rs S made = record {
@@ -250,7 +251,7 @@ fire_at S h name given trigger = or_else trigger not_found >>= (λ (t : Trigger)
 abbrev fire_in : Sight → Holder → Pairs → Option FullName → Result Done Reason
 fire_in S h given name = or_else name no_route >>= (λ (n : FullName). fire_at S h n given (trigger_at (standing S.rows) n))
 
--- what comes of a fire of these rules, which are those of the trigger
+-- the outcome of a fire of these rules, which are those of the trigger
 pub rules_so : (S : Sight) (h : Holder) (c : Call) (name : FullName) (t : Trigger) (number : ℕ) (rules : List Rule) → c.name ≡ Some name → trigger_at (standing S.rows) name ≡ Some t
     → number_of name.namespace S.tenants ≡ Some number → rules ≡ fired S.rows name → rules_done S h.subject name number t c.params rules ≡ change_done S h Fires c
 rules_so S h c name t number rules named there numbered are =

@@ -1,4 +1,4 @@
--- What runners tell, and sweeps, are what is decided of them.
+-- The steps for runners, sweeps and reopenings are what is decided.
 use Rattle.std.proofs.Common.{arith, ◌≡◌, ◌++◌, ◌∙◌, ℕ, true, List, [], ◌∷◌, length, Option, None, Some, Result, append-nil, refl, sym, ap, subst}
 use Rattle.std.specs.Prelude.{◌==◌}
 use Rattle.std.proofs.lemmas.Bool.Decides.{nat_tests}
@@ -12,7 +12,7 @@ use Rattle.ow_floor.specs.Laws.{Grows, IsSound, Stands}
 use Rattle.ow_floor.specs.declared.answers.FloorRefusal.{FloorRefusal}
 use Rattle.ow_floor.specs.declared.answers.Order.{Order}
 use Rattle.ow_floor.specs.declared.moves.Moved.{Moved}
-use Rattle.ow_kept.specs.Keeping.{AreOwn, KeepingView, StandsForKept}
+use Rattle.ow_commits.specs.Keeping.{AreOwn, KeepingView, StandsForKept}
 use Rattle.ow_tables.specs.Rows.{standing}
 use Rattle.ow_tenant.specs.Table.{Table}
 use Rattle.ow_trees.specs.Steps.{late_in, steps_after, sweep_items}
@@ -38,11 +38,11 @@ pub nothing_moved : (ms : List Moved) → true ≡ (length ms == 0) → ms ≡ [
 nothing_moved [] none = refl
 nothing_moved (m ∷ ms) none = let e : length (m ∷ ms) ≡ 0 = no_length (length (m ∷ ms)) none in cc
 
--- what is told, where nothing moves
+-- an answer where nothing moves
 pub quiet_carried : (is are : Told) (items : Trace) (S : Sight) → is ≡ are → AreOwn items → moved items ≡ [] → Carries (telling is) (adds are items) S
 quiet_carried is are items S same own quiet = record { told = same; changes = refl; waits = refl; moves = sym quiet; commit = (refl, (own, quiet)) }
 
--- what is told, where these moved
+-- an answer where these moved
 pub told_carried : (s : Step) (is are : Told) (ms : List Moved) (b : KeepingView) (S : Sight) (items : Trace) → IsTold s is Keep ms b → is ≡ are → StandsForKept b S.rows S.trace → IsSound S.trace
     → AreRight items (shown S.trace) → AreOwn items → ms ≡ moved items → Carries s (adds are items) S
 told_carried s is are ms b S items step same keeps sound right own moves = record {
@@ -58,7 +58,7 @@ pub at_moment : (old new : Shown) (items : ℕ → Trace → Trace) (t : Table) 
     → Stands new (items S.moment S.trace ++ S.trace)
 at_moment old new items t rs k b now grows S seen = subst (λ (at : ℕ). Stands new (items at S.trace ++ S.trace)) (sym seen.moment) (grows S.trace seen.stands)
 
--- what is taken by the floor's words is told, and happens
+-- a beginning, a loss or a going: its answer is given, and its items happen
 pub taken_makes : (t : Table) (rs : List Row) (k : CountsView) (b : KeepingView) (old new : Shown) (now : Now) (answer : Trace → Result (Unit {0}) FloorRefusal) (items : ℕ → Trace → Trace)
     (taken : Result (Unit {0}) FloorRefusal) → ((S : Sight) → AreOwn (items S.moment S.trace) × (moved (items S.moment S.trace) ≡ [])) → ((T : Trace) → Stands old T → taken ≡ answer T) → Grows old new (items now.at)
     → (S : Sight) → IsSeen S t rs k b old now
@@ -66,14 +66,14 @@ pub taken_makes : (t : Table) (rs : List Row) (k : CountsView) (b : KeepingView)
 taken_makes t rs k b old new now answer items taken quiet is grows S seen =
     (quiet_carried _ _ (items S.moment S.trace) S (ap taken_told (is S.trace seen.stands)) (quiet S).0 (quiet S).1, at_moment old new items t rs k b now grows S seen)
 
--- what is to be run next is told, and ordered
+-- a runner's request for an order: the order is the answer, and its items happen
 pub next_makes : (t : Table) (rs : List Row) (k : CountsView) (b : KeepingView) (old new : Shown) (now : Now) (order : Order) → ((S : Sight) → AreOwn (next_items S.moment S.trace) × (moved (next_items S.moment S.trace) ≡ []))
     → ((T : Trace) → Stands old T → order ≡ next_order T) → Grows old new (λ T. next_items now.at T) → (S : Sight) → IsSeen S t rs k b old now
     → Carries (telling (told.Next order)) (adds (told.Next (next_order S.trace)) (next_items S.moment S.trace)) S × Stands new (next_items S.moment S.trace ++ S.trace)
 next_makes t rs k b old new now order quiet is grows S seen =
     (quiet_carried _ _ (next_items S.moment S.trace) S (ap told.Next (is S.trace seen.stands)) (quiet S).0 (quiet S).1, at_moment old new (λ at T. next_items at T) t rs k b now grows S seen)
 
--- a reply to a live run is told of, and taken, with the steps that its end makes
+-- a reply to a live run is answered and recorded, with the steps that its end makes
 recorded_makes : (t : Table) (rs : List Row) (k : CountsView) (b : KeepingView) (now : Now) (old new : Shown) (run : ℕ) (reply : RunReply) (recorded : Option ℕ) (ms ns : List Moved) (s : Step)
     → IsTold s (told.Answered (answered_by run recorded (happened_of ns))) Keep ns b → ((T : Trace) → Stands old T → Some recorded ≡ reply_recorded run T) → ms ≡ []
     → ((T : Trace) → Stands old T → ns ≡ ms ++ moved (steps_after (standing rs) now.at T (answered_items now.at run reply T)))

@@ -14,13 +14,13 @@ use Rattle.ow_floor.specs.Trace.{Accepted, Drawn, Ended, Fired, Item, Resumed, T
 use Rattle.ow_floor.specs.Laws.{IsSound}
 use Rattle.ow_floor.proofs.Drawn.{drawn_last}
 use Rattle.ow_floor.proofs.Soundness.{sound_items}
-use Rattle.ow_items.specs.Sorted.{Entries}
-use Rattle.ow_kept.specs.Commits.{row_changes}
-use Rattle.ow_kept.specs.Keeping.{AreIds, AreOwn, IsDrawn, IsKnownMove, IsOwn}
-use Rattle.ow_kept.specs.Kept.{kept}
-use Rattle.ow_kept.proofs.Ids.{all_both}
-use Rattle.ow_kept.proofs.Moving.{moves_kept}
-use Rattle.ow_kept.proofs.RowLaws.{rows_kept}
+use Rattle.ow_row_text.specs.Sorted.{Entries}
+use Rattle.ow_commits.specs.Commits.{row_changes}
+use Rattle.ow_commits.specs.Keeping.{AreIds, AreOwn, IsDrawn, IsKnownMove, IsOwn}
+use Rattle.ow_commits.specs.Kept.{kept}
+use Rattle.ow_commits.proofs.Ids.{all_both}
+use Rattle.ow_commits.proofs.Moving.{moves_kept}
+use Rattle.ow_commits.proofs.RowLaws.{rows_kept}
 use Rattle.ow_tables.specs.Contents.{Change}
 use Rattle.ow_tables.specs.Rows.{changed as rows_changed}
 use Rattle.ow_traits.specs.Changes.{after_change, changed}
@@ -43,7 +43,7 @@ changed_then (x ∷ xs) ys rows = changed_then xs ys (after_change x rows)
 pub one_change : (c : Change) → flat_map row_changes (c ∷ []) ++ [] ≡ row_changes c
 one_change c = append-nil (flat_map row_changes (c ∷ [])) ∙ append-nil (row_changes c)
 
-all_rows_kept : (cs : List Change) (rs : List Row) (T : Trace) → changed (flat_map row_changes cs) (kept rs T) ≡ kept (all_changed cs rs) T
+pub all_rows_kept : (cs : List Change) (rs : List Row) (T : Trace) → changed (flat_map row_changes cs) (kept rs T) ≡ kept (all_changed cs rs) T
 all_rows_kept [] rs T = refl
 all_rows_kept (c ∷ cs) rs T =
     changed_then (row_changes c) (flat_map row_changes cs) (kept rs T)
@@ -131,7 +131,7 @@ later_one : (P : Record → Type 0) (xs ys : List Record) → AllByRecursion P (
 later_one P [] ys all = all
 later_one P (x ∷ xs) ys all = later_one P xs ys all.1
 
--- what is committed of what is decided makes what is kept then, but for an opening
+-- what is committed of a decision, except that of an opening, turns what was kept into what is kept after it
 pub decided_kept : (S : Sight) (event : Event) → is_opening event ≡ false → IsSound S.trace → AreIds S.trace → AreIds ((decide S event).items ++ S.trace)
     → changed (commits (decide S event)) (kept S.rows S.trace) ≡ kept (all_changed (decide S event).changes S.rows) ((decide S event).items ++ S.trace)
 decided_kept S event other sound ids after =

@@ -17,7 +17,7 @@ use Rattle.ow_reads.specs.Steps.{or_else}
 use Rattle.ow_reads.specs.Tenants.{asker}
 use Rattle.ow_decide.proofs.RouteLaws.{keyed_so}
 
--- what comes of a request leaves all as it was
+-- the outcome of a request leaves all as it was
 abbrev Leaves : Result Done Reason → Type 0
 Leaves r = ((ask_decision r).items ≡ []) × ((ask_decision r).changes ≡ [])
 

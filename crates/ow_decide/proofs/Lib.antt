@@ -7,12 +7,18 @@ pub mod CalleeLaws
 pub mod DrivenLaws
 pub mod ShotLaws
 pub mod AcceptLaws
+pub mod DeployLaws
 pub mod ChainLaws
 pub mod NotedLaws
 pub mod LimitLaws
 pub mod OwedLaws
 pub mod CloseLaws
 pub mod KeptLaws
+mod StoredLaws
+mod PutAllLaws
+mod GatherLaws
+mod WholeLaws
+pub mod Finished
 mod OnceLaws
 mod RouteLaws
 mod WebLaws

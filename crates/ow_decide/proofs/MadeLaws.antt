@@ -20,9 +20,9 @@ use Rattle.ow_slots.specs.State.{recorded_of, runs}
 use Rattle.ow_pool.specs.declared.answers.Place.{Place}
 use Rattle.ow_pool.specs.declared.answers.Place.TheVariants as places
 use Rattle.ow_tables.specs.Rows.{standing}
-use Rattle.ow_kept.specs.Commits.{changes_of}
-use Rattle.ow_kept.specs.Keeping.{AreOwn, IsOwn}
-use Rattle.ow_kept.proofs.Ids.{all_both}
+use Rattle.ow_commits.specs.Commits.{changes_of}
+use Rattle.ow_commits.specs.Keeping.{AreOwn, IsOwn}
+use Rattle.ow_commits.proofs.Ids.{all_both}
 use Rattle.ow_floor.specs.declared.activations.Open.{Open}
 use Rattle.ow_floor.specs.declared.activations.Plan.{Plan}
 use Rattle.ow_floor.specs.declared.runs.Run.{Run}

@@ -4,7 +4,7 @@ use Rattle.std.proofs.lemmas.List.{append-nil}
 use Rattle.ow_records.specs.declared.record.Record.{Record}
 use Rattle.ow_floor.specs.Calls.{moved}
 use Rattle.ow_floor.specs.Trace.{Accepted, Ended, Fired, Item, Trace, record_of, records, records_after}
-use Rattle.ow_kept.specs.Keeping.{AreOwn}
+use Rattle.ow_commits.specs.Keeping.{AreOwn}
 use Rattle.ow_counts.specs.View.{AreNotedAt, AreUpTo, IsNotedAt}
 use Rattle.ow_counts.proofs.Moving.{up_items}
 use Rattle.ow_decide.specs.declared.events.Event.{Event}

@@ -14,7 +14,7 @@ use Rattle.ow_floor.specs.Trace.{Trace, all_records, records, resumed}
 use Rattle.ow_floor.specs.View.{Shown}
 use Rattle.ow_floor.proofs.Fires.{known_once}
 use Rattle.ow_floor.proofs.Soundness.{parted}
-use Rattle.ow_kept.proofs.Ending.{alike}
+use Rattle.ow_commits.proofs.Ending.{alike}
 use Rattle.ow_reads.specs.Reading.{read_done, shown_of}
 use Rattle.ow_reads.specs.View.{AreOnce, view_over}
 use Rattle.ow_reads.specs.declared.acts.Reading.{Reading}
@@ -25,7 +25,7 @@ times_append : (id : Id) (xs ys : List Record) → times id (map (λ r. r.id) (x
 times_append id [] ys = omega arith
 times_append id (x ∷ xs) ys = let h = times_append id xs ys in omega (arith, h)
 
--- an id stands among the records once at most
+-- an id appears at most once among the records
 recorded_once : (T : Trace) (id : Id) → IsSound T → times id (map (λ r. r.id) (all_records T)) ≤ 1
 recorded_once T id sound =
     let all = times_append id (resumed T) (records T) in

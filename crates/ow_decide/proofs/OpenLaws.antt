@@ -5,9 +5,9 @@ use Rattle.std.proofs.lemmas.Bool.{and_from, and_parts, le-leb, leb-true, not-tr
 use Rattle.ow_floor.specs.Growth.{AreResumable, AreRight, IsFresh}
 use Rattle.ow_floor.specs.Trace.{Item as Happened, Opened, Trace, shown}
 use Rattle.ow_floor.specs.View.{last_of, same_namespace, same_record}
-use Rattle.ow_items.specs.declared.item.Item.{Item}
+use Rattle.ow_row_text.specs.declared.item.Item.{Item}
 use Rattle.ow_keep.specs.Split.{Parts, split}
-use Rattle.ow_kept.specs.Opening.{resumed_records}
+use Rattle.ow_commits.specs.Opening.{resumed_records}
 use Rattle.ow_records.specs.declared.ids.Id.{Id}
 use Rattle.ow_records.specs.declared.record.Record.{Record}
 use Rattle.ow_decide.specs.Opening.{all_pass, are_distinct, are_resumable, is_first, is_fresh, opened_decision, parts_taken, taken_if, taken_over}

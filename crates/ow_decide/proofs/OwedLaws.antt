@@ -18,8 +18,10 @@ use Rattle.ow_decide.specs.Asking.{request_done}
 use Rattle.ow_decide.specs.Calling.{admitted_plan, call_plan}
 use Rattle.ow_decide.specs.Chain.{IsEndBy}
 use Rattle.ow_decide.specs.Decisions.{decide}
+use Rattle.ow_decide.specs.Deploying.{deployed}
 use Rattle.ow_decide.specs.Opening.{opened_decision, parts_taken}
 use Rattle.ow_decide.specs.Sight.{Sight}
+use Rattle.ow_decide.proofs.DeployLaws.{deploy_adds}
 use Rattle.ow_decide.proofs.AcceptLaws.{asked_admitted, called_admitted}
 use Rattle.ow_decide.proofs.ChainLaws.{AreOfFloor, IsOfCall, asked_chain, called_chain, of_abandon, of_answered, of_begun, of_drain, of_gone, of_lost, of_next}
 
@@ -51,6 +53,7 @@ module _ (S : Sight) where
   decided_owed (events.Opened rows) = opened_owed (parts_taken S.moment S.trace (judged rows))
   decided_owed (events.Asked r) = (asked_chain S (request_done S (parts_of r)) (asked_admitted S (parts_of r))).owed
   decided_owed (events.Called name params) = (called_chain S (call_plan S name params >>= admitted_plan S) (called_admitted S name params)).owed
+  decided_owed (events.Deployed drafts) = deploy_adds (λ (items : Trace). AreOwed (standing S.rows) S.moment items S.trace) (deployed S drafts) tt
   decided_owed events.Next = floor_owed (next_items S.moment S.trace) S.trace (of_next S)
   decided_owed (events.Answered run reply) =
       each_after (IsOwed (standing S.rows) S.moment) (standing S.rows) S.moment (answered_items S.moment run reply S.trace) S.trace (step_owed (standing S.rows) S.moment)

@@ -8,8 +8,8 @@ use Rattle.ow_floor.specs.declared.activations.Plan.{Plan}
 use Rattle.ow_floor.specs.declared.moves.Moved.{Moved}
 use Rattle.ow_http.specs.Steps.{◌>>=◌}
 use Rattle.ow_http.specs.declared.reason.Reason.{Reason}
-use Rattle.ow_items.specs.Bytes.{bytes_of}
-use Rattle.ow_kept.specs.Kept.{kept}
+use Rattle.ow_row_text.specs.Bytes.{bytes_of}
+use Rattle.ow_commits.specs.Kept.{kept}
 use Rattle.ow_tables.specs.Rows.{standing}
 use Rattle.ow_tenant.specs.Tenants.{limits_of}
 use Rattle.ow_traits.specs.Changes.{changed}
@@ -30,7 +30,7 @@ pub then_then : {X Y Z : Type 0} (r : Result X Reason) (f : X → Result Y Reaso
 then_then (Ok x) f g = refl
 then_then (Err reason) f g = refl
 
--- what is true of rows and a moment is true of those that are seen
+-- what is true of rows and a moment is true of the rows and the moment that are seen
 pub as_seen : (P : List Row → ℕ → Type 0) (S : Sight) (rs : List Row) (at : ℕ) → S.rows ≡ rs → S.moment ≡ at → P rs at → P S.rows S.moment
 as_seen P S rs at rows now p = subst (λ (xs : List Row). P xs S.moment) (sym rows) (subst (λ (m : ℕ). P rs m) (sym now) p)
 

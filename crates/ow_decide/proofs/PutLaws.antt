@@ -3,9 +3,9 @@ use Rattle.std.proofs.Common.{◌≡◌, ◌∙◌, ℕ, Bool, false, List, Resu
 use Rattle.ow_entity.specs.declared.rows.Row.{Row}
 use Rattle.ow_http.specs.Steps.{◌>>=◌}
 use Rattle.ow_http.specs.declared.reason.Reason.{Reason}
-use Rattle.ow_items.specs.Bytes.{bytes_of}
-use Rattle.ow_kept.specs.Commits.{row_changes}
-use Rattle.ow_kept.specs.Kept.{kept}
+use Rattle.ow_row_text.specs.Bytes.{bytes_of}
+use Rattle.ow_commits.specs.Commits.{row_changes}
+use Rattle.ow_commits.specs.Kept.{kept}
 use Rattle.ow_tables.specs.Contents.{Change}
 use Rattle.ow_tables.specs.Rows.{with_row}
 use Rattle.ow_traits.specs.Changes.{changed}
@@ -22,7 +22,7 @@ by_room S ready b = unless b store_full >>= (λ (room : Unit {0}). Ok (Changed r
 is_put : (ready : Change) → ready.removes ≡ false → ready ≡ put_of ready.row
 is_put ready puts = ap (λ (b : Bool). record { row = ready.row; removes = b }) puts
 
--- so many bytes are kept with it
+-- the kept rows have this many bytes with it
 pub row_done_by : (S : Sight) (rs : List Row) (ready : Change) (bytes : ℕ) (b : Bool) → S.rows ≡ rs → ready.removes ≡ false → bytes ≡ bytes_of (changed (row_changes ready) (kept rs S.trace))
     → b ≡ is_store_full bytes → by_room S ready b ≡ row_done S ready.row
 row_done_by S rs ready bytes b rows puts is test =

@@ -14,6 +14,6 @@ acts_keyed : (r : Route) (method : Verb) (act : Act) → act_of r method ≡ Som
 acts_keyed (route.Web namespace inside name rest) method act is = cc
 acts_keyed r method act is = refl
 
--- what comes of a request that has an act comes of one with a key
+-- the outcome of a request that has an act is that of a request with a key
 pub keyed_so : (S : Sight) (p : Parts) (act : Act) → act_of p.route p.method ≡ Some act → request_done S p ≡ keyed_done S p
 keyed_so S p act is = ap (λ (b : Bool). if b then web_done S p else keyed_done S p) (acts_keyed p.route p.method act is)

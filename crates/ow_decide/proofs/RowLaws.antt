@@ -15,7 +15,7 @@ use Rattle.ow_http.specs.declared.call.Call.{Call}
 use Rattle.ow_http.specs.declared.call_refusal.CallRefusal.{CallRefusal}
 use Rattle.ow_web.specs.Target.{is_web}
 use Rattle.ow_http.specs.declared.reason.Reason.{Reason}
-use Rattle.ow_kept.specs.Commits.{row_changes}
+use Rattle.ow_commits.specs.Commits.{row_changes}
 use Rattle.ow_tables.specs.Refusal.{old_row, put_refusal, remove_refusal}
 use Rattle.ow_tables.specs.Contents.{Change}
 use Rattle.ow_tables.specs.declared.refusal.TableRefusal.{TableRefusal}
@@ -54,7 +54,8 @@ made_so : (F : Type 0) (o : Result Row EntityRefusal) → F → IfOk (or_table_r
 made_so F (Ok r) free = (free, refl)
 made_so F (Err e) free = tt
 
--- who asks, what the request calls for, and the rows: as they are, with a row of the call's draft, without those of a kind and name, and with another status of a rule
+-- the holder of the key, what the request calls for, and the rows: as they are, with a row of the call's draft, without the row of a kind
+-- and name, and with another status of a rule
 module _ (S : Sight) (p : Parts) (H : Holder → Type 0) (G : Call → Type 0) (N : List Row → Type 0) (known : IfOk (asker S.tenants p.key) H)
     (called : (h : Holder) → H h → IfOk (call_of h.home p) G) (stays : N S.rows)
     (put : (c : Call) (d : Draft) (r : Row) → G c → c.draft ≡ Some d → put_refusal d c.overwrite S.rows ≡ None → finished_row d (old_row d S.rows) ≡ Ok r → N (with_row r S.rows))
@@ -143,6 +144,6 @@ module _ (S : Sight) (p : Parts) (H : Holder → Type 0) (G : Call → Type 0) (
   by_done (Ok (Fired items id)) good = stays
   by_done (Err reason) good = stays
 
-  -- what is true of them each is true of the rows behind a request
+  -- what is true of each of these is true of the rows after a request
   pub request_rows : N (all_changed (ask_decision (request_done S p)).changes S.rows)
   request_rows = by_done (request_done S p) request_good

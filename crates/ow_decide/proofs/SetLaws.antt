@@ -28,7 +28,7 @@ pub set_of : (o : Option Rule) (active : Bool) (change : Option Change) → opti
 set_of None active change is = cc
 set_of (Some r) active change is = let same : status_change r active ≡ change = cc in record { rule = r; there = refl; is = same }
 
--- what comes of it
+-- the outcome of setting a status
 pub set_so : (S : Sight) (name : FullName) (active : Bool) (change : Option Change) (set : IsSet (rule_at (standing S.rows) name) active change) → Ok (set_done S set.rule change) ≡ named_set S name active
 set_so S name active change set =
     ap (λ (c : Option Change). Ok (set_done S set.rule c)) (sym set.is)

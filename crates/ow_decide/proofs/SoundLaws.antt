@@ -17,6 +17,6 @@ pub decided_right : (S : Sight) (event : Event) → IsSound S.trace → AreRight
 decided_right S (events.Opened rows) sound = right_opened S.moment S.trace (judged rows)
 decided_right S event sound = steps_right S (decide S event).items (decided_steps S event refl) sound
 
--- behind what is decided a trace is sound
+-- a trace is sound after what is decided
 pub decided_sound : (S : Sight) (event : Event) → IsSound S.trace → IsSound ((decide S event).items ++ S.trace)
 decided_sound S event sound = (sound_items (decide S event).items S.trace (decided_right S event sound) sound).0

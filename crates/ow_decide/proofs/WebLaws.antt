@@ -8,7 +8,7 @@ by_self : (b : Bool) (namespace : List ℕ) → (if b then namespace else namesp
 by_self true namespace = refl
 by_self false namespace = refl
 
--- a namespace that is read in itself stands for itself
+-- a namespace that is read from within itself is read as it is written
 pub within_so : (here namespace : List ℕ) (parent : Option (List ℕ)) (name : List ℕ) → here ≡ namespace → named_in here namespace parent name ≡ within namespace parent name
 within_so here namespace parent name is =
     ap (λ (h : List ℕ). or_fault (first_fault namespace) (named (home h namespace) parent name)) is

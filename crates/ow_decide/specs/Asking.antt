@@ -18,7 +18,7 @@ use Rattle.ow_tables.specs.Contents.{Change}
 use Rattle.ow_tables.specs.Joined.{rule_at}
 use Rattle.ow_tables.specs.Refusal.{table_refusal, old_row, put_refusal, remove_refusal}
 use Rattle.ow_tables.specs.Rows.{found, standing, with_row}
-use Rattle.ow_kept.specs.Commits.{row_changes}
+use Rattle.ow_commits.specs.Commits.{row_changes}
 use Rattle.ow_floor.specs.Trace.{Trace}
 use Rattle.ow_floor.specs.declared.activations.Plan.{Plan}
 use Rattle.ow_tables.specs.declared.refusal.TableRefusal.{TableRefusal}
@@ -67,7 +67,7 @@ act_for p = or_else (act_of p.route p.method) no_route
 abbrev pub draft_in : Call → Result Draft Reason
 draft_in c = or_else c.draft no_route
 
--- the row that stands
+-- the stored row of the name
 abbrev pub row_for : Sight → EntityKind → FullName → Result Row Reason
 row_for S kind name = or_else (found kind name S.rows) not_found
 
@@ -79,16 +79,16 @@ abbrev pub or_table_reason : Result Row EntityRefusal → Result Row Reason
 or_table_reason (Ok row) = Ok row
 or_table_reason (Err e) = Err (table_reason (table_refusal e))
 
--- the row of a draft, over the one that stands, if any
+-- the row of a draft, over the stored row of its name, if there is one
 abbrev pub row_of : Sight → Draft → Bool → Result Row Reason
 row_of S draft overwrite = do
   free ← unless_refused (put_refusal draft overwrite S.rows)
   or_table_reason (finished_row draft (old_row draft S.rows))
 
--- ---- what comes of it
+-- ---- the outcome
 
--- a value is shown, a change is made of which this is shown, or a plan is accepted with these items; a trigger is fired of which no rule is active,
--- or one whose fire has these items and this id
+-- a value is shown; a change is made and this value shown; or a plan is accepted with these items. A trigger is fired that no active rule
+-- follows, or one whose fire has these items and this id
 pub data Done : Type 0 where
   Shown : (value : V) → Done
   Changed : (change : Change) (value : V) → Done
@@ -99,7 +99,7 @@ pub data Done : Type 0 where
 abbrev pub put_of : Row → Change
 put_of row = record { row = row; removes = false }
 
--- the row that is put is stored, where the store has room for it, and shown as all stands then
+-- the row that is put is stored, where the store has room for it, and is shown over the rows after the put
 abbrev pub row_done : Sight → Row → Result Done Reason
 row_done S row = do
   room ← store_room S (row_changes (put_of row))
@@ -119,19 +119,19 @@ abbrev pub set_done : Sight → Rule → Option Change → Done
 set_done S r None = Shown (shown_row S.rows (rows.Rule r))
 set_done S r (Some change) = Changed change (shown_row (with_row change.row S.rows) change.row)
 
--- what comes of a status for the rule of a name
+-- the outcome of setting the status of the rule of a name
 abbrev pub named_set : Sight → FullName → Bool → Result Done Reason
 named_set S name active = do
   r ← rule_for S name
   Ok (set_done S r (status_change r active))
 
--- what comes of a plan, where the store has room for what is kept of it, and the limits allow it
+-- the outcome for a plan, where the store has room for what is kept of it, and the limits allow it
 abbrev pub plan_done : Sight → Plan → Shows → Result Done Reason
 plan_done S plan shows = do
   admitted ← admitted_plan S plan
   Ok (Invoked (plan_items S plan) plan shows)
 
--- what comes of a fire of these rules, where the store has room for all that is kept of it, and the limit of fires allows it
+-- the outcome of a fire of these rules, where the store has room for all that is kept of it, and the limit of fires allows it
 abbrev pub shot_done : Sight → Fire → List Rule → Result Done Reason
 shot_done S f rs = do
   room ← store_room S (items_changes (shot_items S f rs))
@@ -145,7 +145,7 @@ rules_done S subject name number t given (r ∷ rs) = do
   f ← fire_plan S subject name number t given
   shot_done S f (r ∷ rs)
 
--- what comes of an act that isn't a read, of what a request wants
+-- the outcome of an act that isn't a read, for the call of the request
 abbrev pub change_done : Sight → Holder → Act → Call → Result Done Reason
 change_done S h (Reads reading) c = Err no_route
 change_done S h Puts c = do
@@ -179,7 +179,7 @@ called_done S h act p = do
   call ← granted_call h S.rows act p
   change_done S h act call
 
--- a read is answered of what whoever asks may see
+-- a read is answered from what the caller may see
 abbrev pub act_done : Sight → Holder → Act → Parts → Result Done Reason
 act_done S h (Reads reading) p = shown_done (read_done (view_of S h) reading p)
 act_done S h Puts p = called_done S h Puts p
@@ -188,8 +188,8 @@ act_done S h Invokes p = called_done S h Invokes p
 act_done S h Fires p = called_done S h Fires p
 act_done S h Sets p = called_done S h Sets p
 
--- what comes of a request with a key, whose refusals stand in the order of their places: the route, the book, the key, the grant, query
--- and path and body, and what is named
+-- the outcome of a request with a key. Its refusals are tested in the order of their places: the route, the book, the key, the grant,
+-- query and path and body, and what is named
 abbrev pub keyed_done : Sight → Parts → Result Done Reason
 keyed_done S p = do
   act ← act_for p
@@ -197,7 +197,7 @@ keyed_done S p = do
   h ← asker S.tenants p.key
   act_done S h act p
 
--- what comes of parameters that a web request gives: it waits for the end, which is answered as the extension says
+-- the outcome for the parameters of a web request: it waits for the end, which is answered as the extension says
 abbrev pub web_planned : Sight → List ℕ → Callee → Pairs → Extension → Result Done Reason
 web_planned S namespace c given extension = do
   plan ← web_plan S namespace c given
@@ -208,37 +208,37 @@ web_accepted S p name c given = do
   extension ← web_extension p.route
   web_planned S name.namespace c given extension
 
--- what comes of a web request to what is called
+-- the outcome of a web request to what is called
 abbrev pub web_called : Sight → Parts → FullName → Callee → Result Done Reason
 web_called S p name c = do
   given ← web_given S.tenants c.effective p
   web_accepted S p name c given
 
--- what comes of a web request with a name
+-- the outcome of a web request with a name
 abbrev pub web_named : Sight → Parts → FullName → Result Done Reason
 web_named S p name = do
   c ← callee S name name.namespace
   web_called S p name c
 
--- what comes of a web request, which needs neither a key nor a grant. Its refusals stand in the order of their places: the book, the
--- names of the path, what is called, what the request gives, and what is accepted
+-- the outcome of a web request, which needs neither a key nor a grant. Its refusals are tested in the order of their places: the book,
+-- the names of the path, what is called, what the request gives, and what is accepted
 abbrev pub web_done : Sight → Parts → Result Done Reason
 web_done S p = do
   room ← room_for S p.size
   name ← web_name p.route
   web_named S p name
 
--- what comes of a request
+-- the outcome of a request
 abbrev pub request_done : Sight → Parts → Result Done Reason
 request_done S p = if is_web p.route then web_done S p else keyed_done S p
 
--- ---- what is told
+-- ---- the answer
 
--- it is answered at once
+-- the answer is given at once
 abbrev pub at_once : Answer → Told
 at_once answer = told.Asked (replies.Now answer)
 
--- a refusal is answered too
+-- the answer to a refused request
 abbrev pub refusal_told : Reason → Told
 refusal_told reason = if tells_full reason then told.Full (refusal_of reason) else at_once (refusal_of reason)
 
@@ -260,13 +260,13 @@ ask_decision (Ok Quiet) = tells (at_once no_content)
 ask_decision (Ok (Fired items id)) = adds (at_once (accepted_answer id)) items
 ask_decision (Err reason) = tells (refusal_told reason)
 
--- what a request is answered by what it is told: an answer that the book is full looks as any other
+-- the reply to a request, by its answer: an answer that the book is full looks like any other
 abbrev pub reply_in : Told → Option Reply
 reply_in (told.Asked reply) = Some reply
 reply_in (told.Full answer) = Some (replies.Now answer)
 reply_in t = None
 
--- a read that the book has room for is answered of what whoever asks may see
+-- a read for which the book has room is answered from what the caller may see
 abbrev pub IsOfView : Sight → Type 0
 IsOfView S = (h : Holder) (reading : Reading) (p : Parts) → act_of p.route p.method ≡ Some (Reads reading) → is_full S.counted p.size ≡ false → holder_of p.key S.tenants ≡ Some h
     → (ask_decision (request_done S p)).told ≡ at_once (read_answer (view_of S h) reading p)

@@ -51,18 +51,18 @@ abbrev pub callee_of : Option ℕ → Option Effective → Option Callee
 callee_of (Some n) (Some e) = Some (record { number = n; effective = e })
 callee_of number called = None
 
--- what the name calls for one in a namespace, which has a number
+-- what the name calls for a caller in a namespace, which has a number
 abbrev pub callee_in : Table → List Row → FullName → List ℕ → Option Callee
 callee_in t rs name namespace = callee_of (number_of namespace t) (effective (standing rs) name namespace)
 
 abbrev pub callee : Sight → FullName → List ℕ → Result Callee Reason
 callee S name namespace = or_else (callee_in S.tenants S.rows name namespace) not_found
 
--- they have more than 1 MB as an object
+-- the parameters have more than 1 MB as an object
 unfoldable pub is_oversized : Pairs → Bool
 is_oversized ps = nat_lt megabyte (pairs_size ps)
 
--- the merged parameters, where they aren't too many bytes: what is given stands over what the action has
+-- the merged parameters, where they have not too many bytes: a given parameter replaces that of the action
 abbrev pub fitting : Pairs → Pairs → Option Pairs
 fitting own given = if is_oversized (merge own given) then None else Some (merge own given)
 
@@ -70,25 +70,25 @@ abbrev pub unless_fixed : Option (List ℕ) → Result (Unit {0}) Reason
 unless_fixed None = Ok tt
 unless_fixed (Some name) = Err (Fixed name)
 
--- what is given over what is called with: no given parameter is fixed, and all have not too many bytes. A web request gives none that
--- has a value
+-- the given parameters merged over those of what is called: no given parameter is fixed, and the merged ones have not too many bytes. A
+-- web request gives none that already has a value
 abbrev pub given_over : Effective → Pairs → Bool → Result Pairs Reason
 given_over e given web = do
   free ← unless_fixed (first_fixed e given web)
   or_else (fitting e.params given) too_large
 
--- ---- what comes of it
+-- ---- what is planned
 
 -- the next id of a namespace
 abbrev pub next_id : Sight → ℕ → Id
 next_id S number = record { namespace = number; count = last S.trace number + 1 }
 
--- up to which moment a blocking invocation waits: a minute, or the action's time limit where that is less
+-- the moment until which a blocking invocation waits: after a minute, or after the action's time limit where that is less
 abbrev pub until_of : ℕ → Bool → Action → Option ℕ
 until_of at true action = Some (at + min 60000 action.limits.timeout)
 until_of at false action = None
 
--- how deep a first activation of this form stands in its composition
+-- the depth of a first activation of this form in its composition
 abbrev pub first_depth : Form → ℕ
 first_depth form = if is_composite form then 1 else 0
 

@@ -35,7 +35,7 @@ use Rattle.ow_decide.specs.Sight.{Sight}
 abbrev pub IsCallee : List Row → Effective → Type 0
 IsCallee rs e = (name : FullName) × ((namespace : List ℕ) × (effective (standing rs) name namespace ≡ Some e))
 
--- some name calls its action, through its binding
+-- some name calls the action of the activation, through its binding
 pub record IsCalled (rs : List Row) (a : Activation) : Type 0 where
   pub called : Effective
   pub callee : IsCallee rs called
@@ -71,7 +71,8 @@ pub record IsEnd (S : Sight) (e : End) : Type 0 where
 
 -- ---- fires
 
--- a trigger of this name stands, and the fire has its name, its namespace and its version, and its parameters with those of the body of some call
+-- there is a trigger of this name. The fire has its name, its namespace and its version, and its parameters merged with those of the body
+-- of some call
 pub record IsShot (S : Sight) (f : Fire) : Type 0 where
   pub name : FullName
   pub trigger : Trigger

@@ -1,30 +1,30 @@
--- What is done at an event: what is told, which items are added on the floor, how the rows change, and who waits then.
+-- What is done at an event: the answer, which items are added on the floor, how the rows change, and who waits then.
 use Rattle.std.specs.Prelude.{◌++◌, List, [], ◌∷◌}
 use Rattle.std.specs.List.{flat_map}
 use Rattle.ow_entity.specs.declared.rows.Row.{Row}
 use Rattle.ow_records.specs.Unrecorded.{unrecorded_of}
 use Rattle.ow_traits.specs.declared.change_list.Change.{Change as StoreChange}
 use Rattle.ow_floor.specs.Trace.{Accepted, Drawn, Ended, Fired, Item, Trace, record_of}
-use Rattle.ow_items.specs.declared.item.Item.TheVariants as items
-use Rattle.ow_kept.specs.Commits.{accept_changes, end_changes, put_of, row_changes}
+use Rattle.ow_row_text.specs.declared.item.Item.TheVariants as items
+use Rattle.ow_commits.specs.Commits.{accept_changes, end_changes, put_of, row_changes}
 use Rattle.ow_tables.specs.Contents.{Change}
 use Rattle.ow_tables.specs.Rows.{changed}
 use Rattle.ow_decide.specs.declared.events.Told.{Told}
 use Rattle.ow_decide.specs.declared.waits.Waits.{Waits}
 use Rattle.ow_decide.specs.declared.waits.Waits.TheVariants.{Keep}
 
--- the newest item stands first, and the change that is made first
+-- the newest item comes first; of the changes, the one that is made first
 pub record Decision : Type 0 where
   pub told : Told
   pub items : Trace
   pub changes : List Change
   pub waits : Waits
 
--- something is told, and nothing changes
+-- there is an answer, and nothing changes
 abbrev pub tells : Told → Decision
 tells t = record { told = t; items = []; changes = []; waits = Keep }
 
--- something is told, and happens on the floor
+-- there is an answer, and these items happen on the floor
 abbrev pub adds : Told → Trace → Decision
 adds t items = record { told = t; items = items; changes = []; waits = Keep }
 
@@ -35,7 +35,7 @@ all_changed (c ∷ cs) rs = all_changed cs (changed c rs)
 
 -- ---- what is committed to the store
 
--- what an item changes of what is kept
+-- what an item changes in what is kept
 abbrev pub item_changes : Item → List StoreChange
 item_changes (Accepted a) = accept_changes (unrecorded_of a)
 item_changes (Ended e) = end_changes (record_of e)
@@ -43,11 +43,11 @@ item_changes (Drawn id at) = put_of (items.Count id.namespace id.count) ∷ []
 item_changes (Fired r) = put_of (items.Done r) ∷ []
 item_changes item = []
 
--- what items change of it, the earliest first
+-- what items change in it, the earliest first
 abbrev pub items_changes : Trace → List StoreChange
 items_changes [] = []
 items_changes (item ∷ items) = items_changes items ++ item_changes item
 
--- what a decision changes of it: the rows, and then what its items change
+-- what a decision changes in it: first by the rows, and then by its items
 abbrev pub commits : Decision → List StoreChange
 commits d = flat_map row_changes d.changes ++ items_changes d.items

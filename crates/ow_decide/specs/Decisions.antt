@@ -21,9 +21,10 @@ use Rattle.ow_decide.specs.declared.waits.Waits.TheVariants.{Clear}
 use Rattle.ow_decide.specs.Asking.{ask_decision, request_done}
 use Rattle.ow_decide.specs.Opening.{opened_decision, parts_taken}
 use Rattle.ow_decide.specs.Calling.{call_decision, call_plan}
+use Rattle.ow_decide.specs.Deploying.{deploy_decision, deployed}
 use Rattle.ow_decide.specs.Waiting.{collected_told, shows_for}
 
--- what a runner's reply is told: a reply that no live run makes is handed back
+-- the answer to a runner's reply: a reply that no live run makes is handed back
 abbrev pub reply_told : ℕ → RunReply → Option Answered → Told
 reply_told run reply None = told.NoRun run reply
 reply_told run reply (Some answered) = told.Answered answered
@@ -32,11 +33,11 @@ reply_told run reply (Some answered) = told.Answered answered
 abbrev pub answered_all : Sight → ℕ → RunReply → Trace
 answered_all S run reply = steps_after (standing S.rows) S.moment S.trace (answered_items S.moment run reply S.trace)
 
--- a reply that comes after a sweep ended what the run carries is late; of any other it is told what happened
+-- a reply that comes after a sweep ended what the run carries is late; the answer to any other says what happened
 abbrev pub answered_told : Sight → ℕ → RunReply → Told
 answered_told S run reply = reply_told run reply (answer_of run (reply_recorded run S.trace) (happened (answered_all S run reply)))
 
--- what a beginning, a loss or a going is told: it was taken, or why not
+-- the answer to a beginning, a loss or a going: it was accepted, or why not
 abbrev pub taken_told : Result (Unit {0}) FloorRefusal → Told
 taken_told (Ok done) = told.Done
 taken_told (Err refusal) = told.Refused refusal
@@ -45,7 +46,7 @@ taken_told (Err refusal) = told.Refused refusal
 abbrev pub swept_all : Sight → Trace
 swept_all S = sweep_items (standing S.rows) S.moment S.trace
 
--- what is told of these items of a sweep: what happened, and how many late runs there were
+-- the answer to a sweep with these items: what happened, and how many late runs there were
 abbrev pub swept_told : Trace → Swept
 swept_told items = record { happened = happened items; late = late_in items }
 
@@ -69,6 +70,7 @@ abbrev pub decide : Sight → Event → Decision
 decide S (events.Opened rows) = opened_decision S.moment (parts_taken S.moment S.trace (judged rows))
 decide S (events.Asked r) = ask_decision (request_done S (parts_of r))
 decide S (events.Called name params) = call_decision S (call_plan S name params)
+decide S (events.Deployed drafts) = deploy_decision (deployed S drafts)
 decide S events.Next = adds (told.Next (next_order S.trace)) (next_items S.moment S.trace)
 decide S (events.Answered run reply) = adds (answered_told S run reply) (answered_all S run reply)
 decide S (events.Begun run) = adds (taken_told (begun_answer run S.trace)) (begun_items S.moment run S.trace)

@@ -79,8 +79,8 @@ called_rule S f c = do
   merged ← given_over c.effective f.params false
   merged_rule S f c merged
 
--- what a rule makes of a fire, whose refusals are in the order of their places: what its action calls from the trigger's namespace, the fixed
--- parameters, the merged parameters, and the limits
+-- what a rule makes of a fire. Its refusals are in the order of their places: what its action calls from the trigger's namespace, the
+-- fixed parameters, the merged parameters, and the limits
 abbrev pub rule_plan : Sight → Fire → Rule → Result Plan Reason
 rule_plan S f r = do
   c ← callee S r.action f.namespace

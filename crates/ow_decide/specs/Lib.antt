@@ -8,5 +8,7 @@ pub mod Firing
 pub mod Chain
 pub mod Asking
 pub mod Opening
+pub mod Deploying
 pub mod Decisions
 pub mod Making
+pub mod Deployment

@@ -1,5 +1,5 @@
--- A step, as the code has it: what comes of a request, and that a step has what was decided.
-use Rattle.std.specs.Prelude.{◌≡◌, ◌≤◌, ◌+◌, ◌++◌, ℕ, List, [], ◌∷◌, false, Option, Some, None, Result, Ok, Err}
+-- A step, as the code has it: the outcome of a request, and that a step has what was decided.
+use Rattle.std.specs.Prelude.{◌≡◌, ◌≤◌, ◌+◌, ◌++◌, ℕ, List, [], ◌∷◌, false, length, map, Option, Some, None, Result, Ok, Err}
 use Rattle.ow_traits.specs.declared.change_list.Change.{Change as StoreChange}
 use Rattle.ow_value.specs.View.{view}
 use Rattle.ow_entity.specs.declared.rows.Row.{Row}
@@ -8,8 +8,8 @@ use Rattle.ow_floor.specs.declared.moves.Moved.{Moved}
 use Rattle.ow_floor.specs.Growth.{AreRight}
 use Rattle.ow_floor.specs.Laws.{IsSound, Stands}
 use Rattle.ow_floor.specs.declared.activations.Plan.{Plan}
-use Rattle.ow_kept.specs.Commits.{row_changes}
-use Rattle.ow_kept.specs.Keeping.{AreOwn, FollowingView, KeepingView, StandsFollowing, StandsForKept}
+use Rattle.ow_commits.specs.Commits.{row_changes}
+use Rattle.ow_commits.specs.Keeping.{AreOwn, FollowingView, KeepingView, StandsFollowing, StandsForKept}
 use Rattle.ow_floor.specs.View.{Shown, last_of}
 use Rattle.ow_records.specs.declared.ids.Id.{Id}
 use Rattle.ow_http.specs.declared.reason.Reason.{Reason}
@@ -24,12 +24,14 @@ use Rattle.ow_decide.specs.declared.events.Told.{Told}
 use Rattle.ow_decide.specs.declared.events.Told.TheVariants as told
 use Rattle.ow_traits.specs.declared.replies.RunReply.{RunReply}
 use Rattle.ow_decide.specs.declared.step.Now.{Now}
+use Rattle.ow_decide.specs.declared.step.RowChange.{RowChange}
+use Rattle.ow_decide.specs.declared.step.RowChange.TheVariants as rows
 use Rattle.ow_decide.specs.declared.step.Step.{Step}
 use Rattle.ow_tenant.specs.Table.{Table}
 use Rattle.ow_floor.specs.Trace.{Trace, shown}
 use Rattle.ow_counts.specs.declared.refusal.LimitRefusal.{LimitRefusal}
-use Rattle.ow_items.specs.Bytes.{bytes_of}
-use Rattle.ow_kept.specs.Kept.{kept}
+use Rattle.ow_row_text.specs.Bytes.{bytes_of}
+use Rattle.ow_commits.specs.Kept.{kept}
 use Rattle.ow_traits.specs.Changes.{changed as store_changed}
 use Rattle.ow_counts.specs.View.{AreUpTo, CountsView, StandsFor, notes_of}
 use Rattle.ow_decide.specs.declared.waits.Wait.{Wait}
@@ -43,7 +45,7 @@ use Rattle.ow_decide.specs.Calling.{admitted_plan, plan_items}
 use Rattle.ow_decide.specs.Sight.{Sight, is_store_full, or_limit}
 use Rattle.ow_decide.specs.Decision.{Decision, all_changed, commits, items_changes}
 
--- ---- what comes of a request, of the code
+-- ---- the outcome of a request, in the code
 
 -- for private clauses
 abbrev pub done_of : Done → Result asking.Done Reason
@@ -82,16 +84,28 @@ IsNextOf drawn (served.Fires fire rules) = fire.id.count ≡ last_of drawn fire.
 
 -- ---- what is committed of it
 
-abbrev pub changes_of : Option Change → List Change
-changes_of None = []
-changes_of (Some change) = change ∷ []
+abbrev pub changes_of : RowChange → List Change
+changes_of rows.Nothing = []
+changes_of (rows.One change) = change ∷ []
+changes_of (rows.Puts puts) = map asking.put_of puts.items
 
--- a commit makes these changes of what is kept, and what is known of that stands for these rows and this trace then
+-- a change of one row, if there is one
+abbrev pub one_of : Option Change → RowChange
+one_of None = rows.Nothing
+one_of (Some change) = rows.One change
+
+-- there is room for all changes
+abbrev pub HasRoom : RowChange → ℕ → Type 0
+HasRoom rows.Nothing room = Unit {0}
+HasRoom (rows.One change) room = HasPlace (Some change) room
+HasRoom (rows.Puts puts) room = length puts.items ≤ room
+
+-- a commit makes these changes to what is kept, and what it says of the kept rows then agrees with these rows and this trace
 pub record IsFollowingOf (commit : FollowingView) (cs : List StoreChange) (rs : List Row) (T : Trace) : Type 0 where
   pub changes : commit.changes ≡ cs
   pub stands : StandsFollowing commit rs T
 
--- of a change of the rows, for private clauses
+-- the commit of a change of the rows, for private clauses
 abbrev pub CommitsDone : Done → Sight → Type 0
 CommitsDone (codes.Changed ready shown commit) S = IsFollowingOf commit (row_changes ready) (changed ready S.rows) S.trace
 CommitsDone done S = Unit {0}
@@ -109,12 +123,12 @@ CommitsServed (served.Fires fire rules) S = Unit {0}
 
 -- ---- a step: what is decided is done on the floor, and made ready beside it
 
--- what is kept for the counts counts what happened, and nothing was accepted behind the moment
+-- the counts agree with what happened, and nothing was accepted or fired after the moment
 pub record AreCounted (k : CountsView) (at : ℕ) (T : Trace) : Type 0 where
   pub stands : StandsFor k (notes_of T)
   pub up_to : AreUpTo at T
 
--- over what is seen these items were made, of which the floor has this state and which moved these, for private clauses
+-- these items were made over what is seen; the floor has their state, and they moved these, for private clauses
 pub record IsUnderway (S : Sight) (items : Trace) (t : Table) (rs : List Row) (k : CountsView) (now : Now) (v : Shown) (ms : List Moved) : Type 0 where
   pub tenants : S.tenants ≡ t
   pub rows : S.rows ≡ rs
@@ -124,7 +138,7 @@ pub record IsUnderway (S : Sight) (items : Trace) (t : Table) (rs : List Row) (k
   pub up_to : AreUpTo now.at (items ++ S.trace)
   pub moves : ms ≡ moved items
 
--- what is seen is of these
+-- what is seen agrees with these parts of the code's state
 pub record IsSeen (S : Sight) (t : Table) (rs : List Row) (k : CountsView) (b : KeepingView) (v : Shown) (now : Now) : Type 0 where
   pub tenants : S.tenants ≡ t
   pub rows : S.rows ≡ rs
@@ -134,9 +148,9 @@ pub record IsSeen (S : Sight) (t : Table) (rs : List Row) (k : CountsView) (b : 
   pub counted : S.counted ≡ now.counted
   pub moment : S.moment ≡ now.at
 
--- something is told, and nothing else is made ready
+-- a step with an answer alone: nothing else is made ready
 abbrev pub telling : Told → Step
-telling t = record { told = t; change = None; waits = Keep; moves = []; commit = None }
+telling t = record { told = t; change = rows.Nothing; waits = Keep; moves = []; commit = None }
 
 -- ---- what was done on the floor
 
@@ -171,16 +185,16 @@ pub record Carries (step : Step) (d : Decision) (S : Sight) : Type 0 where
   pub moves : step.moves ≡ moved d.items
   pub commit : IsCommit step.commit d S
 
--- this is told, and these moved on what is kept so; of whichever items they are, all is committed, for private clauses
+-- the step has this answer, and these moves over what is kept. Whichever items they are of, all is committed, for private clauses
 pub record IsTold (step : Step) (t : Told) (w : Waits) (ms : List Moved) (b : KeepingView) : Type 0 where
   pub told : step.told ≡ t
-  pub change : step.change ≡ None
+  pub change : step.change ≡ rows.Nothing
   pub waits : step.waits ≡ w
   pub moves : step.moves ≡ ms
   pub commit : (S : Sight) (items : Trace) (u : Told) (x : Waits) → StandsForKept b S.rows S.trace → IsSound S.trace → AreRight items (shown S.trace) → AreOwn items → ms ≡ moved items
       → IsCommit step.commit (record { told = u; items = items; changes = []; waits = x }) S
 
--- a reply to a live run is told of with what moved, and any other is handed back, for private clauses
+-- the answer to a reply to a live run says what moved; any other reply is handed back, for private clauses
 abbrev pub IsReplyTold : Step → ℕ → RunReply → Option (Option ℕ) → List Moved → KeepingView → Type 0
 IsReplyTold step run reply None ms b = step ≡ telling (told.NoRun run reply)
 IsReplyTold step run reply (Some recorded) ms b = IsTold step (told.Answered (answered_by run recorded (happened_of ms))) Keep ms b
@@ -189,6 +203,6 @@ IsReplyTold step run reply (Some recorded) ms b = IsTold step (told.Answered (an
 abbrev pub Makes : Table → List Row → CountsView → KeepingView → Now → Shown → Shown → (Sight → Decision) → Step → Type 0
 Makes t rs k b now old new decided step = (S : Sight) → IsSeen S t rs k b old now → Carries step (decided S) S × Stands new ((decided S).items ++ S.trace)
 
--- over those who wait too
+-- the same with the requests that wait
 abbrev pub MakesFor : List Wait → Table → List Row → CountsView → KeepingView → Now → Shown → Shown → (Sight → Decision) → Step → Type 0
 MakesFor ws t rs k b now old new decided step = (S : Sight) → IsSeen S t rs k b old now → S.waits ≡ ws → Carries step (decided S) S × Stands new ((decided S).items ++ S.trace)

@@ -5,9 +5,9 @@ use Rattle.ow_floor.specs.Trace.{Item as Happened, Opened, Trace}
 use Rattle.ow_floor.specs.View.{last_of, same_namespace, same_record}
 use Rattle.ow_floor.specs.declared.answers.Happening.{Happening}
 use Rattle.ow_floor.specs.declared.answers.Happening.TheVariants.{Recorded}
-use Rattle.ow_items.specs.declared.item.Item.{Item}
+use Rattle.ow_row_text.specs.declared.item.Item.{Item}
 use Rattle.ow_keep.specs.Split.{Parts, split}
-use Rattle.ow_kept.specs.Opening.{resumed_records}
+use Rattle.ow_commits.specs.Opening.{resumed_records}
 use Rattle.ow_records.specs.Outcome.{outcome}
 use Rattle.ow_records.specs.declared.ids.Id.{Id}
 use Rattle.ow_records.specs.declared.outcomes.Ending.TheVariants.{Abandoned}
@@ -38,7 +38,8 @@ abbrev pub are_distinct : {X : Type 0} → (X → X → Bool) → List X → Boo
 are_distinct same [] = true
 are_distinct same (x ∷ xs) = all_pass (λ y. not (same x y)) xs && are_distinct same xs
 
--- the last ids are of different namespaces, and the records of different activations, whose ids were drawn: those of rows that are kept are
+-- the last ids are of different namespaces, and the records of different activations, whose ids were drawn. This holds for rows that are
+-- kept
 abbrev pub are_resumable : List Id → List Record → Bool
 are_resumable counts rs = are_distinct same_namespace counts && (are_distinct same_record rs && all_pass (λ r. nat_le r.id.count (last_of counts r.id.namespace)) rs)
 
@@ -52,11 +53,12 @@ parts_taken at T (Err key) = None
 
 -- ---- what is done
 
--- what is told of activations that are recorded as abandoned
+-- what is reported of activations that are recorded as abandoned
 abbrev pub abandoned_told : List Unrecorded → List Happening
 abandoned_told us = map (λ u. Recorded u.id (outcome Abandoned u.limits).code) us
 
--- what kept rows hold is taken over: the last counts, the records, and the rows of entities. What had not ended is recorded as abandoned, by id
+-- what kept rows hold is taken over: the last counts, the records, and the rows of entities. What had not ended is recorded as abandoned,
+-- by id
 abbrev pub taken_over : ℕ → Parts → Decision
 taken_over at parts = record {
   told = told.Opened (abandoned_told parts.unrecorded);

@@ -29,7 +29,7 @@ store_full = Service services.KeptFull
 abbrev pub book_full : Reason
 book_full = Service services.BookFull
 
--- that the book is full
+-- the reason is that the book is full
 abbrev pub tells_full : Reason → Bool
 tells_full (Service services.BookFull) = true
 tells_full reason = false

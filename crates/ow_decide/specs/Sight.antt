@@ -4,8 +4,8 @@ use Rattle.ow_entity.specs.declared.rows.Row.{Row}
 use Rattle.ow_traits.specs.Changes.{changed}
 use Rattle.ow_traits.specs.declared.change_list.Change.{Change}
 use Rattle.ow_floor.specs.Trace.{Trace, all_records, is_draining}
-use Rattle.ow_items.specs.Bytes.{bytes_of}
-use Rattle.ow_kept.specs.Kept.{kept}
+use Rattle.ow_row_text.specs.Bytes.{bytes_of}
+use Rattle.ow_commits.specs.Kept.{kept}
 use Rattle.ow_http.specs.declared.reason.Reason.{Reason}
 use Rattle.ow_reads.specs.View.{View, view_over}
 use Rattle.ow_tenant.specs.Table.{Table}
@@ -26,7 +26,7 @@ pub record Sight : Type 0 where
   pub counted : ℕ
   pub moment : ℕ
 
--- a book that counts so many bytes has no room for an entry of so many beside its 64: it counts 1,073,741,824 at most
+-- a book that counts `counted` bytes has no room for an entry of `size` bytes beside its 64: it counts 1,073,741,824 at most
 unfoldable pub is_full : ℕ → ℕ → Bool
 is_full counted size = nat_lt 1073741824 (counted + 64 + size)
 
@@ -38,7 +38,7 @@ room_for S size = unless (is_full S.counted size) book_full
 abbrev pub takes_calls : Sight → Result (Unit {0}) Reason
 takes_calls S = unless (is_draining S.trace) draining
 
--- so many bytes of keys and texts are more than the store holds: it holds 1,073,741,824 at most
+-- this many bytes of keys and texts exceed what the store holds: it holds 1,073,741,824 at most
 unfoldable pub is_store_full : ℕ → Bool
 is_store_full bytes = nat_lt 1073741824 bytes
 

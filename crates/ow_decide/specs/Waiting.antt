@@ -33,12 +33,12 @@ abbrev pub invoked_reply : Id → Option ℕ → Reply
 invoked_reply id None = Now (accepted_answer id)
 invoked_reply id (Some until) = Waiting id until
 
--- one who waits is told of the record, or of the result alone
+-- a request that waits is shown the result alone, or the record
 abbrev pub shows_of : Bool → Shows
 shows_of true = ResultAlone
 shows_of false = Whole
 
--- one more waits, where there is a moment up to which
+-- one more request waits, where it has a moment until which it waits
 abbrev pub waits_of : Id → Shows → Option ℕ → Waits
 waits_of id shows None = Keep
 waits_of id shows (Some until) = Add (record { id = id; shows = shows })
@@ -53,13 +53,13 @@ ended_status code = if code == 0 then 200 else 502
 abbrev pub shown_answer : ℕ → V → Answer
 shown_answer code value = record { status = ended_status code; headers = []; body = compact value }
 
--- what is answered to one who waited for this record
+-- the answer to a request that waited for this record
 abbrev pub ended_answer : Shows → Record → Answer
 ended_answer Whole r = shown_answer r.response.code (record_value r)
 ended_answer ResultAlone r = shown_answer r.response.code (object (members_of r.response.result))
 ended_answer (Web extension) r = sent_answer extension r.response
 
--- what is shown to the one who waits for it, the newest where there are several
+-- what the request that waits for the activation is shown: the newest where there are several
 abbrev pub wait_shows : Id → List Wait → Option Shows
 wait_shows id [] = None
 wait_shows id (w ∷ ws) = option_or (wait_shows id ws) (if same_id w.id id then Some w.shows else None)
@@ -71,8 +71,8 @@ or_whole (Some shows) = shows
 abbrev pub shows_for : List Wait → Id → Shows
 shows_for ws id = or_whole (wait_shows id ws)
 
--- what is told of an activation that is collected: no blocking request accepted it, its end, that it isn't there yet, or that it
--- was accepted, once nobody waits any more
+-- the answer to the collection of an activation: no blocking request accepted it, its end, that the end isn't there yet, or that the
+-- activation was accepted, once nobody waits any more
 abbrev pub collected_told : Id → Shows → Collection → HallCollected
 collected_told id shows Unknown = collected.Unknown
 collected_told id shows (Recorded r) = collected.Reply (ended_answer shows r)

@@ -28,7 +28,7 @@ abbrev pub or_name_reason : Result FullName NameRefusal → Result FullName Reas
 or_name_reason (Ok name) = Ok name
 or_name_reason (Err e) = Err (Call (BadName e))
 
--- the name of what is wanted, whose namespace stands for itself
+-- the name of what is wanted, whose namespace is read as it is written
 abbrev pub target_name : Target → Result FullName Reason
 target_name t = or_name_reason (within t.namespace t.package t.name)
 

@@ -1,7 +1,7 @@
-// What comes of a request: its first refusal, in the order of their places, or what it reads and changes.
+// The outcome of a request: its first refusal, in the order of their places, or what it reads and changes.
 ghost use Rattle.std.specs.Prelude.{◌≡◌, ◌≢◌, ◌+◌, None, Some, Ok, Err, false, IfOk, IfErr, IfSome};
-ghost use Rattle.ow_kept.specs.Commits.{row_changes};
-ghost use Rattle.ow_kept.specs.Keeping.{KeepingView, StandsForKept};
+ghost use Rattle.ow_commits.specs.Commits.{row_changes};
+ghost use Rattle.ow_commits.specs.Keeping.{KeepingView, StandsForKept};
 ghost use Rattle.ow_counts.specs.View.{CountsView};
 ghost use Rattle.ow_floor.specs.View.{last_of};
 ghost use Rattle.ow_http.specs.Request.{parts_of};
@@ -16,7 +16,7 @@ ghost use Rattle.ow_reads.specs.Shown.{shown_row};
 ghost use Rattle.ow_decide.specs.Asking.{ask_decision, called_done, change_done, keyed_done, named_set, plan_done, put_done, request_done, row_done};
 ghost use Rattle.ow_decide.specs.Sight.{Sight};
 ghost use Rattle.ow_tenant.specs.declared.entries.Holder.{Holder};
-ghost use Rattle.ow_decide.specs.Making.{CommitsDone, CommitsServed, HasPlace, IsFollowingOf, IsNextOf, IsSeen, Makes, change_of, done_of, served_change, served_of};
+ghost use Rattle.ow_decide.specs.Making.{CommitsDone, CommitsServed, HasPlace, HasRoom, IsFollowingOf, IsNextOf, IsSeen, Makes, change_of, done_of, served_change, served_of};
 
 use crate::call_steps::{charged_namespace, invocation_plan, taken_plan};
 use crate::commits::{changing, is_store_full};
@@ -25,14 +25,14 @@ use crate::fire_steps::{fired, shot};
 use crate::read_steps::read;
 use crate::reasons::table_reason;
 use crate::room::room_for;
-use crate::step::{Now, Step};
+use crate::step::{Now, RowChange, Step};
 use crate::waits::{Shows, shows_of};
 use crate::web_steps::web_served;
+use ow_commits::{Following, Keeping};
 use ow_counts::Counts;
 use ow_entity::{Draft, EntityKind};
 use ow_floor::{Floor, Plan};
 use ow_http::{Call, HttpRefusal, Reason, Request, Route, ServiceRefusal};
-use ow_kept::{Following, Keeping};
 use ow_names::FullName;
 use ow_reads::{Act, act_of, asker, granted_call, shown_once_put, shown_row};
 use ow_rules::set_status;
@@ -56,7 +56,7 @@ pub(crate) fn ask(
     ensures ok { IfOk result (Makes tenants.now tables.old.rows counts.now keeping.now now floor.old.now floor.new.now (λ S. ask_decision (request_done S (parts_of request.now)))) }
     ensures before { floor.new.before ≡ floor.old.before }
     ensures rows { tables.new.rows ≡ tables.old.rows }
-    ensures place { IfOk result (λ s. HasPlace s.change tables.new.room) }
+    ensures place { IfOk result (λ s. HasRoom s.change tables.new.room) }
 {
     match request_served(alloc, tenants, keeping, floor, tables, now, request)? {
         Served::Done(done) => done.step(alloc),
@@ -69,7 +69,7 @@ pub(crate) fn ask(
     }
 }
 
-// What is done of a plan, which is answered where it was taken.
+// What is done for a plan. The request is answered that the plan was accepted, or why it was refused.
 fn accepted_plan(
     alloc: Global,
     tenants: &Tenants,
@@ -84,7 +84,7 @@ fn accepted_plan(
     requires next { plan.id.count ≡ last_of floor.old.now.drawn plan.id.namespace + 1 }
     requires held { floor.old.before ≡ Some floor.old.now }
     ensures ok { IfOk result (Makes tenants.now tables.now.rows counts.now keeping.now now floor.old.now floor.new.now (λ S. ask_decision (plan_done S plan shows))) }
-    ensures change { IfOk result (λ s. s.change ≡ None) }
+    ensures change { IfOk result (λ s. s.change ≡ RowChange.Nothing) }
     ensures before { floor.new.before ≡ floor.old.before }
 {
     let id = plan.id;
@@ -93,7 +93,7 @@ fn accepted_plan(
     accepted(alloc, id, until, shows, taken)
 }
 
-// What comes of a request, over this floor and these rows.
+// The outcome of a request, over this floor and these rows.
 fn request_served(
     alloc: Global,
     tenants: &Tenants,
@@ -121,7 +121,7 @@ fn is_web(route: &Route) -> bool
     matches!(route, Route::Web { .. })
 }
 
-// What comes of a request with a key.
+// The outcome of a request with a key.
 fn keyed_served(
     alloc: Global,
     tenants: &Tenants,
@@ -157,7 +157,7 @@ fn keyed_served(
     }
 }
 
-// What comes of a change or an invocation.
+// The outcome of a change, an invocation or a fire.
 fn called_served(
     alloc: Global,
     tenants: &Tenants,
@@ -225,7 +225,7 @@ fn done_served(done: Result<Done, NoMemory>) -> Result<Served, NoMemory>
     }
 }
 
-// What comes of a put, a removal or a status. A read is no call.
+// The outcome of a put, a removal or a status. A read is no call.
 fn changed(
     alloc: Global,
     keeping: &Keeping,
@@ -358,7 +358,7 @@ fn put_ready(
     put_shown(alloc, tables, ready, commit)
 }
 
-// The same with its row as it is shown then.
+// The same, with the row as it is shown after the put.
 fn put_shown(
     alloc: Global,
     tables: &Tables,
@@ -422,7 +422,7 @@ fn removal_ready(
     removal_shown(alloc, tables, ready, commit)
 }
 
-// The same with its row as it is shown still.
+// The same, with the row as it is still shown.
 fn removal_shown(
     alloc: Global,
     tables: &Tables,
@@ -446,7 +446,7 @@ fn removal_shown(
     }
 }
 
-// What comes of a status: a rule that has it already stays as it is.
+// The outcome of setting a status. A rule that has the status already stays as it is.
 fn set(alloc: Global, keeping: &Keeping, tables: &mut Tables, call: &Call) -> Result<Done, NoMemory>
     ensures done { IfOk result (λ d. (S : Sight) (h : Holder) → S.rows ≡ tables.old.rows → done_of d ≡ change_done S h Act.Sets call.now) }
     ensures commit { IfOk result (λ d. (S : Sight) → S.rows ≡ tables.old.rows → StandsForKept keeping.now S.rows S.trace → CommitsDone d S) }

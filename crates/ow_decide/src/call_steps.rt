@@ -5,7 +5,7 @@ ghost use Rattle.ow_counts.specs.View.{CountsView};
 ghost use Rattle.ow_floor.specs.Laws.{IsSound, Stands};
 ghost use Rattle.ow_floor.specs.View.{Shown, last_of};
 ghost use Rattle.ow_floor.specs.declared.activations.Plan.{Plan};
-ghost use Rattle.ow_kept.specs.Keeping.{KeepingView};
+ghost use Rattle.ow_commits.specs.Keeping.{KeepingView};
 ghost use Rattle.ow_tenant.specs.Table.{Table};
 ghost use Rattle.ow_tenant.specs.Tenants.{limits_of};
 ghost use Rattle.ow_decide.specs.Calling.{admitted_plan, call_decision, call_plan, called_decision, called_plan, callee_in, charged_namespace, first_depth, fitting, given_over, invocation_plan, merged_plan, pairs_of, plan_for, plan_items, until_of};
@@ -16,14 +16,14 @@ use crate::commits::{Made, admit_made, made_of};
 use crate::events::Told;
 use crate::replies::Called;
 use crate::room::room_for;
-use crate::step::{Now, Step};
+use crate::step::{Now, RowChange, Step};
 use crate::waits::Waits;
+use ow_commits::Keeping;
 use ow_compose::form_of;
 use ow_counts::{Counts, LimitRefusal};
 use ow_entity::{Action, EntityRefusal};
 use ow_floor::{Floor, Happened, Moves, Plan};
 use ow_http::{CallRefusal, Reason, ServiceRefusal};
-use ow_kept::Keeping;
 use ow_names::{EntityName, FullName};
 use ow_packages::{Effective, PackageRefusal, check_override, effective};
 use ow_reads::office;
@@ -57,7 +57,7 @@ pub(crate) fn call(
 ) -> Result<Step, NoMemory>
     requires held { floor.old.before ≡ Some floor.old.now }
     ensures ok { IfOk result (Makes tenants.now tables.now.rows counts.now keeping.now now floor.old.now floor.new.now (λ S. call_decision S (call_plan S name.now params.now))) }
-    ensures change { IfOk result (λ s. s.change ≡ None) }
+    ensures change { IfOk result (λ s. s.change ≡ RowChange.Nothing) }
     ensures before { floor.new.before ≡ floor.old.before }
 {
     match call_plan(alloc, tenants, floor, tables, now, name, params)? {
@@ -69,10 +69,10 @@ pub(crate) fn call(
     }
 }
 
-// What is told of a call whose plan was taken, or refused.
+// The step that answers a call whose plan was accepted or refused.
 fn called(alloc: Global, taken: Result<Made, Reason>) -> Result<Step, NoMemory>
     ensures ok { IfOk result (λ s. (S : Sight) (plan : Plan) (v : Shown) → IsTaken taken plan S v → Carries s (called_decision S (admitted_plan S plan)) S) }
-    ensures change { IfOk result (λ s. s.change ≡ None) }
+    ensures change { IfOk result (λ s. s.change ≡ RowChange.Nothing) }
 {
     match taken {
         Ok(made) => happened(alloc, made),
@@ -80,10 +80,10 @@ fn called(alloc: Global, taken: Result<Made, Reason>) -> Result<Step, NoMemory>
     }
 }
 
-// What is told of a call whose plan was taken.
+// The step that answers a call whose plan was accepted.
 fn happened(alloc: Global, made: Made) -> Result<Step, NoMemory>
     ensures ok { IfOk result (λ s. (S : Sight) (plan : Plan) → IsMade made (plan_items S plan) S → Carries s (called_decision S (Ok plan)) S) }
-    ensures change { IfOk result (λ s. s.change ≡ None) }
+    ensures change { IfOk result (λ s. s.change ≡ RowChange.Nothing) }
 {
     let Ok(happened) = Happened::of_moves(alloc, made.moves.items()) else {
         drop(made);
@@ -92,7 +92,7 @@ fn happened(alloc: Global, made: Made) -> Result<Step, NoMemory>
     let Made { moves, commit } = made;
     Ok(Step {
         told: Told::Called(Called::Happened(happened)),
-        change: None,
+        change: RowChange::Nothing,
         waits: Waits::Keep,
         moves,
         commit: Some(commit),
@@ -101,8 +101,8 @@ fn happened(alloc: Global, made: Made) -> Result<Step, NoMemory>
 
 // ---- what is done on the floor
 
-/// A plan is accepted on the floor, with the steps that it makes, where the store has room for them and the limits allow it. Else the floor is
-/// as it was.
+/// Accepts a plan on the floor, with the steps that it makes, where the store has room for them and the limits allow the plan. Otherwise
+/// the floor stays as it was.
 pub(crate) fn taken_plan(
     alloc: Global,
     tenants: &Tenants,
@@ -223,7 +223,7 @@ pub(crate) fn invocation_plan(
     }
 }
 
-/// The same of what is called. `web` says that a web request calls.
+/// What is to be accepted for this callee, or why not. `web` is true where a web request makes the call.
 pub(crate) fn called_plan(
     alloc: Global,
     floor: &Floor,
@@ -286,7 +286,7 @@ fn merged_plan(
     Ok(Ok(plan))
 }
 
-// Up to which moment a blocking invocation waits. A moment that would pass its type is answered as want of memory.
+// The moment until which a blocking invocation waits. A moment that would pass its type is answered as running out of memory.
 fn until_of(at: u64, blocking: bool, action: &Action) -> Result<Option<u64>, NoMemory>
     ensures { IfOk result (λ until. until ≡ until_of at blocking action.now) }
 {
@@ -330,7 +330,7 @@ pub(crate) fn plan_for(
     })
 }
 
-// How deep a first activation of this form stands in its composition.
+// The depth of a first activation of this form in its composition.
 fn first_depth(form: Form) -> u32
     ensures { result ≡ first_depth form }
 {
@@ -348,7 +348,7 @@ pub(crate) fn charged_namespace<'a>(holder: &'a Holder, name: &'a FullName) -> &
     }
 }
 
-/// What the name calls for one in the namespace, where that has a number.
+/// What the name calls for a caller in the namespace, where that namespace has a number.
 pub(crate) fn callee_in(
     alloc: Global,
     tenants: &Tenants,
@@ -368,7 +368,8 @@ pub(crate) fn callee_in(
     }
 }
 
-/// What is given over what is called with, where none of it is fixed and it has not too many bytes.
+/// The given parameters merged over those of what is called. They are refused where one of them is fixed, or where the merged parameters
+/// have too many bytes.
 pub(crate) fn given_over(
     alloc: Global,
     called: &Effective,
@@ -387,7 +388,7 @@ pub(crate) fn given_over(
     }
 }
 
-/// What is given over these, unless it has too many bytes.
+/// The given parameters merged over these, unless the merged parameters have too many bytes.
 #[tactic(auto, unfolding(crate::specs::Calling::is_oversized))]
 pub(crate) fn fitting(
     alloc: Global,

@@ -8,12 +8,12 @@ ghost use Rattle.ow_decide.specs.Making.{MakesFor};
 ghost use Rattle.ow_decide.specs.Waiting.{collected_told, ended_answer, ended_status, shown_answer, shows_for, wait_shows};
 ghost use Rattle.ow_tenant.specs.Table.{Table};
 ghost use Rattle.ow_counts.specs.View.{CountsView};
-ghost use Rattle.ow_kept.specs.Keeping.{KeepingView};
+ghost use Rattle.ow_commits.specs.Keeping.{KeepingView};
 ghost use Rattle.ow_decide.specs.declared.events.Event.TheVariants as events;
 
 use crate::events::Told;
 use crate::replies::HallCollected;
-use crate::step::{Now, Step};
+use crate::step::{Now, RowChange, Step};
 use crate::waits::{Shows, Wait, accepted_answer};
 use ow_floor::{Collected, Floor, FloorRefusal};
 use ow_http::Answer;
@@ -22,7 +22,7 @@ use ow_value::{Bytes, NoMemory, Pairs, PlainData, Val, write_val};
 use ow_web::web_answer;
 use std::alloc::Global;
 
-/// What is told of an activation that is collected.
+/// The step that answers the collection of an activation.
 pub(crate) fn collect(
     alloc: Global,
     floor: &Floor,
@@ -31,7 +31,7 @@ pub(crate) fn collect(
     id: Id,
 ) -> Result<Step, NoMemory>
     ensures ok { IfOk result (λ s. (t : Table) (rs : List Row) (k : CountsView) (b : KeepingView) → MakesFor waits.now t rs k b now floor.now.now floor.now.now (λ S. decide S (events.Collected id)) s) }
-    ensures change { IfOk result (λ s. s.change ≡ None) }
+    ensures change { IfOk result (λ s. s.change ≡ RowChange.Nothing) }
 {
     let shows = shows_for(waits, id);
     let collected = told(alloc, id, shows, floor.collect(now.at, &id))?;
@@ -56,7 +56,7 @@ fn told(
     }
 }
 
-// What is shown to the one who waits for it, or else the record.
+// What the request that waits for the activation is shown. Where none waits, that is the record.
 fn shows_for(waits: &[Wait], id: Id) -> Shows
     ensures { result ≡ shows_for waits.now id }
 {
@@ -66,7 +66,7 @@ fn shows_for(waits: &[Wait], id: Id) -> Shows
     }
 }
 
-// By the newest of its id.
+// What the newest wait for this id is shown.
 fn wait_shows(waits: &[Wait], id: Id) -> Option<Shows>
     ensures { result ≡ wait_shows id waits.now }
 {
@@ -78,7 +78,7 @@ fn wait_shows(waits: &[Wait], id: Id) -> Option<Shows>
     None
 }
 
-// What is answered to one who waited for this record.
+// The answer to a request that waited for this record.
 fn ended_answer(alloc: Global, shows: Shows, ended: &Record) -> Result<Answer, NoMemory>
     ensures { IfOk result (λ a. a ≡ ended_answer shows ended.now) }
 {

@@ -4,21 +4,21 @@ ghost use Rattle.ow_floor.specs.Calls.{moved};
 ghost use Rattle.ow_floor.specs.Growth.{AreRight};
 ghost use Rattle.ow_floor.specs.Laws.{IsSound};
 ghost use Rattle.ow_floor.specs.Trace.{Trace, shown};
-ghost use Rattle.ow_items.specs.Bytes.{bytes_of};
-ghost use Rattle.ow_kept.specs.Commits.{row_changes};
-ghost use Rattle.ow_kept.specs.Keeping.{AreOwn, StandsForKept};
-ghost use Rattle.ow_kept.specs.Kept.{kept};
+ghost use Rattle.ow_row_text.specs.Bytes.{bytes_of};
+ghost use Rattle.ow_commits.specs.Commits.{row_changes};
+ghost use Rattle.ow_commits.specs.Keeping.{AreOwn, StandsForKept};
+ghost use Rattle.ow_commits.specs.Kept.{kept};
 ghost use Rattle.ow_tables.specs.Rows.{changed as rows_changed};
 ghost use Rattle.ow_traits.specs.Changes.{changed};
 ghost use Rattle.ow_decide.specs.Making.{IsFollowingOf, IsMade, admits_made};
 ghost use Rattle.ow_decide.specs.Sight.{Sight, is_store_full};
 
 use crate::reasons::limit_reason;
+use ow_commits::{Following, Keeping};
 use ow_counts::LimitRefusal;
 use ow_entity::Lookup;
 use ow_floor::Moves;
 use ow_http::{Reason, ServiceRefusal};
-use ow_kept::{Following, Keeping};
 use ow_tables::{Ready, Tables};
 use ow_value::NoMemory;
 use std::alloc::Global;
@@ -33,7 +33,7 @@ pub(crate) struct Made {
     pub(crate) commit: Following,
 }
 
-/// What was done, which moved these.
+/// These moves, with what is to be committed of them.
 pub(crate) fn made_of(alloc: Global, keeping: &Keeping, moves: Moves) -> Result<Made, NoMemory>
     ensures same { IfOk result (λ m. m.moves ≡ moves) }
     ensures made { IfOk result (λ m. (S : Sight) (items : Trace) → StandsForKept keeping.now S.rows S.trace → IsSound S.trace → AreRight items (shown S.trace) → AreOwn items
@@ -46,7 +46,7 @@ pub(crate) fn made_of(alloc: Global, keeping: &Keeping, moves: Moves) -> Result<
     Ok(Made { moves, commit })
 }
 
-/// Whether that many bytes may be kept, and what a limit says of one more.
+/// Whether the store may keep this many bytes, and what a limit says of one more.
 pub(crate) fn admit_made(bytes: u64, limit: Result<(), LimitRefusal>) -> Result<(), Reason>
     ensures { result ≡ admits_made bytes limit }
 {
@@ -59,7 +59,7 @@ pub(crate) fn admit_made(bytes: u64, limit: Result<(), LimitRefusal>) -> Result<
     }
 }
 
-/// What is committed where a change of the rows is made that was made ready.
+/// What is to be committed for a change of the rows that was made ready.
 pub(crate) fn changing(
     alloc: Global,
     keeping: &Keeping,
@@ -75,7 +75,7 @@ pub(crate) fn changing(
     keeping.following_change(alloc, tables.row(row.kind(), row.name()), ready)
 }
 
-/// Whether keys and texts of so many bytes are more than the store holds.
+/// Whether this many bytes of keys and texts exceed what the store holds.
 #[tactic(auto, unfolding(crate::specs::Sight::is_store_full))]
 pub(crate) fn is_store_full(bytes: u64) -> bool
     ensures { result ≡ is_store_full bytes }

@@ -1,4 +1,4 @@
-// What comes of a request, before it is told.
+// The outcome of a request, before it is answered.
 ghost use Rattle.std.specs.Prelude.{◌≡◌, None, Some, IfOk};
 ghost use Rattle.ow_value.specs.View.{view};
 ghost use Rattle.ow_floor.specs.View.{Shown};
@@ -8,29 +8,29 @@ ghost use Rattle.ow_reads.specs.Reading.{good};
 ghost use Rattle.ow_decide.specs.Sight.{Sight};
 ghost use Rattle.ow_decide.specs.Waiting.{invoked_reply, waits_of};
 ghost use Rattle.ow_decide.specs.declared.events.Told.TheVariants as told;
-ghost use Rattle.ow_decide.specs.Making.{Carries, CommitsDone, IsTaken, change_of, commit_of, done_of};
+ghost use Rattle.ow_decide.specs.Making.{Carries, CommitsDone, IsTaken, change_of, commit_of, done_of, one_of};
 
 use crate::commits::Made;
 use crate::events::Told;
 use crate::reasons::tells_full;
 use crate::replies::Reply;
-use crate::step::Step;
+use crate::step::{RowChange, Step};
 use crate::waits::{Shows, Waits, invoked_reply, waits_of};
+use ow_commits::Following;
 use ow_floor::{Moves, Plan};
 use ow_http::{Answer, Reason, refusal};
-use ow_kept::Following;
 use ow_records::{Fire, Id};
 use ow_rules::Rules;
 use ow_tables::Ready;
 use ow_value::{Bytes, NoMemory, Pairs, Val, write_val};
 use std::alloc::Global;
 
-/// What comes of a request.
+/// The outcome of a request.
 #[derive(Drop)]
 pub(crate) enum Served {
-    /// This is told, or made ready.
+    /// The outcome is settled: an answer, or a change that was made ready.
     Done(Done),
-    /// This is to be accepted. Where it has a moment up to which it is waited for, this is shown to one who waits.
+    /// This plan is to be accepted. Where a request waits for its end until a moment, `shows` says what that request is shown.
     Accepts { plan: Plan, shows: Shows },
     /// This fire is to be made, and these rules to be followed.
     Fires { fire: Fire, rules: Rules },
@@ -39,25 +39,25 @@ pub(crate) enum Served {
 /// A refusal, a value to be shown, a change that was made ready, or nothing.
 #[derive(Drop)]
 pub(crate) enum Done {
-    /// Why nothing comes of it.
+    /// The request is refused, for this reason.
     Refused(Reason),
     /// This is shown.
     Shown(Val),
-    /// This change was made ready, of which this is shown and committed.
+    /// This change was made ready, with what is shown of it and what is to be committed.
     Changed {
         ready: Ready,
         shown: Val,
         commit: Following,
     },
-    /// A trigger is fired of which no rule is active: nothing comes of it.
+    /// A trigger is fired that no active rule follows: nothing happens.
     Quiet,
 }
 
 impl Done {
-    /// What is told of it, and the change.
+    /// The step of this outcome: the answer to the request, and the change.
     pub(crate) fn step(self, alloc: Global) -> Result<Step, NoMemory>
         ensures ok { IfOk result (λ s. (S : Sight) → CommitsDone self S → Carries s (ask_decision (done_of self)) S) }
-        ensures change { IfOk result (λ s. s.change ≡ change_of self) }
+        ensures change { IfOk result (λ s. s.change ≡ one_of (change_of self)) }
     {
         let Ok(told) = self.told(alloc) else {
             drop(self);
@@ -86,18 +86,19 @@ impl Done {
     }
 
     // The change, and what is committed of it.
-    fn parts(self) -> (Option<Ready>, Option<Following>)
-        ensures change { result.0 ≡ change_of self }
+    fn parts(self) -> (RowChange, Option<Following>)
+        ensures change { result.0 ≡ one_of (change_of self) }
         ensures commit { result.1 ≡ commit_of self }
     {
         match self {
-            Done::Changed { ready, commit, .. } => (Some(ready), Some(commit)),
-            _ => (None, None),
+            Done::Changed { ready, commit, .. } => (RowChange::One(ready), Some(commit)),
+            _ => (RowChange::Nothing, None),
         }
     }
 }
 
-/// What is told of a plan with this id, for which a request waits up to a moment, if at all. It was taken, or refused.
+/// The step that answers a request whose plan, under this id, was accepted or refused. `until` is the moment until which the request
+/// waits, if it waits.
 pub(crate) fn accepted(
     alloc: Global,
     id: Id,
@@ -106,7 +107,7 @@ pub(crate) fn accepted(
     taken: Result<Made, Reason>,
 ) -> Result<Step, NoMemory>
     ensures ok { IfOk result (λ s. (S : Sight) (plan : Plan) (v : Shown) → plan.id ≡ id → plan.until ≡ until → IsTaken taken plan S v → Carries s (ask_decision (plan_done S plan shows)) S) }
-    ensures change { IfOk result (λ s. s.change ≡ None) }
+    ensures change { IfOk result (λ s. s.change ≡ RowChange.Nothing) }
 {
     match taken {
         Ok(made) => invoked(alloc, id, until, shows, made),
@@ -114,7 +115,7 @@ pub(crate) fn accepted(
     }
 }
 
-// What is told of a plan that was taken.
+// The step that answers a request whose plan was accepted.
 fn invoked(
     alloc: Global,
     id: Id,
@@ -122,7 +123,7 @@ fn invoked(
     shows: Shows,
     made: Made,
 ) -> Result<Step, NoMemory>
-    ensures ok { IfOk result (λ s. s ≡ record { told = told.Asked (invoked_reply id until); change = None; waits = waits_of id shows until; moves = made.moves; commit = Some made.commit }) }
+    ensures ok { IfOk result (λ s. s ≡ record { told = told.Asked (invoked_reply id until); change = RowChange.Nothing; waits = waits_of id shows until; moves = made.moves; commit = Some made.commit }) }
 {
     let Ok(reply) = invoked_reply(alloc, id, until) else {
         drop(made);
@@ -131,7 +132,7 @@ fn invoked(
     let Made { moves, commit } = made;
     Ok(Step {
         told: Told::Asked(reply),
-        change: None,
+        change: RowChange::Nothing,
         waits: waits_of(id, shows, until),
         moves,
         commit: Some(commit),
@@ -160,7 +161,7 @@ fn good(alloc: Global, value: &Val) -> Result<Answer, NoMemory>
     })
 }
 
-// A refusal is answered; of the full book it is told that it isn't booked.
+// The answer to a refused request. Where the reason is that the book is full, it is `Told::Full`, which isn't booked.
 fn refusal_told(alloc: Global, reason: &Reason) -> Result<Told, NoMemory>
     ensures { IfOk result (λ t. t ≡ refusal_told reason.now) }
 {

@@ -1,5 +1,6 @@
-// What comes to the service, and what is told of it.
-use crate::replies::{Called, HallCollected, Reply};
+// The events that reach the service, and their answers.
+use crate::replies::{Called, Deployed, HallCollected, Reply};
+use ow_entity::Drafts;
 use ow_floor::{Answered, Drain, FloorRefusal, Happened, Order, Swept};
 use ow_http::{Answer, Request};
 use ow_names::FullName;
@@ -8,15 +9,17 @@ use ow_traits::{Rows, RunReply};
 use ow_value::{NoMemory, Params, PlainData, Shared};
 use std::alloc::Global;
 
-/// Something that comes to the service from outside.
+/// An event that reaches the service from outside.
 #[derive(Drop)]
 pub enum Event {
     /// The service is opened over the kept rows.
     Opened(Rows),
-    /// A request comes.
+    /// A client makes a request.
     Asked(Shared<Request>),
     /// The office itself calls an action.
     Called { name: FullName, params: Params },
+    /// The office itself puts entities, all or none.
+    Deployed(Drafts),
     /// A runner asks what to run.
     Next,
     /// The container of a run is up, and its action initialised.
@@ -29,15 +32,15 @@ pub enum Event {
     Gone { slot: u32, generation: u32 },
     /// What late runs carry is to end.
     Sweep,
-    /// What became of an activation, for whose end a request waits, is asked for.
+    /// What became of an activation is requested. A request waits for the end of that activation.
     Collected(Id),
     /// The office asks whether all has ended, and takes no more calls.
     Drain,
-    /// The service begins anew over what it keeps: no run of before is live any more.
+    /// The service starts again over what it keeps. No earlier run is live any more.
     Reopened,
 }
 
-/// What is told of an event, also where that isn't booked.
+/// The answer to an event, also where it isn't booked.
 #[derive(Drop)]
 pub enum Told {
     /// To an opening: what was recorded.
@@ -48,19 +51,21 @@ pub enum Told {
     Full(Answer),
     /// To a call of the office.
     Called(Called),
+    /// To a deployment.
+    Deployed(Deployed),
     /// To a runner that asks.
     Next(Order),
     /// To the reply of a runner.
     Answered(Answered),
     /// To the reply of a runner to a run that isn't live, which is handed back. It isn't booked.
     NoRun { run: u64, reply: RunReply },
-    /// To a beginning, a loss or a going that was taken.
+    /// To a beginning, a loss or a going that was accepted.
     Done,
-    /// To a beginning, a loss or a going that was not. It isn't booked.
+    /// To a beginning, a loss or a going that was refused. It isn't booked.
     Refused(FloorRefusal),
     /// To a sweep.
     Swept(Swept),
-    /// To one who asks what became of an activation. It isn't booked where there is no answer yet.
+    /// To the collection of an activation. It isn't booked where there is no answer yet.
     Collected(HallCollected),
     /// To the office that drains.
     Drain(Drain),
@@ -80,6 +85,7 @@ impl PlainData for Event {
                     params: other_params,
                 },
             ) => name.same(other_name) && params.same(other_params),
+            (Event::Deployed(a), Event::Deployed(b)) => a.same(b),
             (
                 Event::Answered { run, reply },
                 Event::Answered {
@@ -114,6 +120,7 @@ impl PlainData for Event {
                 let params = params.copy(alloc)?;
                 Ok(Event::Called { name, params })
             }
+            Event::Deployed(drafts) => Ok(Event::Deployed(drafts.copy(alloc)?)),
             Event::Next => Ok(Event::Next),
             Event::Begun { run } => Ok(Event::Begun { run: *run }),
             Event::Answered { run, reply } => Ok(Event::Answered {
@@ -140,6 +147,7 @@ impl PlainData for Told {
             (Told::Asked(a), Told::Asked(b)) => a.same(b),
             (Told::Full(a), Told::Full(b)) => a.same(b),
             (Told::Called(a), Told::Called(b)) => a.same(b),
+            (Told::Deployed(a), Told::Deployed(b)) => a.same(b),
             (Told::Next(a), Told::Next(b)) => a.same(b),
             (Told::Answered(a), Told::Answered(b)) => a.same(b),
             (
@@ -165,6 +173,7 @@ impl PlainData for Told {
             Told::Asked(reply) => Ok(Told::Asked(reply.copy(alloc)?)),
             Told::Full(answer) => Ok(Told::Full(answer.copy(alloc)?)),
             Told::Called(called) => Ok(Told::Called(called.copy(alloc)?)),
+            Told::Deployed(deployed) => Ok(Told::Deployed(deployed.copy(alloc)?)),
             Told::Next(order) => Ok(Told::Next(order.copy(alloc)?)),
             Told::Answered(answered) => Ok(Told::Answered(answered.copy(alloc)?)),
             Told::NoRun { run, reply } => Ok(Told::NoRun {

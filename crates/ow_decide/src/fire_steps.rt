@@ -6,7 +6,7 @@ ghost use Rattle.ow_floor.specs.Calls.{draw_items, moved};
 ghost use Rattle.ow_floor.specs.Laws.{Stands};
 ghost use Rattle.ow_floor.specs.Trace.{Trace};
 ghost use Rattle.ow_floor.specs.View.{last_of};
-ghost use Rattle.ow_kept.specs.Keeping.{KeepingView};
+ghost use Rattle.ow_commits.specs.Keeping.{KeepingView};
 ghost use Rattle.ow_tables.specs.Joined.{trigger_at};
 ghost use Rattle.ow_tables.specs.Rows.{standing};
 ghost use Rattle.ow_tenant.specs.Tenants.{limits_of};
@@ -23,25 +23,24 @@ use crate::done::{Done, Served};
 use crate::events::Told;
 use crate::replies::Reply;
 use crate::rule_steps::take_rule;
-use crate::step::{Now, Step};
+use crate::step::{Now, RowChange, Step};
 use crate::waits::{Waits, accepted_answer};
+use ow_commits::Keeping;
 use ow_counts::{Counts, LimitRefusal};
 use ow_entity::{EntityKind, EntityRefusal, Lookup, Row, Trigger};
 use ow_floor::{Floor, Moves};
 use ow_http::{Call, CallRefusal, HttpRefusal, Reason, ServiceRefusal};
-use ow_kept::Keeping;
 use ow_names::{EntityName, FullName};
 use ow_records::{Fire, Id, trigger_record};
 use ow_rules::Rules;
-use ow_several::copied3;
 use ow_tables::Tables;
 use ow_tenant::{Holder, Tenants};
-use ow_value::{Lines, NoMemory, Params, Str};
+use ow_value::{Lines, NoMemory, Params, Str, copied3};
 use std::alloc::Global;
 
 // ---- what is fired
 
-/// What comes of a fire. Nothing is done yet.
+/// The outcome of a fire. Nothing is done yet.
 pub(crate) fn fired(
     alloc: Global,
     tenants: &Tenants,
@@ -90,7 +89,7 @@ fn trigger_at<'a>(tables: &'a Tables, name: &FullName) -> Option<&'a Trigger>
     }
 }
 
-// What comes of a fire of these rules.
+// The outcome of a fire of these rules.
 fn rules_served(
     alloc: Global,
     floor: &Floor,
@@ -202,7 +201,7 @@ pub(crate) fn shot(
     requires next { fire.id.count ≡ last_of floor.old.now.drawn fire.id.namespace + 1 }
     requires held { floor.old.before ≡ Some floor.old.now }
     ensures ok { IfOk result (Makes tenants.now tables.now.rows counts.now keeping.now now floor.old.now floor.new.now (λ S. ask_decision (shot_done S fire rules))) }
-    ensures change { IfOk result (λ s. s.change ≡ None) }
+    ensures change { IfOk result (λ s. s.change ≡ RowChange.Nothing) }
     ensures before { floor.new.before ≡ floor.old.before }
 {
     let id = fire.id;
@@ -234,7 +233,7 @@ fn within_fires(
 
 // What is answered of a fire, which is made.
 fn fired_step(alloc: Global, id: Id, made: Made) -> Result<Step, NoMemory>
-    ensures { IfOk result (λ s. s ≡ record { told = at_once (accepted_answer id); change = None; waits = Waits.Keep; moves = made.moves; commit = Some made.commit }) }
+    ensures { IfOk result (λ s. s ≡ record { told = at_once (accepted_answer id); change = RowChange.Nothing; waits = Waits.Keep; moves = made.moves; commit = Some made.commit }) }
 {
     let Ok(answer) = accepted_answer(alloc, id) else {
         drop(made);
@@ -243,7 +242,7 @@ fn fired_step(alloc: Global, id: Id, made: Made) -> Result<Step, NoMemory>
     let Made { moves, commit } = made;
     Ok(Step {
         told: Told::Asked(Reply::Now(answer)),
-        change: None,
+        change: RowChange::Nothing,
         waits: Waits::Keep,
         moves,
         commit: Some(commit),

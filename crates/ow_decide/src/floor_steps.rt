@@ -1,20 +1,20 @@
-// What runners ask and tell, sweeps, and the drain.
+// The steps for what runners request and report, for sweeps, for the drain and for a reopening.
 ghost use Rattle.std.specs.Prelude.{◌≡◌, None, List, false, IfOk};
 ghost use Rattle.ow_entity.specs.declared.rows.Row.{Row};
 ghost use Rattle.ow_tenant.specs.Table.{Table};
 ghost use Rattle.ow_counts.specs.View.{CountsView};
 ghost use Rattle.ow_floor.specs.Calls.{answered_by, happened_of};
-ghost use Rattle.ow_kept.specs.Keeping.{KeepingView};
+ghost use Rattle.ow_commits.specs.Keeping.{KeepingView};
 ghost use Rattle.ow_decide.specs.Decisions.{decide, taken_told, wants_memory};
 ghost use Rattle.ow_decide.specs.Making.{IsReplyTold, IsTold, Makes, telling};
 ghost use Rattle.ow_decide.specs.declared.events.Told.TheVariants as told;
 
 use crate::commits::{Made, made_of};
 use crate::events::{Event, Told};
-use crate::step::{Now, Step};
+use crate::step::{Now, RowChange, Step};
 use crate::waits::Waits;
+use ow_commits::Keeping;
 use ow_floor::{Answered, Floor, FloorRefusal, Happened, Moves, Swept};
-use ow_kept::Keeping;
 use ow_tables::Tables;
 use ow_traits::RunReply;
 use ow_value::{NoMemory, PlainData};
@@ -23,7 +23,7 @@ use std::alloc::Global;
 /// Runs what has waited longest, if anything waits.
 pub(crate) fn next(alloc: Global, floor: &mut Floor, now: Now) -> Result<Step, NoMemory>
     ensures ok { IfOk result (λ s. (t : Table) (rs : List Row) (k : CountsView) (b : KeepingView) → Makes t rs k b now floor.old.now floor.new.now (λ S. decide S Event.Next) s) }
-    ensures change { IfOk result (λ s. s.change ≡ None) }
+    ensures change { IfOk result (λ s. s.change ≡ RowChange.Nothing) }
     ensures before { floor.new.before ≡ floor.old.before }
 {
     let order = floor.next(alloc, now.at)?;
@@ -41,7 +41,7 @@ pub(crate) fn answered(
     reply: &RunReply,
 ) -> Result<Step, NoMemory>
     ensures ok { IfOk result (λ s. (t : Table) (k : CountsView) → Makes t tables.now.rows k keeping.now now floor.old.now floor.new.now (λ S. decide S (Event.Answered run reply.now)) s) }
-    ensures change { IfOk result (λ s. s.change ≡ None) }
+    ensures change { IfOk result (λ s. s.change ≡ RowChange.Nothing) }
     ensures before { floor.new.before ≡ floor.old.before }
 {
     let mut moves = Moves::new(alloc);
@@ -53,7 +53,8 @@ pub(crate) fn answered(
     answered_step(alloc, keeping, run, reply, recorded, moves)
 }
 
-// What is told of a reply, where it is known of a live run at which moment a sweep recorded what it carries, if one did, and these moved.
+// The step that answers a reply, after these moves. `recorded` is None where the run isn't live. Otherwise it has the moment at which a
+// sweep recorded what the run carries, if one did.
 fn answered_step(
     alloc: Global,
     keeping: &Keeping,
@@ -73,7 +74,8 @@ fn answered_step(
     }
 }
 
-// What is told of a reply to a live run: it is late where a sweep recorded what the run carries, or these moved.
+// The step that answers a reply to a live run. The reply is late where a sweep recorded what the run carries; otherwise the answer says
+// what moved.
 fn recorded_step(
     alloc: Global,
     keeping: &Keeping,
@@ -91,7 +93,7 @@ fn recorded_step(
     told_step(alloc, keeping, Told::Answered(answered), Waits::Keep, moves)
 }
 
-// What is told of a reply to a live run.
+// The answer to a reply to a live run.
 fn answered_by(run: u64, recorded: Option<u64>, happened: Happened) -> Answered
     ensures { result ≡ answered_by run recorded happened }
 {
@@ -101,7 +103,7 @@ fn answered_by(run: u64, recorded: Option<u64>, happened: Happened) -> Answered
     }
 }
 
-// A reply to a run that isn't live.
+// The step that hands back a reply to a run that isn't live.
 fn unknown_step(alloc: Global, run: u64, reply: &RunReply) -> Result<Step, NoMemory>
     ensures { IfOk result (λ s. s ≡ telling (told.NoRun run reply.now)) }
 {
@@ -109,7 +111,7 @@ fn unknown_step(alloc: Global, run: u64, reply: &RunReply) -> Result<Step, NoMem
     Ok(Step::telling(alloc, Told::NoRun { run, reply }))
 }
 
-// This is told of all that moved, which is committed.
+// A step with this answer and these moves, and with what is to be committed of them, if anything moved.
 fn told_step(
     alloc: Global,
     keeping: &Keeping,
@@ -122,7 +124,7 @@ fn told_step(
     if moves.items().is_empty() {
         return Ok(Step {
             told,
-            change: None,
+            change: RowChange::Nothing,
             waits,
             moves,
             commit: None,
@@ -134,7 +136,7 @@ fn told_step(
     };
     Ok(Step {
         told,
-        change: None,
+        change: RowChange::Nothing,
         waits,
         moves,
         commit: Some(commit),
@@ -150,7 +152,7 @@ pub(crate) fn sweep(
     now: Now,
 ) -> Result<Step, NoMemory>
     ensures ok { IfOk result (λ s. (t : Table) (k : CountsView) → Makes t tables.now.rows k keeping.now now floor.old.now floor.new.now (λ S. decide S Event.Sweep) s) }
-    ensures change { IfOk result (λ s. s.change ≡ None) }
+    ensures change { IfOk result (λ s. s.change ≡ RowChange.Nothing) }
     ensures before { floor.new.before ≡ floor.old.before }
 {
     let mut moves = Moves::new(alloc);
@@ -161,7 +163,7 @@ pub(crate) fn sweep(
     swept_step(alloc, keeping, late, moves)
 }
 
-// What is told of a sweep that found that many late runs.
+// The step that answers a sweep that found this many late runs, after these moves.
 fn swept_step(alloc: Global, keeping: &Keeping, late: u64, moves: Moves) -> Result<Step, NoMemory>
     ensures { IfOk result (λ s. IsTold s (told.Swept (record { happened = happened_of moves; late = late })) Waits.Keep moves keeping.now) }
 {
@@ -188,7 +190,7 @@ pub fn take(floor: &mut Floor, now: Now, event: &Event) -> Result<(), FloorRefus
     }
 }
 
-/// What is told of a beginning, a loss or a going.
+/// The answer to a beginning, a loss or a going.
 pub fn taken_told(taken: Result<(), FloorRefusal>) -> Told
     ensures { result ≡ taken_told taken }
 {
@@ -201,13 +203,13 @@ pub fn taken_told(taken: Result<(), FloorRefusal>) -> Told
 /// From now on the floor drains.
 pub(crate) fn drain(alloc: Global, floor: &mut Floor, now: Now) -> Step
     ensures ok { (t : Table) (rs : List Row) (k : CountsView) (b : KeepingView) → Makes t rs k b now floor.old.now floor.new.now (λ S. decide S Event.Drain) result }
-    ensures change { result.change ≡ None }
+    ensures change { result.change ≡ RowChange.Nothing }
     ensures before { floor.new.before ≡ floor.old.before }
 {
     Step::telling(alloc, Told::Drain(floor.drain(now.at)))
 }
 
-/// Ends what is open as abandoned. Nobody waits for an end then.
+/// Ends every open activation as abandoned. Then no request waits for an end any more.
 pub(crate) fn reopen(
     alloc: Global,
     keeping: &Keeping,
@@ -215,7 +217,7 @@ pub(crate) fn reopen(
     now: Now,
 ) -> Result<Step, NoMemory>
     ensures ok { IfOk result (λ s. (t : Table) (rs : List Row) (k : CountsView) → Makes t rs k keeping.now now floor.old.now floor.new.now (λ S. decide S Event.Reopened) s) }
-    ensures change { IfOk result (λ s. s.change ≡ None) }
+    ensures change { IfOk result (λ s. s.change ≡ RowChange.Nothing) }
     ensures before { floor.new.before ≡ floor.old.before }
 {
     let mut moves = Moves::new(alloc);
@@ -226,7 +228,7 @@ pub(crate) fn reopen(
     reopened_step(alloc, keeping, moves)
 }
 
-// What is told of a reopening at which these moved.
+// The step that answers a reopening, after these moves.
 fn reopened_step(alloc: Global, keeping: &Keeping, moves: Moves) -> Result<Step, NoMemory>
     ensures { IfOk result (λ s. IsTold s (told.Reopened (happened_of moves)) Waits.Clear moves keeping.now) }
 {

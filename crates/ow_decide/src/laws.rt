@@ -4,8 +4,8 @@ ghost use Rattle.ow_floor.specs.Calls.{moved};
 ghost use Rattle.ow_floor.specs.Growth.{AreRight};
 ghost use Rattle.ow_floor.specs.Laws.{IsSound};
 ghost use Rattle.ow_floor.specs.Trace.{shown};
-ghost use Rattle.ow_kept.specs.Kept.{kept};
-ghost use Rattle.ow_kept.specs.Keeping.{AreIds, AreOwn};
+ghost use Rattle.ow_commits.specs.Kept.{kept};
+ghost use Rattle.ow_commits.specs.Keeping.{AreIds, AreOwn};
 ghost use Rattle.ow_tables.specs.Rows.{standing};
 ghost use Rattle.ow_traits.specs.Changes.{changed};
 ghost use Rattle.ow_trees.specs.Owed.{AreOwed};
@@ -19,7 +19,7 @@ ghost use Rattle.ow_decide.specs.Decisions.{decide, is_opening, wants_memory};
 ghost use Rattle.ow_decide.specs.Sight.{Sight};
 ghost use Rattle.ow_decide.specs.declared.events.Event.{Event};
 
-/// A read that the book has room for is answered by what whoever asks may see, and by nothing else.
+/// A read for which the book has room is answered by what the caller may see, and by nothing else.
 pub fn reads_are_answered_of_the_view()
     ensures { (S : Sight) → IsOfView S }
 {}
@@ -29,18 +29,19 @@ pub fn reads_change_nothing()
     ensures { ReadsChangeNothing }
 {}
 
-/// What is decided is a chain of items, but for an opening: each is of the moment, and may be decided and happen after those before it.
+/// What is decided at any event except an opening is a chain of items: each is of the moment, and may be decided and happen after those
+/// before it.
 pub fn decisions_are_chains()
     ensures { (S : Sight) (event : Event) → is_opening event ≡ false → AreSteps S (decide S event).items }
 {}
 
-/// Behind what is decided at an event a sound trace is sound.
+/// A sound trace stays sound with the items that are decided at an event.
 pub fn decisions_keep_traces_sound()
     ensures { (S : Sight) (event : Event) → IsSound S.trace → IsSound ((decide S event).items ++ S.trace) }
 {}
 
-/// What is decided may come, but for an opening: it accepts and fires at the moment, and takes over nothing of an earlier run. At an event that takes no memory
-/// nothing moves. Nothing is accepted or fired after the moment.
+/// The items that are decided at any event except an opening may happen. They accept and fire at the moment, and take over nothing of an
+/// earlier run. At an event that takes no memory nothing moves. Nothing is accepted or fired after the moment.
 pub fn decisions_are_right_items()
     ensures right { (S : Sight) (event : Event) → is_opening event ≡ false → IsSound S.trace → AreRight (decide S event).items (shown S.trace) }
     ensures noted { (S : Sight) (event : Event) → is_opening event ≡ false → AreNotedAt S.moment (decide S event).items }
@@ -49,7 +50,8 @@ pub fn decisions_are_right_items()
     ensures up_to { (S : Sight) (event : Event) → AreUpTo S.moment S.trace → AreUpTo S.moment ((decide S event).items ++ S.trace) }
 {}
 
-/// Each child that is accepted at an event is the step that its cause owes there, and each end of a composite the one that the composite owes.
+/// Each child that is accepted at an event is the step that its cause owes there, and each end of a composite the one that the composite
+/// owes.
 pub fn decisions_take_owed_steps()
     ensures { (S : Sight) (event : Event) → AreOwed (standing S.rows) S.moment (decide S event).items S.trace }
 {}
@@ -59,7 +61,7 @@ pub fn decisions_keep_limits()
     ensures { (S : Sight) (event : Event) → AreWithin (λ n. limits_of n S.tenants) S.trace → AreWithin (λ n. limits_of n S.tenants) ((decide S event).items ++ S.trace) }
 {}
 
-/// What a decision commits makes what is kept then of what was kept. An opening commits otherwise.
+/// The commit of a decision turns what was kept into what is kept after it. An opening commits otherwise.
 pub fn decisions_commit_what_is_kept()
     ensures { (S : Sight) (event : Event) → is_opening event ≡ false → IsSound S.trace → AreIds S.trace → AreIds ((decide S event).items ++ S.trace)
         → changed (commits (decide S event)) (kept S.rows S.trace) ≡ kept (all_changed (decide S event).changes S.rows) ((decide S event).items ++ S.trace) }

@@ -1,10 +1,11 @@
 #![tactic(auto)]
 
-//! What is done at each event: by what is seen of the office table, the rows and the floor, and by what comes.
+//! What is done at each event, as a function of the event and of what is seen of the office table, the rows and the floor.
 mod ask_steps;
 mod call_steps;
 mod collect_steps;
 mod commits;
+mod deploy_steps;
 mod done;
 mod events;
 mod fire_steps;
@@ -27,7 +28,7 @@ pub use laws::{
     reads_are_answered_of_the_view, reads_change_nothing,
 };
 pub use reasons::tells_full;
-pub use replies::{Called, HallCollected, Reply};
+pub use replies::{Called, Deployed, HallCollected, Reply};
 pub use room::is_full;
-pub use step::{Now, Step, step_for};
+pub use step::{Now, RowChange, Step, step_for};
 pub use waits::{Shows, Wait, Waits};

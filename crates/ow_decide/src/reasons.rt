@@ -49,7 +49,7 @@ fn window_reason(refusal: WindowRefusal) -> Reason
     }
 }
 
-/// Whether it is that the book is full.
+/// Whether the reason is that the book is full.
 pub fn tells_full(reason: &Reason) -> bool
     ensures { result ≡ tells_full reason.now }
 {

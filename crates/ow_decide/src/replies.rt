@@ -17,10 +17,20 @@ pub enum Reply {
 /// What the office's own invocation is answered.
 #[derive(Drop)]
 pub enum Called {
-    /// It was accepted: this happened.
+    /// The invocation was accepted. This happened.
     Happened(Happened),
-    /// Why it was not.
+    /// The invocation was refused, for this reason.
     Refused(Reason),
+}
+
+/// What a deployment is answered.
+#[derive(Drop)]
+pub enum Deployed {
+    /// All drafts were put: how many had no row, how many replaced one, and how many were left out, as only a version would have changed.
+    Done { made: u32, changed: u32, same: u32 },
+    /// The deployment was refused, for this reason: at the draft with this place, counted from 1, or as a whole at place 0. No row has
+    /// changed.
+    Refused { place: u32, reason: Reason },
 }
 
 /// What is answered of an activation that is collected.
@@ -28,7 +38,7 @@ pub enum Called {
 pub enum HallCollected {
     /// What is answered to the request that waited for it.
     Reply(Answer),
-    /// It hasn't ended, and the moment up to which the request waits isn't there.
+    /// The activation hasn't ended, and the moment until which the request waits isn't there yet.
     NotYet,
     /// Since the last opening no blocking request was accepted under this id: refusal 14.
     Unknown,
@@ -92,6 +102,51 @@ impl PlainData for Called {
         match self {
             Called::Happened(happened) => Ok(Called::Happened(happened.copy(alloc)?)),
             Called::Refused(reason) => Ok(Called::Refused(reason.copy(alloc)?)),
+        }
+    }
+}
+
+impl PlainData for Deployed {
+    fn same(&self, other: &Deployed) -> bool {
+        match (self, other) {
+            (
+                Deployed::Done {
+                    made,
+                    changed,
+                    same,
+                },
+                Deployed::Done {
+                    made: other_made,
+                    changed: other_changed,
+                    same: other_same,
+                },
+            ) => made == other_made && changed == other_changed && same == other_same,
+            (
+                Deployed::Refused { place, reason },
+                Deployed::Refused {
+                    place: other_place,
+                    reason: other_reason,
+                },
+            ) => place == other_place && reason.same(other_reason),
+            _ => false,
+        }
+    }
+
+    fn copy(&self, alloc: Global) -> Result<Deployed, NoMemory> {
+        match self {
+            Deployed::Done {
+                made,
+                changed,
+                same,
+            } => Ok(Deployed::Done {
+                made: *made,
+                changed: *changed,
+                same: *same,
+            }),
+            Deployed::Refused { place, reason } => Ok(Deployed::Refused {
+                place: *place,
+                reason: reason.copy(alloc)?,
+            }),
         }
     }
 }

@@ -32,7 +32,7 @@ use ow_tenant::Tenants;
 use ow_value::{Fields, NoMemory, Params, Str, Val, Whole, val_text};
 use std::alloc::Global;
 
-/// What comes of a rule is done on the floor, and noted as a line: it makes an activation, unless it is refused.
+/// Does what a rule makes of a fire on the floor, and notes it as a line. The rule makes an activation, unless it is refused.
 pub(crate) fn take_rule(
     alloc: Global,
     tenants: &Tenants,
@@ -68,7 +68,7 @@ pub(crate) fn take_rule(
     }
 }
 
-// What is planned is accepted, with the steps that it makes, and its line noted.
+// Accepts the plan of a rule, with the steps that the plan makes, and notes its line.
 fn accept_rule(
     alloc: Global,
     floor: &mut Floor,
@@ -214,7 +214,7 @@ fn rule_plan(
     }
 }
 
-// The same of what its action calls.
+// The same for the callee of the rule's action.
 fn called_rule(
     alloc: Global,
     tenants: &Tenants,

@@ -1,31 +1,44 @@
 // What is done at each event, over the floor and the rows.
 ghost use Rattle.std.specs.Prelude.{◌≡◌, [], None, Some, true, false, IfOk};
 ghost use Rattle.ow_decide.specs.Decisions.{decide, is_opening, wants_memory};
-ghost use Rattle.ow_decide.specs.Making.{HasPlace, MakesFor, telling};
+ghost use Rattle.ow_decide.specs.Making.{HasRoom, MakesFor, telling};
 
 use crate::ask_steps::ask;
 use crate::call_steps::call;
 use crate::collect_steps::collect;
+use crate::deploy_steps::deploy;
 use crate::events::{Event, Told};
 use crate::floor_steps::{answered, drain, next, reopen, sweep};
 use crate::waits::{Wait, Waits};
+use ow_commits::{Following, Keeping};
 use ow_counts::Counts;
+use ow_entity::Row;
 use ow_floor::{Floor, Moves};
-use ow_kept::{Following, Keeping};
 use ow_tables::{Ready, Tables};
 use ow_tenant::Tenants;
 use ow_value::NoMemory;
 use std::alloc::Global;
 
-/// What was done: what is told, the change of the rows that was made ready, what becomes of those who wait, all that moved on the
+/// What was done: the answer, the change of the rows that was made ready, what becomes of the requests that wait, all that moved on the
 /// floor, and what is to be committed of it. Where nothing is to be committed there may be no commit.
 #[derive(Drop)]
 pub struct Step {
     pub told: Told,
-    pub change: Option<Ready>,
+    pub change: RowChange,
     pub waits: Waits,
     pub moves: Moves,
     pub commit: Option<Following>,
+}
+
+/// What becomes of the rows of entities.
+#[derive(Drop)]
+pub enum RowChange {
+    /// They stay.
+    Nothing,
+    /// This change is made, which was made ready.
+    One(Ready),
+    /// These rows are put, one after another.
+    Puts(Vec<Row>),
 }
 
 /// How many bytes the book counts, and the moment in milliseconds.
@@ -36,13 +49,13 @@ pub struct Now {
 }
 
 impl Step {
-    /// Something is told, and nothing else is made ready. This takes no memory.
+    /// A step with an answer alone: nothing else is made ready. This takes no memory.
     pub fn telling(alloc: Global, told: Told) -> Step
         ensures { result ≡ telling told }
     {
         Step {
             told,
-            change: None,
+            change: RowChange::Nothing,
             waits: Waits::Keep,
             moves: Moves::new(alloc),
             commit: None,
@@ -50,7 +63,8 @@ impl Step {
     }
 }
 
-/// What is done at an event, but for a beginning, a loss, a going or an opening. On the floor it is done already; without memory some of it may be.
+/// What is done at any event except a beginning, a loss, a going or an opening. On the floor it is done already; without memory some of
+/// it may be.
 pub fn step_for(
     alloc: Global,
     tenants: &Tenants,
@@ -68,7 +82,7 @@ pub fn step_for(
     ensures ok { IfOk result (MakesFor waits.now tenants.now tables.old.rows counts.now keeping.now now floor.old.now floor.new.now (λ S. decide S event.now)) }
     ensures before { floor.new.before ≡ floor.old.before }
     ensures rows { tables.new.rows ≡ tables.old.rows }
-    ensures place { IfOk result (λ s. HasPlace s.change tables.new.room) }
+    ensures place { IfOk result (λ s. HasRoom s.change tables.new.room) }
 {
     match event {
         Event::Asked(request) => ask(
@@ -86,6 +100,7 @@ pub fn step_for(
                 alloc, tenants, counts, keeping, floor, tables, now, name, params,
             )
         }
+        Event::Deployed(drafts) => deploy(alloc, tenants, keeping, floor, tables, now, drafts),
         Event::Next => next(alloc, floor, now),
         Event::Answered { run, reply } => {
             answered(alloc, keeping, floor, tables, now, *run, reply)

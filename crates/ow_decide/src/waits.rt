@@ -52,7 +52,7 @@ pub fn shows_of(result_only: bool) -> Shows
     }
 }
 
-/// One more waits, where there is a moment up to which.
+/// One more request waits, where it has a moment until which it waits.
 pub fn waits_of(id: Id, shows: Shows, until: Option<u64>) -> Waits
     ensures { result ≡ waits_of id shows until }
 {
@@ -62,7 +62,7 @@ pub fn waits_of(id: Id, shows: Shows, until: Option<u64>) -> Waits
     }
 }
 
-/// What an invocation is answered, which may wait up to a moment.
+/// The answer to an invocation, which may wait until a moment.
 pub fn invoked_reply(alloc: Global, id: Id, until: Option<u64>) -> Result<Reply, NoMemory>
     ensures { IfOk result (λ r. r ≡ invoked_reply id until) }
 {

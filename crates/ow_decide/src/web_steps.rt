@@ -6,7 +6,7 @@ ghost use Rattle.ow_counts.specs.View.{CountsView};
 ghost use Rattle.ow_floor.specs.Laws.{Stands};
 ghost use Rattle.ow_floor.specs.View.{last_of};
 ghost use Rattle.ow_http.specs.Request.{parts_of};
-ghost use Rattle.ow_kept.specs.Keeping.{KeepingView};
+ghost use Rattle.ow_commits.specs.Keeping.{KeepingView};
 ghost use Rattle.ow_tenant.specs.Tenants.{holder_of};
 ghost use Rattle.ow_web.specs.Target.{as_target, is_web};
 ghost use Rattle.ow_decide.specs.Asking.{web_accepted, web_called, web_done, web_named, web_planned};
@@ -29,7 +29,7 @@ use ow_value::{NoMemory, Params, Str};
 use ow_web::{Extension, Target, WebRefusal, web_reason, web_request, web_target};
 use std::alloc::Global;
 
-/// What comes of a web request. Neither a key nor a grant is wanted.
+/// The outcome of a web request, which needs neither a key nor a grant.
 pub(crate) fn web_served(
     alloc: Global,
     tenants: &Tenants,
@@ -71,7 +71,7 @@ fn target_name(alloc: Global, target: Target<'_>) -> Result<Result<FullName, Rea
     }
 }
 
-// The full name of these parts. The namespace stands for itself.
+// The full name of these parts. The namespace is read as it is written.
 fn full_name(
     alloc: Global,
     namespace: &[u8],
@@ -85,7 +85,7 @@ fn full_name(
     named_in(alloc, &here, namespace, package, name)
 }
 
-// What comes of a request whose path names this action.
+// The outcome of a request whose path names this action.
 fn web_named(
     alloc: Global,
     tenants: &Tenants,
@@ -107,7 +107,7 @@ fn web_named(
     }
 }
 
-// What comes of a request to what is called.
+// The outcome of a request to what is called.
 fn web_called(
     alloc: Global,
     tenants: &Tenants,
@@ -164,7 +164,7 @@ fn is_known(tenants: &Tenants, key: &Option<Str>) -> bool
     tenants.holder_of(key).is_some()
 }
 
-// What comes of the parameters that are given.
+// The outcome for the parameters that are given.
 fn web_accepted(
     alloc: Global,
     floor: &Floor,
@@ -200,7 +200,7 @@ fn web_extension(request: &Request) -> Result<Extension, Reason>
     }
 }
 
-// What comes of the parameters that are given, where the end is answered by this extension.
+// The outcome for the parameters that are given, where the end is answered by this extension.
 fn web_planned(
     alloc: Global,
     floor: &Floor,

@@ -13,10 +13,10 @@ use Rattle.ow_slots.specs.Slots.{IsThere, change}
 use Rattle.ow_pool.specs.declared.answers.Place.{Place}
 use Rattle.ow_pool.specs.declared.answers.Place.TheVariants as places
 use Rattle.ow_pool.specs.Keeping.{CanAllGo}
-use Rattle.ow_lifecycle.specs.Life.{Event, Life, Ran, Prewarming, Removed, Begun, Answered, Lost, Gone, Overran, Reopened, generation_after as raised, generation_of, run_count, slot_of, slots_of}
-use Rattle.ow_lifecycle.specs.Fitting.{AreFit, IsFit}
-use Rattle.ow_lifecycle.specs.Laws.{SlotsStand}
-use Rattle.ow_lifecycle.proofs.Standing.{slots_stand}
+use Rattle.ow_slot_laws.specs.Life.{Event, Life, Ran, Prewarming, Removed, Begun, Answered, Lost, Gone, Overran, Reopened, generation_after as raised, generation_of, run_count, slot_of, slots_of}
+use Rattle.ow_slot_laws.specs.Fitting.{AreFit, IsFit}
+use Rattle.ow_slot_laws.specs.Laws.{SlotsStand}
+use Rattle.ow_slot_laws.proofs.Standing.{slots_stand}
 use Rattle.ow_floor.specs.declared.activations.Open.{Open}
 use Rattle.ow_floor.specs.declared.answers.Order.{Order}
 use Rattle.ow_floor.specs.Calls.{next_order, order_by, order_items, place_on}

@@ -19,12 +19,12 @@ use Rattle.ow_desk.specs.Notes.{IsStanding, Notes, WasCalled, noted}
 
 -- ---- one call
 
--- a request that is answered out of memory
+-- a request that ran out of memory
 pub wants_of : (result : Result Reply Want) → IsErr result → Replies result Wants
 wants_of (Ok reply) is = let none : false ≡ true = is in cc
 wants_of (Err e) is = refl
 
--- what was told is noted, by copies of the event and of what was told
+-- what was answered is noted, by copies of the event and of the answer
 noted_same : (B : History) (a b : ℕ) (x y : Event) (s t : Told) (n r m : Notes) → a ≡ b → x ≡ y → s ≡ t → r ≡ n
     → m ≡ noted B a x (Answers s) r → m ≡ noted B b y (Answers t) n
 noted_same B a b x y s t n r m at event told notes is =
@@ -43,7 +43,7 @@ module _ {P : Type 0} (telling : P → Telling) where
     before = refl;
   }
 
-  -- nothing has come of it
+  -- an event that did nothing
   pub nothing_received : (d : DeskView P) (at : ℕ) (event : Event) (n m : Notes) → m ≡ n → IsReceived telling d d at event Wants n m
   nothing_received d at event n m same = record {
     comes = (refl, refl, stays_same telling (commits (decided d.hall at event)) d.hall.store);
@@ -52,19 +52,19 @@ module _ {P : Type 0} (telling : P → Telling) where
     before = refl;
   }
 
-  -- where nothing is to be committed, memory was wanted
+  -- where nothing is to be committed, an event that was not done ran out of memory
   pub only_wanted : (d e : DeskView P) (at : ℕ) (event : Event) (failed : Bool) (n m : Notes) → commits (decided d.hall at event) ≡ []
       → IsReceived telling d e at event (undone failed) n m → IsReceived telling d e at event Wants n m
   only_wanted d e at event true n m none is = absurd (is.comes.0 none)
   only_wanted d e at event false n m none is = is
 
-  -- one who knows nothing of the hall knows this
+  -- what is known of a call without knowledge of the hall
   pub was_called : (d e : DeskView P) (at : ℕ) (event : Event) (o : Outcome) (n m : Notes) → IsReceived telling d e at event o n m → WasCalled at event o n m
   was_called d e at event (Answers t) n m is = record { table = d.hall.tenants; before = d.hall.ledger.entries; answer_is = is.comes.0; notes = is.notes }
   was_called d e at event Wants n m is = record { table = d.hall.tenants; before = d.hall.ledger.entries; answer_is = tt; notes = is.notes }
   was_called d e at event Fails n m is = record { table = d.hall.tenants; before = d.hall.ledger.entries; answer_is = tt; notes = is.notes }
 
-  -- so of a beginning, a loss or a going, which are taken without memory
+  -- the same of `begun`, `lost` and `gone`, which take no memory
   pub taken_called : (h k : HallView P) (at : ℕ) (event : Event) (t told : Told) (n m : Notes) (before : Standing) → Comes telling h k at event (Answers t)
       → IsStanding h.ledger.entries at before → told ≡ t → m ≡ noted h.ledger.entries before.at event (Answers told) n → WasCalled at event (Answers t) n m
   taken_called h k at event t told n m before comes standing same is = record {

@@ -11,7 +11,8 @@ pub record DeskView (P : Type 0) : Type 0 where
   pub since : ℕ
   pub before : ℕ
 
--- the book has tallied no more faults since than calls of the store have failed; a count that stands at the greatest u64 tells nothing
+-- since the hall was laid there, the book has tallied no more faults than calls of the store have failed; a count that is the greatest u64
+-- says nothing
 abbrev pub IsWithinFaults : ℕ → ℕ → ℕ → ℕ → Type 0
 IsWithinFaults faults since stored before = faults < 18446744073709551615 → since + stored ≤ faults + before
 

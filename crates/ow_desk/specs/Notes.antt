@@ -53,41 +53,41 @@ abbrev pub refused_full : ℕ → Told → Event → List Mark
 refused_full counted (told.Full answer) (events.Asked r) = marks.Full counted r.size ∷ []
 refused_full counted t event = []
 
--- an answer that is posted so behind these entries
+-- the notes with an answer that is posted in this way after these entries
 abbrev pub noted_as : Posting → History → Entry → Notes → Notes
 noted_as Booked B e n = record n { entries = n.entries ++ record { place = length B; entry = e } ∷ [] }
 noted_as Quiet B e n = record n { quiet = one_more n.quiet }
 noted_as Denied B e n = record n { marks = n.marks ++ denials_of e.event; denied = one_more n.denied }
 noted_as Unbooked B e n = record n { marks = n.marks ++ refused_full (counted B) e.answer e.event }
 
--- a call behind these entries: its entry with its place where it is booked, a mark or a tally where it is not; a mark where the store
--- failed
+-- the notes with a call after these entries: its entry with its place where it is booked, a mark or a tally where it is not; a mark where
+-- the store failed
 abbrev pub noted : History → ℕ → Event → Outcome → Notes → Notes
 noted B at event (Answers t) n = noted_as (posting B t) B (record { at = at; event = event; answer = t }) n
 noted B at event Wants n = n
 noted B at event Fails n = record n { marks = n.marks ++ marks.Stored ∷ [] }
 
--- what is told is the one answer behind these entries
+-- what is answered is the one answer that may follow these entries
 abbrev pub IsAnswer : Table → History → ℕ → Event → Outcome → Type 0
 IsAnswer t B at event (Answers told) = told ≡ answer t B at event
 IsAnswer t B at event Wants = Unit {0}
 IsAnswer t B at event Fails = Unit {0}
 
--- a call of a hall at a moment, behind whatever entries it has, and its receipt: all that is known to one who locks it for that call
--- alone
+-- a call of a hall at a moment, after whatever entries it has, and its receipt. A caller that locks the hall for that call alone knows just
+-- this
 pub record WasCalled (at : ℕ) (event : Event) (o : Outcome) (n m : Notes) : Type 0 where
   pub table : Table
   pub before : History
   pub answer_is : IsAnswer table before (moment before at) event o
   pub notes : m ≡ noted before (moment before at) event o n
 
--- a call at the moment of a clock, where the clock tells one
+-- a call at the moment of a clock, where the clock gives one
 abbrev pub CalledBy : Option ℕ → Event → Outcome → Notes → Notes → Type 0
 CalledBy tells event o n m = (at : ℕ) × IfSome tells (λ t. at ≡ t) × WasCalled at event o n m
 
--- ---- where a book stands
+-- ---- the state of a book
 
--- behind these entries, for a call at a moment, for private clauses
+-- the state of a book of these entries before a call at a moment, for private clauses
 pub record IsStanding (B : History) (at : ℕ) (s : Standing) : Type 0 where
   pub place : s.place ≡ length B
   pub moment_is : s.at ≡ moment B at

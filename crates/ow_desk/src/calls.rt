@@ -51,7 +51,7 @@ impl<P: Keeper + Drop> Receipts<P> {
         }
     }
 
-    /// What became of an activation, as `Hall::collect` tells it.
+    /// What became of an activation, as `Hall::collect` reports it.
     pub fn collect(
         &mut self,
         alloc: Global,
@@ -71,7 +71,7 @@ impl<P: Keeper + Drop> Receipts<P> {
         }
     }
 
-    /// What is to be done next, as `Hall::next` answers it. Slots and generations are those that a board of 512 slots takes.
+    /// What is to be done next, as `Hall::next` answers it. A board of 512 slots takes its slots and generations.
     pub fn next(&mut self, alloc: Global, desk: &mut Desk<P>, at: u64) -> Result<Order, NoMemory>
         ensures received { IsReceived P.telling desk.old desk.new at events.Next (next_outcome result) self.old.notes self.new.notes }
         ensures called { WasCalled at events.Next (next_outcome result) self.old.notes self.new.notes }

@@ -11,7 +11,7 @@ use ow_hall::Hall;
 use ow_traits::Keeper;
 use std::marker::{Model, PhantomData};
 
-/// A hall that is shared behind a lock. Only receipts change it.
+/// A hall that is shared under a lock. Only receipts change it.
 #[derive(Drop)]
 pub struct Desk<P: Keeper + Drop> {
     pub(crate) hall: Hall<P>,

@@ -15,7 +15,7 @@ pub enum Denial {
     Gone { slot: u32, generation: u32 },
 }
 
-/// What a call came to that left no entry in the book.
+/// The result of a call that left no entry in the book.
 #[derive(Clone, Copy, Debug, PartialEq, Eq, Drop)]
 pub enum Mark {
     /// The store failed.

@@ -3,7 +3,7 @@ ghost use Rattle.std.specs.Prelude.{◌≡◌, ◌+◌, ◌≤◌, ◌++◌, ℕ
 ghost use Rattle.ow_tenant.specs.Table.{IsPoolSized};
 ghost use Rattle.ow_decide.specs.Decisions.{is_opening, wants_memory};
 ghost use Rattle.ow_hall.specs.Comes.{Answers};
-ghost use Rattle.ow_hall.specs.History.{History};
+ghost use Rattle.ow_hall.specs.History.{History, IsGivenEvent};
 ghost use Rattle.ow_hall.specs.Ledger.{one_more};
 ghost use Rattle.ow_hall.specs.Performing.{outcome};
 ghost use Rattle.ow_desk.specs.Desks.{IsReceived};
@@ -21,7 +21,7 @@ use ow_value::PlainData;
 use std::alloc::Global;
 
 impl<P: Keeper + Drop> Receipts<P> {
-    // What comes of an event that may want memory. The memory of its receipt is taken first.
+    // The result of an event that may run out of memory. The memory of its receipt is taken first.
     pub(crate) fn perform(
         &mut self,
         alloc: Global,
@@ -29,8 +29,9 @@ impl<P: Keeper + Drop> Receipts<P> {
         at: u64,
         event: Event,
     ) -> Result<Told, Undone>
-        requires later { is_opening event ≡ false }
+        requires unopened { is_opening event ≡ false }
         requires memory { wants_memory event ≡ true }
+        requires given { IsGivenEvent event }
         ensures received { IsReceived P.telling desk.old desk.new at event (outcome result) self.old.notes self.new.notes }
         ensures back { IfErr result (λ undone. undone.event ≡ event) }
         ensures pool { OnOk result (IsPoolSized desk.old.hall.tenants.pool) }

@@ -11,7 +11,7 @@ use ow_value::{NoMemory, PlainData};
 use std::alloc::Global;
 use std::marker::{Model, PhantomData};
 
-/// What was done at a desk by who holds these: of each call its entry in the book with its place, or a mark, or one more in a tally.
+/// What the holder of these receipts did at a desk: of each call its entry in the book with its place, or a mark, or one more in a tally.
 #[derive(Drop)]
 pub struct Receipts<P: Keeper + Drop> {
     pub(crate) entries: PlacedEntries,
@@ -83,7 +83,7 @@ impl<P: Keeper + Drop> Receipts<P> {
         &self.marks
     }
 
-    /// How many calls of `next` weren't booked, since they ordered nothing behind one that ordered nothing.
+    /// How many calls of `next` weren't booked: they ordered nothing, and the last entry was a `next` that ordered nothing.
     pub fn quiet(&self) -> u64
         ensures { result ≡ self.now.notes.quiet }
     {
@@ -97,7 +97,7 @@ impl<P: Keeper + Drop> Receipts<P> {
         self.denied
     }
 
-    /// Takes the memory for the receipts of so many calls.
+    /// Takes the memory for the receipts of this many calls.
     pub fn reserve(&mut self, _alloc: Global, calls: u32) -> Result<(), NoMemory>
         ensures notes { self.new.notes ≡ self.old.notes }
         ensures room { OnOk result (calls ≤ self.new.room) }

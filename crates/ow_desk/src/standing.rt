@@ -1,9 +1,9 @@
-// Where a book stands before a call.
+// The state of a book before a call.
 ghost use Rattle.ow_desk.specs.Notes.{IsStanding};
 
 use ow_hall::Book;
 
-/// Where the book stands before a call that comes at a moment.
+/// The state of a book before a call at a moment.
 #[derive(Clone, Copy, Debug, PartialEq, Eq)]
 pub(crate) struct Standing {
     /// The place of the next entry.
@@ -17,7 +17,7 @@ pub(crate) struct Standing {
 }
 
 impl Standing {
-    /// Of this book, for a call at a moment.
+    /// The state of this book, for a call at a moment.
     pub(crate) fn of(book: &Book, at: u64) -> Standing
         ensures { IsStanding book.now.ledger.entries at result }
     {

@@ -5,11 +5,11 @@ use Rattle.ow_drill.specs.Drill.{Calls, Drills, Follows, is_accepted}
 use Rattle.ow_drill.specs.declared.tally.Tally.{Tally}
 
 followed_once : (accepted : Bool) (M : Machine) (tally : Tally) (failed : ℕ) (N : Machine) → Follows accepted M tally failed N → tally.accepted + tally.refused ≡ 1
-followed_once true M tally failed N (done, does, is) = rw is refl
+followed_once true M tally failed N (outcome, does, is) = rw is refl
 followed_once false M tally failed N (is, none, same) = rw is refl
 
 called_once : (k moment : ℕ) (M : Machine) (tally : Tally) (failed : ℕ) (N : Machine) → Calls k moment M tally failed N → tally.accepted + tally.refused ≡ 1
-called_once k moment M tally failed N c = followed_once (is_accepted c.done) c.called tally c.later N c.follows
+called_once k moment M tally failed N c = followed_once (is_accepted c.outcome) c.called tally c.later N c.follows
 
 pub calls_add_up : (seed n failed : ℕ) (M N : Machine) (tally : Tally) → Drills seed n M tally failed N → tally.accepted + tally.refused ≡ n
 calls_add_up seed zero failed M N tally (is, none, same) = rw is refl

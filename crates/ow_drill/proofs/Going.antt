@@ -3,7 +3,7 @@ use Rattle.std.proofs.Common.{◌≡◌, ◌+◌, ℕ, suc, Bool, true, false, R
 use Rattle.std.proofs.lemmas.Bool.{false≢true}
 use Rattle.ow_traits.specs.Telling.{Telling}
 use Rattle.ow_value.specs.declared.memory.NoMemory.{NoMemory as Want}
-use Rattle.ow_day.specs.declared.done.Done.{Done}
+use Rattle.ow_day.specs.declared.statement_outcome.StatementOutcome.{StatementOutcome}
 use Rattle.ow_day.specs.declared.session.Session.{Session}
 use Rattle.ow_day.specs.Machine.{Does, Machine}
 use Rattle.ow_day.specs.Session.{ComesTo, GoesTo, IsLater, machine_of}
@@ -39,14 +39,14 @@ module _ {P : Type 0} (telling : P → Telling) where
     count = let a = first.count in let b = second.count in omega (arith, a, b);
   }
 
-  -- memory was wanted
+  -- there was no memory
   pub counts_none : (old new : Session P) (Is : Tally → ℕ → Machine → Type 0) (r : Result Tally Want) → IsErr r → IsLater telling old new → Counts telling old new Is r
   counts_none old new Is (Ok tally) never later = absurd (false≢true never)
   counts_none old new Is (Err e) is later = later
 
-  -- whatever comes of a statement
-  pub comes_later : (old new : Session P) (s : Statement) (r : Result Done Want) → ComesTo telling old new (Does (machine_of old) s) r → IsLater telling old new
-  comes_later old new s (Ok done) goes = goes_later telling old new s done goes
+  -- whatever the outcome of a statement
+  pub comes_later : (old new : Session P) (s : Statement) (r : Result StatementOutcome Want) → ComesTo telling old new (Does (machine_of old) s) r → IsLater telling old new
+  comes_later old new s (Ok outcome) goes = goes_later telling old new s outcome goes
   comes_later old new s (Err e) later = later
 
   -- whatever is counted
@@ -64,25 +64,25 @@ module _ {P : Type 0} (telling : P → Telling) where
     later = same_session telling s;
   }
 
-  pub turned_so : (old new : Session P) (done : Done) (recorded : ℕ) → GoesTo telling old new (Does (machine_of old) Turn) done → recorded ≡ recorded_of done
+  pub turned_so : (old new : Session P) (outcome : StatementOutcome) (recorded : ℕ) → GoesTo telling old new (Does (machine_of old) Turn) outcome → recorded ≡ recorded_of outcome
       → GoesOn telling old new (Follows true (machine_of old)) (one_accepted recorded)
-  turned_so old new done recorded (failed, (does, rose)) is = record {
+  turned_so old new outcome recorded (failed, (does, rose)) is = record {
     failed = failed;
-    is = (done, does, ap one_accepted is);
+    is = (outcome, does, ap one_accepted is);
     rose = rose;
-    later = goes_later telling old new Turn done (failed, (does, rose));
+    later = goes_later telling old new Turn outcome (failed, (does, rose));
   }
 
-  called_by : (k moment : ℕ) (old ready mid new : Session P) (silent done : Done) (accepted : Bool) (r : Result Tally Want) → GoesTo telling old ready (Does (machine_of old) (At moment)) silent
-      → GoesTo telling ready mid (Does (machine_of ready) (call_of k)) done → accepted ≡ is_accepted done → Counts telling mid new (Follows accepted (machine_of mid)) r
+  called_by : (k moment : ℕ) (old ready mid new : Session P) (silent outcome : StatementOutcome) (accepted : Bool) (r : Result Tally Want) → GoesTo telling old ready (Does (machine_of old) (At moment)) silent
+      → GoesTo telling ready mid (Does (machine_of ready) (call_of k)) outcome → accepted ≡ is_accepted outcome → Counts telling mid new (Follows accepted (machine_of mid)) r
       → Counts telling old new (Calls k moment (machine_of old)) r
-  called_by k moment old ready mid new silent done accepted (Ok tally) (quiet, ((none_failed, is_silent, same), set)) (here, (does, rose)) is follows = record {
+  called_by k moment old ready mid new silent outcome accepted (Ok tally) (quiet, ((none_failed, is_silent, same), set)) (here, (does, rose)) is follows = record {
     failed = (quiet + here) + follows.failed;
     is = record {
       ready = machine_of ready;
       at = (refl, refl, same);
       called = machine_of mid;
-      done = done;
+      outcome = outcome;
       here = here;
       call = does;
       later = follows.failed;
@@ -91,16 +91,16 @@ module _ {P : Type 0} (telling : P → Telling) where
     };
     rose = rose_then (quiet + here) follows.failed (faults old) (faults mid) (faults new) (rose_then quiet here (faults old) (faults ready) (faults mid) set rose) follows.rose;
     later = later_then old ready new (goes_later telling old ready (At moment) silent (quiet, ((none_failed, is_silent, same), set)))
-        (later_then ready mid new (goes_later telling ready mid (call_of k) done (here, (does, rose))) follows.later);
+        (later_then ready mid new (goes_later telling ready mid (call_of k) outcome (here, (does, rose))) follows.later);
   }
-  called_by k moment old ready mid new silent done accepted (Err e) at call is later =
-      later_then old ready new (goes_later telling old ready (At moment) silent at) (later_then ready mid new (goes_later telling ready mid (call_of k) done call) later)
+  called_by k moment old ready mid new silent outcome accepted (Err e) at call is later =
+      later_then old ready new (goes_later telling old ready (At moment) silent at) (later_then ready mid new (goes_later telling ready mid (call_of k) outcome call) later)
 
-  pub called_so : (k moment : ℕ) (old ready mid new : Session P) (s : Statement) (silent done : Done) (accepted : Bool) (r : Result Tally Want) → s ≡ call_of k
-      → GoesTo telling old ready (Does (machine_of old) (At moment)) silent → GoesTo telling ready mid (Does (machine_of ready) s) done → accepted ≡ is_accepted done
+  pub called_so : (k moment : ℕ) (old ready mid new : Session P) (s : Statement) (silent outcome : StatementOutcome) (accepted : Bool) (r : Result Tally Want) → s ≡ call_of k
+      → GoesTo telling old ready (Does (machine_of old) (At moment)) silent → GoesTo telling ready mid (Does (machine_of ready) s) outcome → accepted ≡ is_accepted outcome
       → Counts telling mid new (Follows accepted (machine_of mid)) r → Counts telling old new (Calls k moment (machine_of old)) r
-  called_so k moment old ready mid new s silent done accepted r it at call is follows =
-      called_by k moment old ready mid new silent done accepted r at (subst (λ x. GoesTo telling ready mid (Does (machine_of ready) x) done) it call) is follows
+  called_so k moment old ready mid new s silent outcome accepted r it at call is follows =
+      called_by k moment old ready mid new silent outcome accepted r at (subst (λ x. GoesTo telling ready mid (Does (machine_of ready) x) outcome) it call) is follows
 
   -- ---- all calls
 
@@ -133,11 +133,11 @@ module _ {P : Type 0} (telling : P → Telling) where
 
   -- ---- the drain
 
-  pub made_so : (n seed : ℕ) (old mid new : Session P) (tally : Tally) (done : Done) → GoesOn telling old mid (Drills seed n (machine_of old)) tally
-      → GoesTo telling mid new (Does (machine_of mid) Drain) done → GoesOn telling old new (IsMade n seed (machine_of old)) tally
-  made_so n seed old mid new tally done calls (here, (does, rose)) = record {
+  pub made_so : (n seed : ℕ) (old mid new : Session P) (tally : Tally) (outcome : StatementOutcome) → GoesOn telling old mid (Drills seed n (machine_of old)) tally
+      → GoesTo telling mid new (Does (machine_of mid) Drain) outcome → GoesOn telling old new (IsMade n seed (machine_of old)) tally
+  made_so n seed old mid new tally outcome calls (here, (does, rose)) = record {
     failed = calls.failed + here;
-    is = record { called = machine_of mid; earlier = calls.failed; drills = calls.is; done = done; here = here; drains = does; sum = refl };
+    is = record { called = machine_of mid; earlier = calls.failed; drills = calls.is; outcome = outcome; here = here; drains = does; sum = refl };
     rose = rose_then calls.failed here (faults old) (faults mid) (faults new) calls.rose rose;
-    later = later_then old mid new calls.later (goes_later telling mid new Drain done (here, (does, rose)));
+    later = later_then old mid new calls.later (goes_later telling mid new Drain outcome (here, (does, rose)));
   }

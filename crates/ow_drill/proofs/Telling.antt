@@ -1,4 +1,4 @@
--- What a drill tells, by how it ends.
+-- The claim of a drill, by how it ends.
 use Rattle.std.proofs.Common.{◌≡◌, ◌+◌, ◌≤◌, ℕ, List, Option, Result, Ok, Err, inl, inr, refl, sym, subst, arith}
 use Rattle.ow_traits.specs.Telling.{Telling}
 use Rattle.ow_value.specs.declared.memory.NoMemory.{NoMemory as Want}
@@ -8,8 +8,8 @@ use Rattle.ow_hall.specs.Openings.{HasStartCause}
 use Rattle.ow_hall.specs.declared.refusals.StartFault.{StartFault}
 use Rattle.ow_hall.specs.declared.refusals.StartFault.TheVariants as starts
 use Rattle.ow_tenant.specs.Table.{Table}
-use Rattle.ow_words.specs.declared.status.Status.{Status}
-use Rattle.ow_words.specs.declared.status.Status.TheVariants as statuses
+use Rattle.ow_command_line.specs.declared.status.Status.{Status}
+use Rattle.ow_command_line.specs.declared.status.Status.TheVariants as statuses
 use Rattle.ow_day.specs.declared.session.Session.{Session}
 use Rattle.ow_day.specs.declared.session.Unopened.{Unopened}
 use Rattle.ow_day.specs.Carried.{IsOpeningFault, IsUnopened, not_opened}
@@ -83,6 +83,8 @@ module _ {P : Type 0} (telling : P → Telling) (t : Table) (n seed : ℕ) (stor
     told (Ok tally) statuses.NoMemory goes same = inr (cut_short goes.later.behind goes.later.count same)
     told (Ok tally) statuses.DayTooLong goes never = absurd never
     told (Ok tally) (statuses.BadKept key) goes never = absurd never
+    told (Ok tally) (statuses.BadManifest number text) goes never = absurd never
+    told (Ok tally) (statuses.Undeployed place number text) goes never = absurd never
     told (Ok tally) (statuses.Passed words tenants) goes never = absurd never
     told (Err e) status later (is, same) =
         subst (λ (x : Status). TellsDrill t n seed (telling store) (telling last.hall.store) old new x) (sym is) (inr (cut_short later.behind later.count same))
@@ -107,6 +109,8 @@ module _ (t : Table) (n seed : ℕ) where
   told_ends before after old new statuses.NoMemory told = tt
   told_ends before after old new statuses.DayTooLong never = absurd never
   told_ends before after old new (statuses.BadKept key) told = tt
+  told_ends before after old new (statuses.BadManifest number text) never = absurd never
+  told_ends before after old new (statuses.Undeployed place number text) never = absurd never
   told_ends before after old new (statuses.Passed words tenants) never = absurd never
 
   -- a drill that was begun ends by no fault of the opening
@@ -121,5 +125,7 @@ module _ (t : Table) (n seed : ℕ) where
   no_opening (Ok tally) old new statuses.NoMemory wrote never = never
   no_opening (Ok tally) old new statuses.DayTooLong wrote never = never
   no_opening (Ok tally) old new (statuses.BadKept key) never fault = never
+  no_opening (Ok tally) old new (statuses.BadManifest number text) wrote never = never
+  no_opening (Ok tally) old new (statuses.Undeployed place number text) wrote never = never
   no_opening (Ok tally) old new (statuses.Passed words tenants) wrote never = never
   no_opening (Err e) old new status (is, same) fault = subst IsOpeningFault is fault

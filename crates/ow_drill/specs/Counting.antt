@@ -3,8 +3,8 @@ use Rattle.std.specs.Prelude.{◌≡◌, ℕ, List, Option, Result, Ok, Err}
 use Rattle.ow_traits.specs.Streams.{Takes, TakesFront}
 use Rattle.ow_traits.specs.Telling.{Telling}
 use Rattle.ow_value.specs.declared.memory.NoMemory.{NoMemory as Want}
-use Rattle.ow_words.specs.declared.status.Status.{Status}
-use Rattle.ow_words.specs.declared.status.Status.TheVariants as statuses
+use Rattle.ow_command_line.specs.declared.status.Status.{Status}
+use Rattle.ow_command_line.specs.declared.status.Status.TheVariants as statuses
 use Rattle.ow_day.specs.declared.session.Session.{Session}
 use Rattle.ow_day.specs.Faults.{RoseBy}
 use Rattle.ow_day.specs.Machine.{Machine}
@@ -31,7 +31,7 @@ WritesLine n seed tally old new statuses.WriteFault = TakesFront old new (drill_
 WritesLine n seed tally old new statuses.NoMemory = new ≡ old
 WritesLine n seed tally old new other = ⊥
 
--- the line of a drill that was made is written, and nothing is where memory was wanted
+-- the line of a drill that was made is written, and nothing is written where there was no memory
 abbrev pub WritesMade : (n seed : ℕ) → Result Tally Want → Option (List ℕ) → Option (List ℕ) → Status → Type 0
 WritesMade n seed (Ok tally) old new status = WritesLine n seed tally old new status
 WritesMade n seed (Err e) old new status = (status ≡ statuses.NoMemory) × (new ≡ old)

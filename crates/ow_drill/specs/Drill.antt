@@ -8,8 +8,8 @@ use Rattle.ow_decide.specs.declared.replies.Called.{Called as Reply}
 use Rattle.ow_decide.specs.declared.replies.Called.TheVariants as replies
 use Rattle.ow_invoker.specs.declared.turn.TurnStep.{TurnStep}
 use Rattle.ow_invoker.specs.declared.turn.TurnStep.TheVariants as steps
-use Rattle.ow_day.specs.declared.done.Done.{Done}
-use Rattle.ow_day.specs.declared.done.Done.TheVariants.{Called, Silent, Turned}
+use Rattle.ow_day.specs.declared.statement_outcome.StatementOutcome.{StatementOutcome}
+use Rattle.ow_day.specs.declared.statement_outcome.StatementOutcome.TheVariants.{Called, Silent, Turned}
 use Rattle.ow_day.specs.Machine.{Machine, Does}
 use Rattle.ow_day.specs.Statement.{Statement, At, Call, Drain, Turn}
 use Rattle.ow_drill.specs.declared.tally.Tally.{Tally}
@@ -49,7 +49,7 @@ has_happened (replies.Happened happened) = true
 has_happened (replies.Refused reason) = false
 
 -- a call of which this comes was accepted
-abbrev pub is_accepted : Done → Bool
+abbrev pub is_accepted : StatementOutcome → Bool
 is_accepted (Called reply) = has_happened reply
 is_accepted other = false
 
@@ -62,7 +62,7 @@ recorded_in (steps.Happened happened) = count_by is_recorded happened
 recorded_in other = 0
 
 -- how many activations a turn of which this comes recorded: each is one line `recorded`
-abbrev pub recorded_of : Done → ℕ
+abbrev pub recorded_of : StatementOutcome → ℕ
 recorded_of (Turned turned) = sum_by recorded_in turned.steps
 recorded_of other = 0
 
@@ -73,7 +73,7 @@ none = record { accepted = 0; refused = 0; recorded = 0 }
 abbrev pub one_refused : Tally
 one_refused = record { accepted = 0; refused = 1; recorded = 0 }
 
--- of a call that was accepted, with so many recordings by its turn
+-- of a call that was accepted, with this many recordings by its turn
 abbrev pub one_accepted : ℕ → Tally
 one_accepted recorded = record { accepted = 1; refused = 0; recorded = recorded }
 
@@ -85,7 +85,7 @@ both a b = record { accepted = a.accepted + b.accepted; refused = a.refused + b.
 -- what follows a call: a turn where it was accepted, and nothing where it was refused. This is counted, and the store failed at so
 -- many of these statements
 abbrev pub Follows : (accepted : Bool) → Machine → Tally → ℕ → Machine → Type 0
-Follows true M tally failed N = (done : Done) × Does M Turn failed done N × (tally ≡ one_accepted (recorded_of done))
+Follows true M tally failed N = (outcome : StatementOutcome) × Does M Turn failed outcome N × (tally ≡ one_accepted (recorded_of outcome))
 Follows false M tally failed N = (tally ≡ one_refused) × (failed ≡ 0) × (N ≡ M)
 
 -- the kth call at a moment, and what follows it
@@ -93,11 +93,11 @@ pub record Calls (k moment : ℕ) (M : Machine) (tally : Tally) (failed : ℕ) (
   pub ready : Machine
   pub at : Does M (At moment) 0 Silent ready
   pub called : Machine
-  pub done : Done
+  pub outcome : StatementOutcome
   pub here : ℕ
-  pub call : Does ready (call_of k) here done called
+  pub call : Does ready (call_of k) here outcome called
   pub later : ℕ
-  pub follows : Follows (is_accepted done) called tally later N
+  pub follows : Follows (is_accepted outcome) called tally later N
   pub sum : failed ≡ here + later
 
 -- the first n calls, each with what follows it
@@ -111,9 +111,9 @@ pub record IsMade (n seed : ℕ) (M : Machine) (tally : Tally) (failed : ℕ) (N
   pub called : Machine
   pub earlier : ℕ
   pub drills : Drills seed n M tally earlier called
-  pub done : Done
+  pub outcome : StatementOutcome
   pub here : ℕ
-  pub drains : Does called Drain here done N
+  pub drains : Does called Drain here outcome N
   pub sum : failed ≡ earlier + here
 
 -- the line that is written

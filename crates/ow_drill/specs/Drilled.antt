@@ -2,16 +2,16 @@
 use Rattle.std.specs.Prelude.{◌≡◌, ◌⊎◌, ℕ, List, Option}
 use Rattle.ow_traits.specs.Telling.{Telling}
 use Rattle.ow_traits.specs.Streams.{Rose, Takes, TakesFront}
-use Rattle.ow_items.specs.Sorted.{Entries}
+use Rattle.ow_row_text.specs.Sorted.{Entries}
 use Rattle.ow_tenant.specs.Table.{Table}
-use Rattle.ow_words.specs.declared.status.Status.{Status}
-use Rattle.ow_words.specs.declared.status.Status.TheVariants as statuses
+use Rattle.ow_command_line.specs.declared.status.Status.{Status}
+use Rattle.ow_command_line.specs.declared.status.Status.TheVariants as statuses
 use Rattle.ow_day.specs.Carried.{HasBadRow, IsOpenedOver, IsUnopened, LeavesStore}
 use Rattle.ow_day.specs.Machine.{IsBehind, Machine, start}
 use Rattle.ow_drill.specs.Drill.{IsMade, drill_text}
 use Rattle.ow_drill.specs.declared.tally.Tally.{Tally}
 
--- the drill was made over the service that was opened. The store failed at so many of its statements at most
+-- the drill was made over the service that was opened. The store failed at most at `failed` of its statements
 pub record IsDrilled (t : Table) (n seed : ℕ) (before after : Telling) (tally : Tally) : Type 0 where
   pub rows : Entries
   pub opened : IsOpenedOver before rows
@@ -20,7 +20,7 @@ pub record IsDrilled (t : Table) (n seed : ℕ) (before after : Telling) (tally 
   pub made : IsMade n seed (start t rows) tally failed last
   pub leaves : LeavesStore before after failed last
 
--- the service was opened, and the drill wasn't made to its end or isn't told. Nothing is written
+-- the service was opened, and the drill wasn't made to its end or isn't reported. Nothing is written
 pub record IsCutShort (t : Table) (before after : Telling) (old new : Option (List ℕ)) : Type 0 where
   pub rows : Entries
   pub opened : IsOpenedOver before rows

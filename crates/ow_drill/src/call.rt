@@ -7,7 +7,7 @@ ghost use Rattle.ow_drill.specs.Drill.{Calls, Follows, has_happened, is_accepted
 
 use crate::tally::{Tally, added};
 use crate::text::{ECHO, call_text};
-use ow_day::{Done, Session};
+use ow_day::{Session, StatementOutcome};
 use ow_decide::Called;
 use ow_floor::{Happened, Happening};
 use ow_invoker::TurnStep;
@@ -26,9 +26,9 @@ pub(crate) fn call<P: Keeper + Drop>(
 {
     session.set_moment(moment);
     let text = call_text(alloc, k)?;
-    let done = session.call(alloc, ECHO, text.as_str())?;
-    let accepted = is_accepted(&done);
-    drop(done);
+    let outcome = session.call(alloc, ECHO, text.as_str())?;
+    let accepted = is_accepted(&outcome);
+    drop(outcome);
     drop(text);
     follow(alloc, session, accepted)
 }
@@ -44,8 +44,8 @@ fn follow<P: Keeper + Drop>(
     if !accepted {
         return Ok(Tally::REFUSED);
     }
-    let done = session.turn(alloc)?;
-    let recorded = recorded_of(&done)?;
+    let outcome = session.turn(alloc)?;
+    let recorded = recorded_of(&outcome)?;
     Ok(Tally {
         accepted: 1,
         refused: 0,
@@ -54,11 +54,11 @@ fn follow<P: Keeper + Drop>(
 }
 
 // Whether a call was accepted.
-fn is_accepted(done: &Done) -> bool
-    ensures { result ≡ is_accepted done.now }
+fn is_accepted(outcome: &StatementOutcome) -> bool
+    ensures { result ≡ is_accepted outcome.now }
 {
-    match done {
-        Done::Called(called) => happened(called),
+    match outcome {
+        StatementOutcome::Called(called) => happened(called),
         _ => false,
     }
 }
@@ -73,11 +73,11 @@ fn happened(called: &Called) -> bool
 }
 
 // How many activations a turn recorded.
-fn recorded_of(done: &Done) -> Result<u64, NoMemory>
-    ensures { IfOk result (λ n. n ≡ recorded_of done.now) }
+fn recorded_of(outcome: &StatementOutcome) -> Result<u64, NoMemory>
+    ensures { IfOk result (λ n. n ≡ recorded_of outcome.now) }
 {
-    match done {
-        Done::Turned(turned) => recorded_by(turned.steps.as_slice()),
+    match outcome {
+        StatementOutcome::Turned(turned) => recorded_by(turned.steps.as_slice()),
         _ => Ok(0),
     }
 }

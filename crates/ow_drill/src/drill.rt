@@ -11,11 +11,11 @@ ghost use Rattle.ow_drill.specs.Drilled.{EndsDrill, TellsDrill};
 use crate::call::call;
 use crate::tally::{Tally, added};
 use crate::text::drill_text;
+use ow_command_line::Status;
 use ow_day::{Session, not_opened};
 use ow_tenant::Tenants;
 use ow_traits::{Keeper, Sink, write_all};
 use ow_value::NoMemory;
-use ow_words::Status;
 use std::alloc::Global;
 
 /// Opens the service over a store and an office table, makes `n` calls whose moments come from the seed, each followed by a turn where
@@ -94,7 +94,7 @@ fn gap(x: u64) -> u64
     x / 8_589_934_592 % 1000
 }
 
-// Writes the line of a drill that was made, and nothing where memory was wanted.
+// Writes the line of a drill that was made, and nothing where there was no memory.
 fn tell<O: Sink>(
     alloc: Global,
     n: u64,

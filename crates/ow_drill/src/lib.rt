@@ -1,6 +1,6 @@
 #![tactic(auto)]
 
-//! A drill: calls whose moments are made from a number, each followed by a turn, and the line that counts what they come to.
+//! A drill: calls whose moments are made from a number, each followed by a turn, and the line that counts their outcomes.
 mod call;
 mod drill;
 mod laws;

@@ -1,4 +1,4 @@
--- Pairs that are listed and put into an object: listed in order, they stand as they were.
+-- Pairs that are listed and put into an object: pairs that are listed in order stay as they were.
 use Rattle.std.proofs.Common.{◌≡◌, ℕ, ◌≤◌, List, [], ◌∷◌, ◌++◌, map, cond, nat_lt, Some, option_map, Result, Ok, Err, Ordering, Less, Equal, Greater, refl, sym, ap, ◌∙◌, subst, append_assoc, append-nil, arith}
 use Rattle.std.specs.List.{AllByRecursion}
 use Rattle.std.specs.List.Sorted.{IsStrictlySortedBy}
@@ -48,7 +48,7 @@ with_pairs-append qs (p ∷ ps) h =
     let same : (qs ++ p ∷ []) ++ ps ≡ qs ++ p ∷ ps = append_assoc qs (p ∷ []) ps in
     ap (λ x. with_pairs x ps) e ∙ with_pairs-append (qs ++ p ∷ []) ps (subst AreParams (sym same) h) ∙ same
 
--- pairs whose names rise stand as they are listed
+-- pairs whose names rise stay as they are listed
 with_pairs-same : (ps : Pairs) → AreParams ps → with_pairs [] ps ≡ ps
 with_pairs-same ps h = with_pairs-append [] ps h
 

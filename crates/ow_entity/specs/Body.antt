@@ -72,12 +72,12 @@ are_texts no_items = true
 are_texts (item (text s) vs) = are_texts vs
 are_texts (item v vs) = false
 
--- a full name, as a text is one for a reader of the namespace
+-- the full name of a text, for a reader of the namespace
 abbrev pub name_in : List ℕ → V → Result FullName EntityRefusal
 name_in home (text s) = or_bad_name (resolved home s)
 name_in home v = Err (WrongType fields.Components)
 
--- the names of all, or what is wrong with the first that is none
+-- the full names of all texts, or the fault of the first text that is no full name
 abbrev pub names_in : List ℕ → Items → Result (List FullName) EntityRefusal
 names_in home no_items = Ok []
 names_in home (item v vs) = and_then (name_in home v) (λ n. result_map (λ ns. n ∷ ns) (names_in home vs))
@@ -152,14 +152,14 @@ limits_field body = limits_given (field (codes "limits") body)
 
 -- ---- what a package binds
 
--- the package that an object names for one who stands in the namespace, which `_` stands for
+-- the package that an object names, read in the namespace, which `_` means
 abbrev pub bound_in : List ℕ → V → Result FullName EntityRefusal
 bound_in home v =
     and_then (text_field fields.BoundNamespace v) (λ namespace.
     and_then (text_field fields.BoundName v) (λ name.
     or_bad_name (named_in home namespace None name)))
 
--- an object without members names none
+-- an object without members names no package
 abbrev pub binding_in : List ℕ → V → Result (Option FullName) EntityRefusal
 binding_in home v = if name_count v == 0 then Ok None else result_map Some (bound_in home v)
 
@@ -168,7 +168,7 @@ binding_given home None = Ok None
 binding_given home (Some (object ps)) = result_map Some (binding_in home (object ps))
 binding_given home (Some v) = Err (WrongType fields.Binding)
 
--- the package that is bound, or that none is
+-- the package that is bound, or none
 abbrev pub binding_field : List ℕ → V → Result (Option (Option FullName)) EntityRefusal
 binding_field home body = binding_given home (field (codes "binding") body)
 
@@ -179,7 +179,7 @@ name_given name home None = Ok None
 name_given name home (Some (text s)) = result_map Some (or_bad_name (resolved home s))
 name_given name home (Some v) = Err (WrongType name)
 
--- a full name, as a text is one for a reader of the namespace
+-- the full name of a text, for a reader of the namespace
 abbrev pub name_field : FieldName → List ℕ → V → Result (Option FullName) EntityRefusal
 name_field name home body = name_given name home (field (field_name name) body)
 

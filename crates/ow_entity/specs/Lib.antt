@@ -14,3 +14,4 @@ pub mod Status
 pub mod Finish
 pub mod Written
 pub mod Annotations
+pub mod Given

@@ -33,7 +33,7 @@ abbrev pub pairs_listed : Items → Option Pairs
 pairs_listed no_items = Some []
 pairs_listed (item v vs) = option_and_then (λ p. option_map (λ ps. p ∷ ps) (pairs_listed vs)) (pair_of v)
 
--- one pair after another over those that are there, so that a later equal key stands
+-- the pairs put in one after another, so that of equal keys the last one is kept
 abbrev pub with_pairs : Pairs → Pairs → Pairs
 with_pairs = fold (λ ps p. with_pair ps p.0 p.1)
 

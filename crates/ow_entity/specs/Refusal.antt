@@ -1,4 +1,4 @@
--- By what number a client knows each refusal.
+-- The number by which a client knows each refusal.
 use Rattle.std.specs.Prelude.{ℕ}
 use Rattle.ow_entity.specs.declared.refusal.EntityRefusal.{EntityRefusal}
 use Rattle.ow_entity.specs.declared.refusal.EntityRefusal.TheVariants.{MissingField, WrongType, OutOfRange, UnknownKind, TooLarge, BadName, LastVersion, NoMemory}

@@ -37,3 +37,10 @@ draft_name (drafts.Action d) = d.name
 draft_name (drafts.Package d) = d.name
 draft_name (drafts.Rule d) = d.name
 draft_name (drafts.Trigger d) = d.name
+
+-- the row with this version instead of its own
+abbrev pub with_version : ℕ → Row → Row
+with_version n (rows.Action a) = rows.Action (record a { version = n })
+with_version n (rows.Package p) = rows.Package (record p { version = n })
+with_version n (rows.Rule r) = rows.Rule (record r { version = n })
+with_version n (rows.Trigger t) = rows.Trigger (record t { version = n })

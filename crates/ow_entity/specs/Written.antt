@@ -34,7 +34,7 @@ exec_value (Plain code) = code_value (codes "plain:1") code
 exec_value (Program code) = code_value (codes "program:1") code
 exec_value (Sequence components) = sequence_value components
 
--- each component, as it is shown, is the same name for a reader of the namespace: none stands in a namespace `_`
+-- each component, as it is shown, is the same name for a reader of the namespace: none is in a namespace `_`
 abbrev pub IsReadIn : List ℕ → Exec → Type 0
 IsReadIn here (Sequence components) = AllByRecursion (λ n. home here n.namespace ≡ n.namespace) components
 IsReadIn here exec = Unit {0}
@@ -66,12 +66,12 @@ action_value a = object (members_of (
     ∷ (codes "version", text (shown_version a.version))
     ∷ []))
 
--- the package that a binding stands for, or nothing
+-- the package that a binding binds, or nothing
 abbrev pub binding_value : Option FullName → V
 binding_value None = object (members_of [])
 binding_value (Some bound) = object (members_of ((codes "name", text bound.name) ∷ (codes "namespace", text bound.namespace) ∷ []))
 
--- the actions in it are shown beside these, from what else stands
+-- the actions in it are shown beside these members, from other rows
 abbrev pub package_value : Package → V
 package_value p = object (members_of (
     (codes "annotations", pairs_value p.notes)

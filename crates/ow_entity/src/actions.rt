@@ -1,17 +1,16 @@
-// Actions: as they stand, and as bodies give them.
+// Actions: as they are stored, and as bodies give them.
 
 use crate::bounds::{GivenLimits, Limits};
 use crate::exec::Exec;
 use crate::params::EntityParams;
 use ow_names::FullName;
-use ow_several::copied4;
-use ow_value::{NoMemory, PlainData};
+use ow_value::{NoMemory, PlainData, copied4};
 use std::alloc::Global;
 
-/// An action as it stands.
+/// A stored action.
 #[derive(Drop)]
 pub struct Action {
-    /// Where it stands, and what it is called there.
+    /// Its namespace, its package, if any, and what it is called there.
     pub name: FullName,
     /// Shown as `0.0.version`. The first is 1.
     pub version: u32,

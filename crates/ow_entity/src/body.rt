@@ -20,8 +20,7 @@ use crate::rows::Draft;
 use crate::rule_body::read_rule;
 use crate::trigger_body::read_trigger;
 use ow_names::{EntityName, FullName};
-use ow_several::kept_beside;
-use ow_value::{Params, PlainData, Val, Whole};
+use ow_value::{Params, PlainData, Val, Whole, kept_beside};
 use std::alloc::Global;
 
 /// The entity of the kind and the name that a body gives. Of several wrong fields the refusal names the one that is

@@ -79,7 +79,7 @@ impl Exec {
     ghost use Rattle.ow_entity.specs.Exec.{exec_kind, exec_code, components_of, is_sequence};
     ghost use Rattle.ow_entity.specs.FitAction.{IsFitExec};
 
-    /// As a body names the kind.
+    /// The kind, as a body names it.
     pub fn kind(&self) -> &'static str
         ensures { result.now ≡ exec_kind self.now }
     {

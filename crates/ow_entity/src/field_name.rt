@@ -2,7 +2,7 @@
 ghost use Rattle.std.specs.Prelude.{◌≡◌};
 ghost use Rattle.ow_entity.specs.FieldName.{field_name};
 
-/// What a refusal calls the part of a body that it speaks of: a field, at whatever depth it stands, or the body itself.
+/// The part of a body that a refusal names: a field at any depth, or the body itself.
 #[derive(Clone, Copy, PartialEq, Eq, Debug, Drop)]
 pub enum FieldName {
     /// The body itself, which is to be an object.
@@ -44,7 +44,7 @@ pub enum FieldName {
 }
 
 impl FieldName {
-    /// As the body writes it.
+    /// The name of the field, as the body writes it.
     pub fn as_str(self) -> &'static str
         ensures { result.now ≡ field_name self }
     {

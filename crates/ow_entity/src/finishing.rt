@@ -23,8 +23,8 @@ pub const FIRST_VERSION: u32 = 1;
 /// The version that can't be raised.
 pub(crate) const LAST_VERSION: u32 = u32::MAX;
 
-/// The row that a draft makes: over an old row of its kind, whose values stand where the draft has none, or over
-/// none, with the defaults.
+/// The row that a draft makes over an old row of its kind, whose values are kept where the draft has none. Without an
+/// old row the draft is completed with the defaults.
 #[tactic(auto, unfolding(crate::specs::Finish::finished_row))]
 pub fn finish(alloc: Global, draft: Draft, old: Option<&Row>) -> Result<Row, EntityRefusal>
     ensures { MatchResult result (λ r. finished_row draft (option_copied old.entry) ≡ Ok r)

@@ -25,6 +25,7 @@ mod rules;
 mod trigger_body;
 mod trigger_finishing;
 mod triggers;
+mod versions;
 mod written;
 
 pub use actions::{Action, ActionDraft};
@@ -44,8 +45,9 @@ pub use pairs::listed;
 pub use params::EntityParams;
 pub use plain_code::PlainCode;
 pub use refusal::EntityRefusal;
-pub use rows::{Draft, Lookup, Row};
+pub use rows::{Draft, Drafts, Lookup, Row};
 pub use rule_body::{read_status, status_text};
 pub use rules::{Rule, RuleDraft};
 pub use triggers::{Trigger, TriggerDraft};
+pub use versions::with_version;
 pub use written::{package_entry, summary, write_entity};

@@ -11,8 +11,7 @@ use crate::pairs::pairs_field;
 use crate::refusal::EntityRefusal;
 use crate::rows::Draft;
 use ow_names::{EntityName, FullName, NameRefusal, named_in};
-use ow_several::kept_beside;
-use ow_value::{Params, PlainData, Val};
+use ow_value::{Params, PlainData, Val, kept_beside};
 use std::alloc::Global;
 
 /// The package of the name that the members of a body give.

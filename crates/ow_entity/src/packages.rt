@@ -1,15 +1,14 @@
-// Packages: as they stand, and as bodies give them.
+// Packages: as they are stored, and as bodies give them.
 
 use crate::params::EntityParams;
 use ow_names::FullName;
-use ow_several::copied4;
-use ow_value::{NoMemory, PlainData};
+use ow_value::{NoMemory, PlainData, copied4};
 use std::alloc::Global;
 
-/// A package as it stands: what actions lie in, with parameters of its own below theirs.
+/// A stored package. Actions lie in it, and its own parameters are below theirs.
 #[derive(Drop)]
 pub struct Package {
-    /// Where it stands, and what it is called there. It lies in no package.
+    /// Its namespace, and what it is called there. It lies in no package.
     pub name: FullName,
     /// Shown as `0.0.version`. The first is 1.
     pub version: u32,
@@ -19,7 +18,7 @@ pub struct Package {
     pub params: EntityParams,
     /// The annotations.
     pub notes: EntityParams,
-    /// The package that it stands for, where it is a binding.
+    /// The package that it binds, where it is a binding.
     pub binding: Option<FullName>,
 }
 
@@ -34,7 +33,7 @@ pub struct PackageDraft {
     pub params: Option<EntityParams>,
     /// The annotations.
     pub notes: Option<EntityParams>,
-    /// The package that it is to stand for, or none where it is to be no binding.
+    /// The package that it is to bind, or none where it is to be no binding.
     pub binding: Option<Option<FullName>>,
 }
 

@@ -15,20 +15,20 @@ pub enum EntityRefusal {
     WrongType { name: FieldName },
     /// The field's number lies outside its range.
     OutOfRange { name: FieldName },
-    /// The kind of the code is none that the service has.
+    /// The service has no such kind of code.
     UnknownKind,
     /// A list of pairs, or a code, has over 1 MB.
     TooLarge,
-    /// A name in the body is none.
+    /// A name in the body is no valid name.
     BadName(NameRefusal),
     /// The version of the old entity can't be raised.
     LastVersion,
-    /// This says nothing of the body.
+    /// Out of memory. This says nothing about the body.
     NoMemory,
 }
 
 impl EntityRefusal {
-    /// By which a client tells the refusals apart. Want of memory has 0.
+    /// The number by which a client distinguishes the refusals. Out of memory has 0.
     pub fn number(self) -> u32
         ensures { result ≡ refusal_number self }
     {

@@ -1,4 +1,4 @@
-// Entities of any kind, and where they stand.
+// Entities of any kind, and their look-up.
 ghost use Rattle.std.specs.Prelude.{◌≡◌, Option, IfSome};
 ghost use Rattle.std.specs.Option.{option_copied};
 ghost use Rattle.ow_names.specs.declared.full.FullName.{FullName};
@@ -10,17 +10,17 @@ use crate::packages::{Package, PackageDraft};
 use crate::rules::{Rule, RuleDraft};
 use crate::triggers::{Trigger, TriggerDraft};
 use ow_names::FullName;
-use ow_value::{NoMemory, PlainData, Shared};
+use ow_value::{Items, NoMemory, PlainData, Shared};
 use std::alloc::Global;
 
-/// An entity as it stands.
+/// A stored entity.
 #[derive(Drop)]
 pub enum Row {
     /// What can be called.
     Action(Shared<Action>),
     /// What actions lie in.
     Package(Shared<Package>),
-    /// By which a trigger calls an action.
+    /// The link by which a trigger calls an action.
     Rule(Shared<Rule>),
     /// What is fired with an event.
     Trigger(Shared<Trigger>),
@@ -39,7 +39,10 @@ pub enum Draft {
     Trigger(TriggerDraft),
 }
 
-/// Where entities stand, at most one under each kind and name.
+/// Drafts in the order in which they are to be put.
+pub type Drafts = Items<Draft>;
+
+/// A look-up of entities, with at most one entity under each kind and name.
 pub trait Lookup {
     ghost use Rattle.ow_entity.specs.declared.rows.Row.{Row};
     ghost use Rattle.ow_entity.specs.Row.{kind_of, name_of};

@@ -14,8 +14,7 @@ use crate::refusal::EntityRefusal;
 use crate::rows::Draft;
 use crate::rules::RuleDraft;
 use ow_names::{EntityName, FullName, NameRefusal, resolve};
-use ow_several::kept_beside;
-use ow_value::{Params, PlainData, Val};
+use ow_value::{Params, PlainData, Val, kept_beside};
 use std::alloc::Global;
 
 /// The rule of the name that the members of a body give.

@@ -2,8 +2,7 @@
 
 use crate::params::EntityParams;
 use ow_names::FullName;
-use ow_several::copied4;
-use ow_value::{NoMemory, PlainData};
+use ow_value::{NoMemory, PlainData, copied4};
 use std::alloc::Global;
 
 /// A rule as it is stored: each fire of its trigger invokes its action, while the rule is active.

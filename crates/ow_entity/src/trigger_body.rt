@@ -11,8 +11,7 @@ use crate::refusal::EntityRefusal;
 use crate::rows::Draft;
 use crate::triggers::TriggerDraft;
 use ow_names::FullName;
-use ow_several::kept_beside;
-use ow_value::{Params, PlainData};
+use ow_value::{Params, PlainData, kept_beside};
 use std::alloc::Global;
 
 /// The trigger of the name that the members of a body give.

@@ -2,8 +2,7 @@
 
 use crate::params::EntityParams;
 use ow_names::FullName;
-use ow_several::copied3;
-use ow_value::{NoMemory, PlainData};
+use ow_value::{NoMemory, PlainData, copied3};
 use std::alloc::Global;
 
 /// A trigger as it is stored: what is fired with an event, and so invokes the actions of its active rules.

@@ -21,8 +21,7 @@ use crate::rule_body::status_text;
 use crate::rules::Rule;
 use crate::triggers::Trigger;
 use ow_names::{FullName, full_text};
-use ow_several::kept_beside;
-use ow_value::{Fields, NoMemory, Params, PlainData, Str, Val, Vals, Whole};
+use ow_value::{Fields, NoMemory, Params, PlainData, Str, Val, Vals, Whole, kept_beside};
 use std::alloc::Global;
 
 impl Limits {

@@ -1,5 +1,5 @@
-// What tests hold. It lies in boxes, since each way out of a function lets go of what it holds: of a box by one call,
-// of a row by its variants and their fields.
+// What tests hold. It is in boxes, since each return path of a function drops what the function holds: a box by one
+// call, a row by its variants and their fields.
 use ow_entity::{EntityKind, EntityRefusal, Row, finish, read_entity};
 use ow_names::{FullName, read_name, resolve};
 use ow_value::{Val, read_val};

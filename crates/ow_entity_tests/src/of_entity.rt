@@ -151,7 +151,7 @@ const REFUSED: &str = "\
 {'exec':{'kind':'sequence','components':[]}} 11 components\n\
 {'exec':{'kind':'sequence','components':['a','a//b']},'limits':1} 8 ";
 
-// What a refusal tells.
+// The content of a refusal, as a text.
 fn told(alloc: Global, refusal: EntityRefusal) -> Result<String, Fail> {
     let name = match refusal {
         EntityRefusal::MissingField { name }
@@ -190,7 +190,7 @@ fn the_first_wrong_field_is_named(rt: HostRuntime) -> Result<(), Fail> {
     Ok(())
 }
 
-// A text of JSON that is the start, as many x as given, and the end.
+// A text of JSON: the start, then `count` times x, then the end.
 fn filled(alloc: Global, start: &str, count: usize, end: &str) -> Result<String, Fail> {
     let mut text = String::from_str(alloc, start)?;
     text.push_str("x".repeat(alloc, count)?.as_str())?;
@@ -205,7 +205,7 @@ const PLAIN: &str = "{\"exec\":{\"kind\":\"plain:1\",\"code\":\"";
 // As an object the one pair has 8 bytes beside the text.
 const PAIR: &str = "{\"parameters\":[{\"key\":\"a\",\"value\":\"";
 
-// Whether a body with so many x between start and end is refused so, if at all.
+// Whether a body with `count` times x between start and end gives the expected refusal, or none where none is expected.
 fn is_bounded(
     alloc: Global,
     start: &str,

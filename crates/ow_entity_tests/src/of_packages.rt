@@ -54,7 +54,7 @@ fn told(answer: Result<(), TableRefusal>) -> u32 {
     }
 }
 
-// What a put that may replace what stands is told.
+// The answer to a put that may replace the stored row.
 fn put(
     alloc: Global,
     tables: &mut Tables,
@@ -171,7 +171,8 @@ fn is_merged(alloc: Global, e: &Effective, given: &Params, expected: &str) -> Re
     is_written(alloc, &merged, expected)
 }
 
-// Whether a call of what is effective with these parameters is given those, or the fixed parameter is told.
+// Whether a call of the effective action with the given parameters runs with the expected ones, or is refused with the
+// expected fixed parameter.
 fn is_given(alloc: Global, e: &Effective, given: &str, expected: &str) -> Result<bool, Fail> {
     let given = value(alloc, given)?;
     let Val::Object(given) = &*given else {
@@ -184,7 +185,7 @@ fn is_given(alloc: Global, e: &Effective, given: &str, expected: &str) -> Result
     }
 }
 
-// Whether a call of the path by one of the namespace with these parameters is given those, or told that number.
+// Whether a call of the path from the namespace with the given parameters runs with the expected ones, or gets the expected number.
 fn is_called(
     alloc: Global,
     tables: &Tables,
@@ -267,7 +268,7 @@ enum Act {
     Show,
 }
 
-// What is done to a path, with what, what it gives, and the number that it is told.
+// What is done to a path, with which input, the expected result, and the expected number.
 type Step = (Act, &'static str, &'static str, &'static str, u32);
 
 fn is_told(alloc: Global, tables: &mut Tables, step: Step) -> Result<bool, Fail> {
@@ -282,7 +283,7 @@ fn is_told(alloc: Global, tables: &mut Tables, step: Step) -> Result<bool, Fail>
     }
 }
 
-// The first of these steps, from 0 on, that is told something else.
+// The first of these steps, counted from 0, with another answer than expected.
 fn first_wrong(alloc: Global, steps: &[Step]) -> Result<Option<usize>, Fail> {
     let mut tables = filled(alloc)?;
     for number in 0..steps.len() {
@@ -342,7 +343,7 @@ fn fixed_names_are_listed(rt: HostRuntime) -> Result<(), Fail> {
     Ok(())
 }
 
-// What a binding of the path by a package of guest is told.
+// The answer to a binding of the path by a package of guest.
 fn told_of_binding(alloc: Global, tables: &Tables, path: &str) -> Result<u32, Fail> {
     let target = name_of(alloc, path)?;
     let guest = boxed(alloc, read_name(alloc, b"guest"))?;
@@ -378,7 +379,7 @@ fn package_in<'a>(tables: &'a Tables, name: &FullName) -> Result<&'a Package, Fa
     }
 }
 
-// Whether the package shows these actions, now and once it is put as it stands.
+// Whether the package shows these actions, now and once it is put as it is.
 fn shows(alloc: Global, tables: &Tables, path: &str, expected: &str) -> Result<bool, Fail> {
     let name = name_of(alloc, path)?;
     let bundle = package_in(tables, &name)?;

@@ -49,7 +49,7 @@ fn told(answer: Result<(), TableRefusal>) -> u32 {
     }
 }
 
-// What a put of the body at the path is told.
+// The answer to a put of the body at the path.
 fn told_of_put(
     tables: &mut Tables,
     alloc: Global,
@@ -62,7 +62,7 @@ fn told_of_put(
     Ok(told(put(tables, alloc, &name, &body, overwrite)))
 }
 
-// What a removal at the path is told.
+// The answer to a removal at the path.
 fn told_of_removal(
     tables: &mut Tables,
     alloc: Global,
@@ -179,7 +179,7 @@ fn name_in(value: &Val) -> Option<&Str> {
     }
 }
 
-// The names that a list shows, each with a space behind it.
+// The names that a list shows, each followed by a space.
 fn names(alloc: Global, shown: &Vals) -> Result<String, Fail> {
     let mut names = String::new(alloc);
     for name in shown.items().iter().filter_map(name_in) {

@@ -17,11 +17,11 @@ use Rattle.ow_floor.specs.Laws.{IsApart, AreApart}
 pub same_id_refl : (x : Id) → same_id x x ≡ true
 same_id_refl x = search (rules, nat_tests)
 
--- what is open of these, where f tells how each stands
+-- what is open of these, where f gives the state of each
 abbrev pub opens : (Id → Option State) → List Activation → List Open
 opens f xs = filter_map (λ a. open_of a (f a.id)) xs
 
--- the same, but for one id
+-- the same, except for one id
 abbrev pub but_at : (Id → Option State) → Id → Option State → Id → Option State
 but_at f x s y = cond (same_id x y) s (f y)
 
@@ -94,7 +94,7 @@ alter_here p f s a xs o (Some q) is apart found rest =
     let here : opens f (a ∷ xs) ≡ record { task = a; state = q } ∷ opens f xs = rw is refl in
     alter_test p f s a xs o q (p (record { task = a; state = q })) refl is apart (rw is at found) rest ∙ sym (ap (alter_first p s) here)
 
--- what is found stands otherwise now: the list shows that in its place, and nothing else
+-- the state of what is found has changed: the list shows that in its place, and nothing else
 pub alter : (p : Open → Bool) (f : Id → Option State) (s : Option State) (xs : List Activation) (o : Open) → AreApart xs
     → find p (opens f xs) ≡ Some o → opens (but_at f o.task.id s) xs ≡ alter_first p s (opens f xs)
 alter p f s [] o apart found = refl
@@ -110,7 +110,7 @@ unfolding remove_first
 alter_remove p [] = refl
 alter_remove p (o ∷ os) = rw (alter_remove p os) refl
 
--- what is accepted comes to the end
+-- what is accepted is added at the end
 pub opens_new : (f : Id → Option State) (a : Activation) (xs : List Activation) → f a.id ≡ Some Waiting
     → opens f (xs ++ a ∷ []) ≡ opens f xs ++ record { task = a; state = Waiting } ∷ []
 opens_new f a xs new = filter_map-append (λ y. open_of y (f y.id)) xs (a ∷ []) ∙ rw new refl

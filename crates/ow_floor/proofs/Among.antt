@@ -1,4 +1,4 @@
--- What stands among the accepted activations.
+-- What is among the accepted activations.
 use Rattle.std.proofs.Common.{◌≡◌, ◌⊎◌, ◌++◌, Bool, true, false, List, [], ◌∷◌, Option, Some, None, inl, inr, refl, sym, subst}
 use Rattle.std.specs.List.{find, AllByRecursion}
 use Rattle.ow_records.specs.declared.ids.Id.{Id}
@@ -44,7 +44,7 @@ among_here p f a xs o None e rest found = inr (rest (rw e at found))
 among_here p f a xs o (Some q) e rest found =
     among_test p a q xs (opens f xs) o (p (record { task = a; state = q })) refl rest (rw e at found)
 
--- what is found open stands among these
+-- what is found open is among these
 pub found_among : (p : Open → Bool) (f : Id → Option State) (xs : List Activation) (o : Open) → find p (opens f xs) ≡ Some o → IsAmong o.task xs
 found_among p f [] o found = cc
 found_among p f (a ∷ xs) o found = among_here p f a xs o (f a.id) refl (found_among p f xs o) found

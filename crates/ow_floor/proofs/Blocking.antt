@@ -38,7 +38,7 @@ wait_accepted : (id own : Id) (until : Option ℕ) (bs : List Blocking) → wait
 wait_accepted id own None bs = wait_none (same_id own id) (wait_in id bs)
 wait_accepted id own (Some until) bs = wait_push id bs (record { id = own; until = until })
 
--- up to which moment a request waits, as the trace tells it
+-- the moment until which a request waits, as the trace gives it
 pub wait_told : (T : Trace) (id : Id) → wait_in id (blocking T) ≡ wait_of T id
 wait_told [] id = refl
 wait_told (item ∷ T) id = of_item item T id (wait_told T id)
@@ -78,7 +78,7 @@ pub wait_back : (id : Id) (bs : List Blocking) (i : ℕ) (d : Blocking) (b : Boo
     → wait_in id (drop i bs) ≡ cond b (Some (get_or bs i d).until) None
 wait_back id bs i d b lt is none = ap (wait_in id) (drop-cons bs i d lt) ∙ rw (none, is) refl
 
--- ---- what is told
+-- ---- the answers
 
 -- what a request waits for was accepted
 abbrev WasAccepted : Id → Trace → Type 0
@@ -112,7 +112,7 @@ wait_accepted_so (item ∷ T) id until found = of_item item found (wait_accepted
     of_item (Drained at) found rest = rest found
     of_item (Reopened at) found rest = cc
 
--- and isn't one of those that were taken over
+-- and no record that was taken over has its id
 not_resumed : (T : Trace) (id : Id) (until : ℕ) → IsSound T → wait_of T id ≡ Some until → find (is_of_id id) (resumed T) ≡ None
 not_resumed T id until sound found =
     let was = wait_accepted_so T id until found in

@@ -13,9 +13,9 @@ use Rattle.ow_slots.proofs.KeyLaws.{key_told}
 use Rattle.ow_pool.specs.declared.answers.Place.{Place}
 use Rattle.ow_pool.specs.declared.answers.Place.TheVariants as places
 use Rattle.ow_pool.proofs.OrderLaws.{KeysTell}
-use Rattle.ow_lifecycle.specs.Life as lives
-use Rattle.ow_lifecycle.specs.Life.{Event}
-use Rattle.ow_lifecycle.specs.Fitting.{Goes, IsAny, IsFit}
+use Rattle.ow_slot_laws.specs.Life as lives
+use Rattle.ow_slot_laws.specs.Life.{Event}
+use Rattle.ow_slot_laws.specs.Fitting.{Goes, IsAny, IsFit}
 use Rattle.ow_floor.specs.declared.activations.Open.{Open}
 use Rattle.ow_floor.specs.declared.answers.Container.{Container}
 use Rattle.ow_records.specs.declared.record.Record.{Record}

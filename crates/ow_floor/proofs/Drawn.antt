@@ -59,13 +59,13 @@ unfolding put_id
 put_new_at id x xs true e found rest = let h : Some x ≡ None = rw e at found in cc
 put_new_at id x xs false e found rest = rw e (ap (λ ys. x ∷ ys) (rest (rw e at found)))
 
--- where its namespace has none, it comes to the end
+-- where its namespace has none, the id is added at the end
 pub put_new : (id : Id) (xs : List Id) → find (is_in id.namespace) xs ≡ None → xs ++ id ∷ [] ≡ put_id id xs
 unfolding put_id
 put_new id [] found = refl
 put_new id (x ∷ xs) found = put_new_at id x xs (is_in id.namespace x) refl found (put_new id xs)
 
--- the last count of each namespace, as the trace tells it
+-- the last count of each namespace, as the trace gives it
 pub drawn_last : (T : Trace) (n : ℕ) → last_of (drawn T) n ≡ last T n
 drawn_last [] n = refl
 drawn_last (item ∷ T) n = of_item item T n (drawn_last T n)

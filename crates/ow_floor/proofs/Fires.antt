@@ -16,7 +16,7 @@ pub times-append : (id : Id) (xs ys : List Id) → times id (xs ++ ys) ≡ times
 times-append id [] ys = omega arith
 times-append id (x ∷ xs) ys = let h = times-append id xs ys in omega (arith, h)
 
--- ---- what is apart stands nowhere
+-- ---- what is apart occurs nowhere
 
 other_records : (id : Id) (rs : List Record) → AllByRecursion (λ r. same_id id r.id ≡ false) rs → times id (map (λ r. r.id) rs) ≡ 0
 other_records id [] other = refl

@@ -4,7 +4,7 @@ use Rattle.std.specs.List.{find}
 use Rattle.std.specs.Prelude.{slice_set}
 use Rattle.ow_records.specs.declared.frames.Frame.{Frame}
 use Rattle.ow_slots.specs.Slots.{change_first}
-use Rattle.ow_floor.specs.Kept.{past}
+use Rattle.ow_floor.specs.Undoable.{past}
 use Rattle.ow_floor.specs.Places.{IsFrameAt}
 use Rattle.ow_floor.specs.Store.{IsCell, there}
 use Rattle.ow_floor.specs.View.{remove_first}

@@ -13,8 +13,8 @@ use Rattle.ow_slots.specs.declared.refusal.SlotRefusal.TheVariants as slots
 use Rattle.ow_slots.specs.declared.states.Slot.{Slot}
 use Rattle.ow_slots.specs.Slots.{first_with, gone_answer, run_answer}
 use Rattle.ow_slots.specs.State.{awaits, goes, holds, recorded_of, runs}
-use Rattle.ow_lifecycle.specs.Life as lives
-use Rattle.ow_lifecycle.specs.Life.{Event}
+use Rattle.ow_slot_laws.specs.Life as lives
+use Rattle.ow_slot_laws.specs.Life.{Event}
 use Rattle.ow_floor.specs.declared.activations.Plan.{Plan}
 use Rattle.ow_floor.specs.declared.activations.Open.{Open}
 use Rattle.ow_floor.specs.declared.moves.Moved.{Moved}
@@ -152,7 +152,7 @@ answer_told at run reply T = answer_by_moves at run reply (shown T) (busy_run ru
 
 -- ---- sweeps, openings, drains
 
--- an item that moves nothing tells nothing
+-- an item that moves nothing reports nothing
 pub told_unmoved : (ms : List Moved) (items : Trace) → ms ≡ moved items ++ [] → happened_of ms ≡ happened items
 told_unmoved ms items is = ap happened_of (is ∙ append-nil (moved items))
 
@@ -162,7 +162,7 @@ made_sweep R S at before after made = (
   (good_marked S at made.good).0,
 )
 
--- what is open on a floor that stands as a sound trace says differs
+-- the open activations of a floor that has the state of a sound trace differ
 shown_distinct : (v : Shown) (T : Trace) → Stands v T → IsDistinct same_open v.open_items
 shown_distinct v T st = subst (λ (u : Shown). IsDistinct same_open u.open_items) (sym st.is) (open_distinct T st.sound)
 
@@ -188,7 +188,7 @@ abandoned_records at (o ∷ os) T =
     ap records (append_assoc (abandoned_items at os) last T)
     ∙ (abandoned_records at os (last ++ T) ∙ append_assoc (records T) (record_abandoned at o ∷ []) (map (record_abandoned at) os))
 
--- the records of what was abandoned come behind the others
+-- the records of what was abandoned come after the others
 pub abandon_recorded : (v w : Shown) (at : ℕ) → Grows v w (λ T. abandon_items at T) → (T : Trace) → Stands v T → w.ended ≡ records T ++ map (record_abandoned at) (sorted_by_id (open_items T))
 abandon_recorded v w at grows T st = ap (λ (u : Shown). u.ended) (grows T st).is ∙ abandoned_records at (sorted_by_id (open_items T)) T
 
@@ -303,7 +303,7 @@ gone_refused R S at slot generation r is same e =
 pub good_done : {A E : Type 0} (R F : Store) (at : ℕ) (e : Event) (r : Result A E) → is_order e ≡ false → OnOk r (F ≡ event_in at e R) → false ≡ is_err r → IsGood R → IsGood F
 good_done R F at e r plain made ok good = subst (λ (U : Store). IsGood U) (sym (sure r _ made ok)) (good_event R at e (within_kept e R.slots R.pool plain good.pool) good)
 
--- the slot of which it was told what a sweep recorded
+-- the slot that holds what a sweep recorded
 pub recorded_slot : (o : Option Slot) (recorded : Option ℕ) → Some recorded ≡ recorded_there o → (s : Slot) × (o ≡ Some s) × (recorded ≡ recorded_of s.state)
 recorded_slot None recorded is = cc
 recorded_slot (Some s) recorded is = (s, refl, cc)
@@ -328,7 +328,7 @@ moved_length at (r ∷ rs) v =
     late_length at r (Some s) None = refl
     late_length at r (Some s) (Some o) = late_by at r o (is_none (recorded_of s.state) && is_late at r o.task)
 
--- so many ends were noted as a sweep made
+-- as many ends were noted as a sweep made
 pub swept_moved : (R S : Store) (at : ℕ) (before after : List Moved) (n : ℕ) → IsMade (sweeps at R) R S before after → n ≡ length after - length before → (T : Trace) → Stands (show R) T
     → (n ≡ length (swept_ends at T)) × (after ≡ before ++ moved (swept_items at T))
 swept_moved R S at before after n made is T st =

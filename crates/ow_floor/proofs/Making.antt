@@ -22,7 +22,7 @@ use Rattle.ow_floor.specs.View.{Shown, is_of, remove_first, same_open}
 use Rattle.ow_slots.specs.declared.states.Slot.{Slot}
 use Rattle.ow_slots.specs.Slots.{IsThere, first_with}
 use Rattle.ow_slots.specs.State.{IsUnrecorded, recorded_of, runs}
-use Rattle.ow_lifecycle.specs.Life as lives
+use Rattle.ow_slot_laws.specs.Life as lives
 use Rattle.ow_records.specs.Response.{ResponseView}
 use Rattle.ow_floor.specs.Frames.{children_of, is_frame}
 use Rattle.ow_floor.specs.Trace.{Trace, overrun_of, record_of}
@@ -43,7 +43,7 @@ pub moved_append : (xs ys : Trace) → moved (xs ++ ys) ≡ moved ys ++ moved xs
 moved_append [] ys = sym (append-nil (moved ys))
 moved_append (x ∷ xs) ys = ap (λ zs. zs ++ moved_by x) (moved_append xs ys) ∙ append_assoc (moved ys) (moved xs) (moved_by x)
 
--- what moved was noted of the task that stood there
+-- what moved was noted of the task that was there
 noted_of : (at : ℕ) (ending : Ending) (run : Option Run) (a b : Activation) (before after : List Moved) → a ≡ b → after ≡ before ++ moves.Ended (record_of (ended_by at ending run a)) ∷ []
     → after ≡ before ++ moves.Ended (record_of (ended_by at ending run b)) ∷ []
 noted_of at ending run a b before after same is = is ∙ ap (λ (x : Activation). before ++ moves.Ended (record_of (ended_by at ending run x)) ∷ []) same
@@ -253,11 +253,11 @@ placed_from all k (s ∷ ss) (t ∷ ts) same here =
     placed_at None is rest = rest
     placed_at (Some a) is rest = (refl, first ∙ is, rest)
 
--- what is open stands at its places
+-- what is open is at its places
 opens_placed : (R : Store) → IsGood R → ArePlaced R.tasks (placed 0 R.tasks) (opens R.spots R.tasks)
 opens_placed R good = placed_from R.tasks 0 R.spots R.tasks good.paired (λ j. let same : j ≡ 0 + j = omega arith in ap (λ n. get_or R.tasks n None) same)
 
--- what stands at a place is one of all that is open
+-- the activation at a place is one of all that are open
 open_there : (P : Open → Type 0) (ss : List Spot) (ts : List (Option Activation)) (k : ℕ) (a : Activation) → length ts ≡ length ss → get_or ts k None ≡ Some a → AllByRecursion P (opens ss ts)
     → (s : Spot) × P (record { task = a; state = s.state })
 open_there P ss [] k a same here all = cc
@@ -275,7 +275,7 @@ first_cut : (o : Open) (os : List Open) → remove_first (is_of o.task.id) (o �
 unfolding remove_first
 first_cut o os = rw (same_id_refl o.task.id) refl
 
--- where the ids differ, what stands at a place is the first of its id
+-- where the ids differ, the activation at a place is the first of its id
 opens_cut : (ss : List Spot) (ts : List (Option Activation)) (k : ℕ) (a : Activation) → length ts ≡ length ss → get_or ts k None ≡ Some a → IsDistinct same_open (opens ss ts)
     → opens ss (slice_set ts k None) ≡ remove_first (is_of a.id) (opens ss ts)
 unfolding IsDistinct
@@ -291,7 +291,7 @@ opens_cut (s ∷ ss) (Some b ∷ ts) (suc k) a same here apart =
     let other = open_there (λ x. same_open o x ≡ false) ss ts k a (omega (arith, same)) here apart.0 in
     past_other o a (opens ss ts) (opens ss (slice_set ts k None)) other.1 (opens_cut ss ts k a (omega (arith, same)) here apart.1)
 
--- ends elsewhere leave what stands at these places
+-- ends elsewhere leave the activations at these places
 placed_left : (ts : List (Option Activation)) (k : ℕ) (o : Open) (ps : List OpenPlace) (os : List Open) → get_or ts k None ≡ Some o.task → ArePlaced ts ps os → IsOther o os → ArePlaced (slice_set ts k None) ps os
 placed_left ts k o [] [] here all other = tt
 placed_left ts k o [] (x ∷ os) here all other = absurd all
@@ -340,7 +340,7 @@ place_within ts ps i d sorted lt =
     let all = All-permutation (λ (p : OpenPlace). p.place < length ts) (placed 0 ts) ps sorted.same (All-from_recursion _ (placed 0 ts) (placed_below (length ts) 0 ts (omega arith))) in
     all_at (λ p. p.place < length ts) ps i d (recursion_from_All _ ps all) lt
 
--- what stands at the first of these places ends
+-- the activation at the first of these places ends
 left_on : (at : ℕ) (old now new : Store) (p : OpenPlace) (ps : List OpenPlace) (start told after : List Moved) (os : List Open) → IsGood now → IsEndedAt at Abandoned None p.place now new told after
     → (left : IsLeft at old now (p ∷ ps) start told) → left.left ≡ os → IsLeft at old new ps start after
 unfolding IsDistinct

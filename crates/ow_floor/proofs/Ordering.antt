@@ -9,8 +9,8 @@ use Rattle.ow_slots.specs.declared.keys.Start.{Start}
 use Rattle.ow_pool.specs.declared.answers.Place.TheVariants as places
 use Rattle.ow_pool.specs.declared.answers.Unplaced.{Unplaced}
 use Rattle.ow_pool.specs.Rules.{IsWithinPool}
-use Rattle.ow_lifecycle.specs.Life as lives
-use Rattle.ow_lifecycle.specs.Fitting.{changed}
+use Rattle.ow_slot_laws.specs.Life as lives
+use Rattle.ow_slot_laws.specs.Fitting.{changed}
 use Rattle.ow_floor.specs.declared.answers.Container.{Container}
 use Rattle.ow_floor.specs.declared.answers.Idle.TheVariants.{Empty}
 use Rattle.ow_floor.specs.declared.answers.Order.{Order}

@@ -10,9 +10,9 @@ use Rattle.ow_slots.specs.Slots.{first_with}
 use Rattle.ow_slots.specs.State.{awaits, holds, recorded_of, runs}
 use Rattle.ow_pool.specs.declared.answers.Place.{Place}
 use Rattle.ow_pool.specs.declared.answers.Place.TheVariants as places
-use Rattle.ow_lifecycle.specs.Owed as lives
-use Rattle.ow_lifecycle.specs.Life as events
-use Rattle.ow_lifecycle.proofs.Owing.{falls, rises as raises}
+use Rattle.ow_slot_laws.specs.Owed as lives
+use Rattle.ow_slot_laws.specs.Life as events
+use Rattle.ow_slot_laws.proofs.Owing.{falls, rises as raises}
 use Rattle.ow_floor.specs.declared.activations.Open.{Open}
 use Rattle.ow_floor.specs.declared.answers.Container.{Container}
 use Rattle.ow_floor.specs.declared.runs.Run.{Run}

@@ -7,7 +7,7 @@ use Rattle.ow_slots.specs.Slots.{IsPlace, change, change_first}
 use Rattle.ow_slots.proofs.Changes.{change_past, change_set, place_of}
 use Rattle.ow_floor.specs.declared.kept_slots.SlotStep.{SlotStep}
 use Rattle.ow_floor.specs.declared.kept_slots.SlotStep.TheVariants.{Was, All}
-use Rattle.ow_floor.specs.Kept.{all_noted, noted_slot, past, restore, restored, run_noted, slot_noted}
+use Rattle.ow_floor.specs.Undoable.{all_noted, noted_slot, past, restore, restored, run_noted, slot_noted}
 use Rattle.ow_pool.proofs.OrderLaws.{none_changed}
 
 pub restored_push : (ss : List SlotStep) (s : SlotStep) (slots : List Slot) → restored (ss ++ s ∷ []) slots ≡ restored ss (restore s slots)

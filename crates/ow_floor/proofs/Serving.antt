@@ -1,4 +1,4 @@
--- What events of slots do to the slots that are busy with a run, to those that hold one, and to what they hold.
+-- What events of slots do to the slots that are busy with a run, to the slots that hold a run, and to the memory that slots hold.
 use Rattle.std.proofs.Common.{◌≡◌, ◌==◌, ◌+◌, ◌≤◌, ◌&&◌, ℕ, zero, suc, Bool, true, false, cond, List, [], ◌∷◌, Option, Some, None, refl, ap, ◌∙◌, arith}
 use Rattle.std.specs.List.{find, slice_get}
 use Rattle.std.specs.Prelude.{is_none}
@@ -16,10 +16,10 @@ use Rattle.ow_pool.specs.Rules.{IsWithinPool}
 use Rattle.ow_pool.proofs.EventLaws.{answered_lessens, begun_lessens, events_keep, gone_at, lost_lessens, overrun_lessens}
 use Rattle.ow_pool.proofs.OrderLaws.{removed_keeps}
 use Rattle.ow_pool.proofs.Sums.{less_change, less_first}
-use Rattle.ow_lifecycle.specs.Life.{Event, Ran, Prewarming, Removed, Begun, Answered, Lost, Gone, Overran, Reopened}
-use Rattle.ow_lifecycle.specs.Fitting.{changed, emptied}
-use Rattle.ow_lifecycle.proofs.Pool.{all_vacant, none_held}
-use Rattle.ow_lifecycle.proofs.Running.{after_gone_same, begun_same, overrun_same, removed_same, start_free, vacant_free}
+use Rattle.ow_slot_laws.specs.Life.{Event, Ran, Prewarming, Removed, Begun, Answered, Lost, Gone, Overran, Reopened}
+use Rattle.ow_slot_laws.specs.Fitting.{changed, emptied}
+use Rattle.ow_slot_laws.proofs.Pool.{all_vacant, none_held}
+use Rattle.ow_slot_laws.proofs.Running.{after_gone_same, begun_same, overrun_same, removed_same, start_free, vacant_free}
 use Rattle.ow_floor.specs.Laws.{tally}
 use Rattle.ow_floor.proofs.Firsts.{tally_updated}
 use Rattle.ow_floor.proofs.Placing.{held_removed}
@@ -119,7 +119,7 @@ busy_one run m (Busy w) e = ap (λ n. n == m) (eqb-true w.run run e)
 busy_one run m (Idle key last) e = cc
 busy_one run m (Closing memory) e = cc
 
--- ---- how many slots are busy with a run, behind each event
+-- ---- how many slots are busy with a run, after each event
 
 pub busies_ran : (m slot run : ℕ) (key : Key) (start : Start) (at : ℕ) (slots : List Slot) → IsThere (StartFits start) (slice_get slots slot)
     → busies m (change slot (assigned run key start at) slots) ≡ busies m slots + one_if (run == m)
@@ -191,7 +191,7 @@ pub busies_emptied : (m : ℕ) (slots : List Slot) → busies m (emptied slots) 
 busies_emptied m [] = refl
 busies_emptied m (s ∷ slots) = let rest = busies_emptied m slots in omega (arith, rest)
 
--- ---- what slots hold, behind each event that is no order
+-- ---- what slots hold, after each event that is no order
 
 abbrev pub is_order : Event → Bool
 is_order (Ran slot run key start at) = true

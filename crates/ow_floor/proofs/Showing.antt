@@ -8,9 +8,9 @@ use Rattle.ow_records.specs.declared.activations.Activation.{Activation}
 use Rattle.ow_slots.specs.declared.keys.Key.{Key}
 use Rattle.ow_traits.specs.Prewarms.{AreWantsSized}
 use Rattle.ow_pool.specs.Rules.{IsWithinPool}
-use Rattle.ow_lifecycle.specs.Life as lives
-use Rattle.ow_lifecycle.specs.Life.{Event}
-use Rattle.ow_lifecycle.specs.Fitting.{changed}
+use Rattle.ow_slot_laws.specs.Life as lives
+use Rattle.ow_slot_laws.specs.Life.{Event}
+use Rattle.ow_slot_laws.specs.Fitting.{changed}
 use Rattle.ow_floor.specs.declared.activations.Open.{Open}
 use Rattle.ow_floor.specs.declared.answers.Container.{Container}
 use Rattle.ow_floor.specs.declared.answers.PrewarmOrder.{PrewarmOrder}
@@ -30,7 +30,7 @@ use Rattle.ow_floor.proofs.Firsts.{remove_none, update_none}
 use Rattle.ow_floor.proofs.Serving.{within_kept}
 use Rattle.ow_floor.proofs.Slotting.{slots_opened, vacant_held}
 use Rattle.ow_floor.proofs.Soundness.{sound_start}
-use Rattle.ow_lifecycle.proofs.Owing.{owed_of}
+use Rattle.ow_slot_laws.proofs.Owing.{owed_of}
 use Rattle.ow_floor.specs.Laws.{Stands}
 use Rattle.std.specs.List.{AllByRecursion}
 use Rattle.std.specs.Prelude.{replicate}
@@ -38,7 +38,7 @@ use Rattle.std.proofs.lemmas.List.Sums.{sum_by-cons}
 use Rattle.ow_traits.specs.declared.prewarms.Prewarm.{Prewarm}
 use Rattle.ow_slots.specs.Slots.{vacant_slot}
 use Rattle.ow_slots.specs.State.{IsSized}
-use Rattle.ow_lifecycle.specs.Owed.{owed}
+use Rattle.ow_slot_laws.specs.Owed.{owed}
 use Rattle.ow_floor.proofs.Tallies.{length-removed, length-started}
 
 opens_push : (ss : List Spot) (ts : List (Option Activation)) (s : Spot) (a : Activation) → length ts ≡ length ss

@@ -1,4 +1,4 @@
--- Behind each item that may come the slots are sound.
+-- After each item that may come the slots are sound.
 use Rattle.std.proofs.Common.{◌≡◌, ◌==◌, ◌+◌, ◌≤◌, ℕ, zero, suc, Bool, true, false, List, [], ◌∷◌, Option, Some, None, refl, sym, ap, ◌∙◌, arith, subst}
 use Rattle.std.specs.List.{find, slice_get}
 use Rattle.std.specs.Prelude.{is_some, map, replicate}
@@ -10,12 +10,12 @@ use Rattle.ow_slots.specs.declared.states.Slot.{Slot}
 use Rattle.ow_slots.specs.Slots.{IsThere, first_with, has, memory_held, vacant_slot}
 use Rattle.ow_slots.specs.State.{holds, runs}
 use Rattle.ow_pool.proofs.Sums.{size}
-use Rattle.ow_lifecycle.specs.Life as lives
-use Rattle.ow_lifecycle.specs.Life.{Event, Life, slots_of}
-use Rattle.ow_lifecycle.specs.Fitting.{AreFit, IsAny, IsFit, changed}
-use Rattle.ow_lifecycle.proofs.Changing.{begin, changes}
-use Rattle.ow_lifecycle.proofs.Runs.{runs_holds}
-use Rattle.ow_lifecycle.proofs.Standing.{runs_stand}
+use Rattle.ow_slot_laws.specs.Life as lives
+use Rattle.ow_slot_laws.specs.Life.{Event, Life, slots_of}
+use Rattle.ow_slot_laws.specs.Fitting.{AreFit, IsAny, IsFit, changed}
+use Rattle.ow_slot_laws.proofs.Changing.{begin, changes}
+use Rattle.ow_slot_laws.proofs.Runs.{runs_holds}
+use Rattle.ow_slot_laws.proofs.Standing.{runs_stand}
 use Rattle.ow_floor.specs.declared.answers.Container.{Container}
 use Rattle.ow_floor.specs.declared.runs.Run.{Run}
 use Rattle.ow_floor.specs.View.{begun, is_number, remove_first}
@@ -66,7 +66,7 @@ fit_by : (o : Option Event) (T : Trace) → IsEventRight o (shown T) → AreSlot
 fit_by None T right sound = sound.fit
 fit_by (Some e) T right sound = (fit_in_life e T right.0, sound.fit)
 
--- the slots behind an event are those that it makes of them
+-- the slots after an event are what it makes of them
 pub slots_one : (o : Option Event) (T : Trace) → IsEventRight o (shown T) → AreSlotsSound T → slots_of (life_by o (life T)) (slot_count (pool_of T)) ≡ slots_by o (slots T)
 slots_one None T right sound = refl
 slots_one (Some e) T right sound = changes e (life T) (slot_count (pool_of T)) (fit_in_life e T right.0, sound.fit)
@@ -204,7 +204,7 @@ slotted_item (Drained at) T right sound = slotted_of None T (Drained at ∷ T) r
 slotted_item (Reopened at) T right sound =
     slotted_of (event_of (Reopened at)) T (Reopened at ∷ T) refl refl right.1 sound (λ m. sym (busies_emptied m (slots T)))
 
--- the slots behind an item
+-- the slots after an item
 pub slots_item : (item : Item) (T : Trace) → IsRight item (shown T) → AreSlotsSound T → slots (item ∷ T) ≡ slots_by (event_of item) (slots T)
 slots_item (Opened pool wants) T right sound = absurd right.0
 slots_item (Resumed counts rs) T right sound = refl

@@ -170,7 +170,7 @@ sorted_so ps qs apart same sorted =
     (λ P all. covers_sorted ps P (covers_permuted qs ps (IsPermutation-sym ps qs same) P all))
     (λ P all. covers_permuted ps qs same P (sorted_covers ps P all))
 
--- ---- what stands there
+-- ---- what is at the places
 
 placed_put_at : (ts : List (Option Activation)) (p q : OpenPlace) (o x : Open) (ps : List OpenPlace) (os : List Open) (b : Bool) → is_lt (place_cmp p q) ≡ b
     → p.id ≡ o.task.id → get_or ts p.place None ≡ Some o.task → ArePlaced ts (q ∷ ps) (x ∷ os) → (ArePlaced ts ps os → ArePlaced ts (put_place p ps) (put_by_id o os))
@@ -208,7 +208,7 @@ distinct_placed ts [] (o ∷ os) all apart = absurd all
 distinct_placed ts (p ∷ ps) [] all apart = absurd all
 distinct_placed ts (p ∷ ps) (o ∷ os) all apart = (others_placed ts p o ps os all.0 all.2 apart.0, distinct_placed ts ps os all.2 apart.1)
 
--- where the ids differ, what is open stands by its ids at the places in their order
+-- where the ids differ, what is open, sorted by its ids, is at the sorted places
 pub placed_by_ids : (ts : List (Option Activation)) (ps : List OpenPlace) (os : List Open) → ArePlaced ts (placed 0 ts) os → IsDistinct same_open os → IsByIds ts ps → ArePlaced ts ps (sorted_by_id os)
 placed_by_ids ts ps os all apart sorted =
     subst (λ (qs : List OpenPlace). ArePlaced ts qs (sorted_by_id os)) (sym (sorted_so (placed 0 ts) ps (distinct_placed ts (placed 0 ts) os all apart) sorted.same sorted.sorted))

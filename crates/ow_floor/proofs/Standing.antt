@@ -1,4 +1,4 @@
--- How activations stand behind each item.
+-- The states of activations after each item.
 use Rattle.std.proofs.Common.{◌≡◌, ◌≤◌, ℕ, Bool, true, false, cond, not, List, [], ◌∷◌, Option, Some, None, refl, sym, ap, ◌∙◌, subst}
 use Rattle.std.specs.List.{find, AllByRecursion}
 use Rattle.ow_records.specs.declared.ids.Id.{Id}
@@ -22,7 +22,7 @@ use Rattle.ow_floor.proofs.Apart.{turned}
 use Rattle.ow_floor.proofs.Tallies.{eq_of}
 use Rattle.ow_floor.proofs.Firsts.{all_more, none_tail, or_new, find_push, find_other, none_left, remove_none}
 
--- ---- what is found stands so
+-- ---- what is found has that state
 
 abbrev pub IsFound : (Open → Bool) → (Id → Option State) → Open → Type 0
 IsFound p f o = (f o.task.id ≡ Some o.state) × (p o ≡ true)
@@ -63,7 +63,7 @@ same_where f g id (a ∷ xs) other none h =
     let two = same_at f g id a xs (f a.id) refl other none h in
     (two.0, same_where f g id xs other none two.1)
 
--- ---- behind an end
+-- ---- after an end
 
 ended_by : (e : Record) (y : Id) (o : Option Record) (c : Option Run) (b : Bool) → is_of_id y e ≡ b → standing_by (or_new (is_of_id y) e o) c ≡ cond b None (standing_by o c)
 ended_by e y None c true t = rw t refl
@@ -81,7 +81,7 @@ open_ended e o T found is sound =
     opens_same (standing (Ended e ∷ T)) (but_at (standing T) o.task.id None) (accepted T) (λ y. standing_ended e T y ∙ ap (λ n. but_at (standing T) n None y) same)
     ∙ (alter (is_of e.task.id) (standing T) None (accepted T) o sound.apart found ∙ alter_remove (is_of e.task.id) (open_items T))
 
--- ---- behind the record of a fire
+-- ---- after the record of a fire
 
 record_other : (r : Record) (y : Id) (o : Option Record) → is_of_id y r ≡ false → or_new (is_of_id y) r o ≡ o
 record_other r y None t = rw t refl
@@ -93,7 +93,7 @@ open_fired r T apart =
     (all_more _ (λ a. standing (Fired r ∷ T) a.id ≡ standing T a.id) (accepted T)
     (λ a differ. ap (λ (e : Option Record). standing_by e (carrier T a.id)) (find_push (is_of_id a.id) r (records T) ∙ record_other r a.id (end_of T a.id) differ.0)) apart)
 
--- ---- behind an order
+-- ---- after an order
 
 or_other : (r : Run) (y : Id) (o : Option Run) → carries y r ≡ false → or_new (carries y) r o ≡ o
 or_other r y None t = rw t refl
@@ -135,7 +135,7 @@ open_ordered r key o T found is sound =
     (λ y. each y ∙ ap (λ n. but_at (standing T) n (Some (Running r.number)) y) is)
     ∙ (alter waits (standing T) (Some (Running r.number)) (accepted T) o sound.apart found ∙ alter_update waits (Running r.number) (open_items T))
 
--- ---- behind a reply, and behind a loss
+-- ---- after a reply, and after a loss
 
 gone_by : (e : Option Record) (c d : Option Run) → standing_by e c ≡ None → standing_by e d ≡ standing_by e c
 gone_by None c d h = cc
@@ -179,7 +179,7 @@ open_lost run at r o T found here sound =
 pub open_kept : (run at : ℕ) (T : Trace) → live_run T run ≡ None → open_items (Lost run at ∷ T) ≡ open_items T
 open_kept run at T none = ap (λ rs. opens (λ y. standing_by (end_of T y) (find (carries y) rs)) (accepted T)) (remove_none (is_number run) (live T) none)
 
--- ---- behind a beginning
+-- ---- after a beginning
 
 begun_at : (at : ℕ) (id : Id) (p : Run → Bool) (x : Run) (xs : List Run) (b : Bool) → p x ≡ b
     → state_by (find (carries id) (change_first p (begun at) xs)) ≡ state_by (find (carries id) xs)
@@ -208,7 +208,7 @@ standing_state (Some e) c d h = refl
 pub open_begun : (run at : ℕ) (T : Trace) → open_items (Begun run at ∷ T) ≡ open_items T
 open_begun run at T = opens_same (standing (Begun run at ∷ T)) (standing T) (accepted T) (λ y. standing_state (end_of T y) _ _ (state_begun at y (is_number run) (live T)))
 
--- ---- behind a reopening
+-- ---- after a reopening
 
 empty_at : (f g : Id → Option State) (a : Activation) (xs : List Activation) (s : Option State) → f a.id ≡ s → ((y : Id) → f y ≡ None → g y ≡ None)
     → (opens f xs ≡ [] → opens g xs ≡ []) → opens f (a ∷ xs) ≡ [] → opens g (a ∷ xs) ≡ []

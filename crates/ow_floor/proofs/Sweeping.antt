@@ -5,8 +5,8 @@ use Rattle.ow_traits.specs.declared.replies.RunReply.{RunReply}
 use Rattle.ow_slots.specs.declared.states.Slot.{Slot}
 use Rattle.ow_slots.specs.Slots.{first_with}
 use Rattle.ow_slots.specs.State.{recorded_of, runs}
-use Rattle.ow_lifecycle.specs.Life.{overran_at}
-use Rattle.ow_lifecycle.proofs.Standing.{runs_stand}
+use Rattle.ow_slot_laws.specs.Life.{overran_at}
+use Rattle.ow_slot_laws.proofs.Standing.{runs_stand}
 use Rattle.ow_floor.specs.declared.answers.Answered.TheVariants as answers
 use Rattle.ow_floor.specs.declared.runs.Run.{Run}
 use Rattle.ow_floor.specs.Trace.{Trace, life, live, live_run, pool_of, slot_count, slots}

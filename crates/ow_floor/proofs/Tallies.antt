@@ -1,4 +1,4 @@
--- How often an id stands in a list.
+-- How often an id occurs in a list.
 use Rattle.std.proofs.Common.{◌≡◌, ◌+◌, ◌≤◌, ◌++◌, ℕ, suc, Bool, true, false, cond, List, [], ◌∷◌, Some, length, map, refl, sym, ap, ◌∙◌, arith, subst}
 use Rattle.std.specs.List.{find, filter}
 use Rattle.std.proofs.lemmas.Bool.Decides.{nat_tests}
@@ -50,7 +50,7 @@ removed_at p id x o os true e found rest =
     rw e (subst (λ (z : Open). times id (ids_of (x ∷ os)) ≡ times id (ids_of os) + one_if (same_id id z.task.id)) same (omega arith))
 removed_at p id x o os false e found rest = let h = rest (rw e at found) in rw e (omega (arith, h))
 
--- what is taken out stood there once more
+-- the id of what is taken out occurred once more before
 pub times-removed : (p : Open → Bool) (id : Id) (os : List Open) (o : Open) → find p os ≡ Some o
     → times id (ids_of os) ≡ times id (ids_of (remove_first p os)) + one_if (same_id id o.task.id)
 times-removed p id [] o found = cc
@@ -100,7 +100,7 @@ once_at id a xs true e apart rest =
     rw e (omega (arith, none))
 once_at id a xs false e apart rest = rw e (omega (arith, rest))
 
--- where ids are apart, none stands twice
+-- where ids are apart, none occurs twice
 pub times_once : (id : Id) (xs : List Activation) → AreApart xs → times id (ids xs) ≤ 1
 times_once id [] apart = omega arith
 times_once id (a ∷ xs) apart = once_at id a xs (same_id id a.id) refl apart.0 (times_once id xs apart.1)

@@ -2,9 +2,9 @@
 use Rattle.std.proofs.Common.{◌≡◌, ◌-◌, ◌++◌, ℕ, Bool, true, false, List, [], ◌∷◌, Some, length, get_or, take, refl, sym, ap, ◌∙◌, arith, rules, length-append}
 use Rattle.std.specs.Prelude.{slice_set}
 use Rattle.std.proofs.lemmas.List.{set-set, set-get_or}
-use Rattle.ow_floor.specs.declared.kept.Step.{Step}
-use Rattle.ow_floor.specs.declared.kept.Step.TheVariants.{Added, Was}
-use Rattle.ow_floor.specs.Kept.{but_last, noted, past, undo, undone}
+use Rattle.ow_floor.specs.declared.undoable.Step.{Step}
+use Rattle.ow_floor.specs.declared.undoable.Step.TheVariants.{Added, Was}
+use Rattle.ow_floor.specs.Undoable.{but_last, noted, past, undo, undone}
 
 take_these : {X : Type 0} (xs ys : List X) → take (length xs) (xs ++ ys) ≡ xs
 take_these [] ys = search rules

@@ -54,7 +54,7 @@ use Rattle.ow_floor.specs.Growth.{AreResumable, IsFresh, grown}
 use Rattle.ow_floor.specs.Owed.{rises}
 use Rattle.ow_floor.specs.Laws.{AreAllRecorded, Grows, IsSound, Stands}
 
--- ---- what moved, and what is told of it
+-- ---- what moved, and what is reported of it
 
 -- an acceptance moves its activation, an end its record; of a fire first its id moves and then its record
 abbrev pub moved_by : Item → List Moved
@@ -69,7 +69,8 @@ abbrev pub moved : Trace → List Moved
 moved [] = []
 moved (item ∷ items) = moved items ++ moved_by item
 
--- of an acceptance its id is told, of an end its id and the code of its response. A fire is accepted as its id is drawn, and ends as it is recorded
+-- an acceptance reports its id, an end its id and the code of its response. A fire is accepted as its id is drawn, and ends as it is
+-- recorded
 abbrev pub happening_of : Moved → Happening
 happening_of (moves.Accepted a) = happenings.Accepted a.id
 happening_of (moves.Ended r) = happenings.Recorded r.id r.response.code
@@ -79,7 +80,7 @@ happening_of (moves.Fired r) = happenings.Recorded r.id r.response.code
 abbrev pub happened_of : List Moved → List Happening
 happened_of ms = map happening_of ms
 
--- what is told of items
+-- what is reported of items
 abbrev pub happened : Trace → List Happening
 happened items = happened_of (moved items)
 
@@ -112,7 +113,7 @@ activation_of at plan = record {
 abbrev pub accept_items : ℕ → Plan → Trace
 accept_items at plan = trace.Accepted (activation_of at plan) ∷ []
 
--- what is told of it
+-- what is reported of it
 abbrev pub happened_accepted : Id → List Happening
 happened_accepted id = happenings.Accepted id ∷ []
 
@@ -208,7 +209,7 @@ goes_by generation (Some s) = states.goes generation s
 abbrev pub goes : ℕ → ℕ → Trace → Bool
 goes slot generation T = goes_by generation (slice_get (slots T) slot)
 
--- nothing is refused where it holds
+-- nothing is refused where the test holds
 abbrev pub refused_unless : Bool → FloorRefusal → Result (Unit {0}) FloorRefusal
 refused_unless b refusal = if b then Ok tt else Err refusal
 
@@ -244,12 +245,12 @@ end_items at ending run (Some o) = trace.Ended (ended_by at ending run o.task) �
 
 -- ---- replies
 
--- the container can be used again behind an answer
+-- the container can be used again after an answer
 abbrev pub leaves_alive : RunReply → Bool
 leaves_alive (runs.Answer text logs) = true
 leaves_alive reply = false
 
--- what is told of a reply: that it is late, where a sweep recorded what the run carries, or what happened
+-- the answer to a reply: that it is late, where a sweep recorded what the run carries, or what happened
 abbrev pub answered_by : ℕ → Option ℕ → List Happening → Answered
 answered_by run (Some at) told = answers.Late run at
 answered_by run None told = answers.Recorded told
@@ -280,7 +281,7 @@ abbrev pub reply_items : ℕ → ℕ → RunReply → Shown → Option Run → T
 reply_items at run reply v None = []
 reply_items at run reply v (Some r) = trace.Answered run (leaves_alive reply) at ∷ end_items at (Replied reply) (Some r) (find (is_of r.id) v.open_items)
 
--- what a runner's reply is answered
+-- the answer to a runner's reply
 abbrev pub answer_to : ℕ → ℕ → RunReply → Trace → Option Answered
 answer_to at run reply T = answer_by at run reply (shown T) (busy_run run (shown T))
 
@@ -311,7 +312,7 @@ abbrev pub is_store_fault : AnswerRefusal → Bool
 is_store_fault (StoreFault back) = true
 is_store_fault refusal = false
 
--- memory is wanted only where the run is live
+-- it is out of memory only where the run is live
 abbrev pub AnswersSo : Shown → ℕ → ℕ → RunReply → Result Answered AnswerRefusal → Type 0
 AnswersSo old at run reply (Err (NoMemory back)) = (T : Trace) → Stands old T → IsSome (busy_run run (shown T))
 AnswersSo old at run reply result = (T : Trace) → Stands old T → result ≡ answer_or run reply (answer_to at run reply T)
@@ -341,7 +342,7 @@ late_items at r (Some s) (Some o) = if is_none (recorded_of s.state) && is_late 
 abbrev pub late_of : ℕ → Run → Shown → Trace
 late_of at r v = late_items at r (first_with (is_busy_with r.number) v.slots) (find (is_of r.id) v.open_items)
 
--- the ends of what these runs carry, where they are late, one behind another
+-- the ends of what these runs carry, where they are late, one after another
 abbrev pub overrun_items : ℕ → List Run → Shown → Trace
 overrun_items at [] v = []
 overrun_items at (r ∷ rs) v = overrun_items at rs (grown (late_of at r v) v) ++ late_of at r v
@@ -387,7 +388,7 @@ compose_items at id r T = composed_items at id r (shown T)
 
 -- ---- openings
 
--- each of these ends as abandoned, one behind another
+-- each of these ends as abandoned, one after another
 abbrev pub abandoned_items : ℕ → List Open → Trace
 abandoned_items at [] = []
 abandoned_items at (o ∷ os) = abandoned_items at os ++ end_items at Abandoned None (Some o)
@@ -437,7 +438,7 @@ drain_by busy n = if busy == 0 then Drained n else StillOpen busy
 abbrev pub drain_answer : Trace → Drain
 drain_answer T = drain_by (length (open_items T)) (count T)
 
--- where all have ended, so many were accepted since the last opening, and each accepted activation is recorded
+-- where all have ended, this many were accepted since the last opening, and each accepted activation is recorded
 abbrev pub AllRecorded : Trace → Drain → Type 0
 AllRecorded T (Drained n) = (n ≡ count T) × AreAllRecorded T
 AllRecorded T (StillOpen n) = Unit {0}

@@ -1,4 +1,4 @@
--- What collecting the end of an activation tells, for whose end a request waits.
+-- The answer to a request that collects the end of an activation.
 use Rattle.std.specs.Prelude.{ℕ, Option, Some, None, if◌then◌else◌, nat_lt, Result, Ok, Err}
 use Rattle.ow_records.specs.declared.ids.Id.{Id}
 use Rattle.ow_records.specs.declared.record.Record.{Record}
@@ -15,7 +15,7 @@ pub data Collection : Type 0 where
   NotYet : Collection
   Elapsed : Collection
 
--- over up to which moment the request waits, and the record
+-- by the moment until which the request waits, and by the record
 abbrev pub collected_by : ℕ → Option ℕ → Option Record → Collection
 collected_by at None ended = Unknown
 collected_by at (Some until) (Some r) = Recorded r
@@ -25,7 +25,7 @@ collected_by at (Some until) None = if nat_lt at until then NotYet else Elapsed
 abbrev pub collected : ℕ → Id → Trace → Collection
 collected at id T = collected_by at (wait_of T id) (end_of T id)
 
--- what an answer of `collect` tells
+-- what an answer of `collect` says
 abbrev pub collection_of : Result Collected FloorRefusal → Collection
 collection_of (Err refusal) = Unknown
 collection_of (Ok (answers.Recorded r)) = Recorded r.now

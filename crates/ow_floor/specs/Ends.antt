@@ -19,37 +19,37 @@ use Rattle.ow_floor.specs.declared.runs.Run.{Run}
 use Rattle.ow_floor.specs.View.{begun, is_number, is_of, remove_first, same_open}
 use Rattle.ow_floor.specs.Trace.{End, Trace, record_of}
 use Rattle.ow_floor.specs.Growth.{freed, grown}
-use Rattle.ow_lifecycle.specs.Life as lives
+use Rattle.ow_slot_laws.specs.Life as lives
 use Rattle.ow_slots.specs.Slots.{IsThere, first_with, change_first}
 use Rattle.ow_slots.specs.State.{IsUnrecorded, runs as is_busy_with}
 use Rattle.ow_floor.specs.Calls.{abandoned_items, end_items, ended_by, first_late, has_items, is_late, items_on, late_of, moved, order_on, overrun_items, sorted_by_id}
 use Rattle.ow_floor.specs.Frames.{frames_ended, part_of}
 use Rattle.ow_floor.specs.Store.{IsGood, IsSpot, Store, ended_in, event_in, freed_in, opens, run_in, show, there, with_frames}
 
--- what stands at this place has ended so, and its cause hears it
+-- the activation at this place has ended so, and its cause hears it
 abbrev pub end_in : ℕ → End → Store → Store
 end_in place e R = ended_in e.at place (record_of e) (with_frames (frames_ended (part_of e.task) (record_of e).response R.frames) R)
 
--- what stands there has ended, and it is noted that it moved
+-- the activation there has ended, and it is noted that it moved
 pub record IsEndedAt (at : ℕ) (ending : Ending) (run : Option Run) (place : ℕ) (old new : Store) (before after : List Moved) : Type 0 where
   pub task : Activation
   pub here : slice_index_or old.tasks place None ≡ Some task
   pub now : new ≡ end_in place (ended_by at ending run task) old
   pub noted : after ≡ before ++ moves.Ended (record_of (ended_by at ending run task)) ∷ []
 
--- what the run carries is late and stands there, and no sweep recorded it
+-- what the run carries is late and at this place, and no sweep recorded it
 pub record IsLateSpot (at : ℕ) (r : Run) (R : Store) (place : ℕ) : Type 0 where
   pub spot : IsSpot (is_of r.id) R.spots R.tasks place
   pub late : is_late at r spot.item.task ≡ true
   pub unrecorded : IsThere IsUnrecorded (first_with (is_busy_with r.number) R.slots)
 
--- what stands there has overrun, which is noted and recorded
+-- the activation there has overrun, which is noted and recorded
 pub record IsOverrunAt (at : ℕ) (r : Run) (place : ℕ) (old new : Store) (before after : List Moved) : Type 0 where
   pub middle : Store
   pub ended : IsEndedAt at Overran (Some r) place old middle before after
   pub now : new ≡ event_in at (lives.Overran r.number at) middle
 
--- what the run carries is late and stands there, or isn't late
+-- what the run carries is late and at this place, or isn't late
 abbrev pub IsLateEnd : ℕ → Run → Store → Option ℕ → Type 0
 IsLateEnd at r R None = late_of at r (show R) ≡ []
 IsLateEnd at r R (Some place) = IsLateSpot at r R place
@@ -107,7 +107,7 @@ pub record IsByIds (ts : List (Option Activation)) (ps : List OpenPlace) : Type 
   pub same : IsPermutation (placed 0 ts) ps
   pub sorted : IsSorted place_cmp ps
 
--- these stand at these places
+-- these activations are at these places
 abbrev pub ArePlaced : List (Option Activation) → List OpenPlace → List Open → Type 0
 ArePlaced ts [] [] = Unit {0}
 ArePlaced ts [] (o ∷ os) = ⊥
@@ -127,7 +127,7 @@ pub record IsSweeping (at : ℕ) (old now : Store) (cells : List (Option Berth))
 abbrev pub IsSeeking : ℕ → Store → List (Option Berth) → Type 0
 IsSeeking at R cells = first_swept at R ≡ first_late at (there run_in cells) (show R)
 
--- there is a run, and what it carries is late and stands there; or it isn't late
+-- there is a run, and what it carries is late and at this place; or it isn't late
 abbrev pub IsLateCell : ℕ → Option Berth → Store → Option (ℕ × Run) → Type 0
 IsLateCell at cell R None = late_at at cell R ≡ []
 IsLateCell at cell R (Some found) = (late_at at cell R ≡ late_of at found.1 (show R)) × IsLateSpot at found.1 R found.0
@@ -137,7 +137,7 @@ abbrev pub IsFirstLate : ℕ → Store → Option (ℕ × Run) → Type 0
 IsFirstLate at R None = first_swept at R ≡ []
 IsFirstLate at R (Some found) = (first_swept at R ≡ late_of at found.1 (show R)) × IsLateSpot at found.1 R found.0
 
--- what is left to be abandoned stands at these places
+-- what is left to be abandoned is at these places
 pub record IsLeft (at : ℕ) (old now : Store) (ps : List OpenPlace) (before after : List Moved) : Type 0 where
   pub left : List Open
   pub placed : ArePlaced now.tasks ps left
@@ -165,7 +165,7 @@ abbrev pub IsFreed : Run → Store → Store → Type 0
 IsFreed r old new = ((find (is_of r.id) (opens old.spots old.tasks) ≡ None) × (new ≡ old))
     ⊎ ((place : ℕ) × IsSpot (is_of r.id) old.spots old.tasks place × (new ≡ freed_in place old))
 
--- an order was carried out and told
+-- an order was carried out and returned
 pub record IsOrdered (at : ℕ) (old new : Store) (order : Order) : Type 0 where
   pub shows : show new ≡ grown (items_on at (show old)) (show old)
   pub tells : order ≡ order_on (show old)

@@ -7,8 +7,8 @@ use Rattle.ow_floor.specs.declared.activations.Open.{Open}
 use Rattle.ow_floor.specs.declared.activations.State.TheVariants.{Waiting, Running}
 use Rattle.ow_floor.specs.declared.runs.Run.{Run}
 use Rattle.ow_slots.specs.Slots.{memory_held, change_first}
-use Rattle.ow_lifecycle.specs.Life.{Event}
-use Rattle.ow_lifecycle.specs.Fitting.{IsFit, changed}
+use Rattle.ow_slot_laws.specs.Life.{Event}
+use Rattle.ow_slot_laws.specs.Fitting.{IsFit, changed}
 use Rattle.ow_floor.specs.View.{Shown, is_number, is_of, last_of, remove_first, same_namespace, same_record, waits, with_state}
 use Rattle.ow_floor.specs.Trace.{Item, Trace, Opened, Resumed, Accepted, Ordered, Answered, Lost, Ended, Drawn, Fired, Reopened, blocking_after, count_after, draining_after, drawn_after, event_of, firing_after, frames_after, live_after, moment_of, pool_after, records_after, resumed_after, run_count_after, slots_after, wants_after}
 
@@ -71,8 +71,9 @@ pub record AreResumable (counts : List Id) (rs : List Record) : Type 0 where
   pub apart : IsDistinct same_record rs
   pub drawn : AllByRecursion (λ r. r.id.count ≤ last_of counts r.id.namespace) rs
 
--- a floor is opened once, first of all, and takes over what may be before anything else happens to an activation; an id is the next of its namespace; a run carries the first that waits; a reply comes from a live run
--- whose activation has ended; what ends is open, and the run that it names is live; the record of a fire has the id that was drawn for it; at an opening nothing is open
+-- a floor is opened once, first of all, and takes over what may be before anything else happens to an activation; an id is the next of its
+-- namespace; a run carries the first that waits; a reply comes from a live run whose activation has ended; what ends is open, and the run
+-- that it names is live; the record of a fire has the id that was drawn for it; at an opening nothing is open
 abbrev pub IsItemRight : Item → Shown → Type 0
 IsItemRight (Opened pool wants) v = ⊥
 IsItemRight (Resumed counts rs) v = IsFresh v × AreResumable counts rs
@@ -93,7 +94,7 @@ IsEventRight (Some e) v = IsFit e v.slots v.runs × (memory_held (changed e v.sl
 abbrev pub IsRight : Item → Shown → Type 0
 IsRight item v = IsItemRight item v × IsEventRight (event_of item) v
 
--- each may come behind those before it
+-- each item may come after the items before it
 abbrev pub AreRight : Trace → Shown → Type 0
 AreRight [] v = Unit {0}
 AreRight (item ∷ items) v = IsRight item (grown items v) × AreRight items v

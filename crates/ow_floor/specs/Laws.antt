@@ -1,4 +1,4 @@
--- What is true of every trace that the calls of a floor make, and when a floor stands as a trace says.
+-- What is true of every trace that the calls of a floor make, and when a floor has the state of a trace.
 use Rattle.std.specs.Prelude.{◌≡◌, ◌⊎◌, ◌+◌, ◌++◌, ◌≤◌, ℕ, Bool, false, List, [], ◌∷◌, Option, Some, None, if◌then◌else◌, is_some}
 use Rattle.std.specs.List.{AllByRecursion, IsDistinct}
 use Rattle.ow_records.specs.declared.ids.Id.{Id}
@@ -8,12 +8,12 @@ use Rattle.ow_records.specs.declared.record.Record.{Record}
 use Rattle.ow_floor.specs.declared.runs.Run.{Run}
 use Rattle.ow_slots.specs.Slots.{first_with, has, memory_held}
 use Rattle.ow_slots.specs.State.{runs as is_busy_with}
-use Rattle.ow_lifecycle.specs.Fitting.{AreFit}
+use Rattle.ow_slot_laws.specs.Fitting.{AreFit}
 use Rattle.ow_floor.specs.View.{Shown, carries, ids_of, is_number, recorded_of, running_of, same_namespace, same_record, waiting_of}
 use Rattle.ow_floor.specs.Trace.{Trace, accepted, accepted_ids, ends, last, life, live, live_run, open_items, pool_of, records, recorded, run_count, running, shown, slot_count, slots, waiting}
 use Rattle.ow_floor.specs.Trace as trace
 
--- how often an id stands in a list
+-- how often an id occurs in a list
 abbrev pub times : Id → List Id → ℕ
 times id [] = 0
 times id (x ∷ xs) = (if same_id id x then 1 else 0) + times id xs
@@ -31,7 +31,7 @@ loads id rs = tally (carries id) rs
 abbrev pub bearers : ℕ → List Run → ℕ
 bearers run rs = tally (is_number run) rs
 
--- each accepted id stands in exactly one of the three lists, once, and nothing else stands in them
+-- each accepted id is in exactly one of the three lists, once, and nothing else is in them
 pub record IsParted (T : Trace) : Type 0 where
   pub once : (id : Id) → times id (accepted_ids T) ≤ 1
   pub parts : (id : Id) → times id (waiting T) + times id (running T) + times id (recorded T) ≡ times id (accepted_ids T)
@@ -40,7 +40,7 @@ pub record IsParted (T : Trace) : Type 0 where
 abbrev pub AreAllRecorded : Trace → Type 0
 AreAllRecorded T = (id : Id) → (times id (recorded T) ≡ times id (accepted_ids T)) × (times id (recorded T) ≤ 1)
 
--- an activation stands in a list
+-- an activation is in a list
 abbrev pub IsAmong : Activation → List Activation → Type 0
 IsAmong a [] = ⊥
 IsAmong a (x ∷ xs) = (a ≡ x) ⊎ IsAmong a xs
@@ -84,16 +84,16 @@ abbrev pub IsFiringApart : Option Id → List Record → List Record → (ℕ �
 IsFiringApart None fired resumed last xs = Unit {0}
 IsFiringApart (Some id) fired resumed last xs = (id.count ≤ last id.namespace) × (IsApart id xs × (IsStrange id fired × IsStrange id resumed))
 
--- ids of fires were drawn, and differ from one another, from those of these activations, and from those of records of an earlier run; so does the id of a
--- fire that isn't recorded yet
+-- ids of fires were drawn, and differ from one another, from those of these activations, and from those of records of an earlier run; so
+-- does the id of a fire that isn't recorded yet
 pub record AreFiresApart (fired : List Record) (firing : Option Id) (resumed : List Record) (last : ℕ → ℕ) (xs : List Activation) : Type 0 where
   pub recorded : AreResumedApart fired last xs
   pub foreign : AllByRecursion (λ r. IsStrange r.id fired) resumed
   pub next : IsFiringApart firing fired resumed last xs
 
--- no id is accepted twice; counts are drawn upwards, and what has ended or runs was drawn; each accepted id is open or recorded,
--- once; what has ended was accepted; an activation has one live run at most; live runs have numbers of their own, drawn upwards; one last id is known of each namespace;
--- what was taken over was drawn, and isn't accepted again; ids of fires are apart
+-- no id is accepted twice; counts are drawn upwards, and what has ended or runs was drawn; each accepted id is open or recorded, once; what
+-- has ended was accepted; an activation has one live run at most; live runs have numbers of their own, drawn upwards; one last id is known
+-- of each namespace; what was taken over was drawn, and isn't accepted again; ids of fires are apart
 pub record IsSound (T : Trace) : Type 0 where
   pub apart : AreApart (accepted T)
   pub drawn : AllByRecursion (λ a. a.id.count ≤ last T a.id.namespace) (accepted T)
@@ -113,12 +113,12 @@ pub record IsSound (T : Trace) : Type 0 where
 abbrev pub StandInSlots : Trace → Type 0
 StandInSlots T = (run : ℕ) → (is_some (live_run T run) ≡ is_some (first_with (is_busy_with run) (slots T))) × (tally (has (is_busy_with run)) (slots T) ≤ 1)
 
--- a floor stands as the trace says
+-- a floor has the state of the trace, which is sound
 pub record Stands (v : Shown) (T : Trace) : Type 0 where
   pub is : v ≡ shown T
   pub sound : IsSound T
 
--- items are added: whichever trace the floor stood as, it stands as that trace with the items in front, the newest first
+-- items are added: where the floor had the state of a trace, it has the state of that trace with the items in front, the newest first
 abbrev pub Grows : Shown → Shown → (Trace → Trace) → Type 0
 Grows old new items = (T : Trace) → Stands old T → Stands new (items T ++ T)
 

@@ -1,5 +1,5 @@
 pub mod View
-pub mod Kept
+pub mod Undoable
 pub mod Trace
 pub mod Frames
 pub mod Growth

@@ -1,7 +1,7 @@
--- How many entries a trace still owes the book that take no memory: of each run that a slot has the beginning, unless it has begun or starts warm, and the
--- loss; of each container its going.
+-- How many entries that take no memory a trace still owes the book: of each run that a slot has, its loss, and its beginning unless it has
+-- begun or starts warm; of each container, its going.
 use Rattle.std.specs.Prelude.{◌+◌, ℕ, [], ◌∷◌}
-use Rattle.ow_lifecycle.specs.Owed as lives
+use Rattle.ow_slot_laws.specs.Owed as lives
 use Rattle.ow_floor.specs.View.{Shown}
 use Rattle.ow_floor.specs.Trace.{Trace, Item, Ordered, Prewarming, shown}
 

@@ -12,7 +12,7 @@ use Rattle.ow_slots.specs.Slots.{change_first}
 use Rattle.ow_records.specs.declared.frames.Frame.{Frame}
 use Rattle.ow_floor.specs.Store.{IsCell, there}
 
--- the first that passes stands at this place
+-- the first that passes is at this place
 pub record IsPlace {X : Type 0} (p : X → Bool) (xs : List X) (place : ℕ) : Type 0 where
   pub item : X
   pub within : place < length xs
@@ -30,12 +30,12 @@ abbrev pub has : {X Y : Type 0} → (X → Y) → (Y → Bool) → Option X → 
 has g p None = false
 has g p (Some x) = p (g x)
 
--- an open activation stands there and passes
+-- an open activation is there and passes
 abbrev pub has_open : (Open → Bool) → Spot → Option Activation → Bool
 has_open p s None = false
 has_open p s (Some a) = p (record { task = a; state = s.state })
 
--- the activation of this id stands there
+-- the activation of this id is there
 abbrev pub has_id : Id → Option Activation → Bool
 has_id id None = false
 has_id id (Some a) = same_id a.id id

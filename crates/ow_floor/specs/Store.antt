@@ -17,10 +17,10 @@ use Rattle.ow_slots.specs.declared.keys.Key.{Key}
 use Rattle.ow_slots.specs.declared.states.Slot.{Slot}
 use Rattle.ow_traits.specs.Prewarms.{AreWantsSized}
 use Rattle.ow_pool.specs.Rules.{IsWithinPool}
-use Rattle.ow_lifecycle.specs.Fitting.{changed, emptied}
-use Rattle.ow_lifecycle.specs.Life.{Event}
-use Rattle.ow_lifecycle.specs.Life as lives
-use Rattle.ow_lifecycle.specs.Owed.{owed}
+use Rattle.ow_slot_laws.specs.Fitting.{changed, emptied}
+use Rattle.ow_slot_laws.specs.Life.{Event}
+use Rattle.ow_slot_laws.specs.Life as lives
+use Rattle.ow_slot_laws.specs.Owed.{owed}
 use Rattle.ow_floor.specs.declared.answers.PrewarmOrder.{PrewarmOrder}
 use Rattle.ow_floor.specs.Trace.{blocked_by}
 use Rattle.ow_slots.specs.Slots.{change_first}
@@ -70,7 +70,7 @@ opens [] ts = []
 opens (s ∷ ss) [] = []
 opens (s ∷ ss) (t ∷ ts) = cons_option (open_at s t) (opens ss ts)
 
--- those that are there, as they are shown
+-- what the places hold, as it is shown
 abbrev pub there : {X Y : Type 0} → (X → Y) → List (Option X) → List Y
 there g [] = []
 there g (None ∷ xs) = there g xs
@@ -104,7 +104,7 @@ show_past (Some R) = Some (show R)
 
 -- ---- places
 
--- the first open activation that passes stands at this place
+-- the first open activation that passes is at this place
 pub record IsSpot (p : Open → Bool) (ss : List Spot) (ts : List (Option Activation)) (k : ℕ) : Type 0 where
   pub item : Open
   pub within : k < length ss
@@ -118,7 +118,7 @@ abbrev pub SpotOf : (Open → Bool) → List Spot → List (Option Activation) �
 SpotOf p ss ts None = find p (opens ss ts) ≡ None
 SpotOf p ss ts (Some k) = IsSpot p ss ts k
 
--- the first that is there and passes stands at this place
+-- the first thing that is there and passes is at this place
 pub record IsCell {X Y : Type 0} (g : X → Y) (p : Y → Bool) (xs : List (Option X)) (k : ℕ) : Type 0 where
   pub item : X
   pub within : k < length xs
@@ -131,7 +131,7 @@ abbrev pub CellOf : {X Y : Type 0} → (X → Y) → (Y → Bool) → List (Opti
 CellOf g p xs None = find p (there g xs) ≡ None
 CellOf g p xs (Some k) = IsCell g p xs k
 
--- nothing stands at the first so many places
+-- the first n places are empty
 abbrev pub AreGone : {X : Type 0} → ℕ → List (Option X) → Type 0
 AreGone zero xs = Unit {0}
 AreGone (suc k) [] = ⊥
@@ -139,8 +139,8 @@ AreGone (suc k) (x ∷ xs) = (x ≡ None) × AreGone k xs
 
 -- ---- what holds of them
 
--- each place of a spot is one of a task; the last opening stands within; each that was accepted is open or recorded, a fire at once; so much is owed;
--- the slots are within the pool, and what is wanted ahead has the memory of some action
+-- each place of a spot is one of a task; the last opening is within the list; each thing accepted is open or recorded, a fire at once; what
+-- is owed is what the slots owe; the slots are within the pool, and what is wanted ahead has the memory of some action
 pub record IsGood (R : Store) : Type 0 where
   pub paired : length R.tasks ≡ length R.spots
   pub opened : R.marks.opened ≤ length R.spots
@@ -172,7 +172,7 @@ at_moment at R = record R { marks = with_latest at R.marks }
 abbrev pub with_frames : List Frame → Store → Store
 with_frames fs R = record R { frames = fs }
 
--- an activation comes to the end
+-- an activation is added at the end
 abbrev pub accepted_in : Activation → Store → Store
 accepted_in a R = record {
   spots = R.spots ++ record { state = Waiting } ∷ [];
@@ -193,7 +193,7 @@ accepted_in a R = record {
 abbrev pub drawn_in : ℕ → Id → Store → Store
 drawn_in at id R = record R { drawn = put_id id R.drawn; marks = with_firing at (Some id) R.marks }
 
--- the fire is recorded: it takes a place at which nothing stands
+-- the fire is recorded: it takes a place that holds no activation
 abbrev pub fired_in : Record → Store → Store
 fired_in r R = record {
   spots = R.spots ++ record { state = Waiting } ∷ [];
@@ -214,7 +214,7 @@ fired_in r R = record {
 abbrev pub event_in : ℕ → Event → Store → Store
 event_in at e R = record R { slots = changed e R.slots; marks = with_owed at (owed (changed e R.slots)) R.marks }
 
--- the run starts with what stands at this place
+-- the run starts with the activation at this place
 abbrev pub started_in : ℕ → Run → Store → Store
 started_in place r R = record R {
   spots = slice_set R.spots place (record { state = Running r.number });
@@ -241,11 +241,11 @@ run_put place cell R = record R { runs = slice_set R.runs place cell }
 abbrev pub answered_in : ℕ → ℕ → Bool → ℕ → Store → Store
 answered_in at run alive place R = event_in at (lives.Answered run alive at) (run_put place None R)
 
--- what stands at this place waits again
+-- the activation at this place waits again
 abbrev pub freed_in : ℕ → Store → Store
 freed_in place R = record R { spots = slice_set R.spots place (record { state = Waiting }) }
 
--- what stands at this place has ended at this moment
+-- the activation at this place has ended at this moment
 abbrev pub ended_in : ℕ → ℕ → Record → Store → Store
 ended_in at place e R = record {
   spots = R.spots;
@@ -269,7 +269,7 @@ resumed_in counts rs R = record R { resumed = rs; drawn = counts; marks = with_f
 abbrev pub drained_in : ℕ → Store → Store
 drained_in at R = record R { marks = record { latest = at; opened = R.marks.opened; owed = R.marks.owed; draining = true; firing = R.marks.firing } }
 
--- as many empty places
+-- as many empty places as the list has items
 abbrev pub empty_of : {X Y : Type 0} → List X → List (Option Y)
 empty_of [] = []
 empty_of (x ∷ xs) = None ∷ empty_of xs

@@ -20,9 +20,9 @@ use Rattle.ow_entity.specs.declared.bounds.TheConstants.{LEAST_MEMORY}
 use Rattle.ow_records.specs.declared.outcomes.Ending.TheVariants.{Overran}
 use Rattle.ow_slots.specs.declared.keys.Key.{Key}
 use Rattle.ow_slots.specs.declared.states.Slot.{Slot}
-use Rattle.ow_lifecycle.specs.Life as lives
-use Rattle.ow_lifecycle.specs.Life.{Event, Life, slots_of}
-use Rattle.ow_lifecycle.specs.Fitting.{changed}
+use Rattle.ow_slot_laws.specs.Life as lives
+use Rattle.ow_slot_laws.specs.Life.{Event, Life, slots_of}
+use Rattle.ow_slot_laws.specs.Fitting.{changed}
 use Rattle.ow_records.specs.Records.{is_of_id}
 use Rattle.ow_slots.specs.Slots.{change_first}
 use Rattle.std.specs.Option.{option_or}
@@ -37,9 +37,9 @@ pub record End : Type 0 where
   pub run : Option Run
   pub at : ℕ
 
--- one thing that happened on a floor; first of all it was opened, with a pool of so many MB and containers that are wanted ahead. Then it may take over the last ids
--- and the records of an earlier run. A reply tells whether the container can be used again. A fire of a trigger is two items, between which stand the
--- activations that it makes: its id is drawn, and it is recorded
+-- one thing that happened on a floor; first of all it was opened, with a pool, in MB, and containers that are wanted ahead. Then it may
+-- take over the last ids and the records of an earlier run. A reply says whether the container can be used again. A fire of a trigger is
+-- two items: its id is drawn, and it is recorded. The activations that it makes come between these two
 pub data Item : Type 0 where
   Opened : (pool : ℕ) (wants : List Prewarm) → Item
   Resumed : (counts : List Id) (records : List Record) → Item
@@ -349,7 +349,7 @@ abbrev pub state_by : Option Run → State
 state_by None = Waiting
 state_by (Some r) = Running r.number
 
--- how an activation stands: not at all where it has ended
+-- the state of an activation: none where it has ended
 abbrev pub standing_by : Option Record → Option Run → Option State
 standing_by None run = Some (state_by run)
 standing_by (Some e) run = None
@@ -357,7 +357,7 @@ standing_by (Some e) run = None
 abbrev pub standing : Trace → Id → Option State
 standing T id = standing_by (end_of T id) (carrier T id)
 
--- an open activation, where it stands in a state
+-- an open activation, where it has a state
 abbrev pub open_of : Activation → Option State → Option Open
 open_of a None = None
 open_of a (Some state) = Some (record { task = a; state = state })
@@ -390,7 +390,7 @@ running T = ids_of (filter runs_now (open_items T))
 abbrev pub recorded : Trace → List Id
 recorded T = map (λ e. e.id) (records T)
 
--- what a floor is seen as that stands as the trace says
+-- the view of a floor that has the state of the trace
 abbrev pub shown : Trace → Shown
 shown T = record {
   open_items = open_items T;

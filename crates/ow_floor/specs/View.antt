@@ -1,4 +1,4 @@
--- What a floor is seen as, and the words on its lists.
+-- The view of a floor, and the definitions over its lists.
 use Rattle.std.specs.Prelude.{◌&&◌, ◌==◌, ◌+◌, ℕ, Bool, true, false, List, [], ◌∷◌, Option, Some, None, if◌then◌else◌, not, map, slice_get}
 use Rattle.std.specs.Option.{option_or}
 use Rattle.std.specs.List.{find, filter}
@@ -28,10 +28,11 @@ use Rattle.ow_floor.specs.declared.answers.RunOrder.{RunOrder}
 use Rattle.ow_slots.specs.declared.keys.Start.{Start}
 use Rattle.ow_traits.specs.declared.prewarms.Prewarm.{Prewarm}
 
--- the activations that have not ended, by acceptance; the live runs, by their orders; what is kept of open composites, by acceptance; the slots, by number;
--- the records of the activations that have ended and of fires, by their order, and those that were taken over from an earlier run; the last id of each namespace; how many runs were
--- ordered, those of containers ahead among them; how many were accepted since the last opening; which of these a request waits for; the id of a fire that isn't recorded yet; the moment of the newest thing; whether
--- it drains; the memory of the pool, in MB, and which containers are wanted ahead
+-- the activations that have not ended, by acceptance; the live runs, by their orders; what is kept of open composites, by acceptance; the
+-- slots, by number; the records of the activations that have ended and of fires, by their order; the records that were taken over from an
+-- earlier run; the last id of each namespace; how many runs were ordered, those of containers ahead among them; how many were accepted
+-- since the last opening; which of these a request waits for; the id of a fire that isn't recorded yet; the moment of the newest thing;
+-- whether it drains; the memory of the pool, in MB, and which containers are wanted ahead
 pub record Shown : Type 0 where
   pub open_items : List Open
   pub live : List Run
@@ -196,7 +197,7 @@ recorded_by (Some s) = recorded_at s.state
 abbrev pub recorded_in : ℕ → List Slot → Option ℕ
 recorded_in run slots = recorded_by (first_with (runs run) slots)
 
--- what a runner is told of an activation
+-- what a runner needs to run an activation
 abbrev pub order_for : ℕ → ℕ → ℕ → Start → Activation → RunOrder
 order_for run slot generation start a = record {
   run = run;
@@ -213,7 +214,7 @@ order_for run slot generation start a = record {
 
 -- ---- waits for the end
 
--- up to which moment the request waits that made this activation, by the newest of that id, for private clauses
+-- the moment until which the request that made this activation waits, by the newest item of that id, for private clauses
 abbrev pub wait_in : Id → List Blocking → Option ℕ
 wait_in id [] = None
 wait_in id (b ∷ bs) = option_or (wait_in id bs) (if same_id b.id id then Some b.until else None)

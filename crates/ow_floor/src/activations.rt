@@ -5,8 +5,7 @@ ghost use Rattle.ow_floor.specs.Frames.{part_of};
 use ow_names::EntityName;
 use ow_packages::Effective;
 use ow_records::{Activation, Form, Id, Role};
-use ow_several::copied4;
-use ow_value::{NoMemory, Params, PlainData, Str};
+use ow_value::{NoMemory, Params, PlainData, Str, copied4};
 use std::alloc::Global;
 
 /// What is to be accepted.
@@ -16,7 +15,7 @@ pub struct Plan {
     pub id: Id,
     /// The namespace that is charged for it.
     pub namespace: EntityName,
-    /// What its name calls as all stands at the acceptance: the action, its parameters, and the binding that the name goes through.
+    /// What its name calls at the acceptance: the action, its parameters, and the binding that the name goes through.
     pub effective: Effective,
     /// The merged parameters, with which it is run: what is given over the effective ones.
     pub params: Params,
@@ -24,7 +23,7 @@ pub struct Plan {
     pub subject: Str,
     /// The activation that it is a part of.
     pub cause: Option<Id>,
-    /// Up to which moment, in milliseconds, the request that made it waits for the end.
+    /// The moment until which the request that made it waits for the end, in milliseconds.
     pub until: Option<u64>,
     /// What it does.
     pub form: Form,
@@ -32,7 +31,7 @@ pub struct Plan {
     pub role: Role,
     /// The first activation of its composition, or itself.
     pub top: Id,
-    /// How many composites stand from the first one of its composition down to this activation.
+    /// How many composites there are from the first one of its composition down to this activation.
     pub depth: u32,
 }
 

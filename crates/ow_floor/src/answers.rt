@@ -3,10 +3,9 @@ ghost use Rattle.std.specs.Prelude.{◌≡◌, ◌↔◌, [], ◌∷◌, IsTrue,
 
 use crate::{Moved, Run};
 use ow_records::{Activation, Id, Record};
-use ow_several::kept_beside;
 use ow_slots::{Start, kind_of};
 use ow_traits::{Kind, RunReply};
-use ow_value::{Items, NoMemory, Params, PlainData, Str};
+use ow_value::{Items, NoMemory, Params, PlainData, Str, kept_beside};
 use std::alloc::Global;
 use std::marker::Model;
 
@@ -129,13 +128,13 @@ pub struct Swept {
 pub enum AnswerRefusal {
     /// No live run has this number.
     NoRun { run: u64, reply: RunReply },
-    /// Memory was wanted.
+    /// Out of memory.
     NoMemory(RunReply),
     /// The store failed. A floor has none, and never answers so.
     StoreFault(RunReply),
 }
 
-/// What is told of the end of an activation for which a request waits.
+/// The answer about the end of an activation for which a request waits.
 #[derive(Clone, Copy)]
 pub enum Collected<'a> {
     /// It has ended: its record.
@@ -153,23 +152,23 @@ pub enum FloorRefusal {
     NotFound,
     /// No slot has such a run.
     NoRun { run: u64 },
-    /// The slot has no container of the generation that could be gone. With the generation that it has, 0 where it isn't there.
+    /// The slot has no container of the generation that could be gone. `kept` is the generation that the slot has, 0 where it isn't there.
     NoSlot { slot: u32, kept: u32 },
 }
 
 /// Whether all activations have ended.
 #[derive(Clone, Copy, Debug, PartialEq, Eq)]
 pub enum Drain {
-    /// All have: so many were accepted since the last opening.
+    /// All have. This many were accepted since the last opening.
     Drained(u64),
-    /// So many have not, at least one.
+    /// This many have not, at least one.
     StillOpen(u64),
 }
 
 impl AnswerRefusal {
     ghost use Rattle.ow_floor.specs.Calls.{answer_number};
 
-    /// By which a client tells the refusals apart. Want of memory and a fault of the store have 0.
+    /// The number by which a client distinguishes the refusals. Out of memory and a fault of the store have 0.
     pub fn number(&self) -> u32
         ensures { result ≡ answer_number self.now }
     {
@@ -183,7 +182,7 @@ impl AnswerRefusal {
 impl FloorRefusal {
     ghost use Rattle.ow_floor.specs.Collecting.{refusal_number};
 
-    /// By which a client tells the refusals apart.
+    /// The number by which a client distinguishes the refusals.
     pub fn number(&self) -> u32
         ensures { result ≡ refusal_number self.now }
     {
@@ -306,7 +305,7 @@ impl Happened {
         }
     }
 
-    /// What is told of these moves.
+    /// What is reported of these moves.
     pub fn of_moves(alloc: Global, moves: &[Moved]) -> Result<Happened, NoMemory>
         ensures { IfOk result (λ h. h ≡ happened_of moves.now) }
     {

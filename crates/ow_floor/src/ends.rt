@@ -17,7 +17,7 @@ use ow_traits::RunReply;
 use ow_value::{Items, NoMemory, PlainData, Scratch, Shared};
 use std::alloc::Global;
 
-/// Ends what stands at this place.
+/// Ends the activation at this place.
 pub(crate) fn end_at(
     alloc: Global,
     lists: &mut Lists,
@@ -29,10 +29,10 @@ pub(crate) fn end_at(
     moves: &mut Moves,
 ) -> Result<(), NoMemory>
     requires place { place < length lists.old.now.tasks }
-    requires good { IsGood lists.old.now }
-    ensures good { IsGood lists.new.now }
+    requires lists_fit { IsGood lists.old.now }
+    ensures lists_fit { IsGood lists.new.now }
     ensures made { OnOk result (IsEndedAt at ending.now run place lists.old.now lists.new.now moves.old moves.new) }
-    ensures past { lists.new.past ≡ lists.old.past }
+    ensures held { lists.new.past ≡ lists.old.past }
 {
     let Some(task) = &lists.tasks()[place] else {
         return Err(NoMemory);
@@ -72,7 +72,7 @@ fn is_unrecorded(lists: &Lists, run: u64) -> bool
 
 // The place of what the run carries, where it is late. No sweep recorded it.
 fn late_spot(lists: &Lists, at: u64, run: Run) -> Option<usize>
-    requires good { IsGood lists.now.now }
+    requires lists_fit { IsGood lists.now.now }
     requires unrecorded { IsThere IsUnrecorded (first_with (runs run.number) lists.now.now.slots) }
     ensures { IsLateEnd at run lists.now.now result }
 {
@@ -117,9 +117,9 @@ pub(crate) fn end_run(
     moves: &mut Moves,
 ) -> Result<(), NoMemory>
     requires { IsGood lists.old.now }
-    ensures good { IsGood lists.new.now }
+    ensures lists_fit { IsGood lists.new.now }
     ensures made { OnOk result (IsEndedRun at run reply.now lists.old.now lists.new.now moves.old moves.new) }
-    ensures past { lists.new.past ≡ lists.old.past }
+    ensures held { lists.new.past ≡ lists.old.past }
 {
     let Some(place) = lists.open_place(run.id) else {
         return Ok(());
@@ -128,7 +128,7 @@ pub(crate) fn end_run(
     end_at(alloc, lists, scratch, at, place, &ending, Some(run), moves)
 }
 
-// What stands at this place has overrun, and is recorded so in the slot of its run.
+// The activation at this place has overrun, and is recorded so in the slot of its run.
 fn end_overrun(
     alloc: Global,
     lists: &mut Lists,
@@ -138,11 +138,11 @@ fn end_overrun(
     run: Run,
     moves: &mut Moves,
 ) -> Result<(), NoMemory>
-    requires good { IsGood lists.old.now }
+    requires lists_fit { IsGood lists.old.now }
     requires late { IsLateSpot at run lists.old.now place }
-    ensures good { IsGood lists.new.now }
+    ensures lists_fit { IsGood lists.new.now }
     ensures made { OnOk result (IsOverrunAt at run place lists.old.now lists.new.now moves.old moves.new) }
-    ensures past { lists.new.past ≡ lists.old.past }
+    ensures held { lists.new.past ≡ lists.old.past }
 {
     end_at(
         alloc,
@@ -167,11 +167,11 @@ fn end_late(
     place: usize,
     moves: &mut Moves,
 ) -> Result<(), NoMemory>
-    requires good { IsGood lists.old.now }
+    requires lists_fit { IsGood lists.old.now }
     requires within { place < length lists.old.now.runs }
-    ensures good { IsGood lists.new.now }
+    ensures lists_fit { IsGood lists.new.now }
     ensures made { OnOk result (IsSweptOne at (slice_index_or lists.old.now.runs place None) lists.old.now lists.new.now moves.old moves.new) }
-    ensures past { lists.new.past ≡ lists.old.past }
+    ensures held { lists.new.past ≡ lists.old.past }
 {
     let Some(berth) = lists.runs()[place] else {
         return Ok(());
@@ -191,9 +191,9 @@ pub(crate) fn sweep(
     moves: &mut Moves,
 ) -> Result<(), NoMemory>
     requires { IsGood lists.old.now }
-    ensures good { IsGood lists.new.now }
+    ensures lists_fit { IsGood lists.new.now }
     ensures made { OnOk result (IsMade (sweeps at lists.old.now) lists.old.now lists.new.now moves.old moves.new) }
-    ensures past { lists.new.past ≡ lists.old.past }
+    ensures held { lists.new.past ≡ lists.old.past }
 {
     let count = lists.runs().len();
     for i in 0..count {
@@ -202,7 +202,7 @@ pub(crate) fn sweep(
     Ok(())
 }
 
-/// Ends what the first late run carries, and tells whether there was one.
+/// Ends what the first late run carries, and returns whether there was one.
 pub(crate) fn end_first_late(
     alloc: Global,
     lists: &mut Lists,
@@ -211,9 +211,9 @@ pub(crate) fn end_first_late(
     moves: &mut Moves,
 ) -> Result<bool, NoMemory>
     requires { IsGood lists.old.now }
-    ensures good { IsGood lists.new.now }
+    ensures lists_fit { IsGood lists.new.now }
     ensures made { IfOk result (λ late. IsFirstSwept at late lists.old.now lists.new.now moves.old moves.new) }
-    ensures past { lists.new.past ≡ lists.old.past }
+    ensures held { lists.new.past ≡ lists.old.past }
 {
     let Some((place, run)) = first_late(lists, at) else {
         return Ok(false);
@@ -256,9 +256,9 @@ pub(crate) fn end_composite(
     moves: &mut Moves,
 ) -> Result<(), NoMemory>
     requires { IsGood lists.old.now }
-    ensures good { IsGood lists.new.now }
+    ensures lists_fit { IsGood lists.new.now }
     ensures made { OnOk result (IsMade (composed_items at id response (show lists.old.now)) lists.old.now lists.new.now moves.old moves.new) }
-    ensures past { lists.new.past ≡ lists.old.past }
+    ensures held { lists.new.past ≡ lists.old.past }
 {
     let Some(place) = lists.open_place(id) else {
         drop(response);
@@ -290,7 +290,7 @@ fn children_of(alloc: Global, frame: Option<&Frame>) -> Result<Items<Id>, NoMemo
     }
 }
 
-// What stands at this place ends as abandoned.
+// The activation at this place ends as abandoned.
 fn abandon_at(
     alloc: Global,
     lists: &mut Lists,
@@ -299,11 +299,11 @@ fn abandon_at(
     place: usize,
     moves: &mut Moves,
 ) -> Result<(), NoMemory>
-    requires good { IsGood lists.old.now }
+    requires lists_fit { IsGood lists.old.now }
     requires within { place < length lists.old.now.tasks }
-    ensures good { IsGood lists.new.now }
+    ensures lists_fit { IsGood lists.new.now }
     ensures made { OnOk result (IsAbandonedAt at place lists.old.now lists.new.now moves.old moves.new) }
-    ensures past { lists.new.past ≡ lists.old.past }
+    ensures held { lists.new.past ≡ lists.old.past }
 {
     end_at(
         alloc,
@@ -319,10 +319,10 @@ fn abandon_at(
 
 /// What a lost run carries waits again, where it is open. Nothing is held.
 pub(crate) fn free_run(lists: &mut Lists, run: Run)
-    requires good { IsGood lists.old.now }
+    requires lists_fit { IsGood lists.old.now }
     requires free { lists.old.past ≡ None }
     ensures made { IsFreed run lists.old.now lists.new.now }
-    ensures past { lists.new.past ≡ lists.old.past }
+    ensures held { lists.new.past ≡ lists.old.past }
 {
     if let Some(place) = lists.open_place(run.id) {
         let _ = lists.free(place);
@@ -338,9 +338,9 @@ pub(crate) fn abandon(
     moves: &mut Moves,
 ) -> Result<(), NoMemory>
     requires { IsGood lists.old.now }
-    ensures good { IsGood lists.new.now }
+    ensures lists_fit { IsGood lists.new.now }
     ensures made { OnOk result (AreAbandoned at lists.old.now lists.new.now moves.old moves.new) }
-    ensures past { lists.new.past ≡ lists.old.past }
+    ensures held { lists.new.past ≡ lists.old.past }
 {
     let places = places_by_id(alloc, lists.tasks())?;
     for i in 0..places.len() {

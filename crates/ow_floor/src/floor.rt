@@ -32,9 +32,10 @@ use ow_value::{NoMemory, Params, Scratch, Shared};
 use std::alloc::Global;
 use std::marker::Model;
 
-/// What was accepted: the activations that have not ended, by acceptance, the live runs, and the records of the
-/// activations that have ended, by their ends, behind those that were taken over from an earlier run. What it holds of an ended activation is its record alone, and up to which
-/// moment its request waits, where one does and it was accepted since the last opening.
+/// What was accepted: the activations that have not ended, by acceptance, the live runs, and the records. First come the records that were
+/// taken over from an earlier run, and then the records of the activations that have ended, by their ends. Of an ended activation the floor
+/// holds its record alone, and the moment until which its request waits, where one waits and the activation was accepted since the last
+/// opening.
 #[derive(Drop)]
 pub struct Floor {
     lists: Lists,
@@ -58,8 +59,8 @@ impl Model for Floor {
 }
 
 impl Floor {
-    /// A floor where nothing has happened. Its containers hold at most `pool` MB together, and these are wanted ahead of runs, of which each has the memory
-    /// of some action. It isn't held.
+    /// A floor where nothing has happened. Its containers hold at most `pool` MB together. `wants` are the containers that are wanted ahead
+    /// of runs; each has the memory of some action. The floor isn't held.
     pub fn new(alloc: Global, pool: u32, wants: Prewarms) -> Result<Floor, NoMemory>
         requires { AreWantsSized wants }
         ensures stands { IfOk result (λ floor. Stands floor.now (Opened pool wants ∷ [])) }
@@ -112,14 +113,14 @@ impl Floor {
         self.lists.marks().owed
     }
 
-    /// The records that were taken over, and behind them those of the activations that have ended, by their ends.
+    /// The records that were taken over, and after them the records of the activations that have ended, by their ends.
     pub fn records(&self) -> &Records
         ensures { result.now.items ≡ self.now.now.resumed ++ self.now.now.ended }
     {
         self.lists.records()
     }
 
-    /// Makes known what the types of the activations that have not ended, of the last ids and of the records tell. It looks at all of
+    /// Makes known what the types guarantee of the activations that have not ended, of the last ids and of the records. It looks at all of
     /// them.
     pub fn known_parts(&self)
         ensures unended { (T : Trace) → Stands self.now.now T → AllByRecursion (λ o. IsKnownUnrecorded (unrecorded_of o.task)) (open_items T) }
@@ -227,7 +228,8 @@ impl Floor {
         Ok(())
     }
 
-    /// Draws an id for a fire at this moment, in milliseconds, and notes it. The fire is recorded by `fire`; what is accepted between has later ids.
+    /// Draws an id for a fire at this moment, in milliseconds, and notes it. The fire is recorded by `fire`; what is accepted in between
+    /// has later ids.
     pub fn draw(&mut self, at: u64, id: Id, moves: &mut Moves) -> Result<(), NoMemory>
         requires next { id.count ≡ last_of self.old.now.drawn id.namespace + 1 }
         ensures moved { OnOk result (moves.new ≡ moves.old ++ moved (draw_items at id)) }
@@ -251,8 +253,8 @@ impl Floor {
         moves.note_fired(alloc, self.lists.records())
     }
 
-    /// What is to be done next: what has waited longest runs, containers are removed to make room for it, or, where nothing waits, a container starts
-    /// ahead. Runs are numbered from 1, and so are those of containers ahead among them.
+    /// What is to be done next: what has waited longest runs, containers are removed to make room for it, or, where nothing waits, a
+    /// container starts ahead. Runs are numbered from 1, together with the runs of containers that start ahead.
     pub fn next(&mut self, alloc: Global, at: u64) -> Result<Order, NoMemory>
         ensures told { IfOk result (λ order. (T : Trace) → Stands self.old.now T → order ≡ next_order T) }
         ensures ok { OnOk result (Grows self.old.now self.new.now (λ T. next_items at T)) }
@@ -304,8 +306,8 @@ impl Floor {
         Ok(())
     }
 
-    /// Takes a runner's reply: what the run carries ends, unless a sweep recorded it before. It tells at which moment a sweep did, in milliseconds, where one
-    /// did. None where no slot is busy with this run.
+    /// Takes a runner's reply: what the run carries ends, unless a sweep recorded it before. Returns the moment of that sweep, in
+    /// milliseconds, where there was one. None where no slot is busy with this run.
     pub fn replied_into(
         &mut self,
         alloc: Global,
@@ -343,7 +345,7 @@ impl Floor {
         Ok(Some(recorded))
     }
 
-    /// Ends each activation whose live run is late, by the runs' orders, and tells how many these are. The runs stay live.
+    /// Ends each activation whose live run is late, by the runs' orders, and returns how many these are. The runs stay live.
     pub fn sweep_into(&mut self, alloc: Global, at: u64, moves: &mut Moves) -> Result<u64, NoMemory>
         ensures late { IfOk result (λ late. (T : Trace) → Stands self.old.now T → late ≡ length (swept_ends at T)) }
         ensures moved { OnOk result ((T : Trace) → Stands self.old.now T → moves.new ≡ moves.old ++ moved (swept_items at T)) }
@@ -356,7 +358,7 @@ impl Floor {
         Ok((moves.items().len() - before) as u64)
     }
 
-    /// Ends what the first late run carries, by the runs' orders, and tells whether there was one. The run stays live.
+    /// Ends what the first late run carries, by the runs' orders, and returns whether there was one. The run stays live.
     pub fn overrun(&mut self, alloc: Global, at: u64, moves: &mut Moves) -> Result<bool, NoMemory>
         ensures late { IfOk result (λ late. (T : Trace) → Stands self.old.now T → late ≡ has_items (overrun_first at T)) }
         ensures moved { OnOk result ((T : Trace) → Stands self.old.now T → moves.new ≡ moves.old ++ moved (overrun_first at T)) }
@@ -424,7 +426,7 @@ impl Floor {
         Ok(())
     }
 
-    /// From now on the floor drains. It tells whether all have ended. It takes no memory.
+    /// From now on the floor drains. Returns whether all activations have ended. This takes no memory.
     pub fn drain(&mut self, at: u64) -> Drain
         ensures told { (T : Trace) → Stands self.old.now T → result ≡ drain_answer T }
         ensures grows { Grows self.old.now self.new.now (λ T. Drained at ∷ []) }
@@ -495,7 +497,7 @@ fn leaves_alive(reply: &RunReply) -> bool
     matches!(reply, RunReply::Answer { .. })
 }
 
-// What is told of an activation whose request waits up to this moment, where one does.
+// The answer about an activation whose request waits until the moment `until`, where one waits.
 fn collected_by(
     at: u64,
     until: Option<u64>,
@@ -512,7 +514,7 @@ fn collected_by(
     }
 }
 
-// How a floor drains where so many have not ended, and so many were accepted.
+// The answer to a drain where `busy` activations have not ended, and `count` were accepted.
 fn drain_by(busy: u64, count: u64) -> Drain
     ensures { result ≡ drain_by busy count }
 {

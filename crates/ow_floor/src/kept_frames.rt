@@ -4,14 +4,14 @@ ghost use Rattle.std.specs.List.{find};
 ghost use Rattle.ow_records.specs.Frame.{first_frame, with_child, with_end, with_used};
 ghost use Rattle.ow_slots.specs.Slots.{change_first};
 ghost use Rattle.ow_floor.specs.Frames.{frames_accepted, frames_ended, is_frame};
-ghost use Rattle.ow_floor.specs.Kept.{past};
+ghost use Rattle.ow_floor.specs.Undoable.{past};
 ghost use Rattle.ow_floor.specs.Places.{FrameOf, has};
 ghost use Rattle.ow_floor.specs.Store.{AreGone, CellOf, there};
 ghost use Rattle.ow_floor.specs.View.{remove_first};
 
 use crate::activations::Part;
-use crate::kept::Kept;
 use crate::lists::{make_room, set_cell};
+use crate::undoable::Undoable;
 use ow_records::{Form, Frame, Id, Response, Role};
 use ow_value::NoMemory;
 use std::alloc::Global;
@@ -20,15 +20,15 @@ use std::marker::Model;
 /// The frames of open composites, by their acceptance. What is taken out leaves its place empty.
 #[derive(Drop)]
 pub(crate) struct KeptFrames {
-    cells: Kept<Option<Frame>>,
-    // At so many first places no frame stands any more.
+    cells: Undoable<Option<Frame>>,
+    // How many first places hold no frame any more.
     gone: usize,
 }
 
 impl Model for KeptFrames {
     ghost use Rattle.std.specs.Coded.{codes};
     ghost use Rattle.ow_value.specs.Code.{value_code};
-    ghost use Rattle.ow_floor.specs.Kept.{FramesView};
+    ghost use Rattle.ow_floor.specs.Undoable.{FramesView};
     ghost use Rattle.ow_floor.specs.Store.{AreGone, there};
 
     ghost Value = { FramesView };
@@ -46,7 +46,7 @@ impl KeptFrames {
         ensures { result.now ≡ [] }
     {
         KeptFrames {
-            cells: Kept::new(alloc),
+            cells: Undoable::new(alloc),
             gone: 0,
         }
     }
@@ -64,7 +64,7 @@ impl KeptFrames {
     /// An activation of this part is accepted.
     pub(crate) fn accept(&mut self, alloc: Global, held: bool, part: Part) -> Result<(), NoMemory>
         ensures now { OnOk result (self.new.now ≡ frames_accepted part self.old.now) }
-        ensures past { past held self.new.before ≡ past held self.old.before }
+        ensures held { past held self.new.before ≡ past held self.old.before }
     {
         if let Some(cause) = part.cause {
             self.gone = note_use(alloc, &mut self.cells, self.gone, held, part.top, part.role)?;
@@ -85,7 +85,7 @@ impl KeptFrames {
         response: &Response,
     ) -> Result<(), NoMemory>
         ensures now { OnOk result (self.new.now ≡ frames_ended part response.now self.old.now) }
-        ensures past { past held self.new.before ≡ past held self.old.before }
+        ensures held { past held self.new.before ≡ past held self.old.before }
     {
         match part.form {
             Form::Leaf => {}
@@ -124,7 +124,7 @@ impl KeptFrames {
     }
 }
 
-// The place of the composite's frame. At the first `gone` places none stands.
+// The place of the composite's frame. The first `gone` places hold none.
 fn frame_place(cells: &[Option<Frame>], gone: usize, id: Id) -> Option<usize>
     requires { AreGone gone cells.now }
     ensures { CellOf (λ f. f) (is_frame id) cells.now result }
@@ -137,7 +137,7 @@ fn frame_place(cells: &[Option<Frame>], gone: usize, id: Id) -> Option<usize>
     None
 }
 
-// Whether the frame of the composite stands there.
+// Whether this place holds the frame of the composite.
 fn is_frame(cell: &Option<Frame>, id: Id) -> bool
     ensures { result ≡ has (λ f. f) (is_frame id) cell.now }
 {
@@ -147,7 +147,7 @@ fn is_frame(cell: &Option<Frame>, id: Id) -> bool
     }
 }
 
-// The composite's frame, and its place. At the first `gone` places none stands.
+// The composite's frame, and its place. The first `gone` places hold none.
 fn found(cells: &[Option<Frame>], gone: usize, id: Id) -> Option<(usize, &Frame)>
     requires { AreGone gone cells.now }
     ensures { FrameOf (is_frame id) cells.now (option_map (λ p. (p.0, p.1.now)) result) }
@@ -159,10 +159,10 @@ fn found(cells: &[Option<Frame>], gone: usize, id: Id) -> Option<(usize, &Frame)
     Some((place, frame))
 }
 
-// Another frame, or none, stands at this place. It tells at how many first places none stands.
+// Puts another frame, or none, at this place. Returns how many first places are known to hold none.
 #[tactic(auto, using(crate::proofs::Framing::past_seen))]
 fn put(
-    cells: &mut Kept<Option<Frame>>,
+    cells: &mut Undoable<Option<Frame>>,
     gone: usize,
     held: bool,
     place: usize,
@@ -172,7 +172,7 @@ fn put(
     requires gone { AreGone gone cells.old.now }
     ensures now { OnOk result (cells.new.now ≡ slice_set cells.old.now place cell) }
     ensures gone { MatchResult result (λ g. AreGone g cells.new.now) (λ _. AreGone gone cells.new.now) }
-    ensures past { past held (there (λ f. f) cells.new.before) ≡ past held (there (λ f. f) cells.old.before) }
+    ensures held { past held (there (λ f. f) cells.new.before) ≡ past held (there (λ f. f) cells.old.before) }
 {
     if cells.reserve_step(held).is_err() {
         drop(cell);
@@ -183,11 +183,11 @@ fn put(
 
 // A composite is accepted.
 #[tactic(auto, using(crate::proofs::Framing::frame_added, crate::proofs::Framing::past_seen, crate::proofs::Going::gone_added))]
-fn add(cells: &mut Kept<Option<Frame>>, gone: usize, held: bool, id: Id) -> Result<(), NoMemory>
+fn add(cells: &mut Undoable<Option<Frame>>, gone: usize, held: bool, id: Id) -> Result<(), NoMemory>
     requires { AreGone gone cells.old.now }
     ensures now { OnOk result (there (λ f. f) cells.new.now ≡ there (λ f. f) cells.old.now ++ first_frame id ∷ []) }
     ensures gone { AreGone gone cells.new.now }
-    ensures past { past held (there (λ f. f) cells.new.before) ≡ past held (there (λ f. f) cells.old.before) }
+    ensures held { past held (there (λ f. f) cells.new.before) ≡ past held (there (λ f. f) cells.old.before) }
 {
     make_room(cells, held)?;
     cells.push(held, Some(Frame::new(id)));
@@ -197,7 +197,7 @@ fn add(cells: &mut Kept<Option<Frame>>, gone: usize, held: bool, id: Id) -> Resu
 // The tree of this composite has used one more activation of this role.
 fn note_use(
     alloc: Global,
-    cells: &mut Kept<Option<Frame>>,
+    cells: &mut Undoable<Option<Frame>>,
     gone: usize,
     held: bool,
     top: Id,
@@ -206,7 +206,7 @@ fn note_use(
     requires { AreGone gone cells.old.now }
     ensures now { OnOk result (there (λ f. f) cells.new.now ≡ change_first (is_frame top) (with_used role) (there (λ f. f) cells.old.now)) }
     ensures gone { MatchResult result (λ g. AreGone g cells.new.now) (λ _. AreGone gone cells.new.now) }
-    ensures past { past held (there (λ f. f) cells.new.before) ≡ past held (there (λ f. f) cells.old.before) }
+    ensures held { past held (there (λ f. f) cells.new.before) ≡ past held (there (λ f. f) cells.old.before) }
 {
     let Some((place, frame)) = found(cells.items(), gone, top) else {
         return Ok(gone);
@@ -218,7 +218,7 @@ fn note_use(
 // This composite has one more child.
 fn note_child(
     alloc: Global,
-    cells: &mut Kept<Option<Frame>>,
+    cells: &mut Undoable<Option<Frame>>,
     gone: usize,
     held: bool,
     cause: Id,
@@ -227,7 +227,7 @@ fn note_child(
     requires { AreGone gone cells.old.now }
     ensures now { OnOk result (there (λ f. f) cells.new.now ≡ change_first (is_frame cause) (with_child child) (there (λ f. f) cells.old.now)) }
     ensures gone { MatchResult result (λ g. AreGone g cells.new.now) (λ _. AreGone gone cells.new.now) }
-    ensures past { past held (there (λ f. f) cells.new.before) ≡ past held (there (λ f. f) cells.old.before) }
+    ensures held { past held (there (λ f. f) cells.new.before) ≡ past held (there (λ f. f) cells.old.before) }
 {
     let Some((place, frame)) = found(cells.items(), gone, cause) else {
         return Ok(gone);
@@ -239,7 +239,7 @@ fn note_child(
 // The last child of this composite has ended.
 fn note_end(
     alloc: Global,
-    cells: &mut Kept<Option<Frame>>,
+    cells: &mut Undoable<Option<Frame>>,
     gone: usize,
     held: bool,
     cause: Id,
@@ -249,7 +249,7 @@ fn note_end(
     requires { AreGone gone cells.old.now }
     ensures now { OnOk result (there (λ f. f) cells.new.now ≡ change_first (is_frame cause) (with_end role response.now) (there (λ f. f) cells.old.now)) }
     ensures gone { MatchResult result (λ g. AreGone g cells.new.now) (λ _. AreGone gone cells.new.now) }
-    ensures past { past held (there (λ f. f) cells.new.before) ≡ past held (there (λ f. f) cells.old.before) }
+    ensures held { past held (there (λ f. f) cells.new.before) ≡ past held (there (λ f. f) cells.old.before) }
 {
     let Some((place, frame)) = found(cells.items(), gone, cause) else {
         return Ok(gone);
@@ -260,7 +260,7 @@ fn note_end(
 
 // A composite has ended.
 fn take_out(
-    cells: &mut Kept<Option<Frame>>,
+    cells: &mut Undoable<Option<Frame>>,
     gone: usize,
     held: bool,
     id: Id,
@@ -268,7 +268,7 @@ fn take_out(
     requires { AreGone gone cells.old.now }
     ensures now { OnOk result (there (λ f. f) cells.new.now ≡ remove_first (is_frame id) (there (λ f. f) cells.old.now)) }
     ensures gone { MatchResult result (λ g. AreGone g cells.new.now) (λ _. AreGone gone cells.new.now) }
-    ensures past { past held (there (λ f. f) cells.new.before) ≡ past held (there (λ f. f) cells.old.before) }
+    ensures held { past held (there (λ f. f) cells.new.before) ≡ past held (there (λ f. f) cells.old.before) }
 {
     match frame_place(cells.items(), gone, id) {
         Some(place) => put(cells, gone, held, place, None),

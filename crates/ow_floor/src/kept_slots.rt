@@ -4,8 +4,8 @@ ghost use Rattle.ow_slots.specs.Slots.{IsThere, change, change_first, first_with
 ghost use Rattle.ow_slots.specs.State.{IsUnrecorded, IsVacant, StartFits, after_gone, answered_state, assigned, awaits, begun_state, holds, lost_state, opened, overrun_state, recorded_of, runs, with_state};
 ghost use Rattle.ow_pool.specs.Keeping.{CanAllGo, removed};
 ghost use Rattle.ow_pool.specs.Rules.{IsWithinPool};
-ghost use Rattle.ow_lifecycle.specs.Fitting.{emptied};
-ghost use Rattle.ow_floor.specs.Kept.{all_noted, past, restore, restored, run_noted, slot_noted};
+ghost use Rattle.ow_slot_laws.specs.Fitting.{emptied};
+ghost use Rattle.ow_floor.specs.Undoable.{all_noted, past, restore, restored, run_noted, slot_noted};
 
 use ow_slots::{Key, Slot, SlotRefusal, Slots, Start, State};
 use ow_traits::Kind;
@@ -17,7 +17,7 @@ use std::mem;
 /// What undoes one change.
 #[derive(Drop)]
 pub(crate) enum SlotStep {
-    /// This slot stood at this place.
+    /// This slot was at this place.
     Was(u32, Slot),
     /// These were all.
     All(Slots),
@@ -31,7 +31,7 @@ pub(crate) struct KeptSlots {
 }
 
 impl Model for KeptSlots {
-    ghost use Rattle.ow_floor.specs.Kept.{SlotsView, restored};
+    ghost use Rattle.ow_floor.specs.Undoable.{SlotsView, restored};
 
     ghost Value = { SlotsView };
 
@@ -39,7 +39,7 @@ impl Model for KeptSlots {
 }
 
 impl KeptSlots {
-    /// So many slots, all vacant.
+    /// `count` slots, all vacant.
     pub(crate) fn new(alloc: Global, count: u32) -> Result<KeptSlots, NoMemory>
         ensures { IfOk result (λ k. k.now ≡ replicate count vacant_slot) }
     {
@@ -71,7 +71,7 @@ impl KeptSlots {
         requires { IsThere (StartFits start) (slice_get self.old.now slot) }
         ensures now { OnOk result (self.new.now ≡ change slot (assigned run key start at) self.old.now) }
         ensures err { OnErr result (self.new.now ≡ self.old.now) }
-        ensures past { past held self.new.before ≡ past held self.old.before }
+        ensures held { past held self.new.before ≡ past held self.old.before }
     {
         if note(alloc, &mut self.steps, &self.slots, held, slot).is_err() {
             drop(key);
@@ -94,7 +94,7 @@ impl KeptSlots {
         requires { IsThere IsVacant (slice_get self.old.now slot) }
         ensures now { OnOk result (self.new.now ≡ change slot (opened run kind memory) self.old.now) }
         ensures err { OnErr result (self.new.now ≡ self.old.now) }
-        ensures past { past held self.new.before ≡ past held self.old.before }
+        ensures held { past held self.new.before ≡ past held self.old.before }
     {
         note(alloc, &mut self.steps, &self.slots, held, slot)?;
         self.slots.preopen(slot, run, kind, memory);
@@ -111,7 +111,7 @@ impl KeptSlots {
         requires { CanAllGo slots.now self.old.now }
         ensures now { OnOk result (self.new.now ≡ removed slots.now self.old.now) }
         ensures within { (pool : ℕ) → IsWithinPool self.old.now pool → IsWithinPool self.new.now pool }
-        ensures past { past held self.new.before ≡ past held self.old.before }
+        ensures held { past held self.new.before ≡ past held self.old.before }
     {
         remove_all(alloc, &mut self.slots, &mut self.steps, held, slots)
     }
@@ -127,7 +127,7 @@ impl KeptSlots {
     ) -> Result<(), NoMemory>
         ensures now { OnOk result (self.new.now ≡ change_first (has (runs run)) (with_state (answered_state alive at)) self.old.now) }
         ensures err { OnErr result (self.new.now ≡ self.old.now) }
-        ensures past { past held self.new.before ≡ past held self.old.before }
+        ensures held { past held self.new.before ≡ past held self.old.before }
     {
         note_run(alloc, &mut self.steps, &self.slots, held, run)?;
         let _ = self.slots.answered(run, alive, at);
@@ -145,7 +145,7 @@ impl KeptSlots {
         requires { IsThere IsUnrecorded (first_with (runs run) self.old.now) }
         ensures now { OnOk result (self.new.now ≡ change_first (has (runs run)) (with_state (overrun_state at)) self.old.now) }
         ensures err { OnErr result (self.new.now ≡ self.old.now) }
-        ensures past { past held self.new.before ≡ past held self.old.before }
+        ensures held { past held self.new.before ≡ past held self.old.before }
     {
         note_run(alloc, &mut self.steps, &self.slots, held, run)?;
         self.slots.overrun(run, at);
@@ -156,7 +156,7 @@ impl KeptSlots {
     pub(crate) fn empty(&mut self, alloc: Global, held: bool) -> Result<(), NoMemory>
         ensures now { OnOk result (self.new.now ≡ emptied self.old.now) }
         ensures err { OnErr result (self.new.now ≡ self.old.now) }
-        ensures past { past held self.new.before ≡ past held self.old.before }
+        ensures held { past held self.new.before ≡ past held self.old.before }
     {
         make_room(&mut self.steps, held)?;
         let vacant = self.slots.emptied(alloc)?;
@@ -266,7 +266,7 @@ fn remove_all(
     requires { CanAllGo numbers.now slots.old }
     ensures now { OnOk result (slots.new ≡ removed numbers.now slots.old) }
     ensures within { (pool : ℕ) → IsWithinPool slots.old pool → IsWithinPool slots.new pool }
-    ensures past { past held (restored steps.new.items slots.new) ≡ past held (restored steps.old.items slots.old) }
+    ensures held { past held (restored steps.new.items slots.new) ≡ past held (restored steps.old.items slots.old) }
 {
     for i in 0..numbers.len() {
         note(alloc, steps, slots, held, numbers[i])?;

@@ -8,14 +8,14 @@ ghost use Rattle.ow_floor.specs.Growth.{AreRight};
 ghost use Rattle.ow_floor.specs.Laws.{EndedWereAccepted, IsParted, IsSound, RunOnce, Shows, StandInSlots, Stands};
 ghost use Rattle.ow_floor.specs.Owed.{owed, rises};
 ghost use Rattle.ow_slots.specs.Slots.{memory_held};
-ghost use Rattle.ow_lifecycle.specs.Life.{overran_at};
+ghost use Rattle.ow_slot_laws.specs.Life.{overran_at};
 ghost use Rattle.ow_floor.specs.Calls.{AllRecorded, KeepSound, RaisesLittle, answer_to, begins, drain_answer, goes, loses};
 
 use crate::{Floor, Run};
 
 impl Floor {
-    /// A floor shows three lists of ids: those that wait, those that run, and those that are
-    /// recorded. Each accepted id stands in exactly one of them, once, and nothing else stands in them.
+    /// A floor shows three lists of ids: the waiting, the running and the recorded ones. Each accepted id is in exactly one of them, once,
+    /// and nothing else is in them.
     pub fn parts_accepted(&self)
         ensures lists { (T : Trace) → Stands self.now.now T → Shows self.now.now T }
         ensures parts { (T : Trace) → Stands self.now.now T → IsParted T }
@@ -37,7 +37,8 @@ pub fn ended_were_accepted()
     ensures { (T : Trace) → IsSound T → EndedWereAccepted T }
 {}
 
-/// Where a drain tells that all have ended, each accepted id is recorded, once, and so many were accepted since the last opening.
+/// Where a drain answers that all have ended, each accepted id is recorded, once. The number that it answers is how many were accepted
+/// since the last opening.
 pub fn when_drained_all_are_recorded()
     ensures { (T : Trace) → IsSound T → AllRecorded T (drain_answer T) }
 {}
@@ -67,7 +68,7 @@ pub fn entries_are_owed()
     ensures calls { RaisesLittle }
 {}
 
-/// Items that may come keep a trace sound, and a floor that stands as it says.
+/// Items that may come on a floor with the state of a sound trace keep that trace sound.
 pub fn right_items_keep_traces_sound()
     ensures { (items T : Trace) → AreRight items (shown T) → IsSound T → IsSound (items ++ T) }
 {}

@@ -6,7 +6,6 @@ mod answers;
 mod by_id;
 mod ends;
 mod floor;
-mod kept;
 mod kept_frames;
 mod kept_slots;
 mod known;
@@ -18,6 +17,7 @@ mod places;
 mod resuming;
 mod runs;
 mod told;
+mod undoable;
 
 pub use activations::{Open, Plan, State};
 pub use answers::{

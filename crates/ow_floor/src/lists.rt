@@ -1,7 +1,7 @@
-// The lists of a floor as they are kept. What is taken out leaves its place empty, so places stay.
+// The lists of a floor as they are kept. What is taken out leaves its place empty, so the other places stay.
 ghost use Rattle.std.specs.Prelude.{◌≡◌, ◌<◌, ◌≤◌, ◌^◌, ◌++◌, [], ◌∷◌, length, None, Some, true, false, option_copied, IfOk, IfSome, IsOk, OnOk, OnErr, replicate, slice_get, slice_set};
 ghost use Rattle.std.specs.List.{find};
-ghost use Rattle.ow_floor.specs.Kept.{past};
+ghost use Rattle.ow_floor.specs.Undoable.{past};
 ghost use Rattle.ow_records.specs.Records.{is_of_id};
 ghost use Rattle.ow_floor.specs.View.{is_number, is_of, put_id, wait_in, waits};
 ghost use Rattle.ow_floor.specs.Trace.{blocked_by};
@@ -10,18 +10,18 @@ ghost use Rattle.ow_slots.specs.Slots.{IsThere, first_with, gone_answer, run_ans
 ghost use Rattle.ow_slots.specs.State.{IsUnrecorded, IsVacant, StartFits, awaits, holds, runs};
 ghost use Rattle.ow_pool.specs.Keeping.{CanAllGo, IsCarriedOut};
 ghost use Rattle.ow_pool.specs.Rules.{IsHeadSized, place_of};
-ghost use Rattle.ow_lifecycle.specs.Life.{Event, Removed};
-ghost use Rattle.ow_lifecycle.specs.Owed.{may_begin, owed, owed_by};
+ghost use Rattle.ow_slot_laws.specs.Life.{Event, Removed};
+ghost use Rattle.ow_slot_laws.specs.Owed.{may_begin, owed, owed_by};
 ghost use Rattle.ow_slots.specs.declared.states.State.TheVariants.{Busy};
 ghost use Rattle.ow_floor.specs.Trace.{slot_count};
 ghost use Rattle.ow_floor.specs.Store.{AreGone, CellOf, IsGood, SpotOf, Store, accepted_in, answered_in, at_moment, drained_in, drawn_in, empty_of, ended_in, event_in, fired_in, freed_in, ordered_in, prewarmed_in, reopened_in, resumed_in, run_in, run_put, taken_back, with_frames, with_owed};
 ghost use Rattle.ow_floor.specs.Frames.{frames_accepted, frames_ended, is_frame};
 
 use crate::activations::Part;
-use crate::kept::Kept;
 use crate::kept_frames::KeptFrames;
 use crate::kept_slots::KeptSlots;
 use crate::places::{namespace_place, open_place, run_place, until, waiting_place};
+use crate::undoable::Undoable;
 use crate::{PrewarmOrder, Run, State};
 use ow_entity::LEAST_MEMORY;
 use ow_pool::{Head, Place, place};
@@ -32,7 +32,7 @@ use ow_value::{NoMemory, Shared};
 use std::alloc::Global;
 use std::marker::Model;
 
-/// How an activation stands that has not ended.
+/// The state of an activation that has not ended.
 #[derive(Clone, Copy)]
 pub(crate) struct Spot {
     pub(crate) state: State,
@@ -45,15 +45,15 @@ pub(crate) struct Berth {
     pub(crate) place: usize,
 }
 
-/// An activation for whose end a request waits, and up to which moment, in milliseconds.
+/// An activation for whose end a request waits, and the moment until which it waits, in milliseconds.
 #[derive(Clone, Copy)]
 pub(crate) struct Blocking {
     pub(crate) id: Id,
     pub(crate) until: u64,
 }
 
-/// The moment of the newest thing, how many were accepted before the last opening, how many entries are owed, whether it drains, and the id of a fire that
-/// isn't recorded yet.
+/// The moment of the newest thing, how many were accepted before the last opening, how many entries are owed, whether the floor drains, and
+/// the id of a fire that isn't recorded yet.
 #[derive(Clone, Copy)]
 pub(crate) struct Marks {
     pub(crate) latest: u64,
@@ -66,9 +66,9 @@ pub(crate) struct Marks {
 /// The lists. They can be held.
 #[derive(Drop)]
 pub(crate) struct Lists {
-    spots: Kept<Spot>,
-    tasks: Kept<Option<Shared<Activation>>>,
-    runs: Kept<Option<Berth>>,
+    spots: Undoable<Spot>,
+    tasks: Undoable<Option<Shared<Activation>>>,
+    runs: Undoable<Option<Berth>>,
     frames: KeptFrames,
     slots: KeptSlots,
     records: Records,
@@ -77,9 +77,9 @@ pub(crate) struct Lists {
     // How many of them were taken over. These come first.
     resumed: usize,
     // The last id of each namespace.
-    drawn: Kept<Id>,
-    // Those that were accepted since the last opening.
-    blocking: Kept<Blocking>,
+    drawn: Undoable<Id>,
+    // The activations accepted since the last opening for whose end a request waits.
+    blocking: Undoable<Blocking>,
     marks: Marks,
     // In MB.
     pool: u32,
@@ -87,7 +87,7 @@ pub(crate) struct Lists {
     held: bool,
     // The marks at the hold.
     before: Marks,
-    // At so many first places no activation stands any more, and at so many no run.
+    // How many first places hold no activation any more, and how many hold no run any more.
     tasks_gone: usize,
     runs_gone: usize,
 }
@@ -96,7 +96,7 @@ impl Model for Lists {
     ghost use Rattle.std.specs.Prelude.{drop, take};
     ghost use Rattle.std.specs.Coded.{codes};
     ghost use Rattle.ow_value.specs.Code.{value_code};
-    ghost use Rattle.ow_floor.specs.Kept.{past};
+    ghost use Rattle.ow_floor.specs.Undoable.{past};
     ghost use Rattle.ow_floor.specs.Store.{StoreView, past_of};
 
     ghost Value = { StoreView };
@@ -137,23 +137,23 @@ const NO_MARKS: Marks = Marks {
 };
 
 impl Lists {
-    /// Nothing stands in them, and they aren't held. All slots of the pool are vacant.
+    /// Empty lists, which aren't held. All slots of the pool are vacant.
     pub(crate) fn new(alloc: Global, pool: u32, wants: Prewarms) -> Result<Lists, NoMemory>
         ensures now { IfOk result (λ l. l.now ≡ record { spots = []; tasks = []; runs = []; frames = []; slots = replicate (slot_count pool) vacant_slot; ended = []; resumed = []; drawn = []; blocking = []; marks = record { latest = 0; opened = 0; owed = 0; draining = false; firing = None }; pool = pool; wants = wants }) }
-        ensures past { IfOk result (λ l. l.past ≡ None) }
+        ensures held { IfOk result (λ l. l.past ≡ None) }
     {
         let slots = KeptSlots::new(alloc, pool / LEAST_MEMORY)?;
         Ok(Lists {
-            spots: Kept::new(alloc),
-            tasks: Kept::new(alloc),
-            runs: Kept::new(alloc),
+            spots: Undoable::new(alloc),
+            tasks: Undoable::new(alloc),
+            runs: Undoable::new(alloc),
             frames: KeptFrames::new(alloc),
             slots,
             records: Records::new(alloc),
             records_held: 0,
             resumed: 0,
-            drawn: Kept::new(alloc),
-            blocking: Kept::new(alloc),
+            drawn: Undoable::new(alloc),
+            blocking: Undoable::new(alloc),
             marks: NO_MARKS,
             pool,
             wants,
@@ -213,7 +213,7 @@ impl Lists {
 
     /// What is to be done next for the head, or ahead of any.
     pub(crate) fn place(&self, head: Option<&Head>) -> Place
-        requires good { IsGood self.now.now }
+        requires lists_fit { IsGood self.now.now }
         requires head { IsHeadSized (option_copied head) }
         ensures value { result ≡ place_of self.now.now.slots (option_copied head.entry) self.now.now.wants self.now.now.pool }
         ensures kept { IsCarriedOut self.now.now.slots (option_copied head.entry) self.now.now.pool result }
@@ -221,7 +221,7 @@ impl Lists {
         place(self.slots.slots(), head, self.wants.as_slice(), self.pool)
     }
 
-    /// All records, those first that were taken over.
+    /// All records. The ones that were taken over come first.
     pub(crate) fn records(&self) -> &Records
         ensures { result.now.items ≡ self.now.now.resumed ++ self.now.now.ended }
     {
@@ -258,7 +258,7 @@ impl Lists {
         self.frames.frame(id)
     }
 
-    /// Up to which moment the request waits that made this activation, where one does.
+    /// The moment until which the request that made this activation waits, where one waits.
     pub(crate) fn until(&self, id: Id) -> Option<u64>
         ensures { result ≡ wait_in id self.now.now.blocking }
     {
@@ -271,7 +271,7 @@ impl Lists {
         self.marks
     }
 
-    /// From now on what they are is kept. It takes no memory.
+    /// Holds the lists: from now on their present state is kept. This takes no memory.
     pub(crate) fn hold(&mut self)
         ensures { self.new ≡ record { now = self.old.now; past = Some self.old.now } }
     {
@@ -287,7 +287,7 @@ impl Lists {
         self.held = true;
     }
 
-    /// Lets what was before go. It takes no memory.
+    /// Ends the hold, and drops what was before. This takes no memory.
     pub(crate) fn keep(&mut self)
         ensures { self.new ≡ record { now = self.old.now; past = None } }
     {
@@ -295,7 +295,7 @@ impl Lists {
         self.held = false;
     }
 
-    /// They are again what they were at the hold, where they are held. It takes no memory.
+    /// Takes the lists back to what they were at the hold, where they are held, and ends the hold. This takes no memory.
     pub(crate) fn take_back(&mut self)
         ensures { self.new ≡ record { now = taken_back self.old.past self.old.now; past = None } }
     {
@@ -315,7 +315,7 @@ impl Lists {
         self.held = false;
     }
 
-    /// They are again what they were at the hold, where they are held, and that goes on. It takes no memory.
+    /// Takes the lists back to what they were at the hold, where they are held. The hold goes on. This takes no memory.
     pub(crate) fn back(&mut self)
         ensures { self.new ≡ record { now = taken_back self.old.past self.old.now; past = self.old.past } }
     {
@@ -327,11 +327,11 @@ impl Lists {
 }
 
 // The last id of its namespace is this one from now on. There is room.
-fn note_id(drawn: &mut Kept<Id>, held: bool, id: Id)
+fn note_id(drawn: &mut Undoable<Id>, held: bool, id: Id)
     requires space { 1 ≤ drawn.old.space }
     requires slack { held ≡ true → 1 ≤ drawn.old.slack }
     ensures now { drawn.new.now ≡ put_id id drawn.old.now }
-    ensures past { past held drawn.new.before ≡ past held drawn.old.before }
+    ensures held { past held drawn.new.before ≡ past held drawn.old.before }
 {
     match namespace_place(drawn.items(), id.namespace) {
         Some(place) => drawn.set(held, place, id),
@@ -340,19 +340,19 @@ fn note_id(drawn: &mut Kept<Id>, held: bool, id: Id)
 }
 
 // A request waits for the end of this activation from now on, where it has an until. There is room.
-fn note_until(blocking: &mut Kept<Blocking>, held: bool, id: Id, until: Option<u64>)
+fn note_until(blocking: &mut Undoable<Blocking>, held: bool, id: Id, until: Option<u64>)
     requires space { 1 ≤ blocking.old.space }
     requires slack { held ≡ true → 1 ≤ blocking.old.slack }
     ensures now { blocking.new.now ≡ blocked_by id until blocking.old.now }
-    ensures past { past held blocking.new.before ≡ past held blocking.old.before }
+    ensures held { past held blocking.new.before ≡ past held blocking.old.before }
 {
     if let Some(until) = until {
         blocking.push(held, Blocking { id, until });
     }
 }
 
-// So many first places at which nothing stands, up to two more than these. Each place is met twice at most, so all that are
-// met are no more than twice the changes.
+// How many first places are known to be empty: at most two more than `gone`. Each place is looked at twice at most, so the places that are
+// looked at are no more than twice the changes.
 fn further<T>(cells: &[Option<T>], gone: usize) -> usize
     requires { AreGone gone cells.now }
     ensures { AreGone result cells.now }
@@ -370,9 +370,9 @@ fn one_further<T>(cells: &[Option<T>], gone: usize) -> usize
     gone
 }
 
-/// Another thing, or none, stands at this place. It tells at how many first places nothing stands. There is room for the change.
+/// Puts another thing, or none, at this place. Returns how many first places are known to be empty. There is room for the change.
 pub(crate) fn set_cell<T: Drop>(
-    cells: &mut Kept<Option<T>>,
+    cells: &mut Undoable<Option<T>>,
     gone: usize,
     held: bool,
     place: usize,
@@ -382,14 +382,14 @@ pub(crate) fn set_cell<T: Drop>(
     requires slack { held ≡ true → 1 ≤ cells.old.slack }
     requires gone { AreGone gone cells.old.now }
     ensures now { cells.new.now ≡ slice_set cells.old.now place cell }
-    ensures past { past held cells.new.before ≡ past held cells.old.before }
+    ensures held { past held cells.new.before ≡ past held cells.old.before }
     ensures gone { AreGone result cells.new.now }
 {
     cells.set(held, place, cell);
     further(cells.items(), gone.min(place))
 }
 
-// At this moment, with what these slots owe.
+// The marks at this moment, with what these slots owe.
 fn marked(slots: &Slots, marks: Marks, at: u64) -> Marks
     ensures { result ≡ with_owed at (owed slots.now) marks }
 {
@@ -415,7 +415,7 @@ fn owed_in(slots: &[Slot]) -> usize
 // How many events may still come of what a slot holds.
 fn owed_by(state: &SlotState) -> usize
     ensures value { result ≡ owed_by state.now }
-    ensures few { result ≤ 3 }
+    ensures bounded { result ≤ 3 }
 {
     match state {
         SlotState::Vacant => 0,
@@ -427,7 +427,7 @@ fn owed_by(state: &SlotState) -> usize
 
 fn owed_work(work: &Work) -> usize
     ensures value { result ≡ owed_by (Busy work.now) }
-    ensures few { result ≤ 3 }
+    ensures bounded { result ≤ 3 }
 {
     let begins = if may_begin(work) { 1 } else { 0 };
     let goes = if work.gone { 0 } else { 1 };
@@ -444,7 +444,7 @@ fn may_begin(work: &Work) -> bool
 }
 
 /// Makes room for one more.
-pub(crate) fn make_room<T: Drop>(kept: &mut Kept<T>, held: bool) -> Result<(), NoMemory>
+pub(crate) fn make_room<T: Drop>(kept: &mut Undoable<T>, held: bool) -> Result<(), NoMemory>
     ensures now { kept.new.now ≡ kept.old.now }
     ensures before { kept.new.before ≡ kept.old.before }
     ensures space { OnOk result (1 ≤ kept.new.space) }
@@ -454,7 +454,7 @@ pub(crate) fn make_room<T: Drop>(kept: &mut Kept<T>, held: bool) -> Result<(), N
     kept.reserve_step(held)
 }
 
-// As many empty places.
+// As many empty places as there are cells.
 fn empty_places<T: Drop, U>(alloc: Global, cells: &[Option<U>]) -> Result<Vec<Option<T>>, NoMemory>
     ensures { IfOk result (λ v. v.items ≡ empty_of cells.now) }
 {
@@ -466,11 +466,11 @@ fn empty_places<T: Drop, U>(alloc: Global, cells: &[Option<U>]) -> Result<Vec<Op
 }
 
 impl Lists {
-    /// An activation comes to the end, and waits.
+    /// An activation is added at the end, and waits.
     pub(crate) fn accept(&mut self, task: Shared<Activation>) -> Result<(), NoMemory>
         ensures now { OnOk result (self.new.now ≡ accepted_in task self.old.now) }
         ensures err { OnErr result (self.new.now ≡ self.old.now) }
-        ensures past { self.new.past ≡ self.old.past }
+        ensures held { self.new.past ≡ self.old.past }
     {
         let held = self.held;
         if make_room(&mut self.tasks, held).is_err()
@@ -500,8 +500,8 @@ impl Lists {
     pub(crate) fn frame_accepted(&mut self, alloc: Global, part: Part) -> Result<(), NoMemory>
         ensures made { OnOk result (self.new.now ≡ with_frames (frames_accepted part self.old.now.frames) self.old.now) }
         ensures now { self.new.now ≡ with_frames self.new.now.frames self.old.now }
-        ensures good { IsGood self.old.now → IsGood self.new.now }
-        ensures past { self.new.past ≡ self.old.past }
+        ensures lists_fit { IsGood self.old.now → IsGood self.new.now }
+        ensures held { self.new.past ≡ self.old.past }
     {
         self.frames.accept(alloc, self.held, part)
     }
@@ -516,8 +516,8 @@ impl Lists {
     ) -> Result<(), NoMemory>
         ensures made { OnOk result (self.new.now ≡ with_frames (frames_ended part response.now self.old.now.frames) self.old.now) }
         ensures now { self.new.now ≡ with_frames self.new.now.frames self.old.now }
-        ensures good { IsGood self.old.now → IsGood self.new.now }
-        ensures past { self.new.past ≡ self.old.past }
+        ensures lists_fit { IsGood self.old.now → IsGood self.new.now }
+        ensures held { self.new.past ≡ self.old.past }
     {
         self.frames.end(alloc, self.held, part, response)
     }
@@ -526,7 +526,7 @@ impl Lists {
     pub(crate) fn draw(&mut self, at: u64, id: Id) -> Result<(), NoMemory>
         ensures now { OnOk result (self.new.now ≡ drawn_in at id self.old.now) }
         ensures err { OnErr result (self.new.now ≡ self.old.now) }
-        ensures past { self.new.past ≡ self.old.past }
+        ensures held { self.new.past ≡ self.old.past }
     {
         make_room(&mut self.drawn, self.held)?;
         note_id(&mut self.drawn, self.held, id);
@@ -535,11 +535,11 @@ impl Lists {
         Ok(())
     }
 
-    /// The fire is recorded. It takes a place at which nothing stands.
+    /// The fire is recorded. It takes a place that holds no activation.
     pub(crate) fn fire(&mut self, ended: ReadyRecord) -> Result<(), NoMemory>
         ensures now { OnOk result (self.new.now ≡ fired_in ended self.old.now) }
         ensures err { OnErr result (self.new.now ≡ self.old.now) }
-        ensures past { self.new.past ≡ self.old.past }
+        ensures held { self.new.past ≡ self.old.past }
     {
         let held = self.held;
         if self.records.reserve().is_err()
@@ -560,7 +560,7 @@ impl Lists {
         Ok(())
     }
 
-    /// A run starts in its slot, with what stands at this place.
+    /// A run of the activation at this place starts in its slot.
     pub(crate) fn order(
         &mut self,
         alloc: Global,
@@ -572,7 +572,7 @@ impl Lists {
         requires fits { IsThere (StartFits run.start) (slice_get self.old.now.slots run.slot) }
         ensures now { OnOk result (self.new.now ≡ ordered_in place run key self.old.now) }
         ensures err { OnErr result (self.new.now ≡ self.old.now) }
-        ensures past { self.new.past ≡ self.old.past }
+        ensures held { self.new.past ≡ self.old.past }
     {
         let held = self.held;
         if self.spots.reserve_step(held).is_err() || make_room(&mut self.runs, held).is_err() {
@@ -600,7 +600,7 @@ impl Lists {
         requires { IsThere IsVacant (slice_get self.old.now.slots order.slot) }
         ensures now { OnOk result (self.new.now ≡ prewarmed_in at order self.old.now) }
         ensures err { OnErr result (self.new.now ≡ self.old.now) }
-        ensures past { self.new.past ≡ self.old.past }
+        ensures held { self.new.past ≡ self.old.past }
     {
         let held = self.held;
         make_room(&mut self.runs, held)?;
@@ -612,11 +612,11 @@ impl Lists {
 
     /// The containers of these slots are to be removed. Without memory some are.
     pub(crate) fn remove(&mut self, alloc: Global, at: u64, slots: &[u32]) -> Result<(), NoMemory>
-        requires good { IsGood self.old.now }
+        requires lists_fit { IsGood self.old.now }
         requires fits { CanAllGo slots.now self.old.now.slots }
         ensures now { OnOk result (self.new.now ≡ event_in at (Removed slots.now) self.old.now) }
-        ensures good { IsGood self.new.now }
-        ensures past { self.new.past ≡ self.old.past }
+        ensures lists_fit { IsGood self.new.now }
+        ensures held { self.new.past ≡ self.old.past }
     {
         let done = self.slots.remove(alloc, self.held, slots);
         self.marks = marked(self.slots.slots(), self.marks, at);
@@ -635,7 +635,7 @@ impl Lists {
         requires { place < length self.old.now.runs }
         ensures now { OnOk result (self.new.now ≡ answered_in at run alive place self.old.now) }
         ensures err { OnErr result (self.new.now ≡ self.old.now) }
-        ensures past { self.new.past ≡ self.old.past }
+        ensures held { self.new.past ≡ self.old.past }
     {
         self.runs.reserve_step(self.held)?;
         self.slots.answered(alloc, self.held, run, alive, at)?;
@@ -649,7 +649,7 @@ impl Lists {
         requires { IsThere IsUnrecorded (first_with (runs run) self.old.now.slots) }
         ensures now { OnOk result (self.new.now ≡ event_in at (Event.Overran run at) self.old.now) }
         ensures err { OnErr result (self.new.now ≡ self.old.now) }
-        ensures past { self.new.past ≡ self.old.past }
+        ensures held { self.new.past ≡ self.old.past }
     {
         self.slots.overrun(alloc, self.held, run, at)?;
         self.marks = marked(self.slots.slots(), self.marks, at);
@@ -662,7 +662,7 @@ impl Lists {
         ensures answer { result ≡ run_answer run (λ s. tt) (first_with (awaits run) self.old.now.slots) }
         ensures now { OnOk result (self.new.now ≡ event_in at (Event.Begun run at) self.old.now) }
         ensures err { OnErr result (self.new.now ≡ self.old.now) }
-        ensures past { self.new.past ≡ None }
+        ensures held { self.new.past ≡ None }
     {
         self.slots.begun(run, at)?;
         self.marks = marked(self.slots.slots(), self.marks, at);
@@ -675,7 +675,7 @@ impl Lists {
         ensures answer { result ≡ run_answer run (λ s. tt) (first_with (holds run) self.old.now.slots) }
         ensures now { OnOk result (self.new.now ≡ event_in at (Event.Lost run) self.old.now) }
         ensures err { OnErr result (self.new.now ≡ self.old.now) }
-        ensures past { self.new.past ≡ None }
+        ensures held { self.new.past ≡ None }
     {
         self.slots.lost(run)?;
         self.marks = marked(self.slots.slots(), self.marks, at);
@@ -688,29 +688,29 @@ impl Lists {
         ensures answer { result ≡ gone_answer slot generation (slice_get self.old.now.slots slot) }
         ensures now { OnOk result (self.new.now ≡ event_in at (Event.Gone slot generation) self.old.now) }
         ensures err { OnErr result (self.new.now ≡ self.old.now) }
-        ensures past { self.new.past ≡ None }
+        ensures held { self.new.past ≡ None }
     {
         self.slots.gone(slot, generation)?;
         self.marks = marked(self.slots.slots(), self.marks, at);
         Ok(())
     }
 
-    /// Another run, or none, stands at this place. Nothing is held.
+    /// Puts another run, or none, at this place. Nothing is held.
     pub(crate) fn put_run(&mut self, place: usize, cell: Option<Berth>)
         requires place { place < length self.old.now.runs }
         requires free { self.old.past ≡ None }
         ensures now { self.new.now ≡ run_put place cell self.old.now }
-        ensures past { self.new.past ≡ None }
+        ensures held { self.new.past ≡ None }
     {
         self.runs_gone = set_cell(&mut self.runs, self.runs_gone, self.held, place, cell);
     }
 
-    /// What stands at this place waits again. Where nothing is held it takes no memory.
+    /// The activation at this place waits again. Where nothing is held, this takes no memory.
     pub(crate) fn free(&mut self, place: usize) -> Result<(), NoMemory>
         requires { place < length self.old.now.spots }
         ensures now { OnOk result (self.new.now ≡ freed_in place self.old.now) }
         ensures err { OnErr result (self.new.now ≡ self.old.now) }
-        ensures past { self.new.past ≡ self.old.past }
+        ensures held { self.new.past ≡ self.old.past }
         ensures free { self.old.past ≡ None → IsOk result }
     {
         let spot = Spot {
@@ -721,12 +721,12 @@ impl Lists {
         Ok(())
     }
 
-    /// What stands at this place has ended at this moment.
+    /// The activation at this place has ended at this moment.
     pub(crate) fn end(&mut self, at: u64, place: usize, ended: ReadyRecord) -> Result<(), NoMemory>
         requires { place < length self.old.now.tasks }
         ensures now { OnOk result (self.new.now ≡ ended_in at place ended self.old.now) }
         ensures err { OnErr result (self.new.now ≡ self.old.now) }
-        ensures past { self.new.past ≡ self.old.past }
+        ensures held { self.new.past ≡ self.old.past }
     {
         let held = self.held;
         if self.records.reserve().is_err() || self.tasks.reserve_step(held).is_err() {
@@ -745,7 +745,7 @@ impl Lists {
         requires free { self.old.past ≡ None }
         requires none { self.old.now.ended ≡ [] }
         ensures now { self.new.now ≡ resumed_in counts.items records.items self.old.now }
-        ensures past { self.new.past ≡ None }
+        ensures held { self.new.past ≡ None }
     {
         self.drawn.replace(self.held, counts);
         self.resumed = records.len();
@@ -758,14 +758,14 @@ impl Lists {
     /// The moment of the newest thing is this one.
     pub(crate) fn note_moment(&mut self, at: u64)
         ensures now { self.new.now ≡ at_moment at self.old.now }
-        ensures past { self.new.past ≡ self.old.past }
+        ensures held { self.new.past ≡ self.old.past }
     {
         self.marks.latest = at;
     }
 
     pub(crate) fn drain(&mut self, at: u64)
         ensures now { self.new.now ≡ drained_in at self.old.now }
-        ensures past { self.new.past ≡ self.old.past }
+        ensures held { self.new.past ≡ self.old.past }
     {
         self.marks.latest = at;
         self.marks.draining = true;
@@ -775,7 +775,7 @@ impl Lists {
     pub(crate) fn reopen(&mut self, alloc: Global, at: u64) -> Result<(), NoMemory>
         ensures now { OnOk result (self.new.now ≡ reopened_in at self.old.now) }
         ensures err { OnErr result (self.new.now ≡ self.old.now) }
-        ensures past { self.new.past ≡ self.old.past }
+        ensures held { self.new.past ≡ self.old.past }
     {
         let held = self.held;
         self.runs.reserve_step(held)?;

@@ -25,7 +25,7 @@ pub enum Moved {
 impl Moved {
     ghost use Rattle.ow_floor.specs.Calls.{happening_of};
 
-    /// What is told of it.
+    /// What is reported of it.
     pub fn happening(&self) -> Happening
         ensures { result ≡ happening_of self.now }
     {
@@ -38,7 +38,7 @@ impl Moved {
     }
 }
 
-// What is told of a record.
+// What is reported of a record.
 fn recorded(end: &Record) -> Happening
     ensures { result ≡ Recorded end.now.id end.now.response.code }
 {

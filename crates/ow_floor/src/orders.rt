@@ -15,19 +15,18 @@ use crate::runs::generation_in;
 use crate::{Container, Idle, Order, PrewarmOrder, Run, RunOrder};
 use ow_pool::{Head, Place, Removal, Unplaced};
 use ow_records::Activation;
-use ow_several::copied3;
 use ow_slots::{Key, Slots, Start};
 use ow_traits::Kind;
-use ow_value::{Items, NoMemory, PlainData};
+use ow_value::{Items, NoMemory, PlainData, copied3};
 use std::alloc::Global;
 
-/// Carries out what is placed for the first that waits, or ahead of any, and tells the order.
+/// Carries out what is placed for the first activation that waits, or ahead of any, and returns the order.
 pub(crate) fn next_order(alloc: Global, lists: &mut Lists, at: u64) -> Result<Order, NoMemory>
     requires { IsGood lists.old.now }
-    ensures good { IsGood lists.new.now }
+    ensures lists_fit { IsGood lists.new.now }
     ensures made { IfOk result (λ order. IsOrdered at lists.old.now lists.new.now order) }
     ensures wanted { OnErr result (HasWork (show lists.old.now)) }
-    ensures past { lists.new.past ≡ lists.old.past }
+    ensures held { lists.new.past ≡ lists.old.past }
 {
     match lists.waiting_place() {
         Some(spot) => order_head(alloc, lists, at, spot),
@@ -37,11 +36,11 @@ pub(crate) fn next_order(alloc: Global, lists: &mut Lists, at: u64) -> Result<Or
 
 // What is placed for what waits at this place.
 fn order_head(alloc: Global, lists: &mut Lists, at: u64, spot: usize) -> Result<Order, NoMemory>
-    requires good { IsGood lists.old.now }
+    requires lists_fit { IsGood lists.old.now }
     requires spot { IsSpot waits lists.old.now.spots lists.old.now.tasks spot }
-    ensures good { IsGood lists.new.now }
+    ensures lists_fit { IsGood lists.new.now }
     ensures made { IfOk result (λ order. IsOrdered at lists.old.now lists.new.now order) }
-    ensures past { lists.new.past ≡ lists.old.past }
+    ensures held { lists.new.past ≡ lists.old.past }
 {
     let head = head_at(alloc, lists, spot)?;
     match lists.place(Some(&head)) {
@@ -63,12 +62,12 @@ fn order_head(alloc: Global, lists: &mut Lists, at: u64, spot: usize) -> Result<
 
 // What is placed where nothing waits.
 fn order_ahead(alloc: Global, lists: &mut Lists, at: u64) -> Result<Order, NoMemory>
-    requires good { IsGood lists.old.now }
+    requires lists_fit { IsGood lists.old.now }
     requires none { find waits (opens lists.old.now.spots lists.old.now.tasks) ≡ None }
-    ensures good { IsGood lists.new.now }
+    ensures lists_fit { IsGood lists.new.now }
     ensures made { IfOk result (λ order. IsOrdered at lists.old.now lists.new.now order) }
     ensures wanted { OnErr result (HasWork (show lists.old.now)) }
-    ensures past { lists.new.past ≡ lists.old.past }
+    ensures held { lists.new.past ≡ lists.old.past }
 {
     match lists.place(None) {
         Place::Run { .. } => Ok(Order::Nothing(Idle::Empty)),
@@ -90,14 +89,14 @@ fn order_run(
     slot: u32,
     start: Start,
 ) -> Result<Order, NoMemory>
-    requires good { IsGood lists.old.now }
+    requires lists_fit { IsGood lists.old.now }
     requires spot { IsSpot waits lists.old.now.spots lists.old.now.tasks spot }
     requires key { head_by (find waits (opens lists.old.now.spots lists.old.now.tasks)) ≡ Some (record { key = key }) }
     requires placed { place_on (show lists.old.now) ≡ places.Run slot start }
     requires fits { IsRun lists.old.now.slots key lists.old.now.pool slot start }
-    ensures good { IsGood lists.new.now }
+    ensures lists_fit { IsGood lists.new.now }
     ensures made { IfOk result (λ order. IsOrdered at lists.old.now lists.new.now order) }
-    ensures past { lists.new.past ≡ lists.old.past }
+    ensures held { lists.new.past ≡ lists.old.past }
 {
     let Some(number) = next_number(lists) else {
         drop(key);
@@ -138,12 +137,12 @@ fn order_prewarm(
     kind: Kind,
     memory: u32,
 ) -> Result<Order, NoMemory>
-    requires good { IsGood lists.old.now }
+    requires lists_fit { IsGood lists.old.now }
     requires placed { place_on (show lists.old.now) ≡ places.Prewarm slot kind memory }
     requires fits { IsPrewarming lists.old.now.slots lists.old.now.pool slot kind memory }
-    ensures good { IsGood lists.new.now }
+    ensures lists_fit { IsGood lists.new.now }
     ensures made { IfOk result (λ order. IsOrdered at lists.old.now lists.new.now order) }
-    ensures past { lists.new.past ≡ lists.old.past }
+    ensures held { lists.new.past ≡ lists.old.past }
 {
     let Some(run) = next_number(lists) else {
         return Err(NoMemory);
@@ -166,12 +165,12 @@ fn order_removal(
     at: u64,
     removal: Removal,
 ) -> Result<Order, NoMemory>
-    requires good { IsGood lists.old.now }
+    requires lists_fit { IsGood lists.old.now }
     requires placed { place_on (show lists.old.now) ≡ places.Remove removal }
     requires fits { IsRemoval lists.old.now.slots lists.old.now.pool removal }
-    ensures good { IsGood lists.new.now }
+    ensures lists_fit { IsGood lists.new.now }
     ensures made { IfOk result (λ order. IsOrdered at lists.old.now lists.new.now order) }
-    ensures past { lists.new.past ≡ lists.old.past }
+    ensures held { lists.new.past ≡ lists.old.past }
 {
     let containers = containers_of(alloc, lists.slots(), removal.as_slice())?;
     if lists.remove(alloc, at, removal.as_slice()).is_err() {
@@ -181,9 +180,9 @@ fn order_removal(
     Ok(Order::Remove(containers))
 }
 
-// What is placed for: what stands at this place.
+// What is placed for: the activation at this place.
 fn head_at(alloc: Global, lists: &Lists, spot: usize) -> Result<Head, NoMemory>
-    requires good { IsGood lists.now.now }
+    requires lists_fit { IsGood lists.now.now }
     requires spot { IsSpot waits lists.now.now.spots lists.now.now.tasks spot }
     ensures value { IfOk result (λ head. head_by (find waits (opens lists.now.now.spots lists.now.now.tasks)) ≡ Some head) }
     ensures sized { IfOk result (λ head. IsMemory head.key.memory) }

@@ -22,7 +22,7 @@ fn namespace_position(ids: &[Id], namespace: u64) -> Option<usize>
     ids.iter().position(|id| id.namespace == namespace)
 }
 
-/// The place of the live run of this number. At the first `from` places no run stands.
+/// The place of the live run of this number. The first `from` places hold no run.
 pub(crate) fn run_place(runs: &[Option<Berth>], from: usize, run: u64) -> Option<usize>
     requires { AreGone from runs.now }
     ensures { CellOf run_in (is_number run) runs.now result }
@@ -35,7 +35,7 @@ pub(crate) fn run_place(runs: &[Option<Berth>], from: usize, run: u64) -> Option
     None
 }
 
-// Whether the run of this number stands there.
+// Whether this place holds the run of this number.
 fn is_run(cell: &Option<Berth>, run: u64) -> bool
     ensures { result ≡ has run_in (is_number run) cell.now }
 {
@@ -45,7 +45,7 @@ fn is_run(cell: &Option<Berth>, run: u64) -> bool
     }
 }
 
-/// The place of the first activation that waits. At the first `from` places nothing stands.
+/// The place of the first activation that waits. The first `from` places hold nothing.
 pub(crate) fn waiting_place(
     spots: &[Spot],
     tasks: &[Option<Shared<Activation>>],
@@ -63,7 +63,7 @@ pub(crate) fn waiting_place(
     None
 }
 
-/// The place of the open activation of this id. At the first `from` places nothing stands.
+/// The place of the open activation of this id. The first `from` places hold nothing.
 pub(crate) fn open_place(
     spots: &[Spot],
     tasks: &[Option<Shared<Activation>>],
@@ -82,7 +82,7 @@ pub(crate) fn open_place(
     None
 }
 
-// Whether an activation stands there, and waits.
+// Whether this place holds an activation that waits.
 fn waits_at(spot: Spot, task: &Option<Shared<Activation>>) -> bool
     ensures { result ≡ has_open waits spot task.now }
 {
@@ -101,7 +101,7 @@ fn is_waiting(state: State) -> bool
     }
 }
 
-// Whether the activation of this id stands there.
+// Whether this place holds the activation of this id.
 fn is_at(task: &Option<Shared<Activation>>, id: Id) -> bool
     ensures { result ≡ has_id id task.now }
 {
@@ -111,7 +111,7 @@ fn is_at(task: &Option<Shared<Activation>>, id: Id) -> bool
     }
 }
 
-/// Up to which moment the request waits that made this activation, by the newest of its id.
+/// The moment until which the request that made this activation waits, by the newest item of its id.
 pub(crate) fn until(blocking: &[Blocking], id: Id) -> Option<u64>
     ensures { result ≡ wait_in id blocking.now }
 {

@@ -21,7 +21,7 @@ pub(crate) fn records_of(alloc: Global, records: Vec<Record>) -> Result<Records,
     Ok(all)
 }
 
-// One more behind the others.
+// Adds one more after the others.
 fn add(alloc: Global, all: &mut Records, ended: Record) -> Result<(), NoMemory>
     ensures { OnOk result (all.new.items ≡ all.old.items ++ ended ∷ []) }
 {

@@ -1,4 +1,4 @@
-// Runs, and the slots that they stand in.
+// Runs, and the slots that they are in.
 ghost use Rattle.std.specs.Prelude.{◌≡◌, None, Some};
 ghost use Rattle.ow_slots.specs.Slots.{first_with};
 ghost use Rattle.ow_slots.specs.State.{recorded_of, runs};
@@ -34,11 +34,11 @@ pub struct Run {
 
 /// The live run of this number has begun at this moment, where there is one. Nothing is held.
 pub(crate) fn begin_run(lists: &mut Lists, at: u64, run: u64)
-    requires good { IsGood lists.old.now }
+    requires lists_fit { IsGood lists.old.now }
     requires free { lists.old.past ≡ None }
-    ensures good { IsGood lists.new.now }
+    ensures lists_fit { IsGood lists.new.now }
     ensures made { IsRunBegun at run lists.old.now lists.new.now }
-    ensures past { lists.new.past ≡ None }
+    ensures held { lists.new.past ≡ None }
 {
     let place = match lists.run_place(run) {
         Some(place) => place,
@@ -52,11 +52,11 @@ pub(crate) fn begin_run(lists: &mut Lists, at: u64, run: u64)
 
 /// The live run of this number is no more, where there is one, and what it carries waits again, where it is open. Nothing is held.
 pub(crate) fn lose_run(lists: &mut Lists, run: u64)
-    requires good { IsGood lists.old.now }
+    requires lists_fit { IsGood lists.old.now }
     requires free { lists.old.past ≡ None }
-    ensures good { IsGood lists.new.now }
+    ensures lists_fit { IsGood lists.new.now }
     ensures made { IsRunLost run lists.old.now lists.new.now }
-    ensures past { lists.new.past ≡ None }
+    ensures held { lists.new.past ≡ None }
 {
     let place = match lists.run_place(run) {
         Some(place) => place,

@@ -1,4 +1,4 @@
-// The calls of a floor that tell what happened in place of noting what moved.
+// The calls of a floor that return what happened instead of noting what moved.
 ghost use Rattle.std.specs.Prelude.{◌≡◌, ◌+◌, ◌++◌, length, map, IfOk, IfErr, OnOk, OnErr, IsSome, false};
 ghost use Rattle.ow_floor.specs.View.{last_of};
 ghost use Rattle.ow_floor.specs.Trace.{Trace, open_items, records, shown};
@@ -11,7 +11,7 @@ use ow_value::NoMemory;
 use std::alloc::Global;
 
 impl Floor {
-    /// As `accept_into`, and tells what happened.
+    /// As `accept_into`, and returns what happened.
     pub fn accept(&mut self, alloc: Global, at: u64, plan: Plan) -> Result<Happened, NoMemory>
         requires next { plan.id.count ≡ last_of self.old.now.drawn plan.id.namespace + 1 }
         ensures told { IfOk result (λ h. h ≡ happened_accepted plan.id) }
@@ -23,7 +23,7 @@ impl Floor {
         Happened::of_moves(alloc, moves.items())
     }
 
-    /// As `replied_into`, and tells what happened. None where no slot is busy with this run.
+    /// As `replied_into`, and returns what happened. None where no slot is busy with this run.
     pub fn replied(
         &mut self,
         alloc: Global,
@@ -65,7 +65,7 @@ impl Floor {
         }
     }
 
-    /// As `sweep_into`, and tells what happened.
+    /// As `sweep_into`, and returns what happened.
     pub fn sweep(&mut self, alloc: Global, at: u64) -> Result<Swept, NoMemory>
         ensures told { IfOk result (λ s. (T : Trace) → Stands self.old.now T → (s.happened ≡ happened (swept_ends at T)) × (s.late ≡ length (swept_ends at T))) }
         ensures ok { OnOk result (Grows self.old.now self.new.now (λ T. swept_items at T)) }
@@ -77,7 +77,7 @@ impl Floor {
         Ok(Swept { happened, late })
     }
 
-    /// As `abandon_into`, and tells what happened.
+    /// As `abandon_into`, and returns what happened.
     pub fn abandon(&mut self, alloc: Global, at: u64) -> Result<Happened, NoMemory>
         ensures told { IfOk result (λ h. (T : Trace) → Stands self.old.now T → h ≡ happened (abandoned_ends at T)) }
         ensures ok { OnOk result (Grows self.old.now self.new.now (λ T. abandon_items at T)) }
@@ -90,7 +90,7 @@ impl Floor {
     }
 }
 
-// What is told of a reply to the run: it is late where a sweep recorded what the run carries.
+// The answer to a reply of the run: it is late where a sweep recorded what the run carries.
 fn answered_by(run: u64, recorded: Option<u64>, happened: Happened) -> Answered
     ensures { result ≡ answered_by run recorded happened }
 {

@@ -23,6 +23,7 @@ use Rattle.ow_decide.specs.declared.events.Told.TheVariants as told
 use Rattle.ow_hall.specs.declared.posting.Posting.{Posting}
 use Rattle.ow_hall.specs.declared.posting.Posting.TheVariants.{Booked, Quiet, Denied, Unbooked}
 use Rattle.ow_decide.specs.declared.replies.Called.TheVariants as called
+use Rattle.ow_decide.specs.declared.replies.Deployed.TheVariants as deployments
 use Rattle.ow_decide.specs.declared.step.Now.{Now}
 use Rattle.ow_decide.specs.declared.step.Step.{Step}
 use Rattle.ow_tenant.specs.Table.{Table}
@@ -33,6 +34,7 @@ use Rattle.ow_decide.specs.Sight.{Sight}
 use Rattle.ow_decide.specs.Decision.{Decision, adds, all_changed, tells}
 use Rattle.ow_decide.specs.Asking.{Done, Shown as ShownDone, Changed, Fired, Invoked, Quiet as QuietDone, ask_decision, refusal_told, request_done}
 use Rattle.ow_decide.specs.Calling.{admitted_plan, call_plan, called_decision}
+use Rattle.ow_decide.specs.Deploying.{Progress, Refusal, deploy_decision, deployed}
 use Rattle.ow_http.specs.Steps.{◌>>=◌}
 use Rattle.ow_decide.specs.Decisions.{answered_all, decide, is_opening, reply_told, taken_told, wants_memory}
 use Rattle.ow_decide.specs.Opening.{opened_decision, parts_taken}
@@ -40,12 +42,12 @@ use Rattle.ow_decide.specs.Waiting.{collected_told, shows_for}
 use Rattle.ow_floor.specs.Collecting.{collected}
 use Rattle.ow_hall.specs.Posting.{posting_by}
 use Rattle.ow_keep.specs.declared.allowed.TheConstants.{GREATEST_MOMENT}
-use Rattle.ow_hall.specs.History.{AreAnswered, History, IsLegal, after, answer, counted, decision, is_idle, last_moment, least_moment, moment, opens_here, posting, seen, sight, waits_after}
+use Rattle.ow_hall.specs.History.{AreAnswered, History, IsGivenEvent, IsLegal, after, answer, counted, decision, is_idle, last_moment, least_moment, moment, opens_here, posting, seen, sight, waits_after}
 use Rattle.ow_hall.specs.Ledger.{Ledger, posted, posted_as}
 use Rattle.ow_decide.specs.Making.{Carries, IsSeen, changes_of, telling}
 use Rattle.ow_keep.specs.Judged.{judged}
 use Rattle.ow_keep.specs.Split.{Parts}
-use Rattle.ow_kept.specs.Keeping.{AreIds, KeepingView, StandsForKept}
+use Rattle.ow_commits.specs.Keeping.{AreIds, KeepingView, StandsForKept}
 use Rattle.ow_hall.specs.State.{IsAt, Keeps, KeepsNotes, Makes, NotesMoves, StateView, kept_with}
 use Rattle.ow_traits.specs.Changes.{changed}
 use Rattle.ow_decide.specs.Decision.{commits}
@@ -89,6 +91,10 @@ call_so : (idle : Bool) (S : Sight) (p : Result Plan Reason) → Unbooks idle (c
 call_so idle S (Ok plan) = tt
 call_so idle S (Err reason) = tells_so idle (told.Called (called.Refused reason))
 
+deployed_so : (idle : Bool) (r : Result Progress Refusal) → Unbooks idle (deploy_decision r)
+deployed_so idle (Ok p) = tt
+deployed_so idle (Err refusal) = tells_so idle (told.Deployed (deployments.Refused refusal.0 refusal.1))
+
 order_so : (idle : Bool) (at : ℕ) (v : Shown) (p : Place) (o : Option Open) → Unbooks idle (adds (told.Next (order_by p o v)) (order_items p o at v))
 order_so idle at v (places.Run slot start) None = tells_so idle (told.Next (order_by (places.Run slot start) None v))
 order_so idle at v (places.Run slot start) (Some o) = tt
@@ -113,6 +119,7 @@ pub unbooked : (idle : Bool) (S : Sight) (event : Event) → Unbooks idle (decid
 unbooked idle S (events.Opened rows) = opened_so idle S.moment (parts_taken S.moment S.trace (judged rows))
 unbooked idle S (events.Asked r) = ask_so idle (request_done S (parts_of r))
 unbooked idle S (events.Called name params) = call_so idle S (call_plan S name params >>= admitted_plan S)
+unbooked idle S (events.Deployed drafts) = deployed_so idle (deployed S drafts)
 unbooked idle S events.Next = order_so idle S.moment (shown S.trace) (place_on (shown S.trace)) (head (shown S.trace))
 unbooked idle S (events.Begun run) = taken_so idle (begins run S.trace) (refusals.NoRun run) (Begun run S.moment)
 unbooked idle S (events.Lost run) = taken_so idle (loses run S.trace) (refusals.NoRun run) (Lost run S.moment)
@@ -141,6 +148,7 @@ opens_so : (event : Event) (B : History) (b : Bool) → is_opening event ≡ fal
 opens_so (events.Opened rows) B b later = cc
 opens_so (events.Asked r) B b later = refl
 opens_so (events.Called name params) B b later = refl
+opens_so (events.Deployed drafts) B b later = refl
 opens_so events.Next B b later = refl
 opens_so (events.Begun run) B b later = refl
 opens_so (events.Answered run reply) B b later = refl
@@ -156,6 +164,7 @@ least_later : (event : Event) (at : ℕ) → is_opening event ≡ false → leas
 least_later (events.Opened rows) at later = cc
 least_later (events.Asked r) at later = omega arith
 least_later (events.Called name params) at later = omega arith
+least_later (events.Deployed drafts) at later = omega arith
 least_later events.Next at later = omega arith
 least_later (events.Begun run) at later = omega arith
 least_later (events.Answered run reply) at later = omega arith
@@ -171,6 +180,7 @@ pub later_free : (event : Event) → wants_memory event ≡ false → is_opening
 later_free (events.Opened rows) free = cc
 later_free (events.Asked r) free = refl
 later_free (events.Called name params) free = refl
+later_free (events.Deployed drafts) free = cc
 later_free events.Next free = refl
 later_free (events.Begun run) free = refl
 later_free (events.Answered run reply) free = refl
@@ -181,19 +191,27 @@ later_free (events.Collected id) free = refl
 later_free events.Drain free = refl
 later_free events.Reopened free = refl
 
+-- an event that takes no memory is no deployment
+free_given : (event : Event) → wants_memory event ≡ false → IsGivenEvent event
+free_given (events.Deployed drafts) free = cc
+free_given event free = tt
+
 legal_by : (p : Posting) (t : Table) (L : Ledger) (at : ℕ) (event : Event) (told_is : Told) → posting L.entries told_is ≡ p → IsLegal t L.entries
-    → last_moment L.entries ≤ at → at ≤ GREATEST_MOMENT → is_opening event ≡ false → told_is ≡ answer t L.entries at event
+    → last_moment L.entries ≤ at → at ≤ GREATEST_MOMENT → is_opening event ≡ false → IsGivenEvent event → told_is ≡ answer t L.entries at event
     → IsLegal t (posted_as p (record { at = at; event = event; answer = told_is }) L).entries
-legal_by Booked t L at event told_is booked legal late most later same =
-    record { answered = (same, booked, late, most, least_later event at later, legal.answered); opened = opens_so event L.entries _ later ∙ legal.opened }
-legal_by Quiet t L at event told_is booked legal late most later same = legal
-legal_by Denied t L at event told_is booked legal late most later same = legal
-legal_by Unbooked t L at event told_is booked legal late most later same = legal
+legal_by Booked t L at event told_is booked legal late most later given same = record {
+  answered = (same, booked, late, most, least_later event at later, legal.answered);
+  opened = opens_so event L.entries _ later ∙ legal.opened;
+  given = (given, legal.given);
+}
+legal_by Quiet t L at event told_is booked legal late most later given same = legal
+legal_by Denied t L at event told_is booked legal late most later given same = legal
+legal_by Unbooked t L at event told_is booked legal late most later given same = legal
 
 -- a legal book stays legal where the answer to an event is posted
 pub posted_legal : (t : Table) (L : Ledger) (at : ℕ) (event : Event) (told_is : Told) → IsLegal t L.entries → last_moment L.entries ≤ at → at ≤ GREATEST_MOMENT → is_opening event ≡ false
-    → told_is ≡ answer t L.entries at event → IsLegal t (posted L at event told_is).entries
-posted_legal t L at event told_is legal late most later same = legal_by (posting L.entries told_is) t L at event told_is refl legal late most later same
+    → IsGivenEvent event → told_is ≡ answer t L.entries at event → IsLegal t (posted L at event told_is).entries
+posted_legal t L at event told_is legal late most later given same = legal_by (posting L.entries told_is) t L at event told_is refl legal late most later given same
 
 left : (t : Table) (L : Ledger) (new : StateView) (at : ℕ) (event : Event) → IsAt new (after (decision t L.entries at event) (seen t L.entries))
     → Leaves (decision t L.entries at event) → IsAt new (seen t L.entries)
@@ -239,11 +257,11 @@ pub step_at : (t : Table) (B : History) (old : StateView) (mid : Shown) (now : N
 step_at t B old mid now event step answered late stands count does =
     does (sight t (seen t B) (counted B) now.at) (is_seen t B old now answered late stands count) (sym stands.waits)
 
--- the counts stand as what happened then, where it is noted
+-- the counts agree with what happened then, where it is noted
 abbrev pub CountsAfter : Table → History → ℕ → Event → StateView → Type 0
 CountsAfter t B at event new = StandsFor new.counts (notes_of ((decision t B at event).items ++ (seen t B).trace))
 
--- how floor, rows, waits and counts stand once its change is made, and its commit is kept
+-- floor, rows, waits and counts agree with what is seen once the step's change is made and its commit is kept
 at_after : (t : Table) (B : History) (old new : StateView) (mid : Shown) (at : ℕ) (event : Event) (step : Step) → IsAt old (seen t B)
     → HasDone t B at event mid step
     → new.floor.now ≡ mid → new.rows ≡ all_changed (changes_of step.change) old.rows → new.waits ≡ waits_after step.waits old.waits → CountsAfter t B at event new
@@ -267,24 +285,24 @@ AreIdsAfter t L at event = AreIds ((decision t L.entries at event).items ++ (see
 
 -- an answer that is posted
 pub answers : (t : Table) (L : Ledger) (old new : StateView) (mid : Shown) (at : ℕ) (event : Event) (step : Step) → Keeps old t L
-    → last_moment L.entries ≤ at → at ≤ GREATEST_MOMENT → is_opening event ≡ false → new.floor.before ≡ None
+    → last_moment L.entries ≤ at → at ≤ GREATEST_MOMENT → is_opening event ≡ false → IsGivenEvent event → new.floor.before ≡ None
     → HasDone t L.entries at event mid step
     → new.floor.now ≡ mid → new.rows ≡ all_changed (changes_of step.change) old.rows → new.waits ≡ waits_after step.waits old.waits → CountsAfter t L.entries at event new
     → new.keeping ≡ kept_with step.commit old.keeping → (step.told ≡ answer t L.entries at event) × Keeps new t (posted L at event step.told) × AreIdsAfter t L at event
-answers t L old new mid at event step keeps late most later free done floor rows waits counts kept =
+answers t L old new mid at event step keeps late most later given free done floor rows waits counts kept =
     let stands = at_after t L.entries old new mid at event step keeps.stands done floor rows waits counts kept in
     let un = unbooked (is_idle L.entries) (sight t (seen t L.entries) (counted L.entries) at) event in
     let un' = subst (λ (x : Told). Unless (posting_by (is_idle L.entries) x) (Leaves (decision t L.entries at event))) (sym done.0.told) un in (
       done.0.told,
       record {
         stands = stands_by (posting L.entries step.told) t L new at event step.told stands un';
-        legal = posted_legal t L at event step.told keeps.legal late most later done.0.told;
+        legal = posted_legal t L at event step.told keeps.legal late most later given done.0.told;
         free = free;
       },
       stands.keeping.ids,
     )
 
--- a step that was done, settled and made, and is noted then: `mid` is the state behind the step, `put` behind the changes
+-- a step that was done, settled and made, and then noted: `mid` is the state after the step, `put` after the changes
 pub noted : (t : Table) (L : Ledger) (old mid put new : StateView) (now : Now) (event : Event) (step : Step) → Keeps old t L
     → is_opening event ≡ false → last_moment L.entries ≤ now.at → HasDone t L.entries now.at event mid.floor.now step
     → KeepsNotes old.counts mid.counts → put.counts ≡ mid.counts → NotesMoves step.moves put.counts new.counts → CountsAfter t L.entries now.at event new
@@ -305,9 +323,9 @@ takes t L old new now event taken at keeps count same free before makes rest cou
     let step = telling (taken_told taken) in
     let done = step_at t L.entries old new.floor.now now event step keeps.legal.answered late keeps.stands count makes in
     let quiet = unmoved_at (decision t L.entries now.at event).items (seen t L.entries).trace old.counts new.counts done.0.moves counts keeps.stands.counts in
-    answers t L old new new.floor.now now.at event step keeps late most (later_free event free) before done refl rest.0 rest.1 quiet keeping
+    answers t L old new new.floor.now now.at event step keeps late most (later_free event free) (free_given event free) before done refl rest.0 rest.1 quiet keeping
 
--- what was taken back stands as before
+-- what was taken back is as before
 pub stays : (old new : StateView) (t : Table) (L : Ledger) → new.floor.now ≡ old.floor.now → new.floor.before ≡ None → new.rows ≡ old.rows → new.waits ≡ old.waits
     → KeepsNotes old.counts new.counts → new.keeping ≡ old.keeping → Keeps old t L → Keeps new t L
 stays old new t L floor free rows waits counts kept keeps = record {
@@ -344,7 +362,7 @@ held_by Quiet old_rows t L old at event told_is later keeps ids leaves holds = u
 held_by Denied old_rows t L old at event told_is later keeps ids leaves holds = unbooked_holds old_rows t L (decision t L.entries at event) leaves holds
 held_by Unbooked old_rows t L old at event told_is later keeps ids leaves holds = unbooked_holds old_rows t L (decision t L.entries at event) leaves holds
 
--- behind an answer the store holds what is kept of the book, where it holds what the answer commits
+-- after an answer the store holds what is kept of the book, where it holds what the answer commits
 pub held_posted : (old_rows new_rows : KeptRows) (t : Table) (L : Ledger) (old : StateView) (at : ℕ) (event : Event) (told_is : Told) → is_opening event ≡ false → Keeps old t L → AreIdsAfter t L at event
     → told_is ≡ answer t L.entries at event → new_rows ≡ kept_after (commits (decision t L.entries at event)) old_rows → HoldsBook old_rows t L
     → HoldsBook new_rows t (posted L at event told_is)

@@ -1,7 +1,7 @@
 -- What several results are where they are joined.
 use Rattle.std.proofs.Common.{◌≡◌, Result, Ok, Err, IfOk, ap, subst}
 use Rattle.std.specs.Prelude.{MatchResult}
-use Rattle.ow_several.specs.Results.{joined2}
+use Rattle.ow_value.specs.Results.{joined2}
 
 abbrev left : {A B F : Type 0} → Result (A × B) F → Result A F
 left (Ok x) = Ok x.0

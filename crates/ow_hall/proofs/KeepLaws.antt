@@ -16,9 +16,9 @@ use Rattle.ow_floor.specs.Growth.{AreRight}
 use Rattle.ow_floor.specs.Laws.{IsSound}
 use Rattle.ow_floor.specs.Trace.{Begun, Gone, Item, Lost, shown}
 use Rattle.ow_tables.specs.Contents.{Change}
-use Rattle.ow_kept.specs.Commits.{changes_of, row_changes}
-use Rattle.ow_kept.specs.Keeping.{FollowingView, KeepingView, StandsForKept}
-use Rattle.ow_kept.proofs.Quiet.{quiet_stands}
+use Rattle.ow_commits.specs.Commits.{changes_of, row_changes}
+use Rattle.ow_commits.specs.Keeping.{FollowingView, KeepingView, StandsForKept}
+use Rattle.ow_commits.proofs.Quiet.{quiet_stands}
 use Rattle.ow_decide.specs.declared.events.Event.{Event}
 use Rattle.ow_decide.specs.declared.events.Event.TheVariants as events
 use Rattle.ow_decide.specs.Decision.{Decision, all_changed, commits, items_changes}
@@ -44,7 +44,7 @@ pub step_commits : (commit : Option FollowingView) (d : Decision) (S : Sight) �
 step_commits None d S is = sym (unmoved_commits d is.0 is.1.1)
 step_commits (Some c) d S is = is.changes
 
--- once that is kept, its size stands for what is kept then
+-- once that is kept, its size agrees with what is kept then
 pub step_keeps : (commit : Option FollowingView) (d : Decision) (v : KeepingView) (S : Sight) → IsSound S.trace → StandsForKept v S.rows S.trace → AreRight d.items (shown S.trace)
     → IsCommit commit d S → StandsForKept (kept_with commit v) (all_changed d.changes S.rows) (d.items ++ S.trace)
 step_keeps None d v S sound stands right is =
@@ -109,6 +109,7 @@ free_none S (events.Gone slot generation) free = if_commits (goes slot generatio
 free_none S (events.Opened rows) free = cc
 free_none S (events.Asked r) free = cc
 free_none S (events.Called name params) free = cc
+free_none S (events.Deployed drafts) free = cc
 free_none S events.Next free = cc
 free_none S (events.Answered run reply) free = cc
 free_none S events.Sweep free = cc
@@ -126,7 +127,7 @@ order_commits at v (places.Prewarm slot kind memory) o = refl
 order_commits at v (places.Remove slots) o = refl
 order_commits at v (places.Nothing reason) o = refl
 
--- nor does an order, what is told of one who waits, or a drain
+-- nor does an order, the answer to the collection of an activation, or a drain
 pub next_commits : (S : Sight) → commits (decide S events.Next) ≡ []
 next_commits S = order_commits S.moment (shown S.trace) (place_on (shown S.trace)) (head (shown S.trace))
 

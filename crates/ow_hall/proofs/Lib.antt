@@ -8,3 +8,4 @@ mod NoteLaws
 mod RoomLaws
 pub mod UndoneLaws
 pub mod StopLaws
+mod PutLaws

@@ -34,13 +34,13 @@ more_fired m n (r ∷ rs) le all = (omega (arith, all.0, le), more_fired m n rs 
 up_to_later : (m n : ℕ) (T : Trace) → m ≤ n → AreUpTo m T → AreUpTo n T
 up_to_later m n T le all = (more m n (accepted T) le all.0, more_fired m n (fired T) le all.1)
 
--- by a legal book nothing was accepted behind its last moment
+-- by a legal book nothing was accepted or fired after its last moment
 pub legal_up_to : (t : Table) (B : History) → AreAnswered t B → AreUpTo (last_moment B) (seen t B).trace
 legal_up_to t [] answered = (tt, tt)
 legal_up_to t (e ∷ B) answered =
     decided_up_to (sight t (seen t B) (counted B) e.at) e.event (up_to_later (last_moment B) e.at (seen t B).trace answered.2 (legal_up_to t B answered.5))
 
--- nor behind a moment that may be booked
+-- nor after a moment that may be booked
 pub seen_up_to : (t : Table) (B : History) (at : ℕ) → AreAnswered t B → last_moment B ≤ at → AreUpTo at (seen t B).trace
 seen_up_to t B at answered late = up_to_later (last_moment B) at (seen t B).trace late (legal_up_to t B answered)
 
@@ -49,7 +49,7 @@ counted_at t B at w answered late stands = record { stands = stands.counts; up_t
 
 -- ---- notes
 
--- where all that moved is noted, the counts stand as the trace says
+-- where all that moved is noted, the counts agree with the trace
 pub noted_at : (S : Sight) (event : Event) (ms : List Moved) (k l : CountsView) → is_opening event ≡ false → IsSound S.trace → ms ≡ moved (decide S event).items
     → AreUpTo S.moment S.trace → StandsFor k (notes_of S.trace) → NotesMoves ms k l → StandsFor l (notes_of ((decide S event).items ++ S.trace))
 noted_at S event ms k l later sound same up_to counts noted =

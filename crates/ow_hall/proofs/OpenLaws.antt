@@ -13,18 +13,18 @@ use Rattle.ow_floor.specs.View.{FloorView}
 use Rattle.ow_floor.specs.Owed.{owed}
 use Rattle.ow_tables.specs.Builtin.{builtin}
 use Rattle.ow_tables.specs.Rows.{resumed, with_row}
-use Rattle.ow_items.specs.declared.item.Item.{Item}
+use Rattle.ow_row_text.specs.declared.item.Item.{Item}
 use Rattle.ow_keep.specs.Judged.{judged}
 use Rattle.ow_keep.specs.Moments.{parts_moment}
 use Rattle.ow_keep.specs.Split.{HoldsItems, Parts}
 use Rattle.ow_keep.proofs.Whole.{judged-kept}
 use Rattle.ow_keep.proofs.MomentLaws.{judged_small}
 use Rattle.ow_keep.proofs.Splits.{moment_of_split}
-use Rattle.ow_kept.specs.Keeping.{KeepingView, StandsForKept}
-use Rattle.ow_kept.specs.Kept.{kept}
-use Rattle.ow_kept.specs.Opening.{opened_trace, opening_changes, resumed_records}
-use Rattle.ow_kept.proofs.Opening.{openings_kept}
-use Rattle.ow_kept.proofs.Resuming.{may_be_resumed, not_builtin}
+use Rattle.ow_commits.specs.Keeping.{KeepingView, StandsForKept}
+use Rattle.ow_commits.specs.Kept.{kept}
+use Rattle.ow_commits.specs.Opening.{opened_trace, opening_changes, resumed_records}
+use Rattle.ow_commits.proofs.Opening.{openings_kept}
+use Rattle.ow_commits.proofs.Resuming.{may_be_resumed, not_builtin}
 use Rattle.ow_counts.specs.View.{CountsView, StandsFor}
 use Rattle.ow_decide.specs.Asking.{put_of}
 use Rattle.ow_decide.specs.Decision.{Decision, all_changed}
@@ -84,7 +84,7 @@ first_moment rows at p holds =
 late_opening : (rows : Rows) (at : ℕ) → least_moment (events.Opened rows) ≤ opening_moment rows at
 late_opening rows at = le-max_left _ _
 
--- ---- what stands
+-- ---- the state after an opening
 
 opened_at : (t : Table) (at : ℕ) (p : Parts) (w v : StateView) → IsOver t at p w → IsBeside w v → StandsForKept v.keeping (resumed p.entities builtin) (opened_trace at p (pool_of t) t.wants)
     → IsAt v (after (taken_over at p) (seen t []))
@@ -107,7 +107,7 @@ booked_keeps t rows at w free booked most stands =
     let told = answer t [] m (events.Opened rows) in
     subst (λ (p : Posting). Keeps w t (posted_as p (record { at = m; event = events.Opened rows; answer = told }) no_entries)) (sym booked) (record {
       stands = stands;
-      legal = record { answered = (refl, booked, omega arith, most, late_opening rows at, tt); opened = refl };
+      legal = record { answered = (refl, booked, omega arith, most, late_opening rows at, tt); opened = refl; given = (tt, tt) };
       free = free;
     })
 
@@ -124,7 +124,7 @@ opened_keeps t rows at p w v order holds over beside keeping =
     booked_keeps t rows at v free (opened_booked t rows m p order holds)
     (small_opening rows at) (subst (λ (d : Decision). IsAt v (after d (seen t []))) (sym is) (opened_at t m p w v over beside keeping))
 
--- what is seen behind it
+-- what is seen after it
 seen_opened : (t : Table) (rows : Rows) (at : ℕ) (p : Parts) → AreRows rows → HoldsItems rows p → seen t (opened t rows at).entries ≡ after (taken_over (opening_moment rows at) p) (seen t [])
 seen_opened t rows at p order holds =
     let m = opening_moment rows at in
@@ -173,9 +173,9 @@ opened_legal t rows at =
     let m = opening_moment rows at in
     let booked = booked_over m (parts_taken m (seen t []).trace (judged rows)) in
     subst (λ (q : Posting). IsLegal t (posted_as q (record { at = m; event = events.Opened rows; answer = answer t [] m (events.Opened rows) }) no_entries).entries) (sym booked)
-    (record { answered = (refl, booked, omega arith, small_opening rows at, late_opening rows at, tt); opened = refl })
+    (record { answered = (refl, booked, omega arith, small_opening rows at, late_opening rows at, tt); opened = refl; given = (tt, tt) })
 
--- ---- behind the commit
+-- ---- after the commit
 
 -- what a commit leaves of these rows
 made_of : (first loaded new : KeptRows) (rows : Rows) (cs : List Change) → IfSome first (λ kept. rows ≡ kept) → loaded ≡ first → Commits {T = Unit {0}} loaded new cs (Ok tt)
@@ -187,14 +187,14 @@ made_of (Some kept) loaded new rows cs told same made =
     let some = subst (λ (k : KeptRows). Commits {T = Unit {0}} k new cs (Ok tt)) same made in
     subst (λ (k : KeptRows). IfSome k (λ kept. kept ≡ changed cs rows)) (sym some) (ap (changed cs) (sym told))
 
--- a store that isn't opened over was asked for no commit, or for one that failed
+-- where the opening failed, the store was asked to commit nothing, or once, and that commit failed
 pub asked_none : (before after : Option (List Attempt)) → after ≡ before → IsAskedOnce before after
 asked_none before after same = inl same
 
 pub asked_one : (changes : List Change) (before mid after : Option (List Attempt)) → mid ≡ before → after ≡ with_attempt (unmade changes) mid → IsAskedOnce before after
 asked_one changes before mid after same is = inr (changes, is ∙ ap (with_attempt (unmade changes)) same)
 
--- what stands is what was opened
+-- the service has what was opened
 pub opening_stands : {P : Type 0} (telling : P → Telling) (old mid new : P) (t : Table) (rows : Rows) (at : ℕ) (r : Ready) (o : Opened) → IsLoaded telling old mid rows
     → IsReadied t rows at r → Commits {T = Unit {0}} (telling mid).rows (telling new).rows r.commit.changes (Ok tt) → (telling new).commits ≡ with_attempt (made r.commit.changes) (telling mid).commits
     → (telling mid).faults ≤ (telling new).faults → IsKeptBy r o → IsOpenedOver telling old new t at o

@@ -1,11 +1,11 @@
--- Room that was taken is enough behind an answer.
+-- Room that was taken is enough after an answer.
 use Rattle.std.proofs.Common.{◌≡◌, ◌∙◌, ◌+◌, ◌≤◌, ◌++◌, ℕ, zero, suc, Bool, true, false, List, [], ◌∷◌, Result, Ok, Err, refl, sym, ap, subst, arith}
 use Rattle.std.specs.Prelude.{replicate}
 use Rattle.std.proofs.lemmas.List.Sums.{sum_by-cons}
 use Rattle.ow_traits.specs.declared.prewarms.Prewarm.{Prewarm}
 use Rattle.ow_slots.specs.Slots.{vacant_slot}
 use Rattle.ow_slots.specs.declared.states.Slot.{Slot}
-use Rattle.ow_lifecycle.specs.Owed as lives
+use Rattle.ow_slot_laws.specs.Owed as lives
 use Rattle.ow_floor.proofs.Slotting.{slots_opened}
 use Rattle.ow_floor.proofs.Owing.{owed_begun, owed_gone, owed_lost}
 use Rattle.ow_floor.specs.Calls.{begins, goes, items_if, loses, refused_unless}
@@ -43,7 +43,7 @@ room_by Quiet t L at before room left n bytes event told_is has more used ready 
 room_by Denied t L at before room left n bytes event told_is has more used ready same = record { within = omega (arith, has.within, more, used); fits = has.fits }
 room_by Unbooked t L at before room left n bytes event told_is has more used ready same = record { within = omega (arith, has.within, more, used); fits = has.fits }
 
--- what is owed behind an answer has room, where the room was taken for it
+-- the entries that are owed after an answer have room, where the room was taken for them
 pub room_left : (t : Table) (L : Ledger) (at before room left n bytes : ℕ) (event : Event) (told_is : Told)
     → HasRoom (seen t L.entries).trace L before → before ≤ room → room ≤ left + cost (posting L.entries told_is)
     → (posting L.entries told_is ≡ Booked → IsReady L.entries room n event told_is bytes) → n ≡ owed ((decision t L.entries at event).items ++ (seen t L.entries).trace)
@@ -61,7 +61,7 @@ vacant_owed (suc n) =
 pub opened_owed : (pool : ℕ) (wants : List Prewarm) → owed (Opened pool wants ∷ []) ≡ 0
 opened_owed pool wants = ap lives.owed (slots_opened pool wants) ∙ vacant_owed (slot_count pool)
 
--- an entry that has room with others behind it has room
+-- an entry that has room with others after it has room
 pub ready_alone : (B : History) (room n bytes : ℕ) (event : Event) (t : Told) → IsReady B room n event t bytes → IsReady B room 0 event t bytes
 ready_alone B room n bytes event t ready = record { bytes_are = ready.bytes_are; within = omega (arith, ready.within); fits = omega (arith, ready.fits) }
 
@@ -95,6 +95,7 @@ owed_less : (idle : Bool) (S : Sight) (event : Event) → IsSound S.trace → wa
 owed_less idle S (events.Opened rows) sound free booked = cc
 owed_less idle S (events.Asked r) sound free booked = cc
 owed_less idle S (events.Called name params) sound free booked = cc
+owed_less idle S (events.Deployed drafts) sound free booked = cc
 owed_less idle S events.Next sound free booked = cc
 owed_less idle S (events.Begun run) sound free booked = begun_less idle (begins run S.trace) run S.moment S.trace sound refl booked
 owed_less idle S (events.Answered run reply) sound free booked = cc
@@ -110,6 +111,7 @@ no_event_bytes : (event : Event) → wants_memory event ≡ false → event_byte
 no_event_bytes (events.Opened rows) free = refl
 no_event_bytes (events.Asked r) free = cc
 no_event_bytes (events.Called name params) free = refl
+no_event_bytes (events.Deployed drafts) free = refl
 no_event_bytes events.Next free = refl
 no_event_bytes (events.Begun run) free = refl
 no_event_bytes (events.Answered run reply) free = cc
@@ -124,7 +126,7 @@ no_told_bytes : (taken : Result (Unit {0}) FloorRefusal) → told_bytes (taken_t
 no_told_bytes (Ok done) = refl
 no_told_bytes (Err refusal) = refl
 
--- it has room, with what is owed behind it
+-- the entry has room, with what is owed after it
 pub taken_ready : (t : Table) (L : Ledger) (at room : ℕ) (event : Event) (taken : Result (Unit {0}) FloorRefusal) → HasRoom (seen t L.entries).trace L room
     → wants_memory event ≡ false → taken_told taken ≡ (decision t L.entries at event).told → posting L.entries (taken_told taken) ≡ Booked
     → IsReady L.entries room (owed ((decision t L.entries at event).items ++ (seen t L.entries).trace)) event (taken_told taken) 0

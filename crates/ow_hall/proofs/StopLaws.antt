@@ -9,7 +9,7 @@ use Rattle.ow_hall.specs.Comes.{Answers, Comes, Fails, HallView, Holds, KeptRows
 use Rattle.ow_hall.specs.Stops.{StopsWell, changes_made, rows_by}
 
 module _ {P : Type 0} (telling : P → Telling) where
-  -- a store was asked for no commit, or for one, and its rows are as it was answered
+  -- a store was asked to commit nothing, or once, and its rows are as it answered
   abbrev AsksOnce : P → P → Type 0
   AsksOnce old new = (new ≡ old)
       ⊎ ((attempt : Attempt) × ((telling new).commits ≡ with_attempt attempt (telling old).commits) × ((telling new).rows ≡ kept_after (changes_made attempt) (telling old).rows))

@@ -20,7 +20,7 @@ use Rattle.ow_hall.proofs.KeepLaws.{stays_same, stays_so}
 
 -- ---- a commit that failed
 
--- what comes of it
+-- its outcome
 pub undone_comes : {P : Type 0} (telling : P → Telling) (old new : HallView P) (at : ℕ) (event : Event) (asked : List Change) (e : KeeperError)
     → asked ≡ commits (decided old at event) → CommitsTo telling asked old.store new.store (Err e) → new.ledger ≡ uncommitted e old.ledger → new.tenants ≡ old.tenants
     → Comes telling old new at event (undone (is_fault e))
@@ -38,7 +38,7 @@ pub unasked : {P : Type 0} (telling : P → Telling) (h : HallView P) (at : ℕ)
 unasked telling h at event (Ok reply) is = cc
 unasked telling h at event (Err e) is = (Wants, refl, (refl, refl, stays_same telling (commits (decided h at event)) h.store))
 
--- the book is what it was, but for the tally
+-- the book is what it was, except for the tally
 pub undone_keeps : (e : KeeperError) (w : StateView) (t : Table) (L : Ledger) → Keeps w t L → Keeps w t (uncommitted e L)
 undone_keeps Failed w t L keeps = record { stands = keeps.stands; legal = keeps.legal; free = keeps.free }
 undone_keeps NoMemory w t L keeps = keeps
@@ -55,7 +55,7 @@ pub undone_holds : (e : KeeperError) (told : KeptRows) (t : Table) (L : Ledger) 
 undone_holds Failed told t L holds = holds
 undone_holds NoMemory told t L holds = holds
 
--- where nothing is to be committed, memory was wanted
+-- an event that is undone, where nothing is to be committed, ran out of memory
 pub only_wants : {P : Type 0} (telling : P → Telling) (old new : HallView P) (at : ℕ) (event : Event) (failed : Bool) → commits (decided old at event) ≡ []
     → Comes telling old new at event (undone failed) → Comes telling old new at event Wants
 only_wants telling old new at event true none comes = absurd (comes.0 none)

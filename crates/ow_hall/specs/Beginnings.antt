@@ -17,9 +17,9 @@ use Rattle.ow_trees.specs.Steps.{step}
 use Rattle.ow_hall.specs.declared.entry.Entry.{Entry}
 use Rattle.ow_hall.specs.History.{History, decision, seen}
 
--- of what happened on the floor: each accepted activation is exactly one of waiting, running and recorded, once, and has one
--- live run at most; each fire is recorded, once, in the event that draws its id; what has ended was accepted, as it was planned; where `drain` would answer drained, each is recorded, once; and
--- the containers hold no more memory than the pool
+-- of what happened on the floor: each accepted activation is exactly one of waiting, running and recorded, once, and has one live run at
+-- most; each fire is recorded, once, in the event that draws its id; what has ended was accepted, as it was planned; where `drain` would
+-- answer drained, each is recorded, once; and the containers hold no more memory than the pool
 pub record IsKept (T : Trace) : Type 0 where
   pub parted : IsParted T
   pub once : RunOnce T
@@ -44,8 +44,8 @@ KeepsLimits t (e ∷ B) = AreWithin (λ namespace. limits_of namespace t) (seen 
 abbrev pub items_at : Table → Entry → History → Trace
 items_at t e B = (decision t B e.at e.event).items
 
--- by a book, and each of its beginnings, what another activation caused is the step that its cause owed there, and a composite's end the step that
--- it owed itself
+-- by a book, and each of its beginnings, what another activation caused is the step that its cause owed there, and a composite's end the
+-- step that it owed itself
 abbrev pub KeepsSteps : Table → History → Type 0
 KeepsSteps t [] = Unit {0}
 KeepsSteps t (e ∷ B) = AreOwed (standing (seen t B).rows) e.at (items_at t e B) (seen t B).trace × KeepsSteps t B

@@ -1,5 +1,4 @@
--- What one call of the hall comes to: one relation of what the hall was, the moment, the event, what comes of it, and what the
--- hall is now.
+-- One call of the hall, as one relation: the hall before, the moment, the event, the outcome, and the hall after.
 use Rattle.std.specs.Prelude.{◌≡◌, ◌≢◌, ◌≤◌, ◌⊎◌, ℕ, List, [], ◌∷◌, Option, Some, None, Result, Ok, Err}
 use Rattle.ow_traits.specs.Telling.{Telling, made, unmade, with_attempt}
 use Rattle.ow_traits.specs.Changes.{changed}
@@ -23,6 +22,8 @@ use Rattle.ow_decide.specs.declared.events.Told.{Told}
 use Rattle.ow_decide.specs.declared.events.Told.TheVariants as told
 use Rattle.ow_decide.specs.declared.replies.Called.{Called}
 use Rattle.ow_decide.specs.declared.replies.Called.TheVariants as called
+use Rattle.ow_decide.specs.declared.replies.Deployed.{Deployed}
+use Rattle.ow_decide.specs.declared.replies.Deployed.TheVariants as deployments
 use Rattle.ow_decide.specs.declared.replies.HallCollected.{HallCollected}
 use Rattle.ow_decide.specs.declared.replies.Reply.{Reply}
 use Rattle.ow_decide.specs.declared.replies.Reply.TheVariants as replies
@@ -30,7 +31,7 @@ use Rattle.ow_tenant.specs.Table.{Table}
 use Rattle.ow_decide.specs.Asking.{reply_in}
 use Rattle.ow_decide.specs.Decision.{commits, Decision}
 use Rattle.ow_decide.specs.Decisions.{taken_told}
-use Rattle.ow_kept.specs.Kept.{kept}
+use Rattle.ow_commits.specs.Kept.{kept}
 use Rattle.ow_hall.specs.History.{Seen, answer, decision, moment, seen}
 use Rattle.ow_hall.specs.Ledger.{Ledger, faulted, posted}
 use Rattle.ow_hall.specs.declared.refusals.SweepRefusal.{SweepRefusal}
@@ -42,7 +43,7 @@ pub record HallView (P : Type 0) : Type 0 where
   pub ledger : Ledger
   pub store : P
 
--- what comes of an event: it is answered, memory is wanted, or the store fails
+-- the outcome of an event: it is answered, no memory is left, or the store fails
 pub data Outcome : Type 0 where
   Answers : (answer : Told) → Outcome
   Wants : Outcome
@@ -50,7 +51,7 @@ pub data Outcome : Type 0 where
 
 -- ---- what is kept by the store
 
--- rows of a key and a text, where the keeper tells them
+-- rows of a key and a text, where the keeper reports them
 abbrev pub KeptRows : Type 0
 KeptRows = Option (List (List ℕ × List ℕ))
 
@@ -58,7 +59,7 @@ KeptRows = Option (List (List ℕ × List ℕ))
 abbrev pub kept_of : Seen → List (List ℕ × List ℕ)
 kept_of s = kept s.rows s.trace
 
--- the store, where it tells its rows, holds these; those that are kept of a book
+-- a store that reports its rows holds these; `HoldsBook`: it holds the rows that are kept of a book
 abbrev pub HoldsRows : KeptRows → List (List ℕ × List ℕ) → Type 0
 HoldsRows None rows = Unit {0}
 HoldsRows (Some told) rows = told ≡ rows
@@ -87,8 +88,8 @@ abbrev pub Holds : {P : Type 0} → (P → Telling) → List Change → P → P 
 Holds telling [] old new = new ≡ old
 Holds telling (c ∷ cs) old new = Makes telling (c ∷ cs) old new
 
--- memory is wanted, and no change is made: the store isn't asked, or it is once, and finds no memory. Where there is no change to be
--- made it isn't asked
+-- no memory is left, and no change is made: the store isn't asked, or it is asked once, and runs out of memory. Where there is no change
+-- to be made it isn't asked
 abbrev pub Stays : {P : Type 0} → (P → Telling) → List Change → P → P → Type 0
 Stays telling [] old new = new ≡ old
 Stays telling (c ∷ cs) old new = (new ≡ old) ⊎ Refuses telling (c ∷ cs) old new
@@ -102,8 +103,8 @@ at_hall h at = moment h.ledger.entries at
 abbrev pub decided : {P : Type 0} → HallView P → ℕ → Event → Decision
 decided h at event = decision h.tenants h.ledger.entries (at_hall h at) event
 
--- the answer is the one answer, and it is posted, and kept by the store. Where memory is wanted nothing has changed. The store
--- fails only where a change was to be kept, at one commit, and then nothing has changed but the tally
+-- the answer is the one answer, and it is posted, and kept by the store. Where no memory is left nothing has changed. The store fails
+-- only where a change was to be kept, at one commit, and then nothing has changed except the tally
 abbrev pub Comes : {P : Type 0} → (P → Telling) → HallView P → HallView P → ℕ → Event → Outcome → Type 0
 Comes telling old new at event (Answers t) = (t ≡ answer old.tenants old.ledger.entries (at_hall old at) event)
     × (new.ledger ≡ posted old.ledger (at_hall old at) event t) × (new.tenants ≡ old.tenants)
@@ -112,7 +113,7 @@ Comes telling old new at event Wants = (new.ledger ≡ old.ledger) × (new.tenan
 Comes telling old new at event Fails = (commits (decided old at event) ≢ []) × (new.ledger ≡ faulted old.ledger) × (new.tenants ≡ old.tenants)
     × Refuses telling (commits (decided old at event)) old.store new.store × Rose (telling old.store).faults (telling new.store).faults
 
--- ---- what the calls tell of it
+-- ---- the results of the calls
 
 -- the store failed
 abbrev pub store_failed : Reason
@@ -124,6 +125,13 @@ IsCalled (Ok c) (Answers t) = t ≡ told.Called c
 IsCalled (Ok c) Fails = c ≡ called.Refused store_failed
 IsCalled (Ok c) Wants = ⊥
 IsCalled (Err e) o = o ≡ Wants
+
+-- a deployment of the office. Where the store fails it is refused as a whole
+abbrev pub IsDeployed : Result Deployed Want → Outcome → Type 0
+IsDeployed (Ok d) (Answers t) = t ≡ told.Deployed d
+IsDeployed (Ok d) Fails = d ≡ deployments.Refused 0 store_failed
+IsDeployed (Ok d) Wants = ⊥
+IsDeployed (Err e) o = o ≡ Wants
 
 -- a runner that asks
 abbrev pub next_outcome : Result Order Want → Outcome
@@ -147,7 +155,7 @@ swept_outcome (Ok swept) = Answers (told.Swept swept)
 swept_outcome (Err sweeps.NoMemory) = Wants
 swept_outcome (Err sweeps.StoreFault) = Fails
 
--- a service that is opened anew
+-- a service that is opened again
 abbrev pub reopened_outcome : Result (List Happening) SweepRefusal → Outcome
 reopened_outcome (Ok happened) = Answers (told.Reopened happened)
 reopened_outcome (Err sweeps.NoMemory) = Wants
@@ -163,7 +171,7 @@ abbrev pub collect_outcome : Result HallCollected Want → Outcome
 collect_outcome (Ok c) = Answers (told.Collected c)
 collect_outcome (Err e) = Wants
 
--- what a runner's reply is answered by what is told
+-- the result of a runner's reply, by the answer
 abbrev pub replied_in : Told → Option (Result Answered AnswerRefusal)
 replied_in (told.Answered answered) = Some (Ok answered)
 replied_in (told.NoRun run reply) = Some (Err (NoRun run reply))

@@ -5,7 +5,7 @@ use Rattle.ow_traits.specs.Keeper.{KeepsCause}
 use Rattle.ow_traits.specs.declared.change_list.Change.{Change}
 use Rattle.ow_traits.specs.declared.keepers.KeeperError.{KeeperError}
 use Rattle.ow_traits.specs.declared.keepers.KeeperError.TheVariants.{Failed, NoMemory}
-use Rattle.ow_kept.specs.Keeping.{FollowingView}
+use Rattle.ow_commits.specs.Keeping.{FollowingView}
 use Rattle.ow_hall.specs.Comes.{Holds, Refuses}
 use Rattle.ow_hall.specs.Ledger.{Ledger, faulted}
 
@@ -22,7 +22,7 @@ abbrev pub CommitsTo : {P : Type 0} → (P → Telling) → List Change → P �
 CommitsTo telling changes old new (Ok done) = Holds telling changes old new
 CommitsTo telling changes old new (Err e) = (changes ≢ []) × Refuses telling changes old new × KeepsCause (telling old).faults (telling new).faults (refused e)
 
--- a commit failed by a fault of the store, which is tallied, or for want of memory
+-- a commit failed by a fault of the store, which is tallied, or because no memory was left
 abbrev pub is_fault : KeeperError → Bool
 is_fault Failed = true
 is_fault NoMemory = false

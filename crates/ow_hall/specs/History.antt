@@ -3,6 +3,8 @@ use Rattle.std.specs.Prelude.{◌≡◌, ◌+◌, ◌++◌, ◌≤◌, ℕ, Bool
 use Rattle.ow_keep.specs.declared.allowed.TheConstants.{GREATEST_MOMENT}
 use Rattle.ow_traits.specs.declared.replies.RunReply.{RunReply}
 use Rattle.ow_traits.specs.declared.replies.RunReply.TheVariants as runs
+use Rattle.std.specs.List.{AllByRecursion}
+use Rattle.ow_entity.specs.Given.{AreGiven}
 use Rattle.ow_entity.specs.declared.rows.Row.{Row}
 use Rattle.ow_tables.specs.Builtin.{builtin}
 use Rattle.ow_floor.specs.Trace.{Opened, Trace}
@@ -23,7 +25,7 @@ use Rattle.ow_decide.specs.declared.waits.Wait.{Wait}
 use Rattle.ow_decide.specs.declared.waits.Waits.{Waits}
 use Rattle.ow_decide.specs.declared.waits.Waits.TheVariants.{Keep, Add, Clear}
 use Rattle.ow_decide.specs.Sight.{Sight}
-use Rattle.ow_items.specs.declared.item.Item.{Item}
+use Rattle.ow_row_text.specs.declared.item.Item.{Item}
 use Rattle.ow_keep.specs.Judged.{judged}
 use Rattle.ow_keep.specs.Moments.{greatest_kept_moment}
 use Rattle.ow_decide.specs.Decision.{Decision, all_changed}
@@ -91,7 +93,7 @@ least_moment event = 0
 abbrev pub moment : History → ℕ → ℕ
 moment B at = max (last_moment B) (min at GREATEST_MOMENT)
 
--- ---- what came of the entries
+-- ---- the state after the entries
 
 -- the rows, what happened on the floor, and who waits for an end
 pub record Seen : Type 0 where
@@ -112,12 +114,12 @@ after d s = record { rows = all_changed d.changes s.rows; trace = d.items ++ s.t
 abbrev pub sight : Table → Seen → ℕ → ℕ → Sight
 sight t s n at = record { tenants = t; rows = s.rows; trace = s.trace; waits = s.waits; counted = n; moment = at }
 
--- behind these entries; before the first the built-in rows stand, and a floor with the table's pool and wants
+-- after these entries; before the first there are the built-in rows, and a floor with the table's pool and wants
 abbrev pub seen : Table → History → Seen
 seen t [] = record { rows = builtin; trace = Opened (pool_of t) t.wants ∷ []; waits = [] }
 seen t (e ∷ B) = after (decide (sight t (seen t B) (counted B) e.at) e.event) (seen t B)
 
--- what is done at an event behind these entries
+-- what is done at an event after these entries
 abbrev pub decision : Table → History → ℕ → Event → Decision
 decision t B at event = decide (sight t (seen t B) (counted B) at) event
 
@@ -132,14 +134,14 @@ abbrev pub is_idle : History → Bool
 is_idle [] = false
 is_idle (e ∷ B) = is_idle_answer e.answer
 
--- how an answer is posted behind these entries
+-- how an answer is posted after these entries
 abbrev pub posting : History → Told → Posting
 posting B t = posting_by (is_idle B) t
 
 -- ---- legal books
 
--- each answer is the answer of the entries before it, and is booked behind them; the moments don't fall and are at most the greatest,
--- and that of an opening isn't before those of the kept rows
+-- each answer is the answer of the entries before it, and is booked after them; the moments don't fall and are at most the greatest, and
+-- that of an opening isn't before those of the kept rows
 abbrev pub AreAnswered : Table → History → Type 0
 AreAnswered t [] = Unit {0}
 AreAnswered t (e ∷ B) = (e.answer ≡ answer t B e.at e.event) × (posting B e.answer ≡ Booked) × (last_moment B ≤ e.at) × (e.at ≤ GREATEST_MOMENT) × (least_moment e.event ≤ e.at) × AreAnswered t B
@@ -149,7 +151,7 @@ abbrev pub is_empty : History → Bool
 is_empty [] = true
 is_empty (e ∷ B) = false
 
--- an opening stands behind no entry; at another event it is as before
+-- an opening comes after no entry; for another event this holds where it held before
 abbrev pub opens_here : Event → History → Bool → Bool
 opens_here (events.Opened rows) B before = is_empty B
 opens_here event B before = before
@@ -159,7 +161,17 @@ abbrev pub is_opened : History → Bool
 is_opened [] = false
 is_opened (e ∷ B) = opens_here e.event B (is_opened B)
 
--- each is answered so, and the service was opened first
+-- the drafts of a deployment are such as bodies give
+abbrev pub IsGivenEvent : Event → Type 0
+IsGivenEvent (events.Deployed drafts) = AreGiven drafts
+IsGivenEvent event = Unit {0}
+
+-- so are those of each entry
+abbrev pub AreGivenIn : History → Type 0
+AreGivenIn B = AllByRecursion (λ e. IsGivenEvent e.event) B
+
+-- each is answered so, the service was opened first, and bodies gave all drafts
 pub record IsLegal (t : Table) (B : History) : Type 0 where
   pub answered : AreAnswered t B
   pub opened : is_opened B ≡ true
+  pub given : AreGivenIn B

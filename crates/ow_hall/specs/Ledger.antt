@@ -23,7 +23,7 @@ pub record Ledger : Type 0 where
 abbrev pub no_entries : Ledger
 no_entries = record { entries = []; stored = 0; quiet = 0; denied = 0 }
 
--- a tally stands still at the greatest u64
+-- a tally stays at the greatest u64 once it is there
 unfoldable pub one_more : ℕ → ℕ
 one_more n = if n == 2 ^ 64 - 1 then n else n + 1
 
@@ -55,7 +55,7 @@ opened t rows at = posted no_entries (opening_moment rows at) (events.Opened row
 abbrev pub faulted : Ledger → Ledger
 faulted L = record L { stored = one_more L.stored }
 
--- an entry has its bytes, room, and a count, with so many more entries behind it that count 64 each, for private clauses
+-- an entry has its bytes, room, and a count, with `owed` more entries after it that count 64 each, for private clauses
 pub record IsReady (B : History) (room owed : ℕ) (event : Event) (t : Told) (bytes : ℕ) : Type 0 where
   pub bytes_are : bytes ≡ event_bytes event + told_bytes t
   pub within : owed + 1 ≤ room

@@ -1,4 +1,4 @@
--- How a service is opened over a store, and anew.
+-- How a service is opened over a store, and opened again.
 use Rattle.std.specs.Prelude.{◌≡◌, ◌≤◌, ◌⊎◌, ℕ, List, Option, IfSome, Result, Ok, Err, IsOk}
 use Rattle.ow_traits.specs.Telling.{Attempt, Telling, unmade, with_attempt}
 use Rattle.ow_traits.specs.declared.change_list.Change.{Change}
@@ -18,8 +18,8 @@ use Rattle.ow_hall.specs.declared.refusals.StartRefusal.{StartRefusal}
 
 -- ---- openings
 
--- a service was opened over a store and an office table: over the rows that the store tells, where it does, which are allowed. It
--- made one commit
+-- a service was opened over an office table and the rows that were loaded from a store, which are allowed. Where the store reports its
+-- rows, they are these. It made one commit
 pub record Opens {P : Type 0} (telling : P → Telling) (store : P) (t : Table) (at : ℕ) (h : HallView P) : Type 0 where
   pub loaded : List (List ℕ × List ℕ)
   pub told : IfSome (telling store).rows (λ kept. loaded ≡ kept)
@@ -30,17 +30,17 @@ pub record Opens {P : Type 0} (telling : P → Telling) (store : P) (t : Table) 
   pub changes : List Change
   pub makes : Makes telling changes store h.store
 
--- why it wasn't: the first bad one of the rows is told, or the store failed
+-- why it wasn't: the key of the first bad one of the rows, a fault of the store, or no memory
 abbrev pub HasStartCause : {P : Type 0} → (P → Telling) → P → P → StartFault → Type 0
 HasStartCause telling store back (starts.BadKept key) = (loaded : List (List ℕ × List ℕ)) × IfSome (telling store).rows (λ kept. loaded ≡ kept) × IsBadRow loaded key
 HasStartCause telling store back starts.StoreFault = Rose (telling store).faults (telling back).faults
 HasStartCause telling store back starts.NoMemory = Unit {0}
 
--- a store was asked for no commit, or once, and didn't commit
+-- a store was asked to commit nothing, or once, and didn't commit
 abbrev pub IsAskedOnce : Option (List Attempt) → Option (List Attempt) → Type 0
 IsAskedOnce before after = (after ≡ before) ⊎ ((changes : List Change) × (after ≡ with_attempt (unmade changes) before))
 
--- and what is handed back
+-- a service wasn't opened: why, and what is handed back
 pub record IsUnopened {P : Type 0} (telling : P → Telling) (store : P) (t : Table) (refusal : StartRefusal P) : Type 0 where
   pub cause : HasStartCause telling store refusal.store refusal.why
   pub tenants : refusal.tenants ≡ t
@@ -48,7 +48,7 @@ pub record IsUnopened {P : Type 0} (telling : P → Telling) (store : P) (t : Ta
   pub later : (telling store).faults ≤ (telling refusal.store).faults
   pub commits : IsAskedOnce (telling store).commits (telling refusal.store).commits
 
--- a service was opened anew, or goes on as it was
+-- a service was opened again, or goes on as it was
 abbrev pub IsReopened : {P : Type 0} → (P → Telling) → HallView P → ℕ → Result (HallView P) (Reopened P) → Type 0
 IsReopened telling old at (Ok new) = (t : Told) × Comes telling old new at events.Reopened (Answers t)
 IsReopened telling old at (Err (reopens.StoreFault new)) = Comes telling old new at events.Reopened Fails

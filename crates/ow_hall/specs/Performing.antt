@@ -1,4 +1,4 @@
--- What comes of an event, by what is told of it.
+-- The outcome of an event, by its answer.
 use Rattle.std.specs.Prelude.{Bool, true, false, Result, Ok, Err}
 use Rattle.ow_traits.specs.declared.replies.RunReply.{RunReply}
 use Rattle.ow_floor.specs.declared.answers.AnswerRefusal.{AnswerRefusal}
@@ -11,12 +11,12 @@ abbrev pub undone : Bool → Outcome
 undone true = Fails
 undone false = Wants
 
--- it is told, or it is undone, for private clauses
+-- the event is answered, or it is undone, for private clauses
 abbrev pub outcome : Result Told Undone → Outcome
 outcome (Ok t) = Answers t
 outcome (Err u) = undone u.failed
 
--- the same where it is told twice
+-- the same where the answer is returned twice
 abbrev pub outcome_twice : Result (Told × Told) Undone → Outcome
 outcome_twice (Ok both) = Answers both.0
 outcome_twice (Err u) = undone u.failed

@@ -11,8 +11,8 @@ use Rattle.ow_traits.specs.declared.keepers.KeeperError.TheVariants.{Failed, NoM
 use Rattle.ow_keep.specs.Judged.{judged}
 use Rattle.ow_keep.specs.Kept.{IsBadRow}
 use Rattle.ow_keep.specs.Split.{HoldsItems, Parts}
-use Rattle.ow_kept.specs.Keeping.{StandsFollowing}
-use Rattle.ow_kept.specs.Opening.{opened_trace, opening_changes}
+use Rattle.ow_commits.specs.Keeping.{StandsFollowing}
+use Rattle.ow_commits.specs.Opening.{opened_trace, opening_changes}
 use Rattle.ow_tenant.specs.Table.{Table}
 use Rattle.ow_tenant.specs.Tenants.{pool_of}
 use Rattle.ow_counts.specs.View.{StandsFor}
@@ -26,7 +26,7 @@ use Rattle.ow_hall.specs.declared.opening.Ready.{Ready}
 use Rattle.ow_hall.specs.declared.refusals.StartFault.{StartFault}
 use Rattle.ow_hall.specs.declared.refusals.StartFault.TheVariants as starts
 
--- floor and rows have taken these parts over at a moment, and nothing else stands
+-- floor and rows have taken these parts over at a moment; nobody waits, and nothing is noted
 pub record IsOver (t : Table) (at : ℕ) (p : Parts) (w : StateView) : Type 0 where
   pub stands : Stands w.floor.now (opened_trace at p (pool_of t) t.wants)
   pub free : w.floor.before ≡ None
@@ -84,12 +84,12 @@ pub record IsRefused {P : Type 0} (telling : P → Telling) (old new : P) (fault
   pub later : (telling old).faults ≤ (telling new).faults
   pub commits : IsAskedOnce (telling old).commits (telling new).commits
 
--- a fault of the store, and want of memory
+-- a fault of the store, and running out of memory
 abbrev pub fault_of : KeeperError → StartFault
 fault_of Failed = starts.StoreFault
 fault_of NoMemory = starts.NoMemory
 
--- nothing is made ready of rows that are not allowed: the first bad one is told
+-- nothing is made ready of rows that are not allowed: the refusal has the key of the first bad one
 abbrev pub TellsUnready : List (List ℕ × List ℕ) → StartFault → Type 0
 TellsUnready rows (starts.BadKept key) = IsBadRow rows key
 TellsUnready rows starts.StoreFault = ⊥

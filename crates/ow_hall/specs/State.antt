@@ -1,4 +1,4 @@
--- What stands behind the book, as the code has it.
+-- The state that goes with the book, as the code has it.
 use Rattle.std.specs.Prelude.{◌≡◌, ◌++◌, ℕ, List, Option, Some, None}
 use Rattle.ow_entity.specs.declared.rows.Row.{Row}
 use Rattle.ow_floor.specs.Laws.{Stands}
@@ -12,14 +12,14 @@ use Rattle.ow_counts.specs.View.{CountsView, MayAllMove, StandsFor, noted_moves,
 use Rattle.ow_decide.specs.declared.waits.Wait.{Wait}
 use Rattle.ow_decide.specs.Sight.{Sight}
 use Rattle.ow_decide.specs.Decision.{Decision}
-use Rattle.ow_kept.specs.Keeping.{FollowingView, KeepingView, StandsForKept}
+use Rattle.ow_commits.specs.Keeping.{FollowingView, KeepingView, StandsForKept}
 use Rattle.ow_hall.specs.History.{IsLegal, Seen, seen}
 use Rattle.ow_hall.specs.Ledger.{Ledger}
 use Rattle.ow_decide.specs.Making.{Carries, IsSeen}
 
 -- ---- floor, rows, waits and counts
 
--- for how many more rows and waits there is room stands beside them
+-- floor, rows, waits, counts and sizes, and for how many more rows and waits there is room
 pub record StateView : Type 0 where
   pub floor : FloorView
   pub rows : List Row
@@ -29,7 +29,7 @@ pub record StateView : Type 0 where
   pub counts : CountsView
   pub keeping : KeepingView
 
--- they stand as was seen
+-- they agree with what is seen
 pub record IsAt (v : StateView) (s : Seen) : Type 0 where
   pub stands : Stands v.floor.now s.trace
   pub rows : v.rows ≡ s.rows
@@ -37,7 +37,7 @@ pub record IsAt (v : StateView) (s : Seen) : Type 0 where
   pub counts : StandsFor v.counts (notes_of s.trace)
   pub keeping : StandsForKept v.keeping s.rows s.trace
 
--- the book is legal; floor, rows, waits and counts stand as it says; and the floor isn't held
+-- the book is legal; floor, rows, waits and counts agree with it; and the floor isn't held
 pub record Keeps (w : StateView) (t : Table) (L : Ledger) : Type 0 where
   pub stands : IsAt w (seen t L.entries)
   pub legal : IsLegal t L.entries
@@ -45,8 +45,8 @@ pub record Keeps (w : StateView) (t : Table) (L : Ledger) : Type 0 where
 
 -- ---- a step
 
--- over floor, rows and waits: what is decided of what is seen is done on the floor, and made ready beside it with all that is committed of it, for
--- private clauses
+-- over floor, rows and waits: what is decided of what is seen is done on the floor, and made ready beside it with all that is committed
+-- of it, for private clauses
 abbrev pub Makes : StateView → Shown → Table → Now → (Sight → Decision) → Step → Type 0
 Makes old new t now decided step = (S : Sight) → IsSeen S t old.rows old.counts old.keeping old.floor.now now → S.waits ≡ old.waits
     → Carries step (decided S) S × Stands new ((decided S).items ++ S.trace)
@@ -60,10 +60,11 @@ kept_with (Some c) v = record { bytes = c.bytes; opens = c.opens }
 
 -- ---- notes
 
--- what stood for some notes stands for them, for private clauses
+-- new counts agree with all notes with which the old ones agreed, for private clauses
 abbrev pub KeepsNotes : CountsView → CountsView → Type 0
 KeepsNotes old new = (ns : notes.Notes) → StandsFor old ns → StandsFor new ns
 
--- what stood for some notes stands for them and those of all that moved, each of which may come, for private clauses
+-- where the old counts agreed with some notes, the new ones agree with those and the notes of all that moved, each of which may come, for
+-- private clauses
 abbrev pub NotesMoves : List Moved → CountsView → CountsView → Type 0
 NotesMoves ms old new = (ns : notes.Notes) → MayAllMove ms ns → StandsFor old ns → StandsFor new (noted_moves ms ns)

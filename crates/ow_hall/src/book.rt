@@ -79,14 +79,14 @@ impl Book {
         self.total
     }
 
-    /// How many calls met a fault of the store. The tally stands still at the greatest u64, as the next two do.
+    /// How many calls met a fault of the store. The tally stays at the greatest u64 once it is there, as the next two do.
     pub fn stored(&self) -> u64
         ensures { result ≡ self.now.ledger.stored }
     {
         self.stored
     }
 
-    /// How many calls of `next` weren't booked, since they ordered nothing behind one that ordered nothing.
+    /// How many calls of `next` weren't booked, since they ordered nothing after a `next` that ordered nothing.
     pub fn quiet(&self) -> u64
         ensures { result ≡ self.now.ledger.quiet }
     {
@@ -100,7 +100,7 @@ impl Book {
         self.denied
     }
 
-    /// Whether it has no room for an entry of so many bytes beside its 64.
+    /// Whether the book has no room for an entry of `size` bytes beside its 64.
     pub fn is_full(&self, size: u64) -> bool
         ensures { result ≡ is_full (counted self.now.ledger.entries) size }
     {
@@ -141,8 +141,8 @@ impl Book {
         })
     }
 
-    /// Makes room for an answer, where it is booked, and for so many entries that are owed behind it. It tells how many bytes the
-    /// entry counts beside its 64. A count that would pass its type is answered as want of memory.
+    /// Makes room for an answer, where it is booked, and for the `owed` entries that are owed after it. It returns how many bytes the
+    /// entry counts beside its 64. A count that would pass its type is answered as running out of memory.
     pub(crate) fn reserve(
         &mut self,
         owed: usize,
@@ -167,7 +167,7 @@ impl Book {
         Ok(bytes)
     }
 
-    /// Posts an answer. An entry counts so many bytes beside its 64. This takes no memory.
+    /// Posts an answer. Its entry counts `bytes` bytes beside its 64. This takes no memory.
     pub(crate) fn post(&mut self, at: u64, event: Event, told: Told, bytes: u64)
         requires { posting self.old.ledger.entries told ≡ Posting.Booked
             → IsReady self.old.ledger.entries self.old.room 0 event told bytes }
@@ -208,7 +208,7 @@ impl Book {
         self.entries.push(Entry { at, event, answer });
     }
 
-    /// Tallies a commit that failed, where it met a fault of the store, and tells whether it did.
+    /// Tallies a commit that failed, where it met a fault of the store, and returns whether it did.
     pub(crate) fn note_uncommitted(&mut self, error: KeeperError) -> bool
         ensures ledger { self.new.ledger ≡ uncommitted error self.old.ledger }
         ensures room { self.new.room ≡ self.old.room }
@@ -248,7 +248,7 @@ impl Book {
     }
 }
 
-// Whether an entry with so many bytes beside its 64, and so many more of 64, can be counted.
+// Whether an entry with `bytes` bytes beside its 64, and `owed` more entries of 64 bytes each, can be counted.
 fn fits(total: u64, bytes: u64, owed: usize) -> bool
     ensures { IsTrue result ↔ ((total + (64 + bytes)) + 64 * owed < 2 ^ 64) }
 {

@@ -1,17 +1,18 @@
-// What the calls answer, by what is told.
+// What the calls return, by the answers to their events.
 ghost use Rattle.std.specs.Prelude.{◌≡◌, Some, IsSome, List, ℕ};
 ghost use Rattle.ow_floor.specs.declared.answers.Happening.{Happening};
 ghost use Rattle.ow_decide.specs.Asking.{reply_in};
 ghost use Rattle.ow_hall.specs.Comes.{Answers, replied_in, reply_outcome, store_failed};
 ghost use Rattle.ow_traits.specs.declared.replies.RunReply.{RunReply};
 ghost use Rattle.ow_decide.specs.declared.replies.Called.TheVariants as called;
+ghost use Rattle.ow_decide.specs.declared.replies.Deployed.TheVariants as deployed;
 
-use ow_decide::{Called, Event, HallCollected, Reply, Told};
+use ow_decide::{Called, Deployed, Event, HallCollected, Reply, Told};
 use ow_floor::{AnswerRefusal, Answered, Drain, Happened, Order, Swept};
 use ow_http::{Reason, ServiceRefusal};
 use ow_traits::RunReply;
 
-/// What a request is answered. An answer that the book is full looks as any other.
+/// The reply to a request. An answer that the book is full looks like any other.
 pub fn reply_in(told: Told) -> Reply
     requires { IsSome (reply_in told) }
     ensures { reply_in told ≡ Some result }
@@ -41,7 +42,28 @@ pub(crate) fn store_called() -> Called
     Called::Refused(Reason::Service(ServiceRefusal::StoreFault))
 }
 
-/// What a runner is answered that asks.
+/// What a deployment is answered.
+pub(crate) fn deployed_in(told: Told) -> Deployed
+    requires { (d : Deployed) × (told ≡ Told.Deployed d) }
+    ensures { told ≡ Told.Deployed result }
+{
+    match told {
+        Told::Deployed(deployed) => deployed,
+        _ => unreachable!(),
+    }
+}
+
+/// What a deployment is answered where the store fails.
+pub(crate) fn store_deployed() -> Deployed
+    ensures { result ≡ deployed.Refused 0 store_failed }
+{
+    Deployed::Refused {
+        place: 0,
+        reason: Reason::Service(ServiceRefusal::StoreFault),
+    }
+}
+
+/// The order for a runner that requests one.
 pub fn order_in(told: Told) -> Order
     requires { (o : Order) × (told ≡ Told.Next o) }
     ensures { told ≡ Told.Next result }
@@ -52,7 +74,7 @@ pub fn order_in(told: Told) -> Order
     }
 }
 
-/// What a runner is answered that replies.
+/// The answer to a runner's reply.
 pub fn answered_in(told: Told) -> Result<Answered, AnswerRefusal>
     requires { IsSome (replied_in told) }
     ensures { Answers told ≡ reply_outcome result }
@@ -97,7 +119,7 @@ pub fn collected_in(told: Told) -> HallCollected
     }
 }
 
-/// What the office is answered that drains.
+/// The answer to the office's drain.
 pub fn drain_in(told: Told) -> Drain
     requires { (d : Drain) × (told ≡ Told.Drain d) }
     ensures { told ≡ Told.Drain result }

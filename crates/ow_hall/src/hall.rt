@@ -1,12 +1,13 @@
 // The hall and its calls: each answers, and is posted.
 ghost use Rattle.std.specs.Prelude.{if◌then◌else◌, ◌≡◌, ◌≤◌, [], true, false, Ok, Err, IfOk, IfErr, OnErr};
+ghost use Rattle.ow_entity.specs.Given.{AreGiven};
 ghost use Rattle.ow_floor.specs.Laws.{Stands};
 ghost use Rattle.ow_floor.specs.Owed.{owed};
 ghost use Rattle.ow_floor.specs.Trace.{Trace};
 ghost use Rattle.ow_floor.specs.Calls.{HandsBack};
-ghost use Rattle.ow_hall.specs.Comes.{Answers, Comes, HoldsBook, IsCalled, Outcome, Replies, collect_outcome, done_outcome, drain_outcome, next_outcome, reopened_outcome, reply_outcome, store_reply, swept_outcome};
+ghost use Rattle.ow_hall.specs.Comes.{Answers, Comes, HoldsBook, IsCalled, IsDeployed, Outcome, Replies, collect_outcome, done_outcome, drain_outcome, next_outcome, reopened_outcome, reply_outcome, store_reply, swept_outcome};
 ghost use Rattle.ow_hall.specs.Commits.{CommitsTo, changes_in};
-ghost use Rattle.ow_hall.specs.History.{IsLegal, posting};
+ghost use Rattle.ow_hall.specs.History.{IsGivenEvent, IsLegal, posting};
 ghost use Rattle.ow_hall.specs.Ledger.{IsReady};
 ghost use Rattle.ow_hall.specs.Performing.{outcome, outcome_twice, unanswered};
 ghost use Rattle.ow_decide.specs.Decisions.{is_opening, wants_memory};
@@ -14,27 +15,27 @@ ghost use Rattle.ow_decide.specs.declared.events.Event.TheVariants as events;
 
 use crate::book::Book;
 use crate::fronts::{
-    answered_in, called_in, collected_in, drain_in, order_in, reopened_in, reply_in, reply_of,
-    store_called, swept_in,
+    answered_in, called_in, collected_in, deployed_in, drain_in, order_in, reopened_in, reply_in,
+    reply_of, store_called, store_deployed, swept_in,
 };
 use crate::posting::Posting;
 use crate::refusals::SweepRefusal;
 use crate::state::HallState;
 use crate::store_answer::StoreAnswer;
-use ow_decide::{Called, Event, HallCollected, Now, Reply, Step, Told, taken_told};
+use ow_commits::Following;
+use ow_decide::{Called, Deployed, Event, HallCollected, Now, Reply, Step, Told, taken_told};
+use ow_entity::Drafts;
 use ow_floor::{AnswerRefusal, Answered, Drain, FloorRefusal, Happened, Order, Swept};
 use ow_http::Request;
-use ow_kept::Following;
 use ow_names::FullName;
 use ow_records::Id;
-use ow_several::{copied2, kept_beside};
 use ow_tenant::Tenants;
 use ow_traits::{Changes, Keeper, KeeperError, RunReply};
-use ow_value::{NoMemory, Params, PlainData, Shared};
+use ow_value::{NoMemory, Params, PlainData, Shared, copied2, kept_beside};
 use std::alloc::Global;
 use std::marker::Model;
 
-/// The service behind one book. Moments are milliseconds; one that is before the last booked one counts as that.
+/// The service, with one book. Moments are milliseconds; one that is before the last booked one counts as that.
 #[derive(Drop)]
 pub struct Hall<P: Keeper + Drop> {
     pub(crate) tenants: Tenants,
@@ -64,7 +65,7 @@ impl<P: Keeper + Drop> Model for Hall<P> {
         × HoldsBook (P.telling h.store).rows h.tenants h.book.ledger };
 }
 
-/// An event that came to nothing, since the store failed or memory was wanted.
+/// An event that wasn't carried out, since the store failed or no memory was left.
 #[derive(Drop)]
 pub struct Undone {
     /// The event, which is handed back.
@@ -74,7 +75,7 @@ pub struct Undone {
 }
 
 impl Undone {
-    // Whether the store failed. The event is let go of.
+    // Whether the store failed. The event is dropped.
     fn has_failed(self) -> bool
         ensures { result ≡ self.failed }
     {
@@ -133,8 +134,8 @@ impl<P: Keeper + Drop> Hall<P> {
         }
     }
 
-    /// The office's own invocation of an action: it is charged to the namespace that the name states, in the name of the office. It tells
-    /// all that was accepted and all that has ended, in order.
+    /// The office's own invocation of an action: it is charged to the namespace that the name states, in the name of the office. It
+    /// returns all that was accepted and all that has ended, in order.
     pub fn call(
         &mut self,
         alloc: Global,
@@ -160,7 +161,25 @@ impl<P: Keeper + Drop> Hall<P> {
         }
     }
 
-    /// What is to be done next. It takes room in the book for what a runner may tell of it later.
+    /// Puts entities of the office, in the order of the drafts, all or none. A draft whose row would differ from the stored one in its
+    /// version alone is left out. The drafts are such as bodies give, so their rows can be read back.
+    pub fn deploy(&mut self, alloc: Global, at: u64, drafts: Drafts) -> Result<Deployed, NoMemory>
+        requires { AreGiven drafts }
+        ensures { (o : Outcome) × IsDeployed result o × Comes P.telling self.old self.new at (events.Deployed drafts) o }
+    {
+        match self.tell(alloc, at, Event::Deployed(drafts)) {
+            Ok(told) => Ok(deployed_in(told)),
+            Err(undone) => {
+                if undone.has_failed() {
+                    Ok(store_deployed())
+                } else {
+                    Err(NoMemory)
+                }
+            }
+        }
+    }
+
+    /// The next order for a runner. It takes room in the book for what a runner may report of it later.
     pub fn next(&mut self, alloc: Global, at: u64) -> Result<Order, NoMemory>
         ensures { Comes P.telling self.old self.new at events.Next (next_outcome result) }
     {
@@ -208,8 +227,9 @@ impl<P: Keeper + Drop> Hall<P> {
         }
     }
 
-    /// Opens the service anew: each activation that has not ended is recorded as abandoned, by id, all containers are gone, nobody waits,
-    /// and calls are taken again. It tells what was recorded. Where the store fails or memory is wanted it goes on as it was.
+    /// Opens the service again: each activation that has not ended is recorded as abandoned, by id, all containers are gone, nobody
+    /// waits, and calls are taken again. It returns what was recorded. Where the store fails or no memory is left, the service goes on as
+    /// it was.
     pub fn reopen_in_place(&mut self, alloc: Global, at: u64) -> Result<Happened, SweepRefusal>
         ensures { Comes P.telling self.old self.new at events.Reopened (reopened_outcome result) }
     {
@@ -236,8 +256,8 @@ impl<P: Keeper + Drop> Hall<P> {
         }
     }
 
-    /// What became of an activation that a blocking request accepted: the answer to that request, once it has ended or the moment
-    /// is there up to which the request waits. Where there is no answer yet it isn't booked.
+    /// What became of an activation that a blocking request accepted: the answer to that request, once the activation has ended or the
+    /// moment is there until which the request waits. Where there is no answer yet it isn't booked.
     pub fn collect(&mut self, alloc: Global, at: u64, id: &Id) -> Result<HallCollected, NoMemory>
         ensures { Comes P.telling self.old self.new at (events.Collected id.now) (collect_outcome result) }
     {
@@ -250,7 +270,7 @@ impl<P: Keeper + Drop> Hall<P> {
         }
     }
 
-    /// Takes no more invocations from now on. It tells whether all that was accepted has ended.
+    /// Takes no more invocations from now on. It returns whether all that was accepted has ended.
     pub fn drain(&mut self, alloc: Global, at: u64) -> Result<Drain, NoMemory>
         ensures { Comes P.telling self.old self.new at events.Drain (drain_outcome result) }
     {
@@ -265,7 +285,7 @@ impl<P: Keeper + Drop> Hall<P> {
 }
 
 impl<P: Keeper + Drop> Hall<P> {
-    // What comes of a beginning, a loss or a going. The room for its entry was taken before.
+    // Carries out a beginning, a loss or a going. The room for its entry was taken before.
     fn take(&mut self, at: u64, event: Event) -> Result<(), FloorRefusal>
         requires { wants_memory event ≡ false }
         ensures { Comes P.telling self.old self.new at event (done_outcome result) }
@@ -279,10 +299,11 @@ impl<P: Keeper + Drop> Hall<P> {
         taken
     }
 
-    // What comes of any other event.
+    // Carries out any other event.
     fn tell(&mut self, alloc: Global, at: u64, event: Event) -> Result<Told, Undone>
-        requires later { is_opening event ≡ false }
+        requires unopened { is_opening event ≡ false }
         requires memory { wants_memory event ≡ true }
+        requires given { IsGivenEvent event }
         ensures comes { Comes P.telling self.old self.new at event (outcome result) }
         ensures back { IfErr result (λ undone. undone.event ≡ event) }
     {
@@ -297,12 +318,13 @@ impl<P: Keeper + Drop> Hall<P> {
 }
 
 impl<P: Keeper + Drop> Hall<P> {
-    /// What comes of an event that may want memory, as the calls above make it of what they are handed. What is told of it is given
-    /// twice, so that one of the two can be kept beside the book. The event is held until all memory that it takes is there, and
-    /// what it changes of what is kept was committed, as is to be seen in the code.
+    /// Carries out an event that may take memory; the calls above make the event from their arguments. The answer is returned twice, so
+    /// that one copy can be kept beside the book. The event is held until all memory that it takes is there and its changes to what is
+    /// kept were committed, as is to be seen in the code.
     pub fn perform(&mut self, alloc: Global, at: u64, event: Event) -> Result<(Told, Told), Undone>
-        requires later { is_opening event ≡ false }
+        requires unopened { is_opening event ≡ false }
         requires memory { wants_memory event ≡ true }
+        requires given { IsGivenEvent event }
         ensures comes { Comes P.telling self.old self.new at event (outcome_twice result) }
         ensures same { IfOk result (λ r. r.1 ≡ r.0) }
         ensures back { IfErr result (λ undone. undone.event ≡ event) }
@@ -377,7 +399,7 @@ fn commit<P: Keeper>(
     }
 }
 
-// Commits changes by one commit. Where nothing changes of what is kept, the store isn't asked.
+// Commits changes by one commit. Where nothing changes in what is kept, the store isn't asked.
 #[tactic(auto, using(crate::proofs::KeepLaws::commits_to))]
 fn commit_all<P: Keeper>(alloc: Global, store: &mut P, changes: &Changes) -> Result<(), KeeperError>
     ensures { CommitsTo P.telling changes.now store.old store.new result }
@@ -388,7 +410,7 @@ fn commit_all<P: Keeper>(alloc: Global, store: &mut P, changes: &Changes) -> Res
     store.commit(alloc, changes)
 }
 
-/// Why a runner's reply isn't taken, which is handed back.
+/// Why a runner's reply isn't taken. The reply is handed back.
 pub fn unanswered(reply: RunReply, failed: bool) -> AnswerRefusal
     ensures { result ≡ unanswered reply failed }
 {
@@ -410,8 +432,8 @@ fn sweep_refusal(failed: bool) -> SweepRefusal
     }
 }
 
-// Makes room in the book for what is told, where it is booked, and for what is owed behind it. It gives what is told twice more, and
-// how many bytes the entry counts beside its 64.
+// Makes room in the book for an answer, where it is booked, and for the entries that are owed after it. It returns two copies of the
+// answer, and how many bytes the entry counts beside its 64.
 fn prepare(
     alloc: Global,
     state: &HallState,

@@ -32,7 +32,7 @@ pub fn legal_books_keep_steps()
     ensures ends { (t : Table) (e : Entry) (B : History) → IsLegal t (e ∷ B) → EndsAreSteps t e B }
 {}
 
-/// A stop at any moment of a call leaves the rows of before the call or those of after it, whatever comes of the call.
+/// A stop at any moment of a call leaves the rows of before the call or those of after it, whatever the outcome of the call.
 pub fn stops_leave_whole_calls<P: Keeper>()
     ensures { (old new : HallView P) (at : ℕ) (event : Event) (o : Outcome) → Comes P.telling old new at event o → StopsWell P.telling old.store new.store }
 {}

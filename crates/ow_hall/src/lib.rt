@@ -1,6 +1,6 @@
 #![tactic(auto)]
 
-//! The controller: rows and floor behind one book of all that was asked and answered.
+//! The controller: rows and floor, and one book of all that was asked and answered.
 mod book;
 mod bytes;
 mod entry;

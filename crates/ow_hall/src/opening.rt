@@ -9,7 +9,7 @@ ghost use Rattle.ow_tables.specs.Rows.{resumed};
 ghost use Rattle.ow_tenant.specs.Tenants.{pool_of};
 ghost use Rattle.ow_keep.specs.Moments.{parts_moment};
 ghost use Rattle.ow_keep.specs.Split.{HoldsItems, parts_of};
-ghost use Rattle.ow_kept.specs.Opening.{abandoned, resumed_records};
+ghost use Rattle.ow_commits.specs.Opening.{abandoned, resumed_records};
 ghost use Rattle.ow_decide.specs.Opening.{abandoned_told};
 ghost use Rattle.ow_decide.specs.declared.events.Event.TheVariants as events;
 ghost use Rattle.ow_decide.specs.declared.events.Told.TheVariants as told;
@@ -21,21 +21,20 @@ use crate::book::Book;
 use crate::refusals::StartFault;
 use crate::state::HallState;
 use crate::store_answer::StoreAnswer;
+use ow_commits::{Following, Keeping};
 use ow_counts::Counts;
 use ow_decide::{Event, Told};
 use ow_entity::Row;
 use ow_floor::{Floor, Happened, Happening};
 use ow_keep::{KeepRefusal, Kept, kept_rows};
-use ow_kept::{Following, Keeping};
 use ow_records::{Id, Record, Unrecorded, abandoned};
-use ow_several::{joined2, kept_beside};
 use ow_tables::Tables;
 use ow_tenant::Tenants;
 use ow_traits::{Keeper, KeeperError, Rows};
-use ow_value::{NoMemory, PlainData};
+use ow_value::{NoMemory, PlainData, joined2, kept_beside};
 use std::alloc::Global;
 
-/// What stands behind an opening.
+/// The parts of a service after an opening.
 #[derive(Drop)]
 pub(crate) struct Opened {
     pub(crate) state: HallState,
@@ -43,7 +42,7 @@ pub(crate) struct Opened {
     pub(crate) failed: StoreAnswer,
 }
 
-/// What is made ready of an opening, and what is to be committed.
+/// An opening that is made ready, and what is to be committed of it.
 #[derive(Drop)]
 pub(crate) struct Ready {
     pub(crate) opened: Opened,
@@ -96,7 +95,7 @@ fn fault_of(error: KeeperError) -> StartFault
     }
 }
 
-// What stands once these rows are taken over, and what is to be committed of that.
+// The service once these rows are taken over, and what is to be committed of that.
 fn make_ready(alloc: Global, tenants: &Tenants, rows: Rows, at: u64) -> Result<Ready, StartFault>
     requires { AreWantsSized tenants.now.wants }
     ensures ready { IfOk result (λ r. IsReadied tenants.now rows at r) }
@@ -168,7 +167,7 @@ fn book_over(alloc: Global, rows: Rows, left: &[Unrecorded], at: u64) -> Result<
     Ok(book)
 }
 
-// What stands over what was kept.
+// The state over what was kept.
 fn state_over(alloc: Global, tenants: &Tenants, kept: Kept, at: u64) -> Result<HallState, NoMemory>
     requires wants { AreWantsSized tenants.now.wants }
     requires resumable { AreResumable (parts_of kept).counts (resumed_records at (parts_of kept).unrecorded (parts_of kept).records) }
@@ -218,7 +217,7 @@ fn tables_over(alloc: Global, entities: Vec<Row>) -> Result<Tables, NoMemory>
     Ok(tables)
 }
 
-// The records, and behind them those of what had not ended, which is abandoned at a moment.
+// The records, followed by those of what had not ended, which is abandoned at a moment.
 fn with_abandoned(
     alloc: Global,
     records: Vec<Record>,
@@ -235,7 +234,7 @@ fn with_abandoned(
     Ok(records)
 }
 
-// What is told of what had not ended.
+// What is reported of the activations that had not ended.
 fn abandoned_told(alloc: Global, left: &[Unrecorded]) -> Result<Happened, NoMemory>
     ensures { IfOk result (λ h. h ≡ abandoned_told left.now) }
 {

@@ -1,4 +1,4 @@
-// How a service is opened over a store, and anew.
+// How a service is opened over a store, and opened again.
 ghost use Rattle.std.specs.Prelude.{IfOk, IfErr};
 ghost use Rattle.ow_traits.specs.Prewarms.{AreWantsSized};
 ghost use Rattle.ow_hall.specs.Openings.{IsReopened, IsUnopened, Opens};
@@ -11,9 +11,9 @@ use ow_traits::Keeper;
 use std::alloc::Global;
 
 impl<P: Keeper + Drop> Hall<P> {
-    /// Opens the service over a store and an office table, as `Tenants::read` gives one: its pool and limits stay as they are. What the
-    /// store keeps stands then: the rows of entities, the last counts and the records. What had not ended is recorded as abandoned.
-    /// It makes one commit. A refusal hands store and table back.
+    /// Opens the service over a store and an office table, as `Tenants::read` gives one: its pool and limits stay as they are. The
+    /// service then has what the store keeps: the rows of entities, the last counts and the records. What had not ended is recorded as
+    /// abandoned. It makes one commit. A refusal hands store and table back.
     pub fn start(
         alloc: Global,
         store: P,
@@ -47,7 +47,7 @@ impl<P: Keeper + Drop> Hall<P> {
         }
     }
 
-    /// Opens the service anew: each activation that has not ended is recorded as abandoned, all containers are gone, nobody waits, and
+    /// Opens the service again: each activation that has not ended is recorded as abandoned, all containers are gone, nobody waits, and
     /// calls are taken again. A refusal hands the service back as it was.
     pub fn reopen(self, alloc: Global, at: u64) -> Result<Hall<P>, Reopened<P>>
         ensures { IsReopened P.telling self at result }

@@ -1,8 +1,8 @@
 // How an answer is posted.
 ghost use Rattle.std.specs.Prelude.{◌≡◌};
-ghost use Rattle.ow_hall.specs.Posting.{call_posting, collected_posting, posting_by};
+ghost use Rattle.ow_hall.specs.Posting.{call_posting, collected_posting, deployed_posting, posting_by};
 
-use ow_decide::{Called, HallCollected, Told, tells_full};
+use ow_decide::{Called, Deployed, HallCollected, Told, tells_full};
 use ow_floor::Order;
 
 /// What becomes of an answer in the book.
@@ -18,7 +18,7 @@ pub enum Posting {
     Unbooked,
 }
 
-/// How an answer is posted behind an entry that ordered nothing, or behind another.
+/// How an answer is posted after an entry that ordered nothing, or after another.
 pub fn posting_of(idle: bool, told: &Told) -> Posting
     ensures { result ≡ posting_by idle told.now }
 {
@@ -33,6 +33,7 @@ pub fn posting_of(idle: bool, told: &Told) -> Posting
         Told::NoRun { .. } | Told::Refused(_) => Posting::Denied,
         Told::Full(_) => Posting::Unbooked,
         Told::Called(called) => call_posting(called),
+        Told::Deployed(deployed) => deployed_posting(deployed),
         Told::Collected(collected) => collected_posting(collected),
         _ => Posting::Booked,
     }
@@ -44,6 +45,21 @@ fn collected_posting(collected: &HallCollected) -> Posting
     match collected {
         HallCollected::Reply(_) => Posting::Booked,
         HallCollected::NotYet | HallCollected::Unknown => Posting::Unbooked,
+    }
+}
+
+fn deployed_posting(deployed: &Deployed) -> Posting
+    ensures { result ≡ deployed_posting deployed.now }
+{
+    match deployed {
+        Deployed::Refused { reason, .. } => {
+            if tells_full(reason) {
+                Posting::Unbooked
+            } else {
+                Posting::Booked
+            }
+        }
+        Deployed::Done { .. } => Posting::Booked,
     }
 }
 

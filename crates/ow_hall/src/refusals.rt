@@ -1,4 +1,4 @@
-// Why a call of the hall comes to nothing.
+// Why a call of the hall isn't carried out.
 use crate::hall::Hall;
 use ow_tenant::Tenants;
 use ow_traits::Keeper;
@@ -32,7 +32,7 @@ pub struct StartRefusal<P: Keeper + Drop> {
     pub tenants: Tenants,
 }
 
-/// Why the service isn't opened anew. It goes on as it was.
+/// Why the service isn't opened again. It goes on as it was.
 #[derive(Drop)]
 pub enum Reopened<P: Keeper + Drop> {
     /// The store failed.

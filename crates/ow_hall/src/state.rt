@@ -1,4 +1,4 @@
-// What stands behind the book: the floor, the rows, who waits, and what counts against the limits. What is done at an event is held
+// The state that goes with the book: the floor, the rows, who waits, and what counts against the limits. What is done at an event is held
 // on the floor, and made ready beside it, until it is settled.
 ghost use Rattle.std.specs.Prelude.{◌≡◌, ◌≤◌, [], true, false, Some, None, IfOk, IfSome, OnOk, OnErr};
 ghost use Rattle.std.specs.List.{AllByRecursion};
@@ -7,20 +7,20 @@ ghost use Rattle.ow_floor.specs.Owed.{owed};
 ghost use Rattle.ow_floor.specs.Trace.{Trace};
 ghost use Rattle.ow_counts.specs.View.{HasRoomForMoves};
 ghost use Rattle.ow_keep.specs.Known.{IsItem};
-ghost use Rattle.ow_kept.specs.Kept.{kept_items};
+ghost use Rattle.ow_commits.specs.Kept.{kept_items};
 ghost use Rattle.ow_decide.specs.Decisions.{decide, is_opening, taken_told, wants_memory};
 ghost use Rattle.ow_decide.specs.Decision.{all_changed};
 ghost use Rattle.ow_hall.specs.History.{waits_after};
-ghost use Rattle.ow_decide.specs.Making.{HasPlace, changes_of, telling};
+ghost use Rattle.ow_decide.specs.Making.{HasRoom, changes_of, telling};
 ghost use Rattle.ow_hall.specs.State.{KeepsNotes, Makes, NotesMoves, kept_with};
 ghost use Rattle.ow_tenant.specs.Table.{Table};
 
+use ow_commits::{Following, Keeping};
 use ow_counts::Counts;
-use ow_decide::{Event, Now, Step, Wait, Waits, step_for, take};
+use ow_decide::{Event, Now, RowChange, Step, Wait, Waits, step_for, take};
 use ow_floor::{Floor, FloorRefusal, Moves};
 use ow_keep::known_entities;
-use ow_kept::{Following, Keeping};
-use ow_tables::{Ready, Tables};
+use ow_tables::Tables;
 use ow_tenant::Tenants;
 use ow_value::NoMemory;
 use std::alloc::Global;
@@ -58,7 +58,7 @@ impl Model for HallState {
 }
 
 impl HallState {
-    /// Nobody waits, and all else stands so.
+    /// A state of these parts, in which nobody waits.
     pub(crate) fn of(
         alloc: Global,
         floor: Floor,
@@ -88,7 +88,7 @@ impl HallState {
         self.floor.owed()
     }
 
-    /// Makes known that each item that is kept of rows and floor is what its type tells.
+    /// Makes known that each item that is kept of rows and floor is what its type says.
     pub(crate) fn known_items(&self)
         ensures { (T : Trace) → Stands self.now.floor.now T → AllByRecursion IsItem (kept_items self.now.rows T) }
     {
@@ -119,10 +119,10 @@ impl HallState {
         event: &Event,
     ) -> Result<Step, NoMemory>
         requires memory { wants_memory event.now ≡ true }
-        requires later { is_opening event.now ≡ false }
+        requires unopened { is_opening event.now ≡ false }
         ensures ok { IfOk result (Makes self.old self.new.floor.now tenants.now now (λ S. decide S event.now)) }
         ensures held { OnOk result (self.new.floor.before ≡ Some self.old.floor.now) }
-        ensures place { IfOk result (λ s. HasPlace s.change self.new.row_room) }
+        ensures place { IfOk result (λ s. HasRoom s.change self.new.row_room) }
         ensures room { OnOk result (1 ≤ self.new.wait_room) }
         ensures counter { IfOk result (λ s. HasRoomForMoves s.moves self.new.counts) }
         ensures rest { (self.new.rows ≡ self.old.rows) × (self.new.waits ≡ self.old.waits) }
@@ -156,8 +156,8 @@ impl HallState {
     }
 
     /// Makes the changes that were made ready. This takes no memory.
-    pub(crate) fn apply(&mut self, change: Option<Ready>, waits: Waits)
-        requires place { HasPlace change self.old.row_room }
+    pub(crate) fn apply(&mut self, change: RowChange, waits: Waits)
+        requires place { HasRoom change self.old.row_room }
         requires room { 1 ≤ self.old.wait_room }
         ensures floor { self.new.floor ≡ self.old.floor }
         ensures rows { self.new.rows ≡ all_changed (changes_of change) self.old.rows }
@@ -165,9 +165,7 @@ impl HallState {
         ensures counts { self.new.counts ≡ self.old.counts }
         ensures keeping { self.new.keeping ≡ self.old.keeping }
     {
-        if let Some(ready) = change {
-            self.tables.apply(ready);
-        }
+        change_rows(&mut self.tables, change);
         match waits {
             Waits::Keep => {}
             Waits::Add(wait) => self.waits.push_reserved(wait),
@@ -230,10 +228,10 @@ impl HallState {
         event: &Event,
     ) -> Result<Step, NoMemory>
         requires memory { wants_memory event.now ≡ true }
-        requires later { is_opening event.now ≡ false }
+        requires unopened { is_opening event.now ≡ false }
         requires held { self.old.floor.before ≡ Some self.old.floor.now }
         ensures ok { IfOk result (Makes self.old self.new.floor.now tenants.now now (λ S. decide S event.now)) }
-        ensures place { IfOk result (λ s. HasPlace s.change self.new.row_room) }
+        ensures place { IfOk result (λ s. HasRoom s.change self.new.row_room) }
         ensures before { self.new.floor.before ≡ self.old.floor.before }
         ensures rest { (self.new.rows ≡ self.old.rows) × (self.new.waits ≡ self.old.waits) × (self.new.wait_room ≡ self.old.wait_room) }
         ensures counter { IfOk result (λ s. HasRoomForMoves s.moves self.new.counts) }
@@ -256,10 +254,10 @@ impl HallState {
         event: &Event,
     ) -> Result<Step, NoMemory>
         requires memory { wants_memory event.now ≡ true }
-        requires later { is_opening event.now ≡ false }
+        requires unopened { is_opening event.now ≡ false }
         requires held { self.old.floor.before ≡ Some self.old.floor.now }
         ensures ok { IfOk result (Makes self.old self.new.floor.now tenants.now now (λ S. decide S event.now)) }
-        ensures place { IfOk result (λ s. HasPlace s.change self.new.row_room) }
+        ensures place { IfOk result (λ s. HasRoom s.change self.new.row_room) }
         ensures before { self.new.floor.before ≡ self.old.floor.before }
         ensures rest { (self.new.rows ≡ self.old.rows) × (self.new.waits ≡ self.old.waits) × (self.new.wait_room ≡ self.old.wait_room) }
         ensures counts { self.new.counts ≡ self.old.counts }
@@ -276,5 +274,17 @@ impl HallState {
             now,
             event,
         )
+    }
+}
+
+// Makes the change of the rows. This takes no memory.
+fn change_rows(tables: &mut Tables, change: RowChange)
+    requires { HasRoom change tables.old.room }
+    ensures { tables.new.rows ≡ all_changed (changes_of change) tables.old.rows }
+{
+    match change {
+        RowChange::Nothing => {}
+        RowChange::One(ready) => tables.apply(ready),
+        RowChange::Puts(rows) => tables.put_rows(rows),
     }
 }

@@ -31,8 +31,8 @@ const SEQUENCES: &str =
 0|next||nothing|
 "#;
 
-// A conductor runs before each component and after it, and gets the component's result with its own state over that. It is told
-// that a component doesn't exist, and a result with an error ends it.
+// A conductor runs before each component and after it, and gets the component's result with its own state over that. It gets an error
+// where a component doesn't exist, and a result with an error ends it.
 const CONDUCTORS: &str = r#"0|PUT /api/v1/namespaces/_/actions/a|HELLO|200 OK|
 0|PUT /api/v1/namespaces/_/actions/c|{"exec":{"kind":"plain:1","code":"{\"cases\":[]}"},"annotations":[{"key":"conductor","value":true}],"parameters":[{"key":"own","value":1}]}|200 OK|
 0|POST /api/v1/namespaces/_/actions/c?blocking=true&result=true|{"x":2}|waiting|60000

@@ -25,7 +25,7 @@ fn floor(alloc: Global) -> Result<Floor, NoMemory>
     Floor::new(alloc, 2_048, Items::new())
 }
 
-// By which number it is refused, 0 where it is taken.
+// The number of the refusal, or 0 where the event is taken.
 fn number(taken: Result<(), FloorRefusal>) -> u32 {
     match taken {
         Ok(()) => 0,
@@ -129,7 +129,7 @@ fn tells(happened: &Happened, code: u8) -> bool {
     happened.items() == [Happening::Recorded { id: ID, code }].as_slice()
 }
 
-// Whether the end is told of the activation, with this code.
+// Whether the answer reports the end of the activation, with this code.
 fn is_recorded(answered: &Answered, code: u8) -> bool {
     match answered {
         Answered::Recorded(happened) => tells(happened, code),
@@ -188,7 +188,7 @@ fn one_activation_waits_runs_and_is_recorded(rt: HostRuntime) -> Result<(), Fail
     Ok(())
 }
 
-// Whether the end without a reply is told as that of an error inside the service.
+// Whether the end without a reply is reported as that of an error inside the service.
 fn fails(alloc: Global, floor: &mut Floor) -> bool {
     match floor.answered(alloc, 1003, 1, RunReply::Fault) {
         Ok(answered) => is_recorded(&answered, 3),
@@ -265,7 +265,7 @@ fn is_late(alloc: Global, floor: &mut Floor, since: u64) -> Result<bool, NoMemor
     }
 }
 
-// Whether a run of 60 seconds that was ordered at 1001 is swept one millisecond behind its limit, and its reply is late.
+// Whether a run of 60 seconds that was ordered at 1001 is swept one millisecond after its limit, and its reply is late.
 fn overruns(alloc: Global, floor: &mut Floor) -> Result<bool, Fail>
     requires { last_of floor.old.now.drawn 7 ≡ 0 }
 {
@@ -316,7 +316,7 @@ fn what_is_held_is_taken_back_or_kept(rt: HostRuntime) -> Result<(), Fail> {
     Ok(())
 }
 
-// By which number a reply to this run is refused, 0 where it is taken.
+// The number of the refusal of a reply to this run, or 0 where it is taken.
 fn refused(alloc: Global, floor: &mut Floor, run: u64) -> u32 {
     match floor.answered(alloc, 0, run, RunReply::Fault) {
         Ok(_) => 0,

@@ -140,7 +140,7 @@ pub(crate) fn request_of(alloc: Global, head: &str, body: &str) -> Result<String
     request_by(alloc, "k1", head, body)
 }
 
-// A request with this key; `-` stands for none.
+// A request with this key; `-` means none.
 pub(crate) fn request_by(alloc: Global, key: &str, head: &str, body: &str) -> Result<String, Fail> {
     let by = key_line(alloc, key)?;
     let length = body.len();
@@ -206,15 +206,15 @@ fn status_of(alloc: Global, hall: &mut Office, request: &Request) -> Result<u16,
     }
 }
 
-// The status of a get that counts so many bytes.
+// The status of a get that counts `size` bytes.
 fn get_of(alloc: Global, hall: &mut Office, size: u64) -> Result<u16, Fail> {
     let Read { mut request, .. } = read_request(alloc, GET.as_bytes())?;
     request.size = size;
     status_of(alloc, hall, &request)
 }
 
-// Whether the book takes what it has room for, and no more: a request of the greatest size that a new book has room for, the
-// one after it, and one behind them.
+// Whether the book takes what it has room for, and no more: a request of the greatest size that a new book has room for, a request that
+// is one byte greater, and one more request after them.
 fn fills(alloc: Global, hall: &mut Office) -> Result<bool, Fail> {
     let over = get_of(alloc, hall, 1_073_741_697)?;
     let last = get_of(alloc, hall, 1_073_741_696)?;

@@ -1,4 +1,4 @@
-// What may be asked for in a minute and at once.
+// What may be invoked in a minute and at once.
 use crate::of_hall::{Office, called, called_at, ended, office, office_of, ordered};
 use crate::of_waits::rows_hold;
 use std::alloc::Global;
@@ -11,9 +11,9 @@ key,k2,bert,other,,
 grant,k1,other,invoke,,
 ";
 
-// An activation is charged to the namespace of its action where the key may invoke there, and otherwise to the key's own; the
-// office's own calls are charged to that of the action. The first limit lets go behind a minute, and the second at an end, by an
-// answer or a sweep.
+// An activation is charged to the namespace of its action where the key may invoke there, and otherwise to the key's own; the office's
+// own calls are charged to that of the action. The first limit allows a call again after a minute, and the second at an end, by an answer
+// or a sweep.
 const ROWS: &str = r#"0|PUT /api/v1/namespaces/_/actions/a|HELLO|200 OK|
 0 k2|PUT /api/v1/namespaces/_/actions/b|HELLO|200 OK|
 0|POST /api/v1/namespaces/_/actions/a||202 Accepted|{"activationId":"00000000000000010000000000000001"}
@@ -89,7 +89,7 @@ const WIDE: &str = "namespace,1,guest,5000,5000,\nkey,k1,anna,guest,,\n";
 
 const PUT: &str = "0|PUT /api/v1/namespaces/_/actions/a|HELLO|200 OK|\n";
 
-// Whether so many calls of the namespace's action are accepted at once.
+// Whether `count` calls of the namespace's action are accepted at once.
 fn takes(alloc: Global, hall: &mut Office, count: u32) -> Result<bool, Fail> {
     for _ in 0..count {
         if called_at(alloc, hall, 0, "/guest/a")? != 0 {

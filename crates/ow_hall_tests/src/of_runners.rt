@@ -1,4 +1,4 @@
-// What runners tell, over one book.
+// What runners report, over one book.
 use crate::of_hall::{Office, called, copies, ended, office, ordered};
 use ow_floor::{Answered, FloorRefusal, Happened, Happening, Order};
 use ow_records::Id;
@@ -12,7 +12,7 @@ const ID: Id = Id {
     count: 1,
 };
 
-// By which number it is refused, 0 where it is taken.
+// The number of the refusal, or 0 where the event is taken.
 fn number(taken: Result<(), FloorRefusal>) -> u32 {
     match taken {
         Ok(()) => 0,
@@ -85,7 +85,7 @@ fn is_late(alloc: Global, hall: &mut Office, since: u64) -> bool {
     }
 }
 
-// Whether a run of 60 seconds that was ordered at 7 is swept one millisecond behind its limit, once, and each sweep is booked.
+// Whether a run of 60 seconds that was ordered at 7 is swept one millisecond after its limit, once, and each sweep is booked.
 fn is_swept(alloc: Global, hall: &mut Office) -> Result<bool, Fail> {
     let accepted = called(alloc, hall, 5)? == 0;
     let ran = ordered(alloc, hall, 7)? == 1;

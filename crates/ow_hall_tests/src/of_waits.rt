@@ -10,7 +10,7 @@ use std::alloc::Global;
 use std::test::Fail;
 
 // The moment, and whose key a request has where it isn't k1; a call of the hall; its body or the text of the runner; and what is
-// answered: a status, and the body shown. A blocking request is answered with the moment up to which it waits.
+// answered: a status, and the body shown. A blocking request is answered with the moment until which it waits.
 const ROWS: &str = r#"0|PUT /api/v1/namespaces/_/actions/hello|HELLO|200 OK|
 0|PUT /api/v1/namespaces/_/actions/quick|{"exec":{"kind":"plain:1","code":"{\"cases\":[]}"},"limits":{"timeout":100},"parameters":[{"key":"a","value":1}]}|200 OK|
 0|POST /api/v1/namespaces/_/actions/hello?blocking=true&result=true||waiting|60000
@@ -79,13 +79,13 @@ fn row_of(row: &str) -> Option<Row<'_>> {
     })
 }
 
-// The moment, and the key behind it.
+// The moment, and the key after it.
 fn moment_of(part: &str) -> Option<(u64, &str)> {
     let (at, key) = part.split_once(' ').unwrap_or((part, "k1"));
     Some((decimal_of(at.as_bytes())?, key))
 }
 
-// An activation of the namespace of whoever asks.
+// An activation of the caller's own namespace.
 fn id_of(count: u64) -> Id {
     Id {
         namespace: 1,

@@ -1,4 +1,4 @@
--- What a walk over rows finds behind a parameter that takes a whole segment.
+-- What a walk over rows finds after a parameter that takes a whole segment.
 use Rattle.std.proofs.Common.{◌≡◌, ◌≢◌, ℕ, zero, suc, ◌+◌, ◌-◌, ◌<◌, List, [], ◌∷◌, ◌++◌, length, drop, Option, None, Bool, true, false, cond, refl, sym, ap, subst, ◌∙◌, arith, ltb, ◌==◌, nat_eq, ◌&&◌}
 use Rattle.std.proofs.lemmas.Bool.Decides.{nat_tests}
 use Rattle.std.proofs.lemmas.List.{length-append}
@@ -151,7 +151,7 @@ seek-param {K} t b p h =
     let m : param_token ≢ catch_all_token = λ q. omega arith in
     rw (step-miss b 256 [] t n, step-hit 256 [] t, under-nil t, step-miss 257 256 [] t m, seek-empty {K = K} 0 p) (or_else-none _)
 
--- what stands behind a part that isn't empty
+-- what is found after a part that isn't empty
 abbrev pub on_part : {K : Type 0} → (List (List ℕ) → Option K) → List (List ℕ) → Option K
 on_part f ss = cond (ltb 0 (length (head_of ss))) (f (tail_of ss)) None
 
@@ -195,7 +195,7 @@ part-cut {K} t f ends (b ∷ s) q h bytes =
     by true e on off = on e
     by false e on off = off e
 
--- a part, and what stands behind it
+-- a part, and what follows it
 pub first-part : {K : Type 0} (t : RowsOf K) (f : List (List ℕ) → Option K) → Ends t f → (path : List ℕ) → AreBytes path
     → first (under (256 ∷ []) t) path ≡ on_part f (segments path)
 first-part t f ends path bytes = elim (cut_of path) [

@@ -1,4 +1,4 @@
--- What a walk over rows finds, told by the segments of the path.
+-- What a walk over rows finds, as a function of the path's segments.
 use Rattle.std.proofs.Common.{◌≡◌, ◌≢◌, ℕ, ◌<◌, List, [], ◌∷◌, ◌++◌, Option, None, Bool, true, false, cond, refl, sym, ap, ◌∙◌, arith, ◌==◌}
 use Rattle.std.proofs.lemmas.Bool.Decides.{nat_tests}
 use Rattle.std.proofs.lemmas.List.{append-nil}
@@ -23,7 +23,7 @@ AreEnds [] = Unit {0}
 AreEnds (([], k) ∷ r) = AreEnds r
 AreEnds ((x ∷ t, k) ∷ r) = (x ≡ 47) × AreEnds r
 
--- what the rows find behind a segment is this function of the segments that follow
+-- what the rows find after a segment is this function of the segments that follow
 pub record Ends {K : Type 0} (rows : RowsOf K) (f : List (List ℕ) → Option K) : Type 0 where
   pub at_end : own rows ≡ f []
   pub at_slash : (path : List ℕ) → AreBytes path → first rows (47 ∷ path) ≡ f (segments path)
@@ -37,7 +37,7 @@ abbrev pub tail_of : List (List ℕ) → List (List ℕ)
 tail_of [] = []
 tail_of (s ∷ ss) = ss
 
--- what stands behind a word, or another answer
+-- what is found after a word, or another answer
 abbrev pub on_word : {K : Type 0} → List ℕ → (List (List ℕ) → Option K) → Option K → List (List ℕ) → Option K
 on_word w f other ss = cond (bytes_eq (head_of ss) w) (f (tail_of ss)) other
 
@@ -46,7 +46,7 @@ abbrev pub IsWord : List ℕ → Type 0
 IsWord [] = Unit {0}
 IsWord (x ∷ w) = (x < 256) × (x ≢ 47) × IsWord w
 
--- beside the word there is neither a parameter nor a rest, and behind it there is nothing
+-- beside the word there is neither a parameter nor a rest, and after it there is nothing
 abbrev pub Parts : {K : Type 0} → List ℕ → RowsOf K → Type 0
 Parts [] r = r ≡ []
 Parts (x ∷ w) r = (step param_token r ≡ []) × (step catch_all_token r ≡ []) × Parts w (step x r)
@@ -129,7 +129,7 @@ seek-beside x w t r b p h e f =
     let n2 : x ≢ catch_all_token = λ q. omega arith in
     seek-byte (under (x ∷ w) t ++ r) b p (step-beside param_token x w t r n1 ∙ e) (step-beside catch_all_token x w t r n2 ∙ f)
 
--- a word, with what stands beside it
+-- a word's rows, with the other rows beside them
 pub first-word : {K : Type 0} (w : List ℕ) (t r : RowsOf K) (f : List (List ℕ) → Option K) → Ends t f → Parts w r → IsWord w
     → (path : List ℕ) → AreBytes path → first (under w t ++ r) path ≡ on_word w f (first r path) (segments path)
 unfolding seek

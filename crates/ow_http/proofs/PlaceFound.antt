@@ -37,7 +37,7 @@ kind-ends kind =
     same s [] = refl
     same s (n ∷ ss) = none-in-part (nat_lt 0 (length s))
 
--- behind an action's name or a package's
+-- after an action's name or a package's
 abbrev in_package : List (List ℕ) → Option Place
 in_package [] = Some (place.Entity Action)
 in_package (s ∷ ss) = on_part (here place.Packaged) (s ∷ ss)

@@ -9,7 +9,7 @@ use Rattle.ow_http.specs.declared.http_refusal.HttpRefusal.{HttpRefusal}
 use Rattle.ow_http.specs.declared.http_refusal.HttpRefusal.TheVariants.{BadHead, NoRoute, BadMethod, BodyTooLarge, CutShort, NoMemory}
 use Rattle.ow_http.specs.declared.request.Read.{Read}
 
--- why bytes have no head, or that memory was wanted
+-- why bytes have no head, or that memory ran out
 abbrev HasWhy : List ℕ → HttpRefusal → Type 0
 HasWhy bytes e = ((e ≡ BadHead) × IsBadHead bytes) ⊎ ((e ≡ CutShort) × IsCutHead bytes) ⊎ (e ≡ NoMemory)
 

@@ -1,4 +1,4 @@
--- A request is told by its parts: that its route takes its method is known of each, and can't differ.
+-- A request is determined by its parts: that its route takes its method holds of every request, and the evidence can't differ.
 use Rattle.std.proofs.Common.{◌≡◌, ◌∙◌, true, Result, Ok, Err, IfOk, ap, sym}
 use mathlib.Core.HLevel.{is_prop→PathP}
 use Rattle.std.proofs.Math.Bool.{Bool-set}
@@ -32,7 +32,7 @@ pub equal : (r : Result Request NoMemory) (a : Request) → IfOk r (λ b. parts_
 equal (Ok b) a e = told_by_parts b a e
 equal (Err e) a h = h
 
--- what was read is told by its request, whose size is how many bytes it took
+-- what was read is determined by its request, whose size is how many bytes it took
 pub read_by_request : (a b : Read) → a.request ≡ b.request → a ≡ b
 read_by_request a b e =
     let used = a.sized ∙ (ap (λ r. r.size) e ∙ sym b.sized) in

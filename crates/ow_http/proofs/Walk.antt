@@ -68,7 +68,7 @@ seek-drop zero r p = refl
 seek-drop (suc k) r [] = refl
 seek-drop (suc k) r (b ∷ p) = seek-drop k r p
 
--- a byte that no parameter and no rest stands beside
+-- a byte that has no parameter and no rest beside it
 pub seek-byte : {K : Type 0} (r : RowsOf K) (b : ℕ) (p : List ℕ) → step param_token r ≡ [] → step catch_all_token r ≡ []
     → seek 0 r (b ∷ p) ≡ seek 0 (step b r) p
 unfolding seek

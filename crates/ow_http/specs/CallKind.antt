@@ -37,6 +37,6 @@ abbrev pub is_taken : CallKind → Bool
 is_taken NotTaken = false
 is_taken kind = true
 
--- whether requests of this method come to the route
+-- whether the route takes requests of this method
 abbrev pub takes : Route → Verb → Bool
 takes r method = is_taken (kind_of r method)

@@ -1,4 +1,4 @@
--- What the headers of a request tell.
+-- What the headers of a request say.
 use Rattle.std.specs.Prelude.{ℕ, [], ◌∷◌, Bool, ◌&&◌, ◌||◌, not, ◌==◌, nat_lt, if◌then◌else◌, List, codes, count_by, find, Option, Some, None}
 use Rattle.std.specs.List.{list_any}
 use Rattle.std.specs.Str.{str_eq_ignore_ascii_case, bytes_eq, is_utf8}
@@ -23,7 +23,7 @@ abbrev pub told_length : Option Pair → Option ℕ
 told_length None = Some 0
 told_length (Some h) = digits_of h.1
 
--- how long the body is, unless a header isn't served or the length stands twice. Zeros may stand in front of the length
+-- how long the body is, unless a header isn't served or the length is given twice. The length may begin with zeros
 unfoldable pub body_length : List Pair → Option ℕ
 body_length hs =
     if list_any is_refused hs || nat_lt 1 (count_by is_length hs) then None

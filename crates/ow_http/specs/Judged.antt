@@ -1,4 +1,4 @@
--- What a whole head asks for, or why it is refused. Of several faults the one that is told first here counts.
+-- What a whole head requests, or why it is refused. Of several faults the one that is defined first here counts.
 use Rattle.std.specs.Prelude.{ℕ, ◌+◌, ◌||◌, not, nat_lt, if◌then◌else◌, List, length, take, codes, map, Result, Ok, Err, ok_or}
 use Rattle.std.specs.List.{list_all}
 use Rattle.std.specs.Str.{is_utf8}
@@ -20,7 +20,7 @@ use Rattle.ow_http.specs.RouteAt.{route_at}
 use Rattle.ow_http.specs.Steps.{◌>>=◌}
 use Rattle.ow_http.specs.Verb.{verb_of}
 
--- a head's parts, how many bytes it has, and the bytes behind it
+-- a head's parts, how many bytes it has, and the bytes after it
 pub record Asked : Type 0 where
   pub method : List ℕ
   pub target : List ℕ
@@ -73,7 +73,7 @@ judged_method route n a = do
   method ← ok_or (verb_of a.method) BadMethod
   if takes route method then judged_body method route n a else Err BadMethod
 
--- the headers tell a length and nothing that isn't served, and the path has a route
+-- the headers give a length, none of them is one that isn't served, and the path has a route
 abbrev pub judged_head : Asked → Result Parts HttpRefusal
 judged_head a = do
   n ← ok_or (body_length a.fields) BadHead

@@ -65,7 +65,7 @@ in_version (word ∷ rest) =
     else if bytes_eq word (codes "web") then in_web rest
     else None
 
--- the routes stand under `/api/v1`
+-- the routes are under `/api/v1`
 abbrev pub in_root : List (List ℕ) → Option Place
 in_root (start ∷ api ∷ version ∷ rest) =
     if bytes_eq start [] && (bytes_eq api (codes "api") && bytes_eq version (codes "v1")) then in_version rest else None

@@ -9,7 +9,7 @@ use Rattle.ow_http.specs.declared.http_refusal.HttpRefusal.TheVariants.{BadHead,
 use Rattle.ow_http.specs.declared.request.Read.{Read}
 use Rattle.ow_http.specs.declared.request.Request.{Request}
 
--- what a request's head and the bytes behind it are judged as, where the bytes have one within the limits
+-- what a request's head and the bytes after it are judged as, where the bytes have a head within the limits
 abbrev pub IsHeaded : List ℕ → HttpRefusal → Type 0
 IsHeaded bytes e = (h : RequestHead) (rest : List ℕ) → HasHead bytes h rest → judged (asked_of h rest) ≡ Err e
 
@@ -24,7 +24,7 @@ IsRead bytes (Ok request) = (h : RequestHead) × (rest : List ℕ) × HasHead by
 IsRead bytes (Err NoMemory) = ⊥
 IsRead bytes (Err e) = IsHeaded bytes e × IsHeadless bytes e
 
--- they are read so, unless memory was wanted
+-- the bytes are read so, unless memory ran out
 abbrev pub ReadsAs : List ℕ → Result Read HttpRefusal → Type 0
 ReadsAs bytes (Ok read) = IsRead bytes (Ok read.request)
 ReadsAs bytes (Err e) = e ≢ NoMemory → IsRead bytes (Err e)

@@ -1,4 +1,4 @@
--- What clients are told of each refusal: a status and a text.
+-- What clients receive for each refusal: a status and a text.
 use Rattle.std.specs.Prelude.{ℕ, List, ◌++◌, codes, decimal}
 use Rattle.ow_value.specs.declared.reader.ValueRefusal.{ValueRefusal}
 use Rattle.ow_value.specs.declared.reader.ValueRefusal.TheVariants as values
@@ -97,7 +97,7 @@ service_notice NeedsAuth = row 401 (codes "Authentication is needed.")
 service_notice NotText = row 400 (codes "The field __ow_body has a wrong type.")
 service_notice OfficeBusy = row 503 (codes "The office is busy.")
 
--- what clients are told of a reason
+-- what clients receive for a reason
 unfoldable pub notice_of : Reason → Notice
 notice_of (reasons.Http e) = http_notice e
 notice_of (reasons.Call e) = call_notice e

@@ -1,4 +1,4 @@
--- The answer that tells a refusal.
+-- The answer that reports a refusal.
 use Rattle.std.specs.Prelude.{ℕ, List, [], codes, pos}
 use Rattle.ow_value.specs.Text.{compact}
 use Rattle.ow_value.specs.Value.{object, member, no_members, whole, text}

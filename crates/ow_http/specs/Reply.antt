@@ -21,14 +21,14 @@ status_line status = codes "HTTP/1.1 " ++ decimal status ++ codes " " ++ phrase_
 unfoldable pub header_line : Pair → List ℕ
 header_line h = h.0 ++ codes ": " ++ h.1 ++ line_end
 
--- the type is written apart, in front of the length
+-- the type is written separately, before the length
 unfoldable pub own_line : Pair → List ℕ
 own_line h = if is_named (codes "content-type") h then [] else header_line h
 
 abbrev pub own_lines : List Pair → List ℕ
 own_lines headers = flat_map own_line headers
 
--- the type that the last such header tells
+-- the type that the last such header gives, or else JSON
 abbrev pub type_of : List Pair → List ℕ
 type_of headers = unwrap_or (last_named (codes "content-type") headers) (codes "application/json")
 
@@ -40,7 +40,7 @@ length_line n = codes "Content-Length: " ++ decimal n ++ 13 ∷ 10 ∷ 13 ∷ 10
 abbrev pub is_bare : ℕ → Bool
 is_bare status = status == 204 || status == 304
 
--- what stands after the answer's own headers
+-- what follows the answer's own headers
 unfoldable pub body_part : Answer → List ℕ
 body_part a = if is_bare a.status then line_end
     else header_line (codes "Content-Type", type_of a.headers) ++ length_line (length a.body) ++ a.body

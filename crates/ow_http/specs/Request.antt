@@ -1,4 +1,4 @@
--- What a request tells.
+-- What a request says.
 use Rattle.ow_http.specs.declared.request.Request.{Request}
 use Rattle.ow_http.specs.Parts.{Parts}
 

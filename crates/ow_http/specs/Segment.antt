@@ -4,7 +4,7 @@ use Rattle.std.specs.List.{before_first, after_first}
 use Rattle.percent_encoding.specs.Percent.{percent_decode}
 use Rattle.ow_names.specs.Slash.{is_slash}
 
--- what stands after the first n slashes
+-- what follows the first n slashes
 abbrev pub after_slashes : ℕ → List ℕ → List ℕ
 after_slashes zero path = path
 after_slashes (suc n) path = after_slashes n (after_first is_slash path)

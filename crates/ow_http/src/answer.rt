@@ -7,8 +7,8 @@ use std::alloc::Global;
 pub struct Answer {
     /// Of three digits (RFC 9110, section 15).
     pub status: u16,
-    /// Those that the reply's writer doesn't make itself, and `Content-Type` where it isn't `application/json`. They are written as
-    /// they stand: whoever makes them sees that they hold no line end.
+    /// The headers that the reply's writer doesn't make itself, and `Content-Type` where it isn't `application/json`. They are
+    /// written as they are: the caller that makes them sees to it that they hold no line end.
     pub headers: Pairs,
     /// It isn't written where the status has none (204 and 304).
     pub body: Bytes,

@@ -4,8 +4,7 @@ ghost use Rattle.std.specs.Prelude.{◌≡◌, ◌↔◌, IsTrue};
 use crate::call_kind::CallKind;
 use ow_entity::Draft;
 use ow_names::FullName;
-use ow_several::copied3;
-use ow_value::{NoMemory, Params, PlainData};
+use ow_value::{NoMemory, Params, PlainData, copied3};
 use std::alloc::Global;
 
 /// What a request wants done. What its kind doesn't have is none, false, 0 or empty.
@@ -13,9 +12,9 @@ use std::alloc::Global;
 pub struct Call {
     /// What is to be done.
     pub kind: CallKind,
-    /// The entity that the path names, in the namespace that `_` stands for.
+    /// The entity that the path names, in the namespace that `_` means.
     pub name: Option<FullName>,
-    /// Whether a put may replace what stands.
+    /// Whether a put may replace the stored entity.
     pub overwrite: bool,
     /// Whether the answer to an invocation waits for its end.
     pub blocking: bool,

@@ -12,8 +12,7 @@ use crate::route::Route;
 use crate::values::{first_wrong, flag_of, limit_of, skip_of};
 use ow_entity::{Draft, EntityKind, EntityRefusal, FieldName, read_entity, read_status};
 use ow_names::{EntityName, FullName, NameRefusal, check_name, named_in};
-use ow_several::kept_beside;
-use ow_value::{Bytes, Params, PlainData, Str, Val, ValueRefusal, read_val};
+use ow_value::{Bytes, Params, PlainData, Str, Val, ValueRefusal, kept_beside, read_val};
 use std::alloc::Global;
 
 /// What a request wants, with the namespace `_` read as this one. Only the values that count for it are looked at.

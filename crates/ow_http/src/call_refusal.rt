@@ -4,12 +4,12 @@ use ow_names::NameRefusal;
 use ow_value::{NoMemory, PlainData, Str, ValueRefusal};
 use std::alloc::Global;
 
-/// Why a request is no call. Of several faults the one that stands first here is told.
+/// Why a request is no call. Of several faults the first in this list is reported.
 #[derive(Drop)]
 pub enum CallRefusal {
     /// The first wrong value of the query, by its name.
     BadQuery {
-        /// As it stands in the query, decoded.
+        /// As it appears in the query, decoded.
         name: Str,
     },
     /// A part of the path is no name.
@@ -26,7 +26,7 @@ impl CallRefusal {
     ghost use Rattle.std.specs.Prelude.{◌≡◌};
     ghost use Rattle.ow_http.specs.Number.{call_number};
 
-    /// By which a client tells the refusals apart. Want of memory has 0.
+    /// The number by which a client distinguishes the refusals. Out of memory has 0.
     pub fn number(&self) -> u32
         ensures { result ≡ call_number self.now }
     {

@@ -15,7 +15,7 @@ pub(crate) const MAX_HEAD: usize = 65536;
 /// How many headers a head has at most.
 pub(crate) const MAX_HEADERS: usize = 100;
 
-/// The head at the front of the bytes.
+/// The head that the bytes begin with.
 pub(crate) fn read_head(
     bytes: &[u8],
     headers: &mut [HeaderSpan],

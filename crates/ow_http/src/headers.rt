@@ -1,11 +1,11 @@
-// What the headers of a request tell.
+// What the headers of a request say.
 ghost use Rattle.std.specs.Prelude.{◌≡◌, count_by, find, option_copied};
 ghost use Rattle.std.specs.List.{list_any};
 ghost use Rattle.ow_http.specs.Headers.{is_named, is_refused, is_length, body_length, is_close, closes, last_named};
 
 use ow_value::{Str, digits_of};
 
-/// How long the body is. None where a header isn't served, or tells no length.
+/// How long the body is. None where a header isn't served or gives no length.
 #[tactic(auto, unfolding(crate::specs::Headers::body_length))]
 pub(crate) fn body_length(fields: &[(Str, Str)]) -> Option<u64>
     ensures { result ≡ body_length fields.now }

@@ -3,7 +3,7 @@ ghost use Rattle.std.specs.Prelude.{◌≡◌};
 
 use ow_value::NoMemory;
 
-/// Why bytes are no request. Of several faults the one that stands first here is told.
+/// Why bytes are no request. Of several faults the first in this list is reported.
 #[derive(Clone, Copy, PartialEq, Eq, Debug, Drop)]
 pub enum HttpRefusal {
     /// The head is malformed or over its limits, or has a header that isn't served.
@@ -23,7 +23,7 @@ pub enum HttpRefusal {
 impl HttpRefusal {
     ghost use Rattle.ow_http.specs.Number.{http_number};
 
-    /// By which a client tells the refusals apart. Want of memory has 0.
+    /// The number by which a client distinguishes the refusals. Out of memory has 0.
     pub fn number(self) -> u32
         ensures { result ≡ http_number self }
     {

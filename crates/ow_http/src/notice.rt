@@ -1,4 +1,4 @@
-// What is told of refusals: a status and a text.
+// What clients receive for refusals: a status and a text.
 ghost use Rattle.std.specs.Prelude.{◌≡◌, ◌++◌, IfOk, codes, decimal};
 ghost use Rattle.ow_http.specs.Reason.{call_notice, entity_notice, field_row, http_notice, limit_row, name_notice, notice_of, row, service_notice, value_notice};
 
@@ -11,7 +11,7 @@ use ow_names::NameRefusal;
 use ow_value::{NoMemory, Str, ValueRefusal};
 use std::alloc::Global;
 
-/// What is told of a refusal.
+/// What a client receives for a refusal.
 #[derive(Drop)]
 pub(crate) struct Notice {
     /// Of three digits (RFC 9110, section 15).
@@ -20,7 +20,7 @@ pub(crate) struct Notice {
     pub(crate) text: Str,
 }
 
-/// What is told of a reason.
+/// What a client receives for a reason.
 #[tactic(auto, unfolding(crate::specs::Reason::notice_of))]
 pub(crate) fn notice_of(alloc: Global, reason: &Reason) -> Result<Notice, NoMemory>
     ensures { IfOk result (λ n. n ≡ notice_of reason.now) }

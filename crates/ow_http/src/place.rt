@@ -9,7 +9,7 @@ pub(crate) enum Place {
     Namespaces,
     /// The entities of one kind.
     List(EntityKind),
-    /// An entity of this kind that stands in no package.
+    /// An entity of this kind that is in no package.
     Entity(EntityKind),
     /// An action of a package.
     Packaged,
@@ -19,6 +19,6 @@ pub(crate) enum Place {
     Activation(Part),
     /// A web action whose name ends the path.
     Web,
-    /// A web action with a rest of the path behind its name.
+    /// A web action with a rest of the path after its name.
     WebRest,
 }

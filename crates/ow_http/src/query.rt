@@ -4,8 +4,7 @@ ghost use Rattle.std.specs.Str.Lossy.{utf8_lossy};
 ghost use Rattle.form_urlencoded.specs.Form.{decode};
 ghost use Rattle.ow_http.specs.Query.{decoded_pair, pairs_of, path_of, query_of};
 
-use ow_several::kept_beside;
-use ow_value::{NoMemory, Pairs, Str};
+use ow_value::{NoMemory, Pairs, Str, kept_beside};
 use std::alloc::Global;
 
 /// The pairs of a query or of a form's body (URL Standard, section 5.1). What isn't UTF-8 is read as U+FFFD.
@@ -33,7 +32,7 @@ fn decoded_text(alloc: Global, bytes: &[u8]) -> Result<Str, NoMemory>
     Str::of(alloc, text.as_str())
 }
 
-/// What stands before the first `?`.
+/// What precedes the first `?`.
 pub(crate) fn path_of(target: &str) -> &str
     ensures { result.now ≡ path_of target.now }
 {
@@ -43,7 +42,7 @@ pub(crate) fn path_of(target: &str) -> &str
     }
 }
 
-/// What stands behind the first `?`, or nothing.
+/// What follows the first `?`, or nothing.
 pub(crate) fn query_of(target: &str) -> &str
     ensures { result.now ≡ query_of target.now }
 {

@@ -27,14 +27,13 @@ use crate::routes::Routes;
 use crate::segments::route_at;
 use crate::verb::Verb;
 use httparse::spans::{EMPTY_HEADER_SPAN, HeaderSpan, RequestSpans};
-use ow_several::kept_beside;
-use ow_value::{Bytes, NoMemory, Pairs, PlainData, Str, bytes_of};
+use ow_value::{Bytes, NoMemory, Pairs, PlainData, Str, bytes_of, kept_beside};
 use std::alloc::Global;
 
 /// How many bytes a body has at most.
 const MAX_BODY: u64 = 4194304;
 
-// The parts of a head whose target is text, and the bytes behind it.
+// The parts of a head whose target is text, and the bytes after it.
 #[derive(Drop)]
 struct Asked<'a> {
     method: &'a [u8],
@@ -46,7 +45,7 @@ struct Asked<'a> {
 }
 
 impl Routes {
-    /// The request at the front of the bytes, by routes that are there already.
+    /// The request that the bytes begin with, by routes that are there already.
     pub fn read(&self, alloc: Global, bytes: &[u8]) -> Result<Read, HttpRefusal>
         ensures { ReadsAs bytes.now result }
     {
@@ -67,7 +66,7 @@ impl Routes {
     }
 }
 
-/// The request at the front of the bytes. It makes the routes anew: one that reads many requests calls `Routes::read`.
+/// The request that the bytes begin with. Each call makes the routes again: to read many requests, call `Routes::read`.
 pub fn read_request(alloc: Global, bytes: &[u8]) -> Result<Read, HttpRefusal>
     ensures { ReadsAs bytes.now result }
 {
@@ -125,7 +124,7 @@ fn read_asked(
     judge(alloc, routes, asked)
 }
 
-// The request that is asked for, or the first refusal.
+// The request that the head makes, or the first refusal.
 #[tactic(auto, unfolding(crate::specs::Judged::judged))]
 fn judge(alloc: Global, routes: &Routes, asked: Asked<'_>) -> Result<Request, HttpRefusal>
     requires target { is_utf8 asked.target.now ≡ true }

@@ -1,4 +1,4 @@
-// Why something is refused, as clients are told it.
+// Why something is refused, as clients receive it.
 ghost use Rattle.std.specs.Prelude.{◌≡◌};
 
 use crate::call_refusal::CallRefusal;
@@ -14,7 +14,7 @@ pub enum Reason {
     Http(HttpRefusal),
     /// Query, path or body are no call.
     Call(CallRefusal),
-    /// The service refuses what is asked for.
+    /// The service refuses the call.
     Service(ServiceRefusal),
     /// A parameter that may not be given a value is given one.
     Fixed {
@@ -31,7 +31,7 @@ pub enum Reason {
 impl Reason {
     ghost use Rattle.ow_http.specs.Number.{number_of};
 
-    /// By which a client tells the refusals apart. Want of memory has 0.
+    /// The number by which a client distinguishes the refusals. Out of memory has 0.
     pub fn number(&self) -> u32
         ensures { result ≡ number_of self.now }
     {

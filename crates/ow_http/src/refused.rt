@@ -17,7 +17,7 @@ pub fn reason_text(alloc: Global, r: &Reason) -> Result<Str, NoMemory>
     Ok(notice.text)
 }
 
-/// The answer that tells a refusal: an object with the number and the text.
+/// The answer that reports a refusal: an object with the number and the text.
 pub fn refusal(alloc: Global, r: &Reason) -> Result<Answer, NoMemory>
     ensures { IfOk result (λ a. a ≡ refusal_of r.now) }
 {

@@ -6,8 +6,7 @@ ghost use Rattle.ow_http.specs.Route.{is_whole};
 use crate::call_kind::CallKind;
 use crate::route::Route;
 use crate::verb::Verb;
-use ow_several::{copied3, kept_beside};
-use ow_value::{Bytes, NoMemory, Pairs, PlainData, Str};
+use ow_value::{Bytes, NoMemory, Pairs, PlainData, Str, copied3, kept_beside};
 use std::alloc::Global;
 
 /// A request that was read. Its route takes its method.
@@ -21,11 +20,11 @@ pub struct Request {
     pub key: Option<Str>,
     /// The decoded pairs of the query, in their order (URL Standard, section 5.1).
     pub query: Pairs,
-    /// What stands after the first `?` of the target, as it came.
+    /// What follows the first `?` of the target, as it came.
     pub raw_query: Str,
     /// All headers in their order, with their names as they came.
     pub headers: Pairs,
-    /// As many bytes as `Content-Length` tells, or none.
+    /// As many bytes as `Content-Length` says, or none.
     pub body: Bytes,
     /// How many bytes head and body have.
     pub size: u64,
@@ -96,7 +95,7 @@ impl PlainData for Request {
 /// A request and how many bytes of the input it took.
 #[derive(Drop)]
 pub struct Read {
-    /// The request at the front of the input.
+    /// The request that the input begins with.
     pub request: Request,
     /// The bytes of its head and body.
     pub used: usize,

@@ -3,11 +3,10 @@ ghost use Rattle.std.specs.Prelude.{◌≡◌, ◌↔◌, IsTrue, IfOk};
 ghost use Rattle.ow_http.specs.declared.route.Route.TheVariants as route;
 
 use ow_entity::EntityKind;
-use ow_several::{copied2, copied3, copied4};
-use ow_value::{Bytes, NoMemory, PlainData, Str};
+use ow_value::{Bytes, NoMemory, PlainData, Str, copied2, copied3, copied4};
 use std::alloc::Global;
 
-/// Which part of an activation is asked for.
+/// Which part of an activation is requested.
 #[derive(Clone, Copy, PartialEq, Eq, Debug, Drop)]
 pub enum Part {
     /// The record.
@@ -36,7 +35,7 @@ pub enum Route {
         namespace: Bytes,
         /// The kind by which the path names it.
         kind: EntityKind,
-        /// The package in which it stands. Only an action has one.
+        /// The package that contains it. Only an action has one.
         package: Option<Bytes>,
         /// Its own name, without namespace and package.
         name: Bytes,
@@ -50,20 +49,20 @@ pub enum Route {
     Activation {
         /// `_` where it is the caller's own.
         namespace: Bytes,
-        /// As the path tells it, of any length.
+        /// As the path gives it, of any length.
         id: Bytes,
-        /// What of it is asked for.
+        /// What of it is requested.
         part: Part,
     },
     /// A web action.
     Web {
         /// That of the action.
         namespace: Bytes,
-        /// `default` where the action stands in no package.
+        /// `default` where the action is in no package.
         package: Bytes,
         /// The action's name with its extension.
         name: Bytes,
-        /// What follows the slash behind the name, with U+FFFD for what isn't UTF-8. It is empty where the path ends with the name.
+        /// What follows the slash after the name, with U+FFFD for what isn't UTF-8. It is empty where the path ends with the name.
         rest: Str,
     },
 }

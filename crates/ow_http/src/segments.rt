@@ -11,8 +11,7 @@ ghost use Rattle.ow_http.specs.Segment.{after_slashes, part_at};
 use crate::place::Place;
 use crate::route::Route;
 use ow_entity::EntityKind;
-use ow_several::kept_beside;
-use ow_value::{Bytes, NoMemory, Str};
+use ow_value::{Bytes, NoMemory, Str, kept_beside};
 use std::alloc::Global;
 
 /// The route of a path that names this place.

@@ -8,7 +8,7 @@ pub enum ServiceRefusal {
     NotFound,
     /// The package to be bound binds another itself.
     BindsABinding,
-    /// The entity stands, and isn't to be replaced.
+    /// The entity exists, and isn't to be replaced.
     Exists,
     /// The sequence has more than 50 actions.
     SequenceTooLong,
@@ -20,9 +20,9 @@ pub enum ServiceRefusal {
     UnknownKey,
     /// The right isn't granted in the namespace.
     NotGranted,
-    /// So many invocations were let through in the last minute, and so many are allowed.
+    /// `count` invocations were let through in the last minute, and at most `allowed` may be.
     MinuteLimit { count: u64, allowed: u64 },
-    /// So many activations haven't ended, and so many are allowed.
+    /// `count` activations haven't ended, and at most `allowed` may be open.
     ConcurrentLimit { count: u64, allowed: u64 },
     /// A trigger was fired so often in the last minute, and so often is allowed.
     FireLimit { count: u64, allowed: u64 },
@@ -49,7 +49,7 @@ pub enum ServiceRefusal {
 impl ServiceRefusal {
     ghost use Rattle.ow_http.specs.Number.{service_number};
 
-    /// By which a client tells the refusals apart.
+    /// The number by which a client distinguishes the refusals.
     pub fn number(self) -> u32
         ensures { result ≡ service_number self }
     {

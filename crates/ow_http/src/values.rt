@@ -5,7 +5,7 @@ ghost use Rattle.ow_http.specs.Values.{first_named, first_wrong, flag_of, is_fla
 use crate::call_kind::CallKind;
 use ow_value::{Str, decimal_of};
 
-/// How many rows a list has at most, where the query tells nothing.
+/// How many rows a list has at most, where the query gives no limit.
 const LISTED: u64 = 30;
 
 /// How many rows a list has at most.

@@ -21,13 +21,13 @@ pub(crate) fn all_are_judged(
     Ok(true)
 }
 
-/// Whether this is read, or this refusal told, by routes made for it.
+/// Whether the bytes are read as this, or refused so, by routes made for it.
 pub(crate) fn is_told(alloc: Global, bytes: &[u8], expected: &str) -> Result<bool, Fail> {
     let routes = Routes::new(alloc)?;
     reads_as(alloc, &routes, bytes, expected)
 }
 
-/// Whether this is read, or this refusal told.
+/// Whether the bytes are read as this, or refused so.
 pub(crate) fn reads_as(
     alloc: Global,
     routes: &Routes,

@@ -44,7 +44,7 @@ fn heads_and_bodies_are_refused_in_their_order(rt: HostRuntime) -> Result<(), Fa
     Ok(())
 }
 
-// A request with so many headers before its last one, and so many bytes in the value of that.
+// A request with `more` headers before its last one, and `filling` bytes in the value of that.
 fn long_head(alloc: Global, more: usize, filling: usize) -> Result<String, Fail> {
     let mut head = String::new(alloc);
     push_head(&mut head, more, filling)?;

@@ -31,7 +31,7 @@ fn is_written(alloc: Global, answer: &Answer, expected: &str) -> Result<bool, Fa
     Ok(written.as_slice() == expected.as_bytes())
 }
 
-// Whether this reply tells it.
+// Whether this reply reports the reason.
 fn is_refused(alloc: Global, reason: &Reason, expected: &str) -> Result<bool, Fail> {
     let answer = refusal(alloc, reason)?;
     is_written(alloc, &answer, expected)

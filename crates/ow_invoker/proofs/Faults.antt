@@ -1,4 +1,4 @@
--- The store's count of faults doesn't fall, whatever comes of an event.
+-- The store's count of faults doesn't fall, whatever the outcome of an event.
 use Rattle.std.proofs.Common.{◌≡◌, ◌≤◌, ℕ, List, [], ◌∷◌, ap, arith, inl, inr}
 use Rattle.ow_traits.specs.Telling.{Telling}
 use Rattle.ow_decide.specs.Decision.{commits}

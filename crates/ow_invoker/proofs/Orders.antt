@@ -36,7 +36,7 @@ behind_order : {P : Type 0} (telling : P → Telling) (old : HallView P) (at : �
 behind_order telling old at middle new order xs event o first (last, (chain, comes)) = (last, ((middle, (first, chain)), comes))
 
 module _ {P B : Type 0} (telling : P → Telling) (old : HallView P) (at : ℕ) where
-  -- the containers so far are removed, and this is told of them
+  -- the containers so far are removed, and these steps are reported
   abbrev pub Removed : HallView P → List (Laid B) → List (Laid B) → List Container → List TurnStep → Type 0
   Removed new shelf left cs steps = (xs : List Exchange) × (Removes cs shelf xs left × TellsAll telling old new at xs steps)
 
@@ -57,7 +57,7 @@ module _ {P B : Type 0} (telling : P → Telling) (old : HallView P) (at : ℕ) 
       )
 
   module _ (gives : Giving) (before now : Tally) where
-    -- all of them, and the steps are put together, or memory is wanted for it
+    -- all of them are removed, and the steps are put together, or there is no memory for that
     pub removed : (new : HallView P) (shelf left : List (Laid B)) (cs : List Container) (steps : List TurnStep) (result : Result (List TurnStep) Want) → RanNone before now
         → Removed new shelf left cs steps → IfOk result (λ list. list ≡ steps)
         → Carries telling gives before now old new at shelf left (orders.Remove cs) result
@@ -93,7 +93,7 @@ module _ {P B : Type 0} (telling : P → Telling) (old : HallView P) (at : ℕ) 
     in_list new shelf left order (Err f) (Ok list) h k = absurd k
     in_list new shelf left order (Err f) (Err e) h k = h
 
-    -- behind the order
+    -- after the order
     pub turned : (middle new : HallView P) (shelf left : List (Laid B)) (order : Order) → Comes telling old middle at events.Next (Answers (told.Next order))
         → (result : Result Turned Want) → TellsOf telling gives before now middle new at shelf left order result → Turns telling gives before now old new at shelf left result
     turned middle new shelf left order first (Ok t) (same, inl h) = inl (
@@ -125,7 +125,7 @@ module _ {P B : Type 0} (telling : P → Telling) (old : HallView P) (at : ℕ) 
       ),
     )
 
-    -- there was no order for want of memory
+    -- there was no order, since there was no memory
     pub unordered : (new : HallView P) (shelf left : List (Laid B)) (e : Want) → left ≡ shelf → RanNone before now → commits (decided old at events.Next) ≡ [] → Comes telling old new at events.Next Wants
         → Turns telling gives before now old new at shelf left (Err e)
     unordered new shelf left e same ran none w = inl ([], ((same, ran), wants_same telling old new at events.Next none w))

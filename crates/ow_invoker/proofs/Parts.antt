@@ -21,7 +21,7 @@ use Rattle.ow_invoker.specs.declared.turn.TurnStep.{TurnStep}
 use Rattle.ow_invoker.proofs.Running.{none_behind, once_behind, refused_from, replied_from, started_from}
 use Rattle.ow_invoker.proofs.Turning.{alone_told, chain_more, opens_so, told_behind}
 
--- of a kind that the runner starts, whatever came of the initialisation
+-- of a kind that the runner starts, whatever the outcome of the initialisation
 pub up_started : {B S : Type 0} (gives : Giving) (order : RunOrder) (ready : Readiness B S) → gives.starts order.kind → UpStarts gives order ready
 up_started gives order (Up living) k = k
 up_started gives order (Early held reply) k = tt
@@ -84,14 +84,14 @@ module _ {B : Type 0} where
   }
 
 module _ {P B : Type 0} (telling : P → Telling) where
-  -- behind a reply that is no answer
+  -- after a reply that is no answer
   pub ended : (old new : HallView P) (at : ℕ) (order : RunOrder) (laid : List (Laid B)) (answers late : Bool) (step : Option TurnStep) → answers ≡ false → Tells telling old new at (gone order) step
       → (xs : List Exchange) × (EndsBy answers late order laid xs laid × TellsAll telling old new at xs (listed step))
   ended old new at order laid answers late step isnt h =
       let t = alone_told telling old new at (gone order) step h in
       (t.0, (subst (λ b. EndsBy b late order laid t.0 laid) (sym isnt) (t.1.0, refl), t.1.1))
 
-  -- behind an answer that came late
+  -- after an answer that came late
   pub taken_back : (old new : HallView P) (at : ℕ) (order : RunOrder) (laid left : List (Laid B)) (answers late : Bool) (step : Option TurnStep) → answers ≡ true → late ≡ true
       → left ≡ without order.slot order.generation laid → Tells telling old new at (gone order) step
       → (xs : List Exchange) × (EndsBy answers late order laid xs left × TellsAll telling old new at xs (listed step))
@@ -99,13 +99,13 @@ module _ {P B : Type 0} (telling : P → Telling) where
       let t = alone_told telling old new at (gone order) step h in
       (t.0, (subst (λ b. EndsBy b late order laid t.0 left) (sym does) (subst (λ l. EndsBy true l order laid t.0 left) (sym comes_late) (t.1.0, is)), t.1.1))
 
-  -- behind one in time
+  -- after an answer in time
   pub stayed : (old : HallView P) (at : ℕ) (order : RunOrder) (laid : List (Laid B)) (answers late : Bool) → answers ≡ true → late ≡ false
       → (xs : List Exchange) × (EndsBy answers late order laid xs laid × TellsAll telling old old at xs [])
   stayed old at order laid answers late does in_time =
       ([], (subst (λ b. EndsBy b late order laid [] laid) (sym does) (subst (λ l. EndsBy true l order laid [] laid) (sym in_time) (refl, refl)), (refl, refl)))
 
-  -- a reply was booked, and what is told of its end follows
+  -- a reply was booked, and the report on its end follows
   pub booked : (old middle new : HallView P) (at : ℕ) (order : RunOrder) (reply : RunReply) (answers : Bool) (laid left : List (Laid B)) (first : Option TurnStep) (answer : Told) (second : Option TurnStep)
       → answers ≡ is_answer reply
       → Comes telling old middle at (events.Answered order.run reply) (Answers answer) → listed first ≡ steps_of (events.Answered order.run reply) answer
@@ -193,7 +193,7 @@ module _ {P B : Type 0} (telling : P → Telling) where
       ),
     )
 
-    -- there was no reply for want of memory
+    -- there was no reply, since there was no memory
     pub given_up : (old middle new : HallView P) (at : ℕ) (order : RunOrder) (shelf : List (Laid B)) (e : Want) (steps : TwoSteps) → RanOnce before now
         → (xs : List Exchange) × (OpensBy (is_warm order.start) order xs × Chain telling old middle at xs)
         → (xs : List Exchange) × (AreBoth (lost order) (gone order) xs × Chain telling middle new at xs × (both steps ≡ steps_in xs))
@@ -257,7 +257,7 @@ module _ {P B : Type 0} (telling : P → Telling) where
         ),
       )
 
-      -- memory was wanted for it
+      -- there was no memory for it
       pub unready : (e : Want) (steps : TwoSteps) → left ≡ there → is_warm order.start ≡ false → RanNone before now
           → (xs : List Exchange) × (AreBoth (lost order) (gone order) xs × Chain telling old new at xs × (both steps ≡ steps_in xs))
           → Carries telling gives before now old new at shelf left (orders.Run order) (Err e)

@@ -51,7 +51,7 @@ replied_within d kind code params (Exit status logs) s t le x = s.back kind code
 replied_within d kind code params (NoStart text) s t le x = s.back kind code params (NoStart text) x
 replied_within {a = a} {b = b} {c = c} d kind code params Fault s t le x = rose_within a.faults b.faults c.faults d.faults s.later t.later le x
 
--- a reply in place of a start is one to each code
+-- a reply instead of a start is a reply to each code
 pub down_replied : (f : Giving) (a b : Tally) (kind : Kind) (code : List ℕ) (params : Pairs) (reply : RunReply)
     → RefusesStart f a b kind reply → Replies f a b kind code params reply
 down_replied f a b kind code params (NoStart text) x = x code params
@@ -65,7 +65,7 @@ steady_refl f a = record { back = λ kind code params reply x. x; on = λ kind c
 pub idles_refl : (f : Giving) (a : Tally) → Idles f f a a
 idles_refl f a = record { steady = steady_refl f a; ran = refl }
 
--- what a call replies it replies too with those behind it
+-- a reply between the tallies `a` and `b` is also one between `a` and `c`, where `c` has no fewer faults than `b`
 pub replied_on : {g h : Giving} {a b : Tally} (c : Tally) (kind : Kind) (code : List ℕ) (params : Pairs) (reply : RunReply)
     → Steady g h a b → b.faults ≤ c.faults → Replies g a b kind code params reply → Replies g a c kind code params reply
 replied_on {g = g} {a = a} c kind code params reply s le x = replied_within c kind code params reply (steady_refl g a) s le x

@@ -21,7 +21,7 @@ steps_more [] ys = refl
 steps_more (x ∷ xs) ys = ap (λ s. steps_of x.event x.answer ++ s) (steps_more xs ys) ∙ sym (append_assoc (steps_of x.event x.answer) (steps_in xs) (steps_in ys))
 
 module _ {P : Type 0} (telling : P → Telling) where
-  -- where memory is wanted for what changes nothing of what is kept, the hall is what it was
+  -- where the memory runs out for an event that commits nothing, the hall is what it was
   pub wants_same : (old new : HallView P) (at : ℕ) (event : Event) → commits (decided old at event) ≡ [] → Comes telling old new at event Wants → new ≡ old
   wants_same old new at event none h =
       let stays : Stays telling [] old.store new.store = subst (λ cs. Stays telling cs old.store new.store) none h.2 in
@@ -55,7 +55,7 @@ module _ {P : Type 0} (telling : P → Telling) where
     ),
   )
 
-  -- that a run began is told, or needn't be
+  -- the hall is notified that a run began, or needn't be
   pub opened_cold : (old new : HallView P) (at : ℕ) (order : RunOrder) (a : Told) → is_warm order.start ≡ false → Comes telling old new at (events.Begun order.run) (Answers a)
       → (xs : List Exchange) × (OpensBy (is_warm order.start) order xs × Chain telling old new at xs)
   opened_cold old new at order a cold comes = (
@@ -71,7 +71,7 @@ opens_silently : (b : Bool) (order : RunOrder) (xs : List Exchange) → OpensBy 
 opens_silently true order xs h = ap steps_in h
 opens_silently false order xs h = ap steps_in h.1
 
--- nothing is told of it
+-- the beginning of a run adds no step
 pub told_behind : (b : Bool) (order : RunOrder) (xs ys : List Exchange) (steps : List TurnStep) → OpensBy b order xs → steps ≡ steps_in ys → steps ≡ steps_in (xs ++ ys)
 told_behind b order xs ys steps h e = e ∙ ap (λ s. s ++ steps_in ys) (sym (opens_silently b order xs h)) ∙ sym (steps_more xs ys)
 

@@ -23,7 +23,7 @@ use Rattle.ow_invoker.specs.declared.turn.TurnStep.{TurnStep}
 use Rattle.ow_invoker.specs.declared.turn.TurnStep.TheVariants.{StoreFault}
 use Rattle.ow_invoker.specs.declared.turn.Turned.{Turned}
 
--- ---- what is told of an order
+-- ---- the report on an order
 
 abbrev pub listed : Option TurnStep → List TurnStep
 listed None = []
@@ -40,7 +40,7 @@ abbrev pub in_order : Result TwoSteps Want → Result (List TurnStep) Want
 in_order (Ok steps) = Ok (both steps)
 in_order (Err e) = Err e
 
--- they are put into a list, or memory is wanted
+-- the two steps are put into a list, or there is no memory
 abbrev pub Lists : Result TwoSteps Want → Result (List TurnStep) Want → Type 0
 Lists (Ok steps) (Ok list) = list ≡ both steps
 Lists (Ok steps) (Err e) = Unit {0}
@@ -49,11 +49,11 @@ Lists (Err e) (Err f) = Unit {0}
 
 -- ---- one event
 
--- the hall takes an event or refuses it, and this is told of it
+-- the hall accepts or refuses an event, and this step, if any, is reported
 abbrev pub Tells : {P : Type 0} → (P → Telling) → HallView P → HallView P → ℕ → Event → Option TurnStep → Type 0
 Tells telling old new at event step = (answer : Told) × (Comes telling old new at event (Answers answer) × (listed step ≡ steps_of event answer))
 
--- these events, and what is told of them
+-- these events, and the steps that are reported
 abbrev pub TellsAll : {P : Type 0} → (P → Telling) → HallView P → HallView P → ℕ → List Exchange → List TurnStep → Type 0
 TellsAll telling old new at xs steps = Chain telling old new at xs × (steps ≡ steps_in xs)
 
@@ -64,7 +64,7 @@ abbrev pub LaysDown : {B : Type 0} → RunOrder → RunReply → List (Laid B) �
 LaysDown order reply shelf laid (Ok done) = LiesBy (is_answer reply) order shelf laid
 LaysDown order reply shelf laid (Err e) = laid ≡ shelf
 
--- what becomes of it behind the reply, by whether that is an answer, and came late
+-- what becomes of the container after the reply, by whether the reply is an answer, and whether it came late
 abbrev pub EndsBy : {B : Type 0} → Bool → Bool → RunOrder → List (Laid B) → List Exchange → List (Laid B) → Type 0
 EndsBy true false order laid xs left = (xs ≡ []) × (left ≡ laid)
 EndsBy true true order laid xs left = IsAlone (gone order) xs × (left ≡ without order.slot order.generation laid)
@@ -80,7 +80,7 @@ pub record IsBooked {B : Type 0} (order : RunOrder) (reply : RunReply) (laid : L
 abbrev pub reply_of : RunOrder → RunReply → Event
 reply_of order reply = events.Answered order.run reply
 
--- or the store fails, and that alone is told
+-- or the store fails, and that alone is reported
 abbrev pub FailsBy : {P : Type 0} → (P → Telling) → HallView P → HallView P → ℕ → Event → TwoSteps → Type 0
 FailsBy telling old new at event steps = Comes telling old new at event Fails × (both steps ≡ StoreFault ∷ [])
 
@@ -114,7 +114,7 @@ Performs telling gives before now old new at order shelf left (Err e) =
 
 -- ---- getting a container up and initialised
 
--- it is had, and is up, or its code is refused, or memory was wanted behind that; or it doesn't lie there
+-- the container is available, and then it is up, or its code is refused, or the memory ran out; or it doesn't lie there
 abbrev pub Readied : {B : Type 0} → Giving → Tally → Tally → RunOrder → List (Laid B) → List (Laid B) → Readiness B (Unit {0}) → Type 0
 Readied gives before now order shelf left (Up living) = (is_missing order shelf ≡ false) × (left ≡ shelf_at order shelf) × IsStarted gives order
 Readied gives before now order shelf left (Early held reply) =
@@ -140,7 +140,7 @@ abbrev pub FailsOn : {P B : Type 0} → (P → Telling) → Giving → Tally →
 FailsOn telling gives before now old new at shelf left order steps =
     (xs : List Exchange) × ((event : Event) × (Offers gives before now shelf order xs event left × ChainTo telling old new at xs event Fails × (steps ≡ StoreFault ∷ [])))
 
--- memory is wanted for it
+-- the memory runs out for an order
 abbrev pub StopsOn : {P B : Type 0} → (P → Telling) → Giving → Tally → Tally → HallView P → HallView P → ℕ → List (Laid B) → List (Laid B) → Order → Type 0
 StopsOn telling gives before now old new at shelf left order =
     (xs : List Exchange) × ((Stops gives before now shelf order xs left ⊎ Follows gives before now shelf order xs left) × Chain telling old new at xs)
@@ -156,7 +156,7 @@ Carries telling gives before now old new at shelf left order (Ok steps) =
 Carries telling gives before now old new at shelf left order (Err e) =
     StopsOn telling gives before now old new at shelf left order ⊎ StopsLate telling gives before now old new at shelf left order
 
--- and told
+-- and reported, with its order
 abbrev pub TellsOf : {P B : Type 0} → (P → Telling) → Giving → Tally → Tally → HallView P → HallView P → ℕ → List (Laid B) → List (Laid B) → Order → Result Turned Want → Type 0
 TellsOf telling gives before now old new at shelf left order (Ok turned) = (turned.order ≡ order) × Carries telling gives before now old new at shelf left order (Ok turned.steps)
 TellsOf telling gives before now old new at shelf left order (Err e) = Carries telling gives before now old new at shelf left order (Err e)

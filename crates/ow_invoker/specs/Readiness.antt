@@ -4,7 +4,7 @@ use Rattle.ow_floor.specs.declared.answers.RunOrder.{RunOrder}
 use Rattle.ow_invoker.specs.declared.readying.Readiness.{Readiness}
 use Rattle.ow_invoker.specs.declared.readying.Readiness.TheVariants.{Early, NoMemory, NotHad, Up}
 
--- it is up, or its code is refused, or memory was wanted
+-- it is up, or its code is refused, or there was no memory
 abbrev pub Initialised : {B S : Type 0} → Giving → Tally → Tally → RunOrder → Readiness B S → Type 0
 Initialised gives before now order (Up living) = Unit {0}
 Initialised gives before now order (Early held reply) = RefusesCode gives before now order.kind order.code reply

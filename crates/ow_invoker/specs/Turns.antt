@@ -1,4 +1,4 @@
--- What one turn comes to: a chain of calls of the hall, what the turn tells of them, and what lies on the shelf afterwards.
+-- What one turn results in: a chain of calls of the hall, what the turn reports of them, and what lies on the shelf afterwards.
 use Rattle.std.specs.Prelude.{◌≡◌, ◌⊎◌, ◌&&◌, ◌++◌, ℕ, Bool, true, false, not, List, [], ◌∷◌, Result, Ok, Err, if◌then◌else◌}
 use Rattle.ow_traits.specs.Telling.{Telling}
 use Rattle.ow_traits.specs.Runner.{Giving, RanNone, RanOnce, RefusesCode, RefusesStart, Replies, Tally, is_answer}
@@ -27,7 +27,7 @@ use Rattle.ow_invoker.specs.declared.turn.Turned.{Turned}
 
 -- ---- chains
 
--- an event, and what the hall told of it
+-- an event, and the hall's answer
 pub record Exchange : Type 0 where
   pub event : Event
   pub answer : Told
@@ -35,22 +35,22 @@ pub record Exchange : Type 0 where
 abbrev pub exchange : Event → Told → Exchange
 exchange e t = record { event = e; answer = t }
 
--- events that the hall answered at one moment, the first first; behind none it is what it was
+-- events that the hall answered at one moment, the earliest first; without any the hall is what it was
 abbrev pub Chain : {P : Type 0} → (P → Telling) → HallView P → HallView P → ℕ → List Exchange → Type 0
 Chain telling old new at [] = new ≡ old
 Chain {P} telling old new at (x ∷ xs) = (middle : HallView P) × (Comes telling old middle at x.event (Answers x.answer) × Chain telling middle new at xs)
 
--- behind such events comes one more, of which this comes
+-- after such events follows one more, with this outcome
 abbrev pub ChainTo : {P : Type 0} → (P → Telling) → HallView P → HallView P → ℕ → List Exchange → Event → Outcome → Type 0
 ChainTo {P} telling old new at xs event outcome = (middle : HallView P) × (Chain telling old middle at xs × Comes telling middle new at event outcome)
 
--- of which nothing comes: memory is wanted, or the store fails
+-- the last event isn't carried out: there is no memory for it, or the store fails
 abbrev pub ChainUndone : {P : Type 0} → (P → Telling) → HallView P → HallView P → ℕ → List Exchange → Event → Type 0
 ChainUndone telling old new at xs event = ChainTo telling old new at xs event Wants ⊎ ChainTo telling old new at xs event Fails
 
--- ---- what a turn tells
+-- ---- what a turn reports
 
--- a loss and a going that were taken, and what happened at an end
+-- the loss of a run and the going of a container, where the hall accepted them, and what happened at the end of a run
 abbrev pub steps_of : Event → Told → List TurnStep
 steps_of (events.Lost run) told.Done = Lost run ∷ []
 steps_of (events.Gone slot generation) told.Done = Gone slot generation ∷ []
@@ -105,27 +105,28 @@ StartsBy starts.Warm gives kind = Unit {0}
 abbrev pub IsStarted : Giving → RunOrder → Type 0
 IsStarted gives order = StartsBy order.start gives order.kind
 
--- that the run began is told, where its start isn't warm
+-- the hall is notified that the run began, where its start isn't warm
 abbrev pub OpensBy : Bool → RunOrder → List Exchange → Type 0
 OpensBy true order xs = xs ≡ []
 OpensBy false order xs = IsAlone (events.Begun order.run) xs
 
--- that the run began is told where its start isn't warm, and left out only where the code is refused, which is then not run; else it is run once
+-- the hall is notified that the run began, where its start isn't warm. That is left out only where the code is refused, which is then
+-- not run; else the code is run once
 abbrev pub Opens : Giving → Tally → Tally → RunOrder → RunReply → List Exchange → Type 0
 Opens gives before now order reply [] = ((is_warm order.start ≡ true) × RanOnce before now) ⊎ (RefusesCode gives before now order.kind order.code reply × RanNone before now)
 Opens gives before now order reply (x ∷ xs) =
     (is_warm order.start ≡ false) × IsStarted gives order × (x.event ≡ events.Begun order.run) × (xs ≡ []) × RanOnce before now
 
--- behind an answer in time the container lies on the shelf
+-- after an answer in time the container lies on the shelf
 abbrev pub StaysLaid : {B : Type 0} → RunOrder → List (Laid B) → List Exchange → List (Laid B) → Type 0
 StaysLaid order shelf xs left = (xs ≡ []) × IsLaid order.slot order.generation shelf left
 
--- behind one that came late it is taken back, and gone
+-- after an answer that came late the container is taken back, and gone
 abbrev pub TakenBack : {B : Type 0} → RunOrder → List (Laid B) → List Exchange → List (Laid B) → Type 0
 TakenBack {B} order shelf xs left =
     IsAlone (gone order) xs × ((laid : List (Laid B)) × (IsLaid order.slot order.generation shelf laid × (left ≡ without order.slot order.generation laid)))
 
--- behind another reply it is gone
+-- after another reply the container is gone
 abbrev pub Ended : {B : Type 0} → RunOrder → List (Laid B) → List Exchange → List (Laid B) → Type 0
 Ended order shelf xs left = IsAlone (gone order) xs × (left ≡ shelf)
 
@@ -142,7 +143,7 @@ pub record IsSettled {B : Type 0} (order : RunOrder) (reply : RunReply) (shelf :
   pub is : xs ≡ exchange (events.Answered order.run reply) answer ∷ ending
   pub rests : Rests (is_answer reply) (is_late answer) order shelf ending left
 
--- the hall is told that the run began, where that is told, and of a reply that the runner gives, or of a fault where its count rose
+-- the hall is notified that the run began, where that is due, and of a reply that the runner gives, or of a fault where its count rose
 pub record IsCarriedOut {B : Type 0} (gives : Giving) (before now : Tally) (order : RunOrder) (shelf : List (Laid B)) (xs : List Exchange) (left : List (Laid B)) : Type 0 where
   pub reply : RunReply
   pub replies : Replies gives before now order.kind order.code order.params reply
@@ -185,10 +186,10 @@ Follows gives before now shelf (orders.Prewarm order) xs left = PrewarmFollows g
 Follows gives before now shelf (orders.Remove containers) xs left = Removes containers shelf xs left × RanNone before now
 Follows gives before now shelf (orders.Nothing why) xs left = (xs ≡ []) × (left ≡ shelf) × RanNone before now
 
--- ---- want of memory, and faults of the store
+-- ---- out of memory, and faults of the store
 
--- before there is a reply: the container is stopped, and the run is lost; its code was run once, as what began, or the container wasn't
--- ready, and it wasn't
+-- out of memory before there is a reply: the container is stopped, and the run is lost. Its code was run once, as a run that began; or
+-- the container wasn't ready, and the code wasn't run
 pub record IsGivenUp {B : Type 0} (before now : Tally) (order : RunOrder) (shelf : List (Laid B)) (xs : List Exchange) (left : List (Laid B)) : Type 0 where
   pub opening : List Exchange
   pub opens : (OpensBy (is_warm order.start) order opening × RanOnce before now) ⊎ ((opening ≡ []) × (is_warm order.start ≡ false) × RanNone before now)
@@ -197,7 +198,7 @@ pub record IsGivenUp {B : Type 0} (before now : Tally) (order : RunOrder) (shelf
   pub is : xs ≡ opening ++ ending
   pub left_is : left ≡ shelf
 
--- there is no room for the container of an answer: it is stopped, and the reply isn't booked. What was booked before stands
+-- there is no room for the container of an answer: it is stopped, and the reply isn't booked. What was booked before stays booked
 pub record IsUnlaid {B : Type 0} (gives : Giving) (before now : Tally) (order : RunOrder) (shelf : List (Laid B)) (xs : List Exchange) (left : List (Laid B)) : Type 0 where
   pub reply : RunReply
   pub replies : Replies gives before now order.kind order.code order.params reply
@@ -209,7 +210,7 @@ abbrev pub LiesBy : {B : Type 0} → Bool → RunOrder → List (Laid B) → Lis
 LiesBy true order shelf left = IsLaid order.slot order.generation shelf left
 LiesBy false order shelf left = left ≡ shelf
 
--- a reply is to be booked: its container lies there already. What was booked before stands
+-- a reply is to be booked: its container lies there already. What was booked before stays booked
 pub record IsOffered {B : Type 0} (gives : Giving) (before now : Tally) (order : RunOrder) (reply : RunReply) (shelf : List (Laid B)) (xs : List Exchange) (left : List (Laid B)) : Type 0 where
   pub replies : Replies gives before now order.kind order.code order.params reply
   pub opens : Opens gives before now order reply xs
@@ -244,7 +245,7 @@ abbrev pub IsTurn : {B : Type 0} → Giving → Tally → Tally → List (Laid B
 IsTurn gives before now shelf order [] left = ⊥
 IsTurn gives before now shelf order (x ∷ xs) left = (x ≡ exchange events.Next (told.Next order)) × Follows gives before now shelf order xs left
 
--- the front of a turn: nothing, or the order, and what follows it up to the want of memory
+-- the first part of a turn: nothing, or the order, and what follows it until the memory runs out
 abbrev pub BeginsTurn : {B : Type 0} → Giving → Tally → Tally → List (Laid B) → List Exchange → List (Laid B) → Type 0
 BeginsTurn gives before now shelf [] left = (left ≡ shelf) × RanNone before now
 BeginsTurn gives before now shelf (x ∷ xs) left =
@@ -255,26 +256,26 @@ abbrev pub OffersTurn : {B : Type 0} → Giving → Tally → Tally → List (La
 OffersTurn gives before now shelf order [] event left = ⊥
 OffersTurn gives before now shelf order (x ∷ xs) event left = (x ≡ exchange events.Next (told.Next order)) × Offers gives before now shelf order xs event left
 
--- the turn is made, and told
+-- the turn is made, and reported
 abbrev pub IsMade : {P B : Type 0} → (P → Telling) → Giving → Tally → Tally → HallView P → HallView P → ℕ → List (Laid B) → List (Laid B) → Turned → Type 0
 IsMade telling gives before now old new at shelf left turned =
     (xs : List Exchange) × (IsTurn gives before now shelf turned.order xs left × Chain telling old new at xs × (turned.steps ≡ steps_in xs))
 
--- the store fails at the runner's reply: that is told behind the order, and nothing else; the run stays live
+-- the store fails at the runner's reply: only that is reported after the order, and the run stays live
 abbrev pub HasFailed : {P B : Type 0} → (P → Telling) → Giving → Tally → Tally → HallView P → HallView P → ℕ → List (Laid B) → List (Laid B) → Turned → Type 0
 HasFailed telling gives before now old new at shelf left turned =
     (xs : List Exchange) × ((event : Event) × (OffersTurn gives before now shelf turned.order xs event left × ChainTo telling old new at xs event Fails × (turned.steps ≡ StoreFault ∷ [])))
 
--- memory is wanted: what was booked stands
+-- the memory runs out: what was booked stays booked
 abbrev pub HasStopped : {P B : Type 0} → (P → Telling) → Giving → Tally → Tally → HallView P → HallView P → ℕ → List (Laid B) → List (Laid B) → Type 0
 HasStopped telling gives before now old new at shelf left = (xs : List Exchange) × (BeginsTurn gives before now shelf xs left × Chain telling old new at xs)
 
--- or is wanted for the reply, or behind a fault of the store at it
+-- or it runs out for the reply, or after a fault of the store at the reply
 abbrev pub HasStoppedLate : {P B : Type 0} → (P → Telling) → Giving → Tally → Tally → HallView P → HallView P → ℕ → List (Laid B) → List (Laid B) → Type 0
 HasStoppedLate telling gives before now old new at shelf left =
     (order : Order) × ((xs : List Exchange) × ((event : Event) × (OffersTurn gives before now shelf order xs event left × ChainUndone telling old new at xs event)))
 
--- what comes of a turn
+-- the outcome of a turn
 abbrev pub Turns : {P B : Type 0} → (P → Telling) → Giving → Tally → Tally → HallView P → HallView P → ℕ → List (Laid B) → List (Laid B) → Result Turned Want → Type 0
 Turns telling gives before now old new at shelf left (Ok turned) =
     IsMade telling gives before now old new at shelf left turned ⊎ HasFailed telling gives before now old new at shelf left turned

@@ -7,7 +7,7 @@ use ow_traits::{RunReply, Runner};
 use ow_value::NoMemory;
 use std::alloc::Global;
 
-/// A container that can't be let go: it is laid down, on a shelf or a board, or stopped.
+/// A container that can't be dropped: it is laid down, on a shelf or a board, or stopped.
 pub struct Living<B: Drop> {
     /// What the runner started.
     pub container: B,
@@ -21,7 +21,8 @@ pub fn stop<R: Runner>(runner: &mut R, living: Living<R::Container>)
     runner.stop(container);
 }
 
-/// Makes the container ready for the order's code. A reply in place of that is told. After want of memory it is still in hand.
+/// Makes the container ready for the order's code, or returns the reply that came instead. Out of memory, the container is still
+/// in hand.
 pub fn init<R: Runner>(
     alloc: Global,
     runner: &mut R,
@@ -34,7 +35,7 @@ pub fn init<R: Runner>(
     runner.init(alloc, &mut living.container, order.kind, &order.code)
 }
 
-/// Runs the order once in the container. After want of memory it is still in hand.
+/// Runs the order once in the container. Out of memory, the container is still in hand.
 pub fn run<R: Runner>(
     alloc: Global,
     runner: &mut R,

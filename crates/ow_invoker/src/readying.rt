@@ -16,9 +16,9 @@ pub enum Readiness<B: Drop, S> {
     Up(Living<B>),
     /// It replied before any parameters, and may live.
     Early(Option<Living<B>>, RunReply),
-    /// It isn't had. This was seen in its place.
+    /// It isn't available. This was seen in its place.
     NotHad(S),
-    /// Memory was wanted, and the container in hand is stopped.
+    /// There was no memory, and the container in hand is stopped.
     NoMemory,
 }
 
@@ -45,7 +45,7 @@ pub(crate) fn make_ready<R: Runner>(
     }
 }
 
-/// Starts the container of a run, and initialises it. For want of memory none is left.
+/// Starts the container of a run, and initialises it. Out of memory, no container is left.
 pub fn open<R: Runner, S>(
     alloc: Global,
     runner: &mut R,
@@ -62,7 +62,7 @@ pub fn open<R: Runner, S>(
     }
 }
 
-/// Initialises a container in hand. For want of memory it is stopped.
+/// Initialises a container in hand. Out of memory, the container is stopped.
 pub fn initialise<R: Runner, S>(
     alloc: Global,
     runner: &mut R,

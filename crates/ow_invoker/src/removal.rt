@@ -13,7 +13,7 @@ use ow_traits::{Keeper, Runner};
 use ow_value::{Items, NoMemory};
 use std::alloc::Global;
 
-/// Stops the containers, and tells of each that it is gone.
+/// Stops the containers, and reports of each that it is gone.
 pub(crate) fn remove<P: Keeper + Drop, R: Runner>(
     alloc: Global,
     hall: &mut Hall<P>,
@@ -45,7 +45,7 @@ pub(crate) fn remove<P: Keeper + Drop, R: Runner>(
 fn note(steps: &mut Vec<TurnStep>, step: Option<TurnStep>)
     requires { vec_len steps.old < vec_capacity steps.old }
     ensures steps { steps.new.items ≡ steps.old.items ++ listed step }
-    ensures few { vec_len steps.new ≤ vec_len steps.old + 1 }
+    ensures bounded { vec_len steps.new ≤ vec_len steps.old + 1 }
     ensures room { vec_capacity steps.new ≡ vec_capacity steps.old }
 {
     if let Some(step) = step {

@@ -1,4 +1,4 @@
-// What the hall is told of containers and runs, and what a turn tells of it.
+// Reports to the hall on containers and runs, and the steps that a turn returns for them.
 ghost use Rattle.std.specs.Prelude.{◌≡◌, List, IfOk};
 ghost use Rattle.ow_traits.specs.Runner.{Idles};
 ghost use Rattle.ow_decide.specs.declared.events.Event.TheVariants as events;
@@ -17,7 +17,7 @@ use ow_traits::{Keeper, Runner};
 use ow_value::NoMemory;
 use std::alloc::Global;
 
-/// What is told of one order: at most two things.
+/// The report on one order: at most two steps.
 pub(crate) type TwoSteps = (Option<TurnStep>, Option<TurnStep>);
 
 /// The run is lost.

@@ -16,7 +16,7 @@ use ow_traits::{Keeper, RunReply, Runner};
 use ow_value::NoMemory;
 use std::alloc::Global;
 
-/// Carries out a run, and tells what came of it.
+/// Carries out a run, and returns its steps.
 pub(crate) fn run<P: Keeper + Drop, R: Runner>(
     alloc: Global,
     hall: &mut Hall<P>,
@@ -113,7 +113,7 @@ fn lay_down<R: Runner>(
     }
 }
 
-// Books the reply, and tells what happened and what is gone.
+// Books the reply, and returns what happened and what is gone.
 fn book<P: Keeper + Drop, R: Runner>(
     alloc: Global,
     hall: &mut Hall<P>,
@@ -141,7 +141,7 @@ fn book<P: Keeper + Drop, R: Runner>(
     }
 }
 
-// Behind a reply: a container that answered in time stays where it lies, and any other one is gone.
+// After a reply: a container that answered in time stays where it lies, and any other one is gone.
 fn end<P: Keeper + Drop, R: Runner>(
     hall: &mut Hall<P>,
     shelf: &mut Shelf<R::Container>,

@@ -51,7 +51,7 @@ impl<B: Drop> Shelf<B> {
         Ok(())
     }
 
-    /// Lays a container down, or gives it back for want of memory.
+    /// Lays a container down, or gives it back where there is no memory.
     pub(crate) fn lay(
         &mut self,
         slot: u32,

@@ -14,20 +14,20 @@ use ow_traits::{Keeper, Runner};
 use ow_value::{Items, NoMemory};
 use std::alloc::Global;
 
-/// One thing that a turn tells behind its order.
+/// One thing that a turn reports after its order.
 #[derive(Drop)]
 pub enum TurnStep {
-    /// The run is lost: its container wasn't had.
+    /// The run is lost: its container wasn't available.
     Lost { run: u64 },
     /// The container of the slot's generation is gone.
     Gone { slot: u32, generation: u32 },
     /// This happened.
     Happened(Happened),
-    /// The store failed at the runner's reply. Nothing else is told behind the order, and the run stays live.
+    /// The store failed at the runner's reply. Nothing else is reported after the order, and the run stays live.
     StoreFault,
 }
 
-/// What a turn tells behind its order, the earliest first.
+/// What a turn reports after its order, the earliest first.
 pub type TurnSteps = Items<TurnStep>;
 
 /// What a turn did.
@@ -35,13 +35,13 @@ pub type TurnSteps = Items<TurnStep>;
 pub struct Turned {
     /// What was to be done.
     pub order: Order,
-    /// What came of it.
+    /// What followed from it.
     pub steps: TurnSteps,
 }
 
-/// Asks the hall what to do, and carries it out at once: containers that live lie on the shelf behind it, under their slot and its
-/// generation. Where the store fails at the runner's reply, what was booked before stands. So it does after want of memory, and the
-/// shelf is as what was booked left it, with the container of an answer that was to be booked.
+/// Asks the hall what to do, and carries it out at once. Afterwards the containers that live lie on the shelf, under their slot and
+/// its generation. Where the store fails at the runner's reply, what was booked before stays booked. The same holds out of memory:
+/// the shelf is then as what was booked left it, with the container of an answer that was to be booked.
 pub fn day_turn<P: Keeper + Drop, R: Runner>(
     alloc: Global,
     hall: &mut Hall<P>,
@@ -61,7 +61,7 @@ pub fn day_turn<P: Keeper + Drop, R: Runner>(
     }
 }
 
-// Carries out an order, and tells what came of it.
+// Carries out an order, and returns its steps.
 fn follow<P: Keeper + Drop, R: Runner>(
     alloc: Global,
     hall: &mut Hall<P>,

@@ -12,14 +12,14 @@ use ow_traits::{Keeper, Runner, Started};
 use ow_value::NoMemory;
 use std::alloc::Global;
 
-/// What came of a prewarming.
+/// The outcome of a prewarming.
 #[derive(Clone, Copy, Debug, PartialEq, Eq)]
 pub(crate) enum Warming {
     // The container is up, and laid down.
     Warmed,
     // The runner refused its start.
     Down,
-    // Memory was wanted, and no container is held.
+    // There was no memory, and no container is held.
     Unheld,
 }
 

@@ -79,10 +79,32 @@ const FAILS: &str = "call /whisk.system/utils/echo
 run 1 at 0:1 cold; recorded 3; gone 0:1
 nothing";
 
+// The first start, initialisation or run fails, and the next run is in a container of its own.
+const FIRST_FAILS: &str = "call /whisk.system/utils/echo
+run 1 at 0:1 cold; recorded 3; gone 0:1
+call /whisk.system/utils/echo
+run 2 at 0:2 cold; recorded 0
+nothing";
+
+// The run in a container that answered before fails.
+const SECOND_FAILS: &str = "call /whisk.system/utils/echo
+run 1 at 0:1 cold; recorded 0
+call /whisk.system/utils/echo
+run 2 at 0:1 warm; recorded 3; gone 0:1
+nothing";
+
+// Which call of the runner fails: the start is 0, the initialisation 1, and the runs come then.
+const FAILING: [(u64, &str); 4] = [
+    (0, FIRST_FAILS),
+    (1, FIRST_FAILS),
+    (2, FIRST_FAILS),
+    (3, SECOND_FAILS),
+];
+
 const PUT: &str =
     "PUT /api/v1/namespaces/guest/actions/large HTTP/1.1\r\nHost: localhost\r\nX-Whisk-Key: k1\r\nContent-Length: 75\r\n\r\n{\"exec\":{\"kind\":\"plain:1\",\"code\":\"{\\\"cases\\\":[]}\"},\"limits\":{\"memory\":512}}";
 
-// The value, in a box, since each way out of a function lets go of what it holds.
+// The value, in a box, since each return path of a function drops what it holds.
 fn boxed<T: Drop, E: Debug + Drop>(alloc: Global, made: Result<T, E>) -> Result<Box<T>, Fail> {
     match Box::new(alloc, made?) {
         Ok(held) => Ok(held),
@@ -194,7 +216,7 @@ fn text_of(alloc: Global, turned: &Turned) -> Result<String, Fail> {
     Ok(text)
 }
 
-// Whether a turn tells this.
+// Whether a turn reports this.
 fn tells<R: Runner>(
     alloc: Global,
     hall: &mut Office,
@@ -291,5 +313,27 @@ fn a_container_whose_run_exits_or_fails_is_gone(rt: HostRuntime) -> Result<(), F
     assert!(rt; table_holds(alloc, &mut runner, EXITS)?);
     let mut runner = ScriptRunner::new(Items::new(), vec![in alloc; 0]?);
     assert!(rt; table_holds(alloc, &mut runner, FAILS)?);
+    Ok(())
+}
+
+// Two answers.
+fn answers(alloc: Global) -> Result<Items<RunReply>, Fail> {
+    let mut script = Vec::with_capacity(alloc, 2)?;
+    for _ in 0..2 {
+        script.push(RunReply::Answer {
+            text: Str::of(alloc, "{}")?,
+            logs: Lines::new(),
+        })?;
+    }
+    Ok(Items::from_vec(script)?)
+}
+
+#[test]
+fn a_runner_fails_at_each_call(rt: HostRuntime) -> Result<(), Fail> {
+    let alloc = rt.alloc();
+    for (number, rows) in &FAILING {
+        let mut runner = ScriptRunner::new(answers(alloc)?, vec![in alloc; *number]?);
+        assert!(rt; table_holds(alloc, &mut runner, rows)?, "call {number}");
+    }
     Ok(())
 }

@@ -18,7 +18,7 @@ use Rattle.ow_floor.specs.Trace.{Drawn, Trace, records}
 use Rattle.ow_floor.specs.declared.activations.Plan.{Plan}
 use Rattle.ow_floor.proofs.Drawn.{drawn_last}
 use Rattle.ow_floor.proofs.Soundness.{sound_items}
-use Rattle.ow_kept.proofs.Ids.{all_both}
+use Rattle.ow_commits.proofs.Ids.{all_both}
 use Rattle.ow_tables.specs.Rows.{standing}
 use Rattle.ow_http.specs.CallKind.{kind_of}
 use Rattle.ow_http.specs.CallOf.{active_of, as_call, bare_call, call_of, checked, checked_query, draft_of, filled_call, name_of as path_name, package_for, params_of}
@@ -64,7 +64,7 @@ use Rattle.ow_isolation.proofs.ReadLaws.{in_order}
 use Rattle.ow_isolation.proofs.StepLaws.{AreIn, IsIn, IsInside, IsPlanOf, hidden_records, plan_in}
 use Rattle.ow_isolation.proofs.UnseenLaws.{unseen_leaves}
 
--- ---- the name of a call stands in the namespace of its path
+-- ---- the name of a call is in the namespace of its path
 
 next : {A B E : Type 0} (N : B → Type 0) (r : Result A E) (f : A → Result B E) → ((x : A) → IfOk (f x) N) → IfOk (r >>= f) N
 next N (Ok x) f keeps = keeps x
@@ -82,7 +82,7 @@ some_named : (P : FullName → Type 0) (r : Result FullName NameRefusal) → IfO
 some_named P (Ok name) h = h
 some_named P (Err e) h = tt
 
--- the name stands in this namespace
+-- the name is in this namespace
 abbrev pub StandsIn : List ℕ → FullName → Type 0
 StandsIn namespace n = n.namespace ≡ namespace
 

@@ -5,7 +5,7 @@ use Rattle.ow_traits.specs.Telling.{Telling}
 use Rattle.ow_traits.specs.declared.change_list.Change.{Change as StoreChange}
 use Rattle.ow_value.specs.declared.memory.NoMemory.{NoMemory}
 use Rattle.ow_floor.specs.Trace.{Trace}
-use Rattle.ow_kept.specs.Commits.{row_changes}
+use Rattle.ow_commits.specs.Commits.{row_changes}
 use Rattle.ow_tables.specs.Contents.{Change}
 use Rattle.ow_http.specs.Request.{parts_of}
 use Rattle.ow_http.specs.declared.request.Request.{Request}

@@ -21,7 +21,7 @@ use Rattle.ow_reads.specs.View.{belongs_to, is_bound, is_open, is_shown_by, is_v
 use Rattle.ow_decide.specs.Decision.{all_changed}
 use Rattle.ow_isolation.specs.Unseen.{AreUnseenChanges, IsHidden, IsUnseenChange, stands_apart}
 
--- ---- tests that a changed row, and the one in whose place it stands, don't pass
+-- ---- tests that neither a changed row nor the row that it replaces passes
 
 -- no row of the kind and name of this one passes
 abbrev NonePass : (Row → Bool) → Row → List Row → Type 0

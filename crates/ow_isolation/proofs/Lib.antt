@@ -8,3 +8,4 @@ pub mod StepLaws
 pub mod FireLaws
 pub mod InvokeLaws
 pub mod ReplyLaws
+pub mod Beginnings

@@ -26,7 +26,7 @@ use Rattle.ow_floor.proofs.Drawn.{drawn_last}
 use Rattle.ow_floor.proofs.Firsts.{all_push, find_passes}
 use Rattle.ow_floor.proofs.Soundness.{sound_items}
 use Rattle.ow_floor.proofs.Tallies.{eq_of}
-use Rattle.ow_kept.proofs.Ids.{all_both}
+use Rattle.ow_commits.proofs.Ids.{all_both}
 use Rattle.ow_reads.specs.View.{is_visible_record, may_read}
 use Rattle.ow_tenant.specs.declared.entries.Holder.{Holder}
 use Rattle.ow_trees.specs.Advance.{next_id, used_by}
@@ -101,7 +101,7 @@ IsIn namespace item = Unit {0}
 abbrev pub AreIn : List ℕ → Trace → Type 0
 AreIn namespace items = AllByRecursion (IsIn namespace) items
 
--- it is of the namespace, and so is the composite that may owe a step behind it
+-- the item is of the namespace, and so is the composite that may owe a step after it
 abbrev LeadsIn : List ℕ → Item → Trace → Type 0
 LeadsIn namespace item T = IsIn namespace item × IsOpenIn namespace (next_of item) (item ∷ T)
 
@@ -205,7 +205,7 @@ pub alone : (rs : Standing) (at : ℕ) (items T : Trace) → next_in items ≡ N
 alone rs at items T none =
     ap (λ (o : Option Id). stepped MOST_STEPS rs at (items ++ T) o ++ items) none ∙ ap (λ (xs : Trace). xs ++ items) (unstepped MOST_STEPS rs at (items ++ T))
 
--- the end of an open activation, and the reply behind it
+-- the end of an open activation, and the reply after it
 pub ended_in : (rs : Standing) (at run : ℕ) (alive : Bool) (ending : Ending) (r : Run) (o : Open) (T : Trace) → find (is_of r.id) (open_items T) ≡ Some o → IsSound (Answered run alive at ∷ Ended (ended_by at ending (Some r) o.task) ∷ T)
     → AreOfCauses T → AreIn o.task.namespace (steps_after rs at T (Answered run alive at ∷ Ended (ended_by at ending (Some r) o.task) ∷ []))
 ended_in rs at run alive ending r o T found sound causes =

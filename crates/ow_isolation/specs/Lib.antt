@@ -3,3 +3,4 @@ pub mod Reads
 pub mod Lists
 pub mod Unseen
 pub mod Causes
+pub mod Beginnings

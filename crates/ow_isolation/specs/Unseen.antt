@@ -51,8 +51,8 @@ AreUnseenChanges h rs (c ∷ cs) = IsUnseenChange h rs c × AreUnseenChanges h (
 
 -- ---- events
 
--- over these rows a decision changes only such rules and triggers, and each record that it adds, of a fire too, is of a namespace in which the holder may not
--- read
+-- over these rows a decision changes only such rules and triggers. Each record that it adds, also that of a fire, is of a namespace in
+-- which the holder may not read
 pub record IsUnseen (h : Holder) (rs : List Row) (d : Decision) : Type 0 where
   pub changes : AreUnseenChanges h rs d.changes
   pub records : AllByRecursion (λ r. is_visible_record h.rights r ≡ false) (records d.items)
@@ -68,8 +68,8 @@ FiresLeave t B = (e : Entry) (r : Request) (key : Option (List ℕ)) (firing h :
     → holder_of r.key t ≡ Some firing → holder_of key t ≡ Some h → may_read h.rights (home firing.home (namespace_of r.route)) ≡ false
     → view_after t (e ∷ B) key ≡ view_after t B key
 
--- an invocation leaves what the holder may see that may neither read in the namespace of the path nor in the own one of the key that invokes: one of
--- the two is charged, with all that a composition calls at once
+-- an invocation leaves what a holder may see that may read neither in the namespace of the path nor in the own one of the key that invokes.
+-- One of these two namespaces is charged, with all that a composition calls at once
 abbrev pub InvocationsLeave : Table → History → Type 0
 InvocationsLeave t B = (e : Entry) (r : Request) (key : Option (List ℕ)) (asking h : Holder) → e.event ≡ events.Asked r → act_of r.route r.method ≡ Some Invokes
     → holder_of r.key t ≡ Some asking → holder_of key t ≡ Some h → may_read h.rights (home asking.home (namespace_of r.route)) ≡ false → may_read h.rights asking.home ≡ false

@@ -1,9 +1,10 @@
-// Isolation of reads. The contracts are the laws; the functions call those that they rest on.
+// Isolation of reads. The contracts are the laws; the functions call the laws that they rest on.
+ghost use Rattle.ow_isolation.specs.Beginnings.{ReadsAreIsolated};
 ghost use Rattle.ow_isolation.specs.Causes.{AreOfCauses, RecordsAreSeenAsCauses};
 ghost use Rattle.ow_isolation.specs.Lists.{HallsAnswerAlike, LogsAnswerAlike};
 ghost use Rattle.ow_isolation.specs.Reads.{AnswersOfView, LeavesAll, LeavesHalls, LeavesViews, RepliesOfView};
 ghost use Rattle.ow_isolation.specs.Unseen.{FiresLeave, InvocationsLeave, RepliesLeave, UnseenLeaves};
-ghost use Rattle.ow_hall.specs.History.{History, seen};
+ghost use Rattle.ow_hall.specs.History.{History, IsLegal, seen};
 ghost use Rattle.ow_tenant.specs.Table.{Table};
 
 use ow_decide::{reads_are_answered_of_the_view, reads_change_nothing};
@@ -48,6 +49,15 @@ pub fn halls_answer_alike<P: Keeper, Q: Keeper>()
     reads_change_nothing();
 }
 
+/// By a legal book and each of its beginnings the answer to a read with a known key is what the key may see after the entries before it, or
+/// that the log is full; and the entry of a read leaves the view of each key.
+pub fn legal_books_isolate_reads()
+    ensures { (t : Table) (B : History) → IsLegal t B → ReadsAreIsolated t B }
+{
+    reads_are_answered_of_the_view();
+    reads_change_nothing();
+}
+
 /// An event that changes only rules and triggers of namespaces in which a key may not read, and ends only activations of such namespaces,
 /// leaves the key's view: a change of a rule's status, for one.
 pub fn unseen_events_leave_views()
@@ -64,14 +74,14 @@ pub fn unseen_invocations_leave_views()
     ensures { (t : Table) (B : History) → InvocationsLeave t B }
 {}
 
-/// A runner's reply leaves the view of each key that may not read in the namespace of what the run carries. So do the steps that follow of the
-/// compositions that this is a part of.
+/// A runner's reply leaves the view of each key that may not read in the namespace of what the run carries. So do the steps that follow, of
+/// the compositions that this is a part of.
 pub fn unseen_replies_leave_views()
     ensures { (t : Table) (B : History) → RepliesLeave t B }
 {}
 
-/// Whatever a composition calls is charged to the namespace that its first activation is charged to, and made in the name of the same subject.
-/// So the record of each child is shown to a key exactly where the key may read in the namespace of its cause.
+/// Whatever a composition calls is charged to the namespace that its first activation is charged to, and made in the name of the same
+/// subject. So the record of each child is shown to a key exactly where the key may read in the namespace of its cause.
 pub fn children_are_of_their_causes()
     ensures causes { (t : Table) (B : History) → AreOfCauses (seen t B).trace }
     ensures shown { (t : Table) (B : History) → RecordsAreSeenAsCauses (seen t B).trace }

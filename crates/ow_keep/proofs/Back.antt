@@ -35,9 +35,9 @@ use Rattle.ow_records.proofs.IdLaws.{digits_of-decimal, hex_number-hex_16, id_ba
 use Rattle.ow_records.proofs.PathBack.{full_back, path_back}
 use Rattle.ow_records.proofs.ReadBack.{fields_back, kind_back, limits_back, name_back, version_back}
 use Rattle.ow_tables.specs.Builtin.{is_builtin}
-use Rattle.ow_items.specs.Item.{item_key, item_text, open_value}
-use Rattle.ow_items.specs.declared.item.Item.{Item}
-use Rattle.ow_items.specs.declared.item.Item.TheVariants.{Version, Count, Row, Open, Done}
+use Rattle.ow_row_text.specs.Item.{item_key, item_text, open_value}
+use Rattle.ow_row_text.specs.declared.item.Item.{Item}
+use Rattle.ow_row_text.specs.declared.item.Item.TheVariants.{Version, Count, Row, Open, Done}
 use Rattle.ow_keep.specs.Allowed.{are_few, are_written, is_binding, is_entity, is_version, is_written, stands_alone}
 use Rattle.ow_keep.specs.EntityIn.{at_status, entity_from, entity_with as entity_made}
 use Rattle.std.specs.Result.{result_ok}
@@ -45,7 +45,7 @@ use Rattle.ow_keep.specs.ItemIn.{count_with, entity_with, item_from}
 use Rattle.ow_keep.specs.Kept.{MayStand}
 use Rattle.ow_keep.specs.Known.{IsItem, IsKnownAction, IsKnownPackage, IsKnownRule, IsKnownTrigger}
 use Rattle.ow_keep.specs.OpenIn.{full_name_of, open_from, open_with}
-use Rattle.ow_items.specs.Sorted.{Entries}
+use Rattle.ow_row_text.specs.Sorted.{Entries}
 use Rattle.ow_keep.proofs.Packages.{package_back}
 use Rattle.ow_keep.proofs.Rules.{rule_back, status_back, trigger_back}
 use Rattle.ow_keep.proofs.Values.{action_is, open_is, package_is, record_is, rule_is, trigger_is}

@@ -4,9 +4,9 @@ use Rattle.std.specs.List.{AllByRecursion}
 use Rattle.std.proofs.lemmas.Bool.{and_parts, not-true}
 use Rattle.ow_entity.specs.declared.rows.Row.{Row as EntityRow}
 use Rattle.ow_tables.specs.Builtin.{is_builtin}
-use Rattle.ow_items.specs.Sorted.{Entries}
-use Rattle.ow_items.specs.declared.item.Item.{Item}
-use Rattle.ow_items.specs.declared.item.Item.TheVariants.{Version, Count, Row, Open, Done}
+use Rattle.ow_row_text.specs.Sorted.{Entries}
+use Rattle.ow_row_text.specs.declared.item.Item.{Item}
+use Rattle.ow_row_text.specs.declared.item.Item.TheVariants.{Version, Count, Row, Open, Done}
 use Rattle.ow_keep.specs.Allowed.{is_entity}
 use Rattle.ow_keep.specs.Kept.{MayStand}
 use Rattle.ow_keep.specs.Split.{HoldsItems, Parts, split}

@@ -1,11 +1,11 @@
--- What `kept_rows` tells of the rows.
+-- What the result of `kept_rows` says of the rows.
 use Rattle.std.proofs.Common.{◌≡◌, List, Result, Ok, Err, MatchResult, IfOk, IfErr}
 use Rattle.std.specs.List.{AllByRecursion}
 use Rattle.ow_keep.specs.Kept.{AreKept, TellsBad}
 use Rattle.ow_keep.specs.Known.{IsItem}
 use Rattle.ow_keep.specs.Judged.{judged, IsBad}
-use Rattle.ow_items.specs.Sorted.{Entries}
-use Rattle.ow_items.specs.declared.item.Item.{Item}
+use Rattle.ow_row_text.specs.Sorted.{Entries}
+use Rattle.ow_row_text.specs.declared.item.Item.{Item}
 use Rattle.ow_keep.specs.declared.refusal.KeepRefusal.{KeepRefusal}
 use Rattle.ow_keep.specs.declared.refusal.KeepRefusal.TheVariants.{NoMemory}
 use Rattle.ow_keep.proofs.Whole.{judged-sound, judged-kept, tells_bad, only_kept}

@@ -1,4 +1,4 @@
--- No moment in kept rows comes after the greatest.
+-- No moment in kept rows is after the greatest.
 use Rattle.std.proofs.Common.{◌≡◌, ◌≤◌, ◌==◌, ◌&&◌, ℕ, List, [], ◌∷◌, Bool, true, false, cond, nat_le, not, drop, codes, is_some, IfSome, IfOk, Option, Some, None, option_and_then, option_map, Result, Ok, Err, refl, subst, arith}
 use Rattle.std.specs.List.{AllByRecursion}
 use Rattle.std.proofs.Math.Nat.{max-le}
@@ -21,9 +21,9 @@ use Rattle.ow_records.specs.Span.{SpanView}
 use Rattle.ow_records.specs.declared.ids.Id.{Id}
 use Rattle.ow_records.specs.declared.unrecorded.Unrecorded.{Unrecorded}
 use Rattle.ow_traits.specs.Rows.{text_of}
-use Rattle.ow_items.specs.Sorted.{Entries}
-use Rattle.ow_items.specs.declared.item.Item.{Item}
-use Rattle.ow_items.specs.declared.item.Item.TheVariants.{Version, Count, Row, Open, Done}
+use Rattle.ow_row_text.specs.Sorted.{Entries}
+use Rattle.ow_row_text.specs.declared.item.Item.{Item}
+use Rattle.ow_row_text.specs.declared.item.Item.TheVariants.{Version, Count, Row, Open, Done}
 use Rattle.ow_keep.specs.Allowed.{are_durations, confirmed, has_record, is_called, is_confirmed, is_drawn, is_formed, is_moment, item_at}
 use Rattle.ow_keep.specs.EntityIn.{entity_from}
 use Rattle.ow_keep.specs.ItemIn.{count_with, deep_value_of, entity_of, entity_with, item_from, value_of}

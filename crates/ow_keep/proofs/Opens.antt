@@ -6,8 +6,8 @@ use Rattle.ow_value.specs.Value.{depth, members_of, object}
 use Rattle.ow_names.specs.declared.full.FullName.{FullName}
 use Rattle.ow_records.specs.declared.ids.Id.{Id}
 use Rattle.ow_records.specs.declared.unrecorded.Unrecorded.{Unrecorded}
-use Rattle.ow_items.specs.Item.{item_key, item_text, open_members}
-use Rattle.ow_items.specs.declared.item.Item.TheVariants as items
+use Rattle.ow_row_text.specs.Item.{item_key, item_text, open_members}
+use Rattle.ow_row_text.specs.declared.item.Item.TheVariants as items
 use Rattle.ow_keep.specs.Allowed.{is_row_of, is_shallow}
 
 by_parts : (b : Option FullName) (c : Option Id) (u : Unrecorded) → nat_le (depth (object (members_of (open_members b c u)))) most_nested ≡ true

@@ -5,12 +5,12 @@ use Rattle.std.proofs.Math.Bool.{or-true}
 use Rattle.ow_value.specs.Value.{text_cmp}
 use Rattle.ow_traits.specs.Rows.{AreRows, text_of}
 use Rattle.ow_traits.specs.declared.change_list.Change.TheVariants.{Put}
-use Rattle.ow_items.specs.Item.{item_key, item_text, item_row}
-use Rattle.ow_items.specs.Sorted.{Entries, Makes, rows_of}
-use Rattle.ow_items.specs.declared.item.Item.{Item}
-use Rattle.ow_items.specs.declared.item.Item.TheVariants.{Version, Count, Row, Open, Done}
-use Rattle.ow_items.proofs.Extent.{same_rows, AreRows-rows_of, text_of-rows_of}
-use Rattle.ow_items.proofs.Lists.{absent_kind, put_first, put_front, put_over, put_before, put_after}
+use Rattle.ow_row_text.specs.Item.{item_key, item_text, item_row}
+use Rattle.ow_row_text.specs.Sorted.{Entries, Makes, rows_of}
+use Rattle.ow_row_text.specs.declared.item.Item.{Item}
+use Rattle.ow_row_text.specs.declared.item.Item.TheVariants.{Version, Count, Row, Open, Done}
+use Rattle.ow_row_text.proofs.Extent.{same_rows, AreRows-rows_of, text_of-rows_of}
+use Rattle.ow_row_text.proofs.Lists.{absent_kind, put_first, put_front, put_over, put_before, put_after}
 use Rattle.ow_keep.specs.Kept.{AreKept}
 use Rattle.ow_keep.specs.Moments.{greatest_kept_moment, parts_moment}
 use Rattle.ow_keep.specs.Split.{Parts, behind_parts, count_row, done_row, entity_row, entries, joined_parts, open_row, parts_of, split, version_entries, with_item}
@@ -64,7 +64,7 @@ parts_kept rows is (Err x) kept rise e = tt
 
 -- ---- items one after another
 
--- an item behind some parts, and before others
+-- an item after some parts, and before others
 pub push_joined : (p q : Parts) (i : Item) → joined_parts (behind_parts p i) q ≡ joined_parts p (with_item i q)
 push_joined p q Version = λ n. record (joined_parts p q) { versioned = sym (or-true p.versioned) n }
 push_joined p q (Count namespace count) = λ n. record (joined_parts p q) { counts = append_assoc p.counts ((record { namespace = namespace; count = count }) ∷ []) q.counts n }

@@ -48,7 +48,7 @@ use Rattle.ow_records.specs.declared.notes.Notes.{Notes}
 use Rattle.ow_records.specs.declared.record.Record.{Record}
 use Rattle.ow_records.specs.declared.unrecorded.Unrecorded.{Unrecorded}
 use Rattle.ow_records.proofs.Sorting.{is_less}
-use Rattle.ow_items.specs.Item.{open_members, open_value}
+use Rattle.ow_row_text.specs.Item.{open_members, open_value}
 use Rattle.ow_keep.specs.Known.{IsKnownAction, IsKnownPackage, IsKnownRule, IsKnownTrigger}
 
 -- ---- texts that are written out
@@ -291,7 +291,7 @@ response_is r h = named (
 
 -- ---- records, and activations that have not ended
 
--- the members behind the cause
+-- the members after the cause
 abbrev tail : Record → Pairs
 tail r =
     (codes "duration", whole (pos (r.span.end - r.span.start)))

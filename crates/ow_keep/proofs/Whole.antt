@@ -5,14 +5,14 @@ use Rattle.std.specs.Str.{bytes_eq}
 use Rattle.std.proofs.lemmas.Bool.{and_parts}
 use Rattle.std.proofs.lemmas.Slice.Eq.{bytes_eq-Decides}
 use Rattle.ow_traits.specs.Rows.{text_of}
-use Rattle.ow_items.specs.Item.{item_key, item_text, item_row}
+use Rattle.ow_row_text.specs.Item.{item_key, item_text, item_row}
 use Rattle.ow_keep.specs.Kept.{MayStand, AreKept, IsFirstBad, IsBadRow, TellsBad}
 use Rattle.ow_keep.specs.Known.{IsItem}
 use Rattle.ow_keep.specs.Judged.{or_key, gathered, versioned, judged, IsBad}
 use Rattle.ow_keep.specs.Allowed.{item_at, confirmed, is_row_of, is_shallow, is_allowed}
 use Rattle.ow_keep.specs.ItemIn.{item_from}
-use Rattle.ow_items.specs.Sorted.{Entries}
-use Rattle.ow_items.specs.declared.item.Item.{Item}
+use Rattle.ow_row_text.specs.Sorted.{Entries}
+use Rattle.ow_row_text.specs.declared.item.Item.{Item}
 use Rattle.ow_keep.specs.declared.refusal.KeepRefusal.{KeepRefusal}
 use Rattle.ow_keep.specs.declared.refusal.KeepRefusal.TheVariants.{BadKept, NoMemory}
 use Rattle.ow_keep.proofs.Back.{item_back}

@@ -22,10 +22,10 @@ use Rattle.ow_records.specs.declared.unrecorded.Unrecorded.{Unrecorded}
 use Rattle.ow_traits.specs.Rows.{text_of}
 use Rattle.ow_tables.specs.Builtin.{is_builtin}
 use Rattle.ow_tables.specs.declared.sequences.TheConstants.{MOST_COMPONENTS}
-use Rattle.ow_items.specs.Item.{count_key, done_key, item_key, item_text, open_value}
-use Rattle.ow_items.specs.Sorted.{Entries}
-use Rattle.ow_items.specs.declared.item.Item.{Item}
-use Rattle.ow_items.specs.declared.item.Item.TheVariants.{Version, Count, Row, Open, Done}
+use Rattle.ow_row_text.specs.Item.{count_key, done_key, item_key, item_text, open_value}
+use Rattle.ow_row_text.specs.Sorted.{Entries}
+use Rattle.ow_row_text.specs.declared.item.Item.{Item}
+use Rattle.ow_row_text.specs.declared.item.Item.TheVariants.{Version, Count, Row, Open, Done}
 use Rattle.ow_keep.specs.ItemIn.{item_from}
 use Rattle.ow_keep.specs.declared.allowed.TheConstants.{GREATEST_MOMENT, GREATEST_COUNT}
 
@@ -41,7 +41,7 @@ abbrev pub is_counted : Id → Option ℕ → Bool
 is_counted id None = false
 is_counted id (Some last) = nat_le 1 id.count && nat_le id.count last
 
--- the id was drawn: the row of its namespace's last count stands, and the id doesn't pass it
+-- the id was drawn: its namespace has a row of its last count, and the id's count is from 1 to that
 abbrev pub is_drawn : Entries → Id → Bool
 is_drawn all id = is_counted id (option_and_then digits_of (text_of (count_key id.namespace) all))
 
@@ -61,16 +61,16 @@ is_moment moment = nat_le moment GREATEST_MOMENT
 abbrev pub is_version : ℕ → Bool
 is_version version = nat_le 1 version
 
--- it stands in a namespace, and in no package there
+-- the name is in a namespace, and in no package there
 abbrev pub stands_alone : FullName → Bool
 stands_alone name = not (is_some name.package)
 
--- an activation was called through no binding, or through one that stands in a namespace
+-- an activation was called through no binding, or through one that is in no package
 abbrev pub is_reached : Option FullName → Bool
 is_reached None = true
 is_reached (Some binding) = stands_alone binding
 
--- by what it was called
+-- an activation's cause, version and binding are allowed
 abbrev pub is_called : Option Id → ℕ → Option FullName → Bool
 is_called cause version binding = is_cause cause && (is_version version && is_reached binding)
 
@@ -82,7 +82,7 @@ is_duration (Some duration) = is_moment duration
 abbrev pub are_durations : Notes → Bool
 are_durations n = is_duration n.init_time && is_duration n.wait_time
 
--- the binding names a package, by what is written of it: its name, and its namespace, which `_` doesn't stand for
+-- the binding names a package, by what is written of it: its name, and its namespace, which is not written as `_`
 abbrev pub is_binding : List ℕ → Option FullName → Bool
 is_binding here None = true
 is_binding here (Some bound) = stands_alone bound && bytes_eq (home here bound.namespace) bound.namespace
@@ -113,11 +113,11 @@ is_formed forms.Sequence kind = false
 is_formed form exec_kinds.Sequence = false
 is_formed form kind = true
 
--- what is asked of an activation that has not ended, whatever the other rows are
+-- what is required of an activation that has not ended, whatever the other rows are
 abbrev pub is_fit_open : Unrecorded → Bool
 is_fit_open u = is_moment u.at && (is_called u.cause u.version u.binding && is_formed u.form u.kind)
 
--- what is asked of a record so
+-- what is required of a record, whatever the other rows are
 abbrev pub is_fit_record : Record → Bool
 is_fit_record r = is_moment r.span.end && (is_called r.cause r.version r.notes.binding && are_durations r.notes)
 

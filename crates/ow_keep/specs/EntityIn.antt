@@ -1,4 +1,4 @@
--- The entity that a value is. What is read here may be written otherwise.
+-- The entity that a value is read as. Reading is lenient: the entity may be written otherwise.
 use Rattle.std.specs.Prelude.{ℕ, Bool, codes, option_map, option_and_then, Option, Some, None, Result, Ok, Err}
 use Rattle.std.specs.Result.{result_ok}
 use Rattle.ow_value.specs.Value.{V}

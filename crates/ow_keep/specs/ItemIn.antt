@@ -1,4 +1,4 @@
--- The item that a row is. What is read here may be written otherwise.
+-- The item that a row is read as. Reading is lenient: the item may be written otherwise.
 use Rattle.std.specs.Prelude.{ℕ, ◌==◌, List, [], ◌∷◌, drop, if◌then◌else◌, option_map, option_and_then, Option, Some, None}
 use Rattle.std.specs.Result.{result_ok}
 use Rattle.ow_value.specs.Value.{V}
@@ -10,8 +10,8 @@ use Rattle.ow_entity.specs.declared.kinds.EntityKind.{EntityKind}
 use Rattle.ow_entity.specs.declared.kinds.EntityKind.TheVariants as kinds
 use Rattle.ow_records.specs.Id.{hex_number}
 use Rattle.ow_records.specs.RecordIn.{record_from}
-use Rattle.ow_items.specs.declared.item.Item.{Item}
-use Rattle.ow_items.specs.declared.item.Item.TheVariants.{Version, Count, Row, Open, Done}
+use Rattle.ow_row_text.specs.declared.item.Item.{Item}
+use Rattle.ow_row_text.specs.declared.item.Item.TheVariants.{Version, Count, Row, Open, Done}
 use Rattle.ow_keep.specs.EntityIn.{entity_from}
 use Rattle.ow_keep.specs.OpenIn.{full_name_of, open_from}
 
@@ -34,7 +34,7 @@ open_of s = option_map Open (option_and_then open_from (value_of s))
 abbrev pub done_of : List ℕ → Option Item
 done_of s = option_map Done (option_and_then record_from (deep_value_of s))
 
--- by the first byte of the kind, and the full text behind it
+-- the item of an entity's row: the kind by its first byte, and the full name that follows the kind
 abbrev pub entity_of : List ℕ → List ℕ → Option Item
 entity_of [] s = None
 entity_of (byte ∷ place) s =
@@ -44,7 +44,7 @@ entity_of (byte ∷ place) s =
     else if byte == 116 then entity_with kinds.Trigger (full_name_of (drop 6 place)) (value_of s)
     else None
 
--- by the first byte of the key, and what is behind the prefix
+-- the item by the first byte of the key, and by what follows the key's prefix
 abbrev pub item_by : ℕ → List ℕ → List ℕ → Option Item
 item_by byte key s =
     if byte == 99 then count_with (hex_number (drop 5 key)) (digits_of s)

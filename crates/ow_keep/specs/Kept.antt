@@ -2,9 +2,9 @@
 use Rattle.std.specs.Prelude.{◌≡◌, ◌⊎◌, ◌≢◌, ℕ, List, [], ◌∷◌, ◌++◌, map, true, false, codes, is_some}
 use Rattle.std.specs.List.{AllByRecursion}
 use Rattle.ow_traits.specs.Rows.{text_of}
-use Rattle.ow_items.specs.Item.{item_row}
-use Rattle.ow_items.specs.Sorted.{Entries}
-use Rattle.ow_items.specs.declared.item.Item.{Item}
+use Rattle.ow_row_text.specs.Item.{item_row}
+use Rattle.ow_row_text.specs.Sorted.{Entries}
+use Rattle.ow_row_text.specs.declared.item.Item.{Item}
 use Rattle.ow_keep.specs.Allowed.{is_shallow, is_allowed}
 use Rattle.ow_keep.specs.Known.{IsItem}
 use Rattle.ow_keep.specs.declared.refusal.KeepRefusal.{KeepRefusal}
@@ -21,7 +21,7 @@ pub record AreKept (all : Entries) (is : List Item) : Type 0 where
   pub each : AllByRecursion (MayStand all) is
   pub version : all ≡ [] ⊎ is_some (text_of (codes "version") all) ≡ true
 
--- of the rows before the key each is of an item, and that of the key is of none
+-- each row before the key is that of an allowed item, and the row of the key is that of none
 pub record IsFirstBad (all rows : Entries) (key : List ℕ) : Type 0 where
   pub text : List ℕ
   pub before : List Item
@@ -30,7 +30,7 @@ pub record IsFirstBad (all rows : Entries) (key : List ℕ) : Type 0 where
   pub good : AllByRecursion (MayStand all) before
   pub bad : (i : Item) → IsItem i → MayStand all i → item_row i ≢ (key, text)
 
--- no row is bad, and that of the version is missing
+-- no row is bad, and the row of the version is missing
 pub record LacksVersion (all : Entries) (key : List ℕ) : Type 0 where
   pub names : key ≡ codes "version"
   pub missing : is_some (text_of (codes "version") all) ≡ false

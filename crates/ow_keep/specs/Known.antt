@@ -1,4 +1,4 @@
--- What the types of an item's parts tell of it.
+-- What the types of an item's parts guarantee of it.
 use Rattle.std.specs.Prelude.{◌<◌, ◌^◌, IfSome}
 use Rattle.std.specs.Str.{IsUtf8}
 use Rattle.ow_value.specs.Json.{IsObject}
@@ -13,8 +13,8 @@ use Rattle.ow_entity.specs.declared.triggers.Trigger.{Trigger}
 use Rattle.ow_entity.specs.declared.rows.Row.{Row as EntityRow}
 use Rattle.ow_entity.specs.declared.rows.Row.TheVariants as rows
 use Rattle.ow_records.specs.Known.{IsKnown, IsKnownUnrecorded}
-use Rattle.ow_items.specs.declared.item.Item.{Item}
-use Rattle.ow_items.specs.declared.item.Item.TheVariants.{Version, Count, Row, Open, Done}
+use Rattle.ow_row_text.specs.declared.item.Item.{Item}
+use Rattle.ow_row_text.specs.declared.item.Item.TheVariants.{Version, Count, Row, Open, Done}
 
 pub record IsKnownAction (a : Action) : Type 0 where
   pub name : IsFullName a.name

@@ -3,9 +3,9 @@ use Rattle.std.specs.Prelude.{◌≡◌, ◌≤◌, List, map, false, Some, Ok}
 use Rattle.std.specs.List.{AllByRecursion}
 use Rattle.ow_traits.specs.Rows.{AreRows}
 use Rattle.ow_tables.specs.Builtin.{is_builtin}
-use Rattle.ow_items.specs.Item.{item_row}
-use Rattle.ow_items.specs.Sorted.{Entries, rows_of}
-use Rattle.ow_items.specs.declared.item.Item.{Item}
+use Rattle.ow_row_text.specs.Item.{item_row}
+use Rattle.ow_row_text.specs.Sorted.{Entries, rows_of}
+use Rattle.ow_row_text.specs.declared.item.Item.{Item}
 use Rattle.ow_keep.specs.Allowed.{item_at}
 use Rattle.ow_keep.specs.Judged.{judged}
 use Rattle.ow_keep.specs.Kept.{MayStand}
@@ -14,7 +14,7 @@ use Rattle.ow_keep.specs.Moments.{greatest_kept_moment, parts_moment}
 use Rattle.ow_keep.specs.Split.{HoldsItems, Parts, entries, split}
 use Rattle.ow_keep.specs.declared.allowed.TheConstants.{GREATEST_MOMENT}
 
--- what is written of an item that may stand reads as that item
+-- what is written of an item that is allowed among the rows is read as that item
 abbrev pub ItemsReadBack : Type 0
 ItemsReadBack = (all : Entries) (i : Item) → IsItem i → MayStand all i → item_at all (item_row i) ≡ Some i
 
@@ -22,11 +22,11 @@ ItemsReadBack = (all : Entries) (i : Item) → IsItem i → MayStand all i → i
 abbrev pub SplitIsKept : Type 0
 SplitIsKept = (is : List Item) → AreRows (map item_row is) → rows_of (entries (split is)) ≡ map item_row is
 
--- the greatest moment is the same of each kind by itself
+-- the greatest moment of the items is the same where each kind is taken by itself
 abbrev pub MomentOfSplit : Type 0
 MomentOfSplit = (is : List Item) → parts_moment (split is) ≡ greatest_kept_moment is
 
--- no moment of items that may stand comes after the greatest
+-- no moment of items that are allowed among the rows is after the greatest
 abbrev pub MomentsAreSmall : Type 0
 MomentsAreSmall = (all : Entries) (is : List Item) → AllByRecursion (MayStand all) is → AllByRecursion IsItem is → greatest_kept_moment is ≤ GREATEST_MOMENT
 

@@ -1,4 +1,4 @@
--- The activation that a value is which has not ended. What is read here may be written otherwise.
+-- The activation that a value is read as, which has not ended. Reading is lenient: the activation may be written otherwise.
 use Rattle.std.specs.Prelude.{ℕ, List, codes, option_map, option_and_then, Option, Some, None}
 use Rattle.ow_value.specs.Value.{V}
 use Rattle.ow_value.specs.Field.{field}

@@ -1,4 +1,4 @@
--- By what number each refusal is known.
+-- The number of each refusal.
 use Rattle.std.specs.Prelude.{ℕ}
 use Rattle.ow_keep.specs.declared.refusal.KeepRefusal.{KeepRefusal}
 use Rattle.ow_keep.specs.declared.refusal.KeepRefusal.TheVariants.{BadKept, NoMemory}

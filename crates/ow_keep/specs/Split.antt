@@ -5,16 +5,16 @@ use Rattle.ow_entity.specs.declared.rows.Row.{Row as EntityRow}
 use Rattle.ow_records.specs.declared.ids.Id.{Id}
 use Rattle.ow_records.specs.declared.record.Record.{Record}
 use Rattle.ow_records.specs.declared.unrecorded.Unrecorded.{Unrecorded}
-use Rattle.ow_items.specs.Item.{item_row}
-use Rattle.ow_items.specs.Sorted.{Entries}
-use Rattle.ow_items.specs.declared.item.Item.{Item}
-use Rattle.ow_items.specs.declared.item.Item.TheVariants.{Version, Count, Row, Open, Done}
+use Rattle.ow_row_text.specs.Item.{item_row}
+use Rattle.ow_row_text.specs.Sorted.{Entries}
+use Rattle.ow_row_text.specs.declared.item.Item.{Item}
+use Rattle.ow_row_text.specs.declared.item.Item.TheVariants.{Version, Count, Row, Open, Done}
 use Rattle.ow_keep.specs.Kept.{AreKept}
 use Rattle.ow_keep.specs.Known.{IsItem}
 use Rattle.ow_keep.specs.declared.kept.Kept.{Kept}
 
 pub record Parts : Type 0 where
-  -- whether the row of the version stands
+  -- whether the row of the version is there
   pub versioned : Bool
   -- the last id of each namespace
   pub counts : List Id
@@ -37,7 +37,7 @@ abbrev pub split : List Item → Parts
 split [] = no_parts
 split (i ∷ is) = with_item i (split is)
 
--- the item behind those of its kind, for private clauses
+-- the parts with the item added after the others of its kind, for private clauses
 abbrev pub behind_parts : Parts → Item → Parts
 behind_parts p Version = record p { versioned = true }
 behind_parts p (Count namespace count) = record p { counts = p.counts ++ (record { namespace = namespace; count = count }) ∷ [] }
@@ -45,7 +45,7 @@ behind_parts p (Row r) = record p { entities = p.entities ++ r ∷ [] }
 behind_parts p (Open u) = record p { unrecorded = p.unrecorded ++ u ∷ [] }
 behind_parts p (Done r) = record p { records = p.records ++ r ∷ [] }
 
--- for lemmas
+-- the parts of one list and of another after it, for lemmas
 abbrev pub joined_parts : Parts → Parts → Parts
 joined_parts p q = record {
   versioned = p.versioned || q.versioned;

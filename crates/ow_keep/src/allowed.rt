@@ -6,13 +6,13 @@ ghost use Rattle.ow_value.specs.Text.{compact};
 ghost use Rattle.ow_value.specs.View.{view};
 ghost use Rattle.ow_names.specs.Path.{home};
 ghost use Rattle.ow_entity.specs.declared.rows.Row.TheVariants as rows;
-ghost use Rattle.ow_items.specs.declared.item.Item.TheVariants as items;
+ghost use Rattle.ow_row_text.specs.declared.item.Item.TheVariants as items;
 ghost use Rattle.ow_keep.specs.Allowed.{are_durations, are_written, has_record, is_allowed, is_binding, is_called, is_cause, is_confirmed, is_drawn, is_duration, is_entity, is_formed, is_moment, is_reached, is_row_of, is_written, stands_alone};
 
 use ow_entity::{Action, Package, Row, Rule, Trigger, write_entity};
-use ow_items::{Item, count_key, count_row, done_key, entity_key, open_row};
 use ow_names::{EntityName, FullName};
 use ow_records::{ExecKind, Form, Id, Notes, Record, Unrecorded, write_record};
+use ow_row_text::{Item, count_key, count_row, done_key, entity_key, open_row};
 use ow_tables::{MOST_COMPONENTS, is_builtin};
 use ow_traits::Rows;
 use ow_value::{MOST_NESTED, MOST_NESTED_RECORD, NoMemory, Str, Val, depth, digits_of, write_val};
@@ -42,7 +42,7 @@ pub(crate) fn is_confirmed(
 
 // ---- the row of an item
 
-#[tactic(auto, unfolding(ow_items::specs::Item::item_text))]
+#[tactic(auto, unfolding(ow_row_text::specs::Item::item_text))]
 fn is_row_of(alloc: Global, row: &(Str, Str), item: &Item) -> Result<bool, NoMemory>
     ensures { IfOk result (λ b. b ≡ is_row_of item.now row.now) }
 {
@@ -55,7 +55,7 @@ fn is_row_of(alloc: Global, row: &(Str, Str), item: &Item) -> Result<bool, NoMem
     }
 }
 
-#[tactic(auto, unfolding(ow_items::specs::Item::item_text))]
+#[tactic(auto, unfolding(ow_row_text::specs::Item::item_text))]
 fn is_count_row(
     alloc: Global,
     row: &(Str, Str),
@@ -68,7 +68,7 @@ fn is_count_row(
     Ok(key.as_str() == row.0.as_str() && text.as_str() == row.1.as_str())
 }
 
-#[tactic(auto, unfolding(ow_items::specs::Item::item_text))]
+#[tactic(auto, unfolding(ow_row_text::specs::Item::item_text))]
 fn is_entity_row(alloc: Global, row: &(Str, Str), entity: &Row) -> Result<bool, NoMemory>
     ensures { IfOk result (λ b. b ≡ is_row_of (items.Row entity.now) row.now) }
 {
@@ -85,7 +85,7 @@ fn is_open_row(alloc: Global, row: &(Str, Str), activation: &Unrecorded) -> Resu
     Ok(key.as_str() == row.0.as_str() && text.as_str() == row.1.as_str())
 }
 
-#[tactic(auto, unfolding(ow_items::specs::Item::item_text))]
+#[tactic(auto, unfolding(ow_row_text::specs::Item::item_text))]
 fn is_done_row(alloc: Global, row: &(Str, Str), ended: &Record) -> Result<bool, NoMemory>
     ensures { IfOk result (λ b. b ≡ is_row_of (items.Done ended.now) row.now) }
 {

@@ -1,4 +1,4 @@
-// The entity that a value is. What is read here may be written otherwise.
+// The entity that a value is read as. Reading is lenient: the entity may be written otherwise.
 ghost use Rattle.std.specs.Prelude.{◌≡◌, ◌≢◌, Ok, Err, MatchResult, IfOk};
 ghost use Rattle.ow_value.specs.View.{view};
 ghost use Rattle.ow_entity.specs.Finish.{row_of_body};

@@ -1,4 +1,4 @@
-// The item that a row is. What is read here may be written otherwise.
+// The item that a row is read as. Reading is lenient: the item may be written otherwise.
 ghost use Rattle.std.specs.Prelude.{◌≡◌, option_map, IfOk};
 ghost use Rattle.ow_value.specs.View.{view};
 ghost use Rattle.ow_value.specs.Decimal.{digits_of as number_of_digits};
@@ -12,12 +12,12 @@ ghost use Rattle.ow_value.specs.Nesting.{most_nested_record};
 use crate::entity_in::entity_from;
 use crate::open_in::{full_name_of, open_from};
 use ow_entity::EntityKind;
-use ow_items::Item;
 use ow_records::read_fields;
+use ow_row_text::Item;
 use ow_value::{NoMemory, Scratch, Val, ValueRefusal, digits_of, read_deep, read_val_in};
 use std::alloc::Global;
 
-/// The item that the row tells. The scratch is for reading texts.
+/// The item that the row describes. The scratch is for reading texts.
 pub(crate) fn item_from(
     alloc: Global,
     scratch: &mut Scratch,
@@ -81,7 +81,7 @@ fn open_item(alloc: Global, scratch: &mut Scratch, text: &str) -> Result<Option<
     }
 }
 
-// Of what stands behind `row/`.
+// The item of an entity's row. The place is what follows `row/` in the key.
 fn entity_item(
     alloc: Global,
     scratch: &mut Scratch,

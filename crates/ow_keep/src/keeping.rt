@@ -1,8 +1,8 @@
 // The items that rows are, and which row is bad.
 ghost use Rattle.std.specs.Prelude.{◌≡◌, ◌∷◌, ◌++◌, [], List, Ok, Err, IfOk, IfErr, IfSome, OnOk, MatchResult};
 ghost use Rattle.std.specs.List.{All, AllByRecursion};
-ghost use Rattle.ow_items.specs.Sorted.{rows_of};
-ghost use Rattle.ow_items.specs.declared.item.Item.{Item};
+ghost use Rattle.ow_row_text.specs.Sorted.{rows_of};
+ghost use Rattle.ow_row_text.specs.declared.item.Item.{Item};
 ghost use Rattle.ow_keep.specs.Allowed.{confirmed, item_at};
 ghost use Rattle.ow_keep.specs.Judged.{IsBad, gathered, judged};
 ghost use Rattle.ow_keep.specs.Kept.{AreKept, TellsBad};
@@ -14,12 +14,12 @@ use crate::item_in::item_from;
 use crate::kept::{Kept, split};
 use crate::known::known_item;
 use crate::refusal::KeepRefusal;
-use ow_items::Item;
+use ow_row_text::Item;
 use ow_traits::Rows;
 use ow_value::{NoMemory, PlainData, Scratch, Str};
 use std::alloc::Global;
 
-/// What the rows hold. The first row in the order of keys that is not allowed is told.
+/// What the rows hold. The refusal names the first row in the order of keys that is not allowed.
 pub fn kept_rows(alloc: Global, rows: &Rows) -> Result<Kept, KeepRefusal>
     ensures kept { IfOk result (λ k. HoldsItems rows.now (parts_of k)) }
     ensures rows { IfOk result (λ k. rows_of (entries (parts_of k)) ≡ rows.now) }

@@ -4,8 +4,8 @@ ghost use Rattle.ow_keep.specs.Split.{behind_parts, no_parts, parts_of, split};
 
 use crate::refusal::KeepRefusal;
 use ow_entity::Row;
-use ow_items::Item;
 use ow_records::{Id, Record, Unrecorded};
+use ow_row_text::Item;
 use std::alloc::Global;
 
 /// What kept rows hold, each kind in the order of its keys.
@@ -17,7 +17,7 @@ pub struct Kept {
     pub counts: Vec<Id>,
     /// The activations that have not ended.
     pub unrecorded: Vec<Unrecorded>,
-    /// The records of those that have.
+    /// The records of the ended activations.
     pub records: Vec<Record>,
     /// The entities.
     pub entities: Vec<Row>,
@@ -37,7 +37,7 @@ impl Kept {
         }
     }
 
-    /// Puts the item behind those of its kind.
+    /// Adds the item after the others of its kind.
     pub(crate) fn push(&mut self, item: Item) -> Result<(), KeepRefusal>
         ensures ok { OnOk result (parts_of self.new ≡ behind_parts (parts_of self.old) item) }
         ensures err { IfErr result (λ e. e ≡ KeepRefusal.NoMemory) }

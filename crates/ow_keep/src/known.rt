@@ -1,4 +1,4 @@
-// What the types of items tell of them. These functions do nothing but look.
+// What the types of items guarantee of them. These functions only look at items.
 ghost use Rattle.std.specs.Prelude.{◌<◌, ◌^◌, IfSome};
 ghost use Rattle.std.specs.List.{AllByRecursion};
 ghost use Rattle.std.specs.Str.{IsUtf8};
@@ -7,15 +7,15 @@ ghost use Rattle.ow_value.specs.Json.{IsObject};
 ghost use Rattle.ow_entity.specs.Exec.{exec_code};
 ghost use Rattle.ow_entity.specs.Fit.{IsFitPairs};
 ghost use Rattle.ow_entity.specs.FitAction.{IsFitExec, IsFitLimits};
-ghost use Rattle.ow_items.specs.declared.item.Item.TheVariants as items;
+ghost use Rattle.ow_row_text.specs.declared.item.Item.TheVariants as items;
 ghost use Rattle.ow_keep.specs.Known.{IsItem, IsKnownAction, IsKnownEntity, IsKnownPackage, IsKnownRule, IsKnownTrigger};
 
 use ow_entity::{Action, EntityParams, Exec, Limits, Package, Row, Rule, Trigger};
-use ow_items::Item;
 use ow_names::FullName;
 use ow_records::{known_record, known_unrecorded};
+use ow_row_text::Item;
 
-/// Makes known what the types of the item's parts tell.
+/// Makes known what the types of the item's parts guarantee.
 pub fn known_item(item: &Item)
     ensures { IsItem item.now }
 {
@@ -32,7 +32,7 @@ fn known_count(namespace: u64, count: u64)
     ensures { IsItem (items.Count namespace count) }
 {}
 
-/// Makes known what the types of the entity's fields tell.
+/// Makes known what the types of the entity's fields guarantee.
 pub fn known_entity(row: &Row)
     ensures { IsKnownEntity row.now }
 {
@@ -44,7 +44,7 @@ pub fn known_entity(row: &Row)
     }
 }
 
-/// Makes known what the types of the entities' fields tell.
+/// Makes known what the types of the entities' fields guarantee.
 pub fn known_entities(rows: &[Row])
     ensures { AllByRecursion IsKnownEntity rows.now }
 {

@@ -1,4 +1,4 @@
-// The activation that a value is which has not ended. What is read here may be written otherwise.
+// The activation that a value is read as, which has not ended. Reading is lenient: the activation may be written otherwise.
 ghost use Rattle.std.specs.Prelude.{◌≡◌, IfOk};
 ghost use Rattle.ow_value.specs.Value.{members_of, object};
 ghost use Rattle.ow_value.specs.Field.{field};
@@ -13,7 +13,7 @@ use ow_records::{
 use ow_value::{NoMemory, Params, PlainData, Val};
 use std::alloc::Global;
 
-/// The activation that the fields of the value tell.
+/// The activation that the fields of the value describe.
 #[tactic(auto, unfolding(crate::specs::OpenIn::open_from))]
 pub(crate) fn open_from(alloc: Global, value: &Val) -> Result<Option<Unrecorded>, NoMemory>
     ensures { IfOk result (λ u. u ≡ open_from (view value.now)) }

@@ -15,7 +15,7 @@ pub enum KeepRefusal {
 }
 
 impl KeepRefusal {
-    /// By which the refusals are told apart. Want of memory has 0.
+    /// The number of the refusal. Running out of memory has 0.
     pub fn number(&self) -> u32
         ensures { result ≡ refusal_number self.now }
     {

@@ -6,7 +6,7 @@ ghost use Rattle.ow_traits.specs.Streams.{HasCause};
 use crate::Link;
 use ow_traits::Failed;
 
-/// What an accept came to.
+/// The result of an accept.
 #[derive(Drop)]
 pub enum Accepted<L: Drop> {
     /// A peer came: this is its link.
@@ -20,17 +20,17 @@ pub trait Listener {
     /// The link of a peer.
     type Peer: Link + Drop + Send + 'static;
 
-    /// The peers that are still to come, where the listener tells them.
+    /// The peers that are still to come, where the listener reports them.
     ghost peers: { Self → Option (List Self.Peer) };
 
     /// How many calls failed.
     ghost faults: { Self → ℕ };
 
-    /// How many calls failed. The count stands still at the greatest u64.
+    /// How many calls failed. The count saturates at the greatest u64.
     fn faults(&self) -> u64
         ensures { result ≡ faults self.now };
 
-    /// Accepts the next peer, for which it may wait. A listener that tells its peers gives the first that is still to come, and
+    /// Accepts the next peer, for which it may wait. A listener that reports its peers returns the first that is still to come, and
     /// answers Closed exactly where none is; after a fault all of them are still to come.
     fn accept(&mut self) -> Result<Accepted<Self::Peer>, Failed>
         ensures told { Accepts (peers self.old) (peers self.new) result }

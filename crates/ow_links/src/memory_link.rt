@@ -5,8 +5,8 @@ use crate::Link;
 use ow_traits::{Calls, Failed};
 use std::alloc::Global;
 
-/// Reads a peer's bytes from memory and keeps what is written to the peer. The calls of `read` and `write`, counted together,
-/// whose numbers stand in `failing` fail; the first has the number 0. So does a write that finds no memory.
+/// Reads a peer's bytes from memory and keeps what is written to the peer. The calls of `read` and `write` are counted together,
+/// from 0. A call whose number is in `failing` fails, and so does a write that finds no memory.
 #[derive(Drop)]
 pub struct MemoryLink {
     bytes: Vec<u8>,

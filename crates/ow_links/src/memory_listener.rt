@@ -5,7 +5,7 @@ use crate::{Accepted, Listener, MemoryLink};
 use ow_traits::{Calls, Failed};
 use std::collections::VecDeque;
 
-/// Accepts links in memory, in order. The calls of `accept` whose numbers stand in `failing` fail; the first has the number 0.
+/// Accepts links in memory, in order. The calls of `accept` whose numbers are in `failing` fail; the first has the number 0.
 #[derive(Drop)]
 pub struct MemoryListener {
     links: VecDeque<MemoryLink>,

@@ -1,4 +1,4 @@
--- What the first fault says of a text, and that a name has none.
+-- What the first fault of a text means, and that a name has none.
 use Rattle.std.proofs.Common.{◌≡◌, ◌≢◌, ℕ, zero, suc, ◌<◌, ◌≤◌, ◌==◌, List, Bool, true, false, not, cond, length, get_or, nat_lt, Option, Some, None, MatchOption, Result, Ok, Err, MatchResult, refl, sym, ap, subst, ◌-◌, ◌∙◌, inl, inr, ◌⊎◌, arith, slice_index, zero-add}
 use Rattle.std.specs.List.{enumerate_from, position_or_len, All}
 use Rattle.std.specs.Str.{IsUtf8}
@@ -19,7 +19,7 @@ is_wrong p = not (may_stand p.0 p.1)
 wrong_at : (s : List ℕ) (k : ℕ) → k < length s → is_wrong (get_or (enumerate_from 0 s) k (0, 0)) ≡ not (may_stand k (get_or s k 0))
 wrong_at s k lt = ap is_wrong (get_or-enumerate_from 0 s k (0, 0) lt) ∙ ap (λ n. not (may_stand n (get_or s k 0))) (zero-add k)
 
--- what stands at the wrong place, and before it
+-- the byte at the wrong place is not allowed there, and each byte before it is allowed
 wrong_place-Some : (s : List ℕ) (i : ℕ) → wrong_place s ≡ Some i → (i < length s) × (may_stand i (slice_index s i) ≡ false) × AreGoodBelow i s
 wrong_place-Some s i e =
     let h = position-Some is_wrong (enumerate_from 0 s) i (0, 0) e in
@@ -37,7 +37,7 @@ wrong_place-None s e k lt =
     let all : length (enumerate_from 0 s) ≤ position_or_len is_wrong (enumerate_from 0 s) = by_test _ _ _ refl e in
     not-false _ (sym (wrong_at s k lt) ∙ fails_before_first is_wrong (enumerate_from 0 s) k (0, 0) (omega arith))
 
--- ---- what the first fault tells
+-- ---- what the first fault means
 
 abbrev Tells : List ℕ → Option NameRefusal → Type 0
 Tells s o = MatchOption o (IsName s) (IsFirstFault s)
@@ -61,14 +61,14 @@ by_least : (s : List ℕ) (b : Bool) → (length s == 0) ≡ b
 by_least s true e = grind arith
 by_least s false e = by_most s _ (grind arith) refl
 
--- it stands, and none before it does; where there is none, the text is a name
+-- it is a fault of the text, and there is none before it; where there is none, the text is a name
 first_fault-tells : (s : List ℕ) → MatchOption (first_fault s) (IsName s) (IsFirstFault s)
 first_fault-tells s = by_least s _ refl
 
 pub name_if_no_fault : (s : List ℕ) → first_fault s ≡ None → IsName s
 name_if_no_fault s e = subst (λ o. MatchOption o (IsName s) (IsFirstFault s)) e (first_fault-tells s)
 
--- a result that tells the first fault: a name, or a fault that stands
+-- where a result reports the first fault, the text is a name or has that fault first
 pub told : {A : Type 0} (s : List ℕ) (r : Result A NameRefusal) → result_err r ≡ first_fault s → MatchResult r (λ _. IsName s) (λ e. IsFirstFault s e)
 told s (Ok v) e = name_if_no_fault s (sym e)
 told s (Err fault) e = subst (λ o. MatchOption o (IsName s) (IsFirstFault s)) (sym e) (first_fault-tells s)

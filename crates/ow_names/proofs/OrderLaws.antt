@@ -1,4 +1,4 @@
--- How the texts of full names stand to each other, part by part.
+-- The order of the texts of full names, part by part.
 use Rattle.std.proofs.Common.{◌≡◌, ◌≢◌, ℕ, zero, suc, ◌<◌, ◌≤◌, ◌==◌, List, [], ◌∷◌, ◌++◌, false, length, get_or, take, min, Option, Some, None, Ordering, Less, Equal, Greater, refl, sym, ap, ◌∙◌, subst, arith}
 use Rattle.std.specs.Ordering.{nat_cmp, ordering_then, ordering_reverse, MatchOrdering}
 use Rattle.std.proofs.lemmas.Cmp.{ranked, nat_list_cmp_total}
@@ -30,7 +30,7 @@ differ y s h e = apart y (h 0 0 (omega arith)) (subst (λ o. MatchOrdering o (47
 differ_back : (y : ℕ) (s : List ℕ) → HasNoSlash (y ∷ s) → nat_cmp y 47 ≢ Equal
 differ_back y s h e = apart y (h 0 0 (omega arith)) (sym (subst (λ o. MatchOrdering o (y < 47) (y ≡ 47) (47 < y)) e (ranked y 47 _ refl)))
 
--- parts with a slash behind them decide before what follows
+-- parts followed by a slash decide before what follows
 pub parts_then : (a b r s : List ℕ) → HasNoSlash a → HasNoSlash b
     → text_cmp (a ++ 47 ∷ r) (b ++ 47 ∷ s) ≡ ordering_then (text_cmp (a ++ 47 ∷ []) (b ++ 47 ∷ [])) (text_cmp r s)
 parts_then [] [] r s ha hb = refl
@@ -50,7 +50,7 @@ part_then_end [] (y ∷ ys) r h = let n = differ y ys h in unequal _ _ n ∙ sym
 part_then_end (x ∷ xs) [] r h = refl
 part_then_end (x ∷ xs) (y ∷ ys) r h = ap (ordering_then (nat_cmp x y)) (part_then_end xs ys r (tail_whole y ys h))
 
--- the shared start decides, and else the first byte or slash behind it
+-- the parts decide up to the length of the shorter, and else the first byte or slash after that
 pub parts_by_start : (a b : List ℕ) (n : ℕ) → n ≡ min (length a) (length b) → HasNoSlash a → HasNoSlash b
     → text_cmp (a ++ 47 ∷ []) (b ++ 47 ∷ []) ≡ ordering_then (text_cmp (take n a) (take n b)) (nat_cmp (get_or a n 47) (get_or b n 47))
 parts_by_start [] [] zero e ha hb = refl

@@ -1,4 +1,4 @@
--- What a path gives: the parts of a text, and of a text that a full name was written as.
+-- What a path gives: the parts of a text, and the name that the text of a full name reads as.
 use Rattle.std.proofs.Common.{◌≡◌, ℕ, ◌<◌, ◌≤◌, ◌+◌, ◌-◌, List, [], ◌∷◌, ◌++◌, Bool, true, false, length, take, drop, cond, codes, Option, Some, None, IfSome, Result, Ok, refl, sym, ap, ◌∙◌, arith, ◌↔◌, Ordering, Equal}
 use Rattle.std.specs.List.{position, position_or_len}
 use Rattle.std.specs.Str.{bytes_eq}
@@ -26,7 +26,7 @@ cuts_none s e =
     let all : length s ≤ position_or_len is_slash s = grind (arith, common_steps) in
     slice_split_none is_slash s (λ k d lt. fails_before_first is_slash s k d (omega arith))
 
--- the first part stands before the first slash
+-- the first part ends at the first slash
 pub cuts_first : (s : List ℕ) (place : ℕ) → position is_slash s ≡ Some place
     → parts s ≡ take place s ∷ parts (take (length s - (place + 1)) (drop (place + 1) s))
 cuts_first s place e =
@@ -62,7 +62,7 @@ of_local : (here ns : List ℕ) (pack : Option (List ℕ)) (name : List ℕ) →
 of_local here ns None name hs hp hn = no_fault ns _ hs ∙ no_fault name _ hn
 of_local here ns (Some p) name hs hp hn = no_fault ns _ hs ∙ no_fault p _ hp ∙ no_fault name _ hn
 
--- what is read of a full text, where `_` stands for the reader's namespace
+-- the name that is read from a full text, where `_` means the reader's namespace
 resolved-full_text : (here : List ℕ) (n : FullName) → IsFullName n → resolved here (full_text n) ≡ Ok (record n { namespace = home here n.namespace })
 resolved-full_text here n h = ap (of_parts here) (parts-full_text n h) ∙ of_local here n.namespace n.package n.name h.namespace h.inside h.name
 

@@ -1,4 +1,4 @@
--- What a name is, and the first thing wrong with bytes that are none.
+-- What a name is, and the first fault of bytes that are no name.
 use Rattle.std.specs.Prelude.{◌≡◌, ◌≢◌, ◌≤◌, ◌<◌, ◌-◌, ◌==◌, ◌||◌, ℕ, zero, suc, List, Bool, true, false, not, length, slice_index, nat_lt, if◌then◌else◌, Option, Some, None}
 use Rattle.std.specs.Char.{is_ascii_alphanumeric}
 use Rattle.std.specs.List.{enumerate_from, position}
@@ -13,7 +13,7 @@ is_first_byte b = is_ascii_alphanumeric b || b == 95
 abbrev pub is_later_byte : ℕ → Bool
 is_later_byte b = (((is_first_byte b || b == 32) || b == 64) || b == 46) || b == 45
 
--- whether the byte may stand at this place of a name
+-- whether the byte is allowed at this place of a name
 abbrev pub may_stand : ℕ → ℕ → Bool
 may_stand zero b = is_first_byte b
 may_stand (suc place) b = is_later_byte b
@@ -22,18 +22,18 @@ may_stand (suc place) b = is_later_byte b
 abbrev pub longest_name : ℕ
 longest_name = 256
 
--- some bytes, but not too many, each of which may stand at its place, the last of them no space
+-- at least one byte, but not too many, each of them allowed at its place, and the last no space
 pub record IsName (s : List ℕ) : Type 0 where
   pub least : 1 ≤ length s
   pub most : length s ≤ longest_name
   pub bytes : (place : ℕ) → place < length s → may_stand place (slice_index s place) ≡ true
   pub end : slice_index s (length s - 1) ≢ 32
 
--- all bytes below this place may stand where they stand
+-- each byte below this place is allowed at its place
 abbrev pub AreGoodBelow : ℕ → List ℕ → Type 0
 AreGoodBelow n s = (place : ℕ) → place < n → may_stand place (slice_index s place) ≡ true
 
--- the fault stands, and none of those before it in the order empty, too long, a wrong byte, a space at the end
+-- the fault holds, and no fault before it in the order empty, too long, a wrong byte, a space at the end
 abbrev pub IsFirstFault : List ℕ → NameRefusal → Type 0
 IsFirstFault s Empty = length s ≡ 0
 IsFirstFault s TooLong = longest_name < length s
@@ -42,9 +42,9 @@ IsFirstFault s EndsInSpace = (length s ≤ longest_name) × AreGoodBelow (length
 IsFirstFault s BadPath = ⊥
 IsFirstFault s NoMemory = ⊥
 
--- ---- the same as a value, by which calls tell it
+-- ---- the same as a value, which calls return
 
--- the first place whose byte may not stand there
+-- the first place whose byte is not allowed there
 abbrev pub wrong_place : List ℕ → Option ℕ
 wrong_place s = position (λ p. not (may_stand p.0 p.1)) (enumerate_from 0 s)
 

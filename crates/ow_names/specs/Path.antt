@@ -1,4 +1,4 @@
--- Which full name a text is, read in a namespace.
+-- The full name of a text that is read in a namespace.
 use Rattle.std.specs.Prelude.{ℕ, List, [], ◌∷◌, codes, if◌then◌else◌, Option, Some, None, Result, Ok, Err}
 use Rattle.std.specs.List.{slice_split}
 use Rattle.std.specs.Str.{bytes_eq}
@@ -12,7 +12,7 @@ use Rattle.ow_names.specs.Slash.{is_slash}
 abbrev pub parts : List ℕ → List (List ℕ)
 parts = slice_split is_slash
 
--- `_` stands for the namespace in which a text is read
+-- `_` means the namespace in which a text is read
 abbrev pub home : List ℕ → List ℕ → List ℕ
 home here namespace = if bytes_eq namespace (codes "_") then here else namespace
 
@@ -20,7 +20,7 @@ abbrev pub or_fault : Option NameRefusal → Result FullName NameRefusal → Res
 or_fault None r = r
 or_fault (Some e) r = Err e
 
--- the parts, unless one is no name: the first such part's fault then
+-- the full name of the parts, or the fault of the first part that is no name
 abbrev pub named : List ℕ → Option (List ℕ) → List ℕ → Result FullName NameRefusal
 named namespace None name = or_fault (first_fault name) (Ok (record { namespace = namespace; «package» = None; name = name }))
 named namespace (Some «package») name = or_fault (first_fault «package»)
@@ -41,9 +41,9 @@ of_parts here ps = Err BadPath
 abbrev pub resolved : List ℕ → List ℕ → Result FullName NameRefusal
 resolved here text = of_parts here (parts text)
 
--- ---- the texts that full names are written as
+-- ---- the texts of full names
 
--- the parts, whose namespace stands for itself
+-- the name of the parts, whose namespace is taken as it is written
 abbrev pub within : List ℕ → Option (List ℕ) → List ℕ → Result FullName NameRefusal
 within namespace «package» name = or_fault (first_fault namespace) (named namespace «package» name)
 
@@ -53,7 +53,7 @@ of_local (namespace ∷ name ∷ []) = within namespace None name
 of_local (namespace ∷ «package» ∷ name ∷ []) = within namespace (Some «package») name
 of_local ps = Err BadPath
 
--- the same behind a slash
+-- the same forms after a slash
 abbrev pub of_rooted : List (List ℕ) → Result FullName NameRefusal
 of_rooted ([] ∷ ps) = of_local ps
 of_rooted ps = Err BadPath

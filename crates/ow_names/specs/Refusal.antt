@@ -1,4 +1,4 @@
--- By what number a client knows each refusal.
+-- The number by which a client knows each refusal.
 use Rattle.std.specs.Prelude.{ℕ}
 use Rattle.ow_names.specs.declared.refusal.NameRefusal.{NameRefusal}
 use Rattle.ow_names.specs.declared.refusal.NameRefusal.TheVariants.{BadPath, Empty, TooLong, BadChar, EndsInSpace, NoMemory}

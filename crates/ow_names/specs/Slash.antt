@@ -5,6 +5,6 @@ use Rattle.std.specs.List.{All}
 abbrev pub is_slash : ℕ → Bool
 is_slash b = b == 47
 
--- no byte of the part is one
+-- no byte of the part is a slash
 abbrev pub HasNoSlash : List ℕ → Type 0
 HasNoSlash = All (λ b. is_slash b ≡ false)

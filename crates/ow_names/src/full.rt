@@ -14,9 +14,9 @@ use std::cmp::Ordering;
 /// What an entity is called in all of the service. A package is called by a name without a package.
 #[derive(Drop)]
 pub struct FullName {
-    /// The namespace that the entity stands in.
+    /// The namespace of the entity.
     pub namespace: EntityName,
-    /// The package of this namespace that it stands in, if any.
+    /// The package of this namespace that the entity lies in, if any.
     pub package: Option<EntityName>,
     /// What the entity is called there.
     pub name: EntityName,

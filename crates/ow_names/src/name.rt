@@ -1,4 +1,4 @@
-// Names of one part, and what is wrong with bytes that are none.
+// Names of one part, and the first fault of bytes that are no name.
 ghost use Rattle.std.specs.Prelude.{◌≡◌, ◌≢◌, ◌↔◌, ◌==◌, [], ◌∷◌, ◌++◌, ◌-◌, IsTrue, Some, None, IfOk, IfErr, MatchResult};
 ghost use Rattle.std.specs.Result.{result_err};
 ghost use Rattle.ow_value.specs.Value.{text_cmp};
@@ -42,7 +42,7 @@ pub fn check_name(bytes: &[u8]) -> Result<(), NameRefusal>
     scan(bytes)
 }
 
-/// The name that the bytes are.
+/// The name with these bytes.
 #[tactic(auto, using(crate::proofs::NameLaws::name_if_no_fault))]
 pub fn read_name(alloc: Global, bytes: &[u8]) -> Result<EntityName, NameRefusal>
     ensures ok { IfOk result (λ n. n ≡ bytes.now) }
@@ -68,7 +68,7 @@ impl EntityName {
         self.text.as_str()
     }
 
-    /// The order of the two as parts of full texts, each with the slash behind it.
+    /// The order of the two as parts of full texts, each followed by a slash.
     pub fn compare_as_part(&self, other: &EntityName) -> Ordering
         ensures order { result ≡ text_cmp (self.now ++ 47 ∷ []) (other.now ++ 47 ∷ []) }
         ensures whole { HasNoSlash self.now }

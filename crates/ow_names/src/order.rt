@@ -5,7 +5,7 @@ ghost use Rattle.ow_names.specs.Slash.{HasNoSlash};
 
 use std::cmp::Ordering;
 
-/// The order of two parts, each with the slash behind it.
+/// The order of two parts, each followed by a slash.
 pub(crate) fn order_of_parts(a: &[u8], b: &[u8]) -> Ordering
     requires a_whole { HasNoSlash a.now }
     requires b_whole { HasNoSlash b.now }
@@ -16,7 +16,7 @@ pub(crate) fn order_of_parts(a: &[u8], b: &[u8]) -> Ordering
     start.then(byte_or_slash(a, shared).cmp(&byte_or_slash(b, shared)))
 }
 
-/// The order of a part with the slash behind it to a last part.
+/// The order of a part followed by a slash, and a last part.
 pub(crate) fn order_to_end(part: &[u8], last: &[u8]) -> Ordering
     requires { HasNoSlash last.now }
     ensures { result ≡ text_cmp (part.now ++ 47 ∷ []) last.now }

@@ -13,7 +13,7 @@ use crate::refusal::NameRefusal;
 use ow_value::PlainData;
 use std::alloc::Global;
 
-// What stands between the slashes of a text.
+// The parts of a text between its slashes.
 #[derive(Drop)]
 enum Parts<'a> {
     One(&'a [u8]),
@@ -23,8 +23,8 @@ enum Parts<'a> {
     More,
 }
 
-/// The full name that a text is for one who stands in the namespace: `name`, `package/name`, `/namespace/name` or
-/// `/namespace/package/name`, where the namespace `_` is his own.
+/// The full name of a text that is read in the namespace: `name`, `package/name`, `/namespace/name` or
+/// `/namespace/package/name`, where `_` means the namespace itself.
 pub fn resolve(alloc: Global, text: &str, namespace: &EntityName) -> Result<FullName, NameRefusal>
     ensures { MatchResult result (λ n. resolved namespace.now text.now ≡ Ok n)
         (λ e. e ≢ NameRefusal.NoMemory → resolved namespace.now text.now ≡ Err e) }
@@ -44,7 +44,7 @@ pub fn resolve(alloc: Global, text: &str, namespace: &EntityName) -> Result<Full
     }
 }
 
-/// The full name that the parts of a path are for one who stands in the namespace `here`, which `_` stands for.
+/// The full name of the parts of a path that is read in the namespace `here`, which `_` means.
 pub fn named_in(
     alloc: Global,
     here: &EntityName,
@@ -59,8 +59,8 @@ pub fn named_in(
     named(alloc, namespace, package, name)
 }
 
-/// The full name whose text this is: `/namespace/name` or `/namespace/package/name`. The namespace stands for itself,
-/// `_` too.
+/// The full name whose text this is: `/namespace/name` or `/namespace/package/name`. The namespace is taken as it is
+/// written, also where it is `_`.
 pub fn read_full_text(alloc: Global, text: &[u8]) -> Result<FullName, NameRefusal>
     ensures { MatchResult result (λ n. of_full_text text.now ≡ Ok n)
         (λ e. e ≢ NameRefusal.NoMemory → of_full_text text.now ≡ Err e) }
@@ -76,7 +76,7 @@ pub fn read_full_text(alloc: Global, text: &[u8]) -> Result<FullName, NameRefusa
     }
 }
 
-// The namespace that the text is for one who stands in `here`.
+// The namespace of the text, read in the namespace `here`.
 fn read_home(alloc: Global, text: &[u8], here: &EntityName) -> Result<EntityName, NameRefusal>
     ensures { MatchResult result (λ n. (n ≡ home here.now text.now) × (first_fault text.now ≡ None))
         (λ e. e ≢ NameRefusal.NoMemory → first_fault text.now ≡ Some e) }
@@ -127,7 +127,7 @@ fn cut(text: &[u8]) -> Parts<'_>
     }
 }
 
-// What stands before the first slash, and what behind it.
+// The text before the first slash, and the text after it.
 #[tactic(auto, using(crate::proofs::PathLaws::cuts_first, crate::proofs::PathLaws::cuts_none))]
 fn first_part(text: &[u8]) -> Option<(&[u8], &[u8])>
     ensures { CutsFirst result text.now }

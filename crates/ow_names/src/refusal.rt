@@ -4,7 +4,7 @@ ghost use Rattle.ow_names.specs.Refusal.{refusal_number};
 
 use ow_value::NoMemory;
 
-/// Why a text is no name, or names nothing. Of several faults the one that stands first here is told.
+/// Why a text is no name, or names nothing. Of several faults the first in this list is reported.
 #[derive(Clone, Copy, PartialEq, Eq, Debug, Drop)]
 pub enum NameRefusal {
     /// More or fewer parts than a full name has.
@@ -13,7 +13,7 @@ pub enum NameRefusal {
     Empty,
     /// More bytes than `LONGEST_NAME`.
     TooLong,
-    /// The first byte that may not stand where it stands, counted from 0 in its name.
+    /// The place of the first byte that is not allowed at its place, counted from 0 in its name.
     BadChar { place: usize },
     /// The last byte is a space.
     EndsInSpace,
@@ -22,7 +22,7 @@ pub enum NameRefusal {
 }
 
 impl NameRefusal {
-    /// By which a client tells the refusals apart. Want of memory has 0.
+    /// The number by which a client distinguishes the refusals. Out of memory has 0.
     pub fn number(self) -> u32
         ensures { result ≡ refusal_number self }
     {

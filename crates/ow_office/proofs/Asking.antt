@@ -1,23 +1,24 @@
--- What is told by what the words ask for.
+-- The claims of the office, by the command that the words name.
 use Rattle.std.proofs.Common.{Err, Ok, Result, ◌≡◌, ◌⊎◌, ◌||◌, ℕ, Bool, true, false, codes, cond, ◌+◌, ◌++◌, List, [], ◌∷◌, take, drop, nat_le, Option, Some, None, is_some, ap, inl, inr, refl, subst, arith}
 use Rattle.std.specs.List.{position}
 use Rattle.std.specs.Option.{option_and_then, option_map}
 use Rattle.std.proofs.lemmas.Bool.{false≢true}
 use Rattle.ow_value.specs.Decimal.{decimal_of, number_within}
-use Rattle.ow_words.specs.Words.{Values, alone, command_named, command_of, connections_of, day_of, day_options, day_with, drill_by, drill_of, drill_options, drill_with, given_from, is_csv, is_day, is_drill, is_serve, is_usage, option_words, plain_words, port_of, serve_by, serve_options, serve_with, takes_options, usage_at, usage_by, usage_from, usage_of, usage_options, usage_with, values_of, workers_of}
-use Rattle.ow_words.specs.declared.command.Command.{Command}
-use Rattle.ow_words.specs.declared.command.Command.TheVariants as commands
-use Rattle.ow_words.specs.declared.command.ServeWords.{ServeWords}
-use Rattle.ow_words.specs.declared.command.WordsRefusal.{WordsRefusal}
-use Rattle.ow_words.specs.declared.command.WordsRefusal.TheVariants as words
-use Rattle.ow_words.specs.declared.status.Status.{Status}
-use Rattle.ow_words.specs.declared.status.Status.TheVariants as statuses
+use Rattle.ow_command_line.specs.Words.{Values, alone, command_named, command_of, connections_of, day_of, day_options, day_with, deploy_with, drill_by, drill_of, drill_options, drill_with, given_from, is_csv, is_day, is_deploy, is_drill, is_serve, is_usage, option_words, plain_words, port_of, serve_by, serve_options, serve_with, takes_options, usage_at, usage_by, usage_from, usage_of, usage_options, usage_with, values_of, workers_of}
+use Rattle.ow_command_line.specs.declared.command.Command.{Command}
+use Rattle.ow_command_line.specs.declared.command.Command.TheVariants as commands
+use Rattle.ow_command_line.specs.declared.command.ServeWords.{ServeWords}
+use Rattle.ow_command_line.specs.declared.command.WordsRefusal.{WordsRefusal}
+use Rattle.ow_command_line.specs.declared.command.WordsRefusal.TheVariants as words
+use Rattle.ow_command_line.specs.declared.status.Status.{Status}
+use Rattle.ow_command_line.specs.declared.status.Status.TheVariants as statuses
 use Rattle.ow_tenant.specs.Table.{Table}
 use Rattle.ow_tenant.specs.declared.refusal.TenantRefusal.{TenantRefusal}
 use Rattle.ow_tenant.specs.declared.refusal.TenantRefusal.TheVariants as refusals
 use Rattle.ow_office.specs.declared.words.Asked.{Asked}
 use Rattle.ow_office.specs.declared.words.Asked.TheVariants as asks
 use Rattle.ow_office.specs.Day.{DoesDay, EndsDay}
+use Rattle.ow_office.specs.Deploy.{DoesDeploy}
 use Rattle.ow_office.specs.Drill.{DoesDrill}
 use Rattle.ow_drill.specs.Drilled.{EndsDrill}
 use Rattle.ow_office.specs.Office.{TellsCommand}
@@ -38,11 +39,15 @@ asks_none (Some command) a is none = cc
 asked_none : (c : Option Command) → c ≡ None → option_map asked_of c ≡ None
 asked_none c none = rw none refl
 
--- ---- want of memory
+-- ---- out of memory
 
 wanted_day : (help version : List ℕ) (o : Option Values) (s : Sides) → TellsCommand help version (option_map asked_of (option_map day_with o)) s s statuses.NoMemory
 wanted_day help version None s = (inr refl, refl)
 wanted_day help version (Some value) s = wanted_over DoesDay (is_some (value (codes "table"))) s
+
+wanted_deployment : (help version : List ℕ) (o : Option Values) (s : Sides) → TellsCommand help version (option_map asked_of (option_map deploy_with o)) s s statuses.NoMemory
+wanted_deployment help version None s = (inr refl, refl)
+wanted_deployment help version (Some value) s = wanted_over DoesDeploy (is_some (value (codes "table"))) s
 
 wanted_service : (help version : List ℕ) (port workers : Option ℕ) (connections : Option (Option ℕ)) (table store : Option (List ℕ)) (s : Sides)
     → TellsCommand help version (option_map asked_of (serve_by port workers connections table store)) s s statuses.NoMemory
@@ -98,17 +103,18 @@ wanted_calls help version (n ∷ seed ∷ more ∷ plain) options s = (inr refl,
 
 wanted_words : (help version : List ℕ) (ws : List (List ℕ)) (s : Sides) → takes_options ws ≡ true → TellsCommand help version (asked_by ws) s s statuses.NoMemory
 wanted_words help version [] s takes = absurd (false≢true takes)
-wanted_words help version (word ∷ ws) s takes = go (is_day word) (is_serve word) (is_usage word) (is_drill word) takes
+wanted_words help version (word ∷ ws) s takes = go (is_day word) (is_serve word) (is_usage word) (is_drill word) (is_deploy word) takes
   where
-    go : (day serve usage drill : Bool) → (day || (serve || (usage || drill))) ≡ true
+    go : (day serve usage drill deploy : Bool) → (day || (serve || (usage || (drill || deploy)))) ≡ true
         → TellsCommand help version
-        (option_map asked_of (cond day (option_map day_with (values_of day_options ws)) (cond serve (option_and_then serve_with (values_of serve_options ws)) (cond usage (usage_of ws) (cond drill (drill_of ws) (alone (command_named word) ws))))))
+        (option_map asked_of (cond day (option_map day_with (values_of day_options ws)) (cond serve (option_and_then serve_with (values_of serve_options ws)) (cond usage (usage_of ws) (cond drill (drill_of ws) (cond deploy (option_map deploy_with (values_of day_options ws)) (alone (command_named word) ws)))))))
         s s statuses.NoMemory
-    go true serve usage drill e = wanted_day help version (values_of day_options ws) s
-    go false true usage drill e = wanted_serve help version (values_of serve_options ws) s
-    go false false true drill e = wanted_any help version ws s
-    go false false false true e = wanted_calls help version (plain_words ws false) (option_words ws false) s
-    go false false false false e = absurd (false≢true e)
+    go true serve usage drill deploy e = wanted_day help version (values_of day_options ws) s
+    go false true usage drill deploy e = wanted_serve help version (values_of serve_options ws) s
+    go false false true drill deploy e = wanted_any help version ws s
+    go false false false true deploy e = wanted_calls help version (plain_words ws false) (option_words ws false) s
+    go false false false false true e = wanted_deployment help version (values_of day_options ws) s
+    go false false false false false e = absurd (false≢true e)
 
 -- ---- words that aren't read
 
@@ -149,13 +155,14 @@ day_not_passed status ends asked t is = subst EndsDay is ends
 pub day_not_bad : (status : Status) → EndsDay status → status ≡ statuses.BadWords → ⊥
 day_not_bad status ends is = subst EndsDay is ends
 
--- a service that is asked for is its command
+-- words that ask for a service give the command of that service
 pub command_is : (c : Option Command) (asked : ServeWords) → option_map asked_of c ≡ Some (asks.Serve asked) → c ≡ Some (commands.Serve asked)
 command_is None asked is = cc
 command_is (Some (commands.Day table store)) asked is = cc
 command_is (Some (commands.Serve served)) asked is = let same : served ≡ asked = cc in ap (λ w. Some (commands.Serve w)) same
 command_is (Some (commands.Usage from to csv store)) asked is = cc
 command_is (Some (commands.Drill n seed table store)) asked is = cc
+command_is (Some (commands.Deploy table store)) asked is = cc
 command_is (Some commands.Help) asked is = cc
 command_is (Some commands.Version) asked is = cc
 
@@ -188,6 +195,8 @@ drill_ends (statuses.BadTable row) never = absurd never
 drill_ends statuses.NoMemory ends = (tt, λ e. cc, λ row e. cc)
 drill_ends statuses.DayTooLong never = absurd never
 drill_ends (statuses.BadKept key) ends = (tt, λ e. cc, λ row e. cc)
+drill_ends (statuses.BadManifest number text) never = absurd never
+drill_ends (statuses.Undeployed place number text) never = absurd never
 drill_ends (statuses.Passed words tenants) never = absurd never
 
 -- a service that is passed on, or whose table isn't read, has read words and writes nothing
@@ -203,7 +212,7 @@ pub serve_not_write : (asked : ServeWords) (want : Result Table ℕ) (before aft
 serve_not_write asked (Ok t) before after status told is = neither (subst (λ s. TellsOver (PassesOn asked) (Ok t) before after s) is told)
 serve_not_write asked (Err row) before after status told is = subst (λ s. TellsOver (PassesOn asked) (Err row) before after s) is told
 
--- what is told whatever the other sides are
+-- claims that hold whatever the other sides are
 pub no_source : SourceView
 no_source = record { left = None; faults = 0 }
 

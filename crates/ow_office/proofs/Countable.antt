@@ -1,14 +1,14 @@
 -- Records that rows hold may be counted.
-use Rattle.std.proofs.Common.{◌≡◌, ◌≤◌, ℕ, List, [], ◌∷◌, Option, Some, None, arith, max, sym, ap, subst, IfSome}
+use Rattle.std.proofs.Common.{◌≤◌, ℕ, List, [], ◌∷◌, Option, Some, None, arith, sym, subst, IfSome}
 use Rattle.std.specs.List.{All, AllByRecursion}
 use Rattle.std.proofs.lemmas.List.Elements.{All-from_recursion}
 use Rattle.ow_entity.specs.declared.bounds.Limits.{Limits}
 use Rattle.ow_entity.specs.FitAction.{IsFitLimits}
 use Rattle.ow_records.specs.Known.{IsKnown}
 use Rattle.ow_records.specs.declared.record.Record.{Record}
-use Rattle.ow_items.specs.Sorted.{Entries}
-use Rattle.ow_items.specs.declared.item.Item.{Item}
-use Rattle.ow_items.specs.declared.item.Item.TheVariants.{Version, Count, Row, Open, Done}
+use Rattle.ow_row_text.specs.Sorted.{Entries}
+use Rattle.ow_row_text.specs.declared.item.Item.{Item}
+use Rattle.ow_row_text.specs.declared.item.Item.TheVariants.{Version, Count, Row, Open, Done}
 use Rattle.ow_keep.specs.Known.{IsItem}
 use Rattle.ow_keep.specs.Laws.{MomentsAreSmall}
 use Rattle.ow_keep.specs.Moments.{greatest_kept_moment, record_moment}

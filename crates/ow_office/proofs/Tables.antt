@@ -1,16 +1,16 @@
--- What is told of a command over an office table, whatever is done over a good one.
-use Rattle.std.proofs.Common.{◌≡◌, ◌⊎◌, ℕ, Bool, true, false, List, Option, Some, None, IfSome, Result, Ok, Err, drop, inl, inr, refl, sym, arith}
+-- The claim of a command over an office table, whatever is done over a good one.
+use Rattle.std.proofs.Common.{◌≡◌, ◌⊎◌, ℕ, Bool, true, List, Option, Some, None, IfSome, Result, Ok, Err, drop, inl, inr, refl, sym, arith}
 use Rattle.ow_traits.specs.Streams.{Rose}
 use Rattle.ow_tenant.specs.Reading.{ReadsUpTo, Tells as TellsRows, TellsTable as TellsBytes, most_read}
 use Rattle.ow_tenant.specs.Table.{Table, table_of}
 use Rattle.ow_tenant.specs.declared.refusal.TenantRefusal.{TenantRefusal}
 use Rattle.ow_tenant.specs.declared.refusal.TenantRefusal.TheVariants as refusals
-use Rattle.ow_words.specs.declared.status.Status.{Status}
-use Rattle.ow_words.specs.declared.status.Status.TheVariants as statuses
+use Rattle.ow_command_line.specs.declared.status.Status.{Status}
+use Rattle.ow_command_line.specs.declared.status.Status.TheVariants as statuses
 use Rattle.ow_office.specs.Sides.{Sides, TouchesTable}
 use Rattle.ow_office.specs.Table.{Doing, LeavesTable, TellsOver, TellsTable, rows_named, unread}
 
--- what is told of a table, where its source tells its rows
+-- the result of reading a table, where its source reports its bytes
 abbrev pub IsToldBy : Option (List ℕ) → Result Table TenantRefusal → Type 0
 IsToldBy rows result = IfSome rows (λ text. TellsRows (table_of text) result)
 
@@ -63,7 +63,7 @@ module _ (Does : Doing) (named : Bool) (before after : Sides) where
   unread_so want refusals.UnknownKey told cause touches = absurd told
   unread_so want refusals.NotGranted told cause touches = absurd told
 
-  -- the first bad row, where the source doesn't tell its bytes
+  -- the first bad row, where the source doesn't report its bytes
   untold : TenantRefusal → Result Table ℕ
   untold (refusals.BadRow row) = Err row
   untold other = Err 0
@@ -94,7 +94,7 @@ module _ (Does : Doing) (named : Bool) (before after : Sides) where
         over = by.1.1;
       }
 
--- where memory is wanted before the table is read, nothing is touched
+-- where the memory runs out before the table is read, nothing is touched
 pub wanted_over : (Does : Doing) (named : Bool) (s : Sides) → TellsTable Does named s s statuses.NoMemory
 wanted_over Does named s =
     let by = over_by Does named s s (rows_named named s.table.left) refusals.NoMemory (told_none (rows_named named s.table.left)) (λ e. absurd (no_fault e)) refl in

@@ -1,9 +1,9 @@
 -- The command `day`: the statements of the input are carried out over an office table and a store.
-use Rattle.std.specs.Prelude.{◌≡◌, ℕ, Bool, List, IfSome}
+use Rattle.std.specs.Prelude.{◌≡◌, IfSome}
 use Rattle.ow_traits.specs.Streams.{Rose}
 use Rattle.ow_tenant.specs.Table.{Table}
-use Rattle.ow_words.specs.declared.status.Status.{Status}
-use Rattle.ow_words.specs.declared.status.Status.TheVariants as statuses
+use Rattle.ow_command_line.specs.declared.status.Status.{Status}
+use Rattle.ow_command_line.specs.declared.status.Status.TheVariants as statuses
 use Rattle.ow_day.specs.Carried.{IsOverTable, TellsDay}
 use Rattle.ow_day.specs.Reads.{IsAnsweredOver, LeavesRest}
 use Rattle.ow_office.specs.Sides.{Sides}

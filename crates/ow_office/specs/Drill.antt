@@ -2,8 +2,8 @@
 use Rattle.std.specs.Prelude.{◌≡◌, ℕ}
 use Rattle.ow_traits.specs.Streams.{Rose}
 use Rattle.ow_tenant.specs.Table.{Table}
-use Rattle.ow_words.specs.declared.status.Status.{Status}
-use Rattle.ow_words.specs.declared.status.Status.TheVariants as statuses
+use Rattle.ow_command_line.specs.declared.status.Status.{Status}
+use Rattle.ow_command_line.specs.declared.status.Status.TheVariants as statuses
 use Rattle.ow_drill.specs.Drilled.{EndsDrill, TellsDrill}
 use Rattle.ow_office.specs.Sides.{Sides, sides}
 

@@ -4,6 +4,8 @@ pub mod Sides
 pub mod Table
 pub mod Day
 pub mod Drill
+pub mod Deploy
+pub mod Putting
 pub mod Serve
 pub mod Texts
 pub mod Office

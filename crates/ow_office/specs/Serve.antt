@@ -1,9 +1,9 @@
 -- The command `serve`: the office reads the table, and passes the service on.
 use Rattle.std.specs.Prelude.{◌≡◌}
 use Rattle.ow_tenant.specs.Table.{Table}
-use Rattle.ow_words.specs.declared.command.ServeWords.{ServeWords}
-use Rattle.ow_words.specs.declared.status.Status.{Status}
-use Rattle.ow_words.specs.declared.status.Status.TheVariants as statuses
+use Rattle.ow_command_line.specs.declared.command.ServeWords.{ServeWords}
+use Rattle.ow_command_line.specs.declared.status.Status.{Status}
+use Rattle.ow_command_line.specs.declared.status.Status.TheVariants as statuses
 use Rattle.ow_office.specs.Sides.{Sides, TouchesTable}
 
 -- a service is passed on with the words and this table

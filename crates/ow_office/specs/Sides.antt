@@ -2,12 +2,12 @@
 use Rattle.std.specs.Prelude.{◌≡◌, ℕ, List, Option}
 use Rattle.ow_traits.specs.Telling.{Telling}
 
--- a source: the bytes that it has left, where it tells them, and how many of its reads failed
+-- a source: the bytes that it has left, where it reports them, and how many of its reads failed
 pub record SourceView : Type 0 where
   pub left : Option (List ℕ)
   pub faults : ℕ
 
--- a sink: the bytes that it took, where it tells them, and how many of its writes failed
+-- a sink: the bytes that it took, where it reports them, and how many of its writes failed
 pub record SinkView : Type 0 where
   pub taken : Option (List ℕ)
   pub faults : ℕ

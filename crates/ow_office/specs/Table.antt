@@ -5,21 +5,21 @@ use Rattle.ow_tenant.specs.Reading.{ReadsUpTo, most_read}
 use Rattle.ow_tenant.specs.Table.{Table, table_of}
 use Rattle.ow_tenant.specs.declared.refusal.TenantRefusal.{TenantRefusal}
 use Rattle.ow_tenant.specs.declared.refusal.TenantRefusal.TheVariants as refusals
-use Rattle.ow_words.specs.declared.status.Status.{Status}
-use Rattle.ow_words.specs.declared.status.Status.TheVariants as statuses
+use Rattle.ow_command_line.specs.declared.status.Status.{Status}
+use Rattle.ow_command_line.specs.declared.status.Status.TheVariants as statuses
 use Rattle.ow_office.specs.Sides.{Sides, TouchesTable}
 
--- the rows of the office table: what its source tells, where the words name one, and else none
+-- the bytes of the office table: what its source reports, where the words name a table, and else no bytes
 abbrev pub rows_named : Bool → Option (List ℕ) → Option (List ℕ)
 rows_named false left = Some []
 rows_named true left = left
 
--- what is left of a table: never are more bytes read than a table may have and one more, and so many are where it is read whole
+-- what is left of a table: at most one byte more is read than a table may have, and `most_read` bytes are gone where it is read whole
 pub record LeavesTable (text left : Option (List ℕ)) (status : Status) : Type 0 where
   pub most : ReadsUpTo most_read text left
   pub whole : IfSome text (λ bytes. (status ≡ statuses.NoMemory) ⊎ ((status ≡ statuses.ReadFault) ⊎ (left ≡ Some (drop most_read bytes))))
 
--- the table isn't read: memory is wanted, or a read of the table fails. Nothing else is touched
+-- the table isn't read: there is no memory, or a read of the table fails. Nothing else is touched
 abbrev pub IsUnread : Sides → Sides → Status → Type 0
 IsUnread before after statuses.NoMemory = TouchesTable before after
 IsUnread before after statuses.ReadFault = Rose before.table.faults after.table.faults × TouchesTable before after
@@ -35,7 +35,7 @@ TellsOver Does (Ok t) before after status = IsUnread before after status ⊎ Doe
 TellsOver Does (Err row) before after (statuses.BadTable n) = (n ≡ row) × TouchesTable before after
 TellsOver Does (Err row) before after status = IsUnread before after status
 
--- a command over the table that the rows are, where they are told, and else over some table or bad row
+-- a command over the table that the source's bytes give, where it reports them, and else over some table or bad row
 pub record TellsTable (Does : Doing) (named : Bool) (before after : Sides) (status : Status) : Type 0 where
   pub want : Result Table ℕ
   pub told : IfSome (rows_named named before.table.left) (λ text. want ≡ table_of text)

@@ -1,8 +1,8 @@
 -- The commands `--help` and `--version`: a text is written.
-use Rattle.std.specs.Prelude.{ℕ, List, Option}
+use Rattle.std.specs.Prelude.{ℕ, List}
 use Rattle.ow_traits.specs.Streams.{Rose, Takes, TakesFront}
-use Rattle.ow_words.specs.declared.status.Status.{Status}
-use Rattle.ow_words.specs.declared.status.Status.TheVariants as statuses
+use Rattle.ow_command_line.specs.declared.status.Status.{Status}
+use Rattle.ow_command_line.specs.declared.status.Status.TheVariants as statuses
 use Rattle.ow_office.specs.Sides.{Sides, SinkView, TouchesOutput}
 
 -- the text was written, or a write failed

@@ -1,17 +1,17 @@
--- The command `usage`: what the records that a store keeps count for is written. The office table and the input aren't touched, and no commit
--- is asked for.
+-- The command `usage`: it writes what the records count for that a store keeps. It doesn't touch the office table or the input, and
+-- requests no commit.
 use Rattle.std.specs.Prelude.{◌≡◌, ◌≤◌, ℕ, Bool, List, IfSome}
 use Rattle.ow_traits.specs.Streams.{Rose, Takes, TakesFront}
 use Rattle.ow_traits.specs.Telling.{Telling}
-use Rattle.ow_items.specs.Sorted.{Entries}
+use Rattle.ow_row_text.specs.Sorted.{Entries}
 use Rattle.ow_keep.specs.Kept.{IsBadRow}
 use Rattle.ow_keep.specs.Split.{HoldsItems, Parts}
 use Rattle.ow_records.specs.declared.record.Record.{Record}
 use Rattle.ow_usage.specs.Cells.{AreCells, Cells}
 use Rattle.ow_usage.specs.Text.{IsUsageText}
 use Rattle.ow_day.specs.Carried.{HasBadRow}
-use Rattle.ow_words.specs.declared.status.Status.{Status}
-use Rattle.ow_words.specs.declared.status.Status.TheVariants as statuses
+use Rattle.ow_command_line.specs.declared.status.Status.{Status}
+use Rattle.ow_command_line.specs.declared.status.Status.TheVariants as statuses
 use Rattle.ow_office.specs.Sides.{Sides, SinkView, sides}
 
 -- the text that shows what these records count for, from one day to another, both counted from 1970-01-01
@@ -26,7 +26,7 @@ pub record ShowsUsage (from to : ℕ) (csv : Bool) (rows : Entries) (text : List
   pub held : HoldsItems rows parts
   pub shows : ShowsRecords from to csv parts.records text
 
--- the same for the rows of a store, which are those that it tells, where it tells them
+-- the same for the rows of a store, as it reports them, where it does
 pub record ShowsStore (from to : ℕ) (csv : Bool) (store : Telling) (text : List ℕ) : Type 0 where
   pub rows : Entries
   pub told : IfSome store.rows (λ kept. rows ≡ kept)

@@ -7,9 +7,9 @@ ghost use Rattle.ow_office.specs.Sides.{sides, sink, source};
 ghost use Rattle.ow_office.specs.Table.{TellsTable};
 
 use crate::table::{read_table, unread};
+use ow_command_line::Status;
 use ow_day::run_day;
 use ow_traits::{Keeper, Sink, Source};
-use ow_words::Status;
 use std::alloc::Global;
 
 /// Reads the office table, and carries out the day over it.

@@ -8,9 +8,9 @@ ghost use Rattle.ow_office.specs.Sides.{SourceView, sides, sink, source};
 ghost use Rattle.ow_office.specs.Table.{TellsTable};
 
 use crate::table::{read_table, unread};
+use ow_command_line::Status;
 use ow_drill::run_drill;
 use ow_traits::{Keeper, Sink, Source};
-use ow_words::Status;
 use std::alloc::Global;
 
 /// The calls of a drill, and the number that their moments are made from.

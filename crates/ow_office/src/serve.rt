@@ -4,14 +4,14 @@ ghost use Rattle.ow_traits.specs.Prewarms.{AreWantsSized};
 ghost use Rattle.ow_traits.specs.Streams.{Rose};
 ghost use Rattle.ow_traits.specs.Telling.{Telling};
 ghost use Rattle.ow_tenant.specs.Table.{IsPoolSized, Table};
-ghost use Rattle.ow_words.specs.declared.command.ServeWords.{ServeWords as Words};
+ghost use Rattle.ow_command_line.specs.declared.command.ServeWords.{ServeWords as Words};
 ghost use Rattle.ow_office.specs.Serve.{PassesOn};
 ghost use Rattle.ow_office.specs.Sides.{SinkView, SourceView, sides, source};
 ghost use Rattle.ow_office.specs.Table.{TellsTable};
 
 use crate::table::{read_table, unread};
+use ow_command_line::{ServeWords, Status};
 use ow_traits::Source;
-use ow_words::{ServeWords, Status};
 use std::alloc::Global;
 
 /// A service, with the office table that its words name, or how the office ends where that isn't read. Nothing else is touched.

@@ -6,9 +6,9 @@ ghost use Rattle.ow_tenant.specs.Reading.{ReadsUpTo, Tells, TellsTable as TellsB
 ghost use Rattle.ow_tenant.specs.Table.{IsPoolSized, table_of as table_of_text};
 ghost use Rattle.ow_office.specs.Table.{rows_named, unread};
 
+use ow_command_line::Status;
 use ow_tenant::{TenantRefusal, Tenants};
 use ow_traits::{MemorySource, Source};
-use ow_words::Status;
 use std::alloc::Global;
 
 /// Reads the office table. Where the words name none it has no rows, and the source isn't touched.

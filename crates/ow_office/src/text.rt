@@ -5,8 +5,8 @@ ghost use Rattle.ow_traits.specs.Streams.{Rose};
 ghost use Rattle.ow_office.specs.Sides.{SourceView, sides, sink};
 ghost use Rattle.ow_office.specs.Texts.{TellsText, Writes};
 
+use ow_command_line::Status;
 use ow_traits::{Sink, write_all};
-use ow_words::Status;
 
 /// Writes a text. Nothing else is touched.
 pub(crate) fn write_text<O: Sink>(out: &mut O, text: &[u8]) -> Status

@@ -10,10 +10,10 @@ ghost use Rattle.ow_office.specs.Sides.{sink};
 ghost use Rattle.ow_office.specs.Usage.{IsUnkept, IsUnshown, ShowsRecords, ShowsStore, ShowsUsage, StaysRead, WritesUsage};
 
 use crate::text::write_text;
+use ow_command_line::Status;
 use ow_keep::{KeepRefusal, Kept, kept_rows, moments_are_small};
 use ow_traits::{Keeper, KeeperError, Rows, Sink};
 use ow_usage::{Usage, cells, usage_text};
-use ow_words::Status;
 use std::alloc::Global;
 
 /// Writes what the records that the store keeps count for, from one day to another, both counted from 1970-01-01. Nothing else is

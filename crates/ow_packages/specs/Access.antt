@@ -1,4 +1,4 @@
--- What stands under a kind and a name, and what can be reached from a namespace.
+-- The row under a kind and a name, and what can be reached from a namespace.
 use Rattle.std.specs.Prelude.{◌||◌, ℕ, Bool, false, List, option_map, if◌then◌else◌, Option, Some, None}
 use Rattle.ow_entity.specs.Finish.{as_action, as_package}
 use Rattle.std.specs.Str.{bytes_eq}
@@ -10,7 +10,7 @@ use Rattle.ow_entity.specs.declared.packages.Package.{Package}
 use Rattle.ow_entity.specs.declared.rows.Row.{Row}
 use Rattle.ow_entity.specs.declared.rows.Row.TheVariants as rows
 
--- the entity that stands under a kind and a name, if any
+-- the stored entity under a kind and a name, if any
 abbrev pub Standing : Type 0
 Standing = EntityKind → FullName → Option Row
 

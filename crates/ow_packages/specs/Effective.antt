@@ -12,13 +12,13 @@ use Rattle.ow_packages.specs.declared.effective_action.Effective.{Effective}
 use Rattle.ow_packages.specs.declared.refusal.PackageRefusal.{PackageRefusal}
 use Rattle.ow_packages.specs.declared.refusal.PackageRefusal.TheVariants.{NotFound, NoMemory}
 
--- what stands behind a name: the action, the binding that the name goes through, and the package in which the action lies
+-- what a name refers to: the action, the binding that the name goes through, and the package in which the action lies
 pub record Behind : Type 0 where
   pub action : Action
   pub binding : Option Package
   pub inside : Option Package
 
--- ---- what stands behind a name
+-- ---- what a name refers to
 
 -- an action outside packages is reached from its own namespace alone
 abbrev pub behind_bare : Standing → FullName → List ℕ → Option Behind
@@ -44,7 +44,7 @@ abbrev pub behind_name : Standing → FullName → List ℕ → Option FullName 
 behind_name standing name from None = behind_bare standing name from
 behind_name standing name from (Some «package») = behind_package standing name (reached_package standing «package» from)
 
--- what stands behind the name for one in the namespace
+-- what the name refers to for a caller in the namespace
 abbrev pub behind : Standing → FullName → List ℕ → Option Behind
 behind standing name from = behind_name standing name from (package_of name)
 
@@ -67,19 +67,19 @@ effective_of b = record {
   binding = option_map (λ p. p.name) b.binding;
 }
 
--- what the name calls for one in the namespace, if anything
+-- what the name calls for a caller in the namespace, if anything
 unfoldable pub effective : Standing → FullName → List ℕ → Option Effective
 effective standing name from = option_map effective_of (behind standing name from)
 
 -- ---- what each name finds
 
--- a call's value stands, else the action's, else the binding's, else the package's
+-- the call's value is taken, else the action's, else the binding's, else the package's
 abbrev pub FindsEach : Pairs → Behind → Type 0
 FindsEach ps b = (given : Pairs) (q : List ℕ) → find q (merge ps given)
     ≡ option_or (find q given) (option_or (find q b.action.params) (option_or (find q (params_of b.binding)) (find q (params_of b.inside))))
 
 -- ---- for private clauses
 
--- the answer is what stands there, and it is refused exactly where nothing does
+-- the answer is what the name refers to, and it is refused exactly where the name refers to nothing
 abbrev pub Answers : Option Behind → Result Effective PackageRefusal → Type 0
 Answers o r = MatchResult r (λ e. option_map effective_of o ≡ Some e) (λ e. e ≢ NoMemory → (e ≡ NotFound) × (o ≡ None))

@@ -1,4 +1,4 @@
--- By what number a client knows each refusal.
+-- The number by which a client knows each refusal.
 use Rattle.std.specs.Prelude.{ℕ}
 use Rattle.ow_packages.specs.declared.refusal.PackageRefusal.{PackageRefusal}
 use Rattle.ow_packages.specs.declared.refusal.PackageRefusal.TheVariants.{NotFound, BindsABinding, Fixed, NoMemory}

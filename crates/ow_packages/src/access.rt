@@ -29,7 +29,7 @@ pub fn reached_package<'a, T: Lookup>(
     }
 }
 
-/// Whether the package of the name stands and is shared.
+/// Whether the package of the name exists and is shared.
 pub fn is_shared<T: Lookup>(rows: &T, name: &FullName) -> bool
     ensures { result ≡ is_shared (package_at (T.found rows.now) name.now) }
 {

@@ -1,4 +1,4 @@
-// What stands behind a name.
+// What a name refers to.
 ghost use Rattle.std.specs.Prelude.{◌≡◌, ◌≢◌, Some, None, IfOk, MatchResult};
 ghost use Rattle.std.specs.Option.{option_copied};
 ghost use Rattle.ow_packages.specs.Effective.{Behind, behind, behind_bare, behind_in, params_over, effective_of, effective, FindsEach, Answers};
@@ -11,8 +11,8 @@ use ow_names::{EntityName, FullName};
 use ow_value::{NoMemory, Params, PlainData, Shared, merge};
 use std::alloc::Global;
 
-/// What the name calls for one who stands in the namespace: the action, through one binding and never through a
-/// second, with the parameters of its package and of the binding below its own.
+/// What the name calls for a caller in the namespace: the action, through one binding at most. Its parameters go over
+/// those of the binding, and these over those of the package.
 pub fn effective<T: Lookup>(
     alloc: Global,
     rows: &T,
@@ -61,7 +61,7 @@ fn bare<T: Lookup>(
     }
 }
 
-// An action behind a name in the package.
+// The action that a name in the package refers to.
 fn in_package<T: Lookup>(
     alloc: Global,
     rows: &T,

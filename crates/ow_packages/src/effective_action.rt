@@ -8,7 +8,7 @@ use std::alloc::Global;
 /// What a name of an action calls.
 #[derive(Drop)]
 pub struct Effective {
-    /// The action that runs, as it stands.
+    /// The stored action that runs.
     pub action: Shared<Action>,
     /// Its parameters, over those of the binding and of the package.
     pub params: Params,

@@ -1,7 +1,7 @@
 #![tactic(auto)]
 
-//! What a name of an action calls: the action, through a binding too, and the parameters that it is called with. What
-//! stands is asked by name and kind alone, so the rows may be kept in any way.
+//! What a name of an action calls: the action, also through a binding, and the parameters that it is called with. Rows
+//! are looked up by name and kind alone, so they may be stored in any way.
 mod access;
 mod behind;
 mod binding;

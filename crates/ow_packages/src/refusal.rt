@@ -16,12 +16,12 @@ pub enum PackageRefusal {
         /// As it was given.
         name: Str,
     },
-    /// This says nothing of the rows.
+    /// Out of memory. This says nothing about the rows.
     NoMemory,
 }
 
 impl PackageRefusal {
-    /// By which a client tells the refusals apart. Want of memory has 0.
+    /// The number by which a client distinguishes the refusals. Out of memory has 0.
     pub fn number(&self) -> u32
         ensures { result ≡ package_refusal_number self.now }
     {

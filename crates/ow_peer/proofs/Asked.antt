@@ -1,4 +1,4 @@
--- Calls of a locked hall, and what they come to.
+-- Calls of a locked hall, and their results.
 use Rattle.std.proofs.Common.{◌≡◌, ◌++◌, ℕ, [], Option, Result, Ok, Err, ap, append-nil, inr, subst, sym, ◌∙◌}
 use Rattle.ow_value.specs.declared.memory.NoMemory.{NoMemory as Want}
 use Rattle.ow_http.specs.declared.answer.Answer.{Answer}

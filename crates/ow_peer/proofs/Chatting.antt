@@ -1,4 +1,4 @@
--- One exchange behind the others.
+-- One exchange after the others.
 use Rattle.std.proofs.Common.{◌≡◌, ◌++◌, false, ℕ, List, [], ◌∷◌, Option, Ok, refl, sym, ap, subst, ◌∙◌, append_assoc, append-nil, drop}
 use Rattle.std.proofs.lemmas.List.{drop-append-le}
 use Rattle.ow_traits.specs.Streams.{Takes}
@@ -14,7 +14,7 @@ use Rattle.ow_peer.specs.Answered.{AnsweredBy}
 use Rattle.ow_peer.specs.Talk.{Chats, Exchange, GoesOn, Stops, Talks}
 
 module _ (tells : Option ℕ) where
-  -- where more bytes follow they stand behind the rest
+  -- where more bytes are appended, they are appended to the rest
   chats_on : (xs : List Exchange) (bytes rest more : List ℕ) (n m : Notes) (written : List ℕ) → Chats tells xs bytes rest n m written → Chats tells xs (bytes ++ more) (rest ++ more) n m written
   chats_on [] bytes rest more n m written c = (ap (λ z. z ++ more) c.0, c.1, c.2)
   chats_on (x ∷ xs) bytes rest more n m written c =

@@ -1,4 +1,4 @@
--- Replies, and how a connection ends behind them.
+-- Replies, and how a connection ends after them.
 use Rattle.std.proofs.Common.{◌≡◌, ◌≢◌, ◌++◌, Bool, ℕ, List, [], Option, Some, None, Ok, Err, refl, sym, subst, inl, inr, ⊎_elim, drop}
 use Rattle.ow_http.specs.Read.{IsRead}
 use Rattle.ow_http.specs.declared.answer.Answer.{Answer}
@@ -35,7 +35,7 @@ faulted sent.Fault ending other is = refl
 faulted sent.NoMemory ending other is = absurd (let e : endings.NoMemory ≡ endings.WriteFault = is in cc)
 
 module _ (tells : Option ℕ) where
-  -- ---- that memory was wanted
+  -- ---- that memory ran out
 
   pub gave_up : (bytes : List ℕ) (left old new : Option (List ℕ)) (n m : Notes) (ending : Ending) → IsWant tells bytes n m → GivesUp old new ending → EndsBy tells bytes left old new n m ending
   gave_up bytes left old new n m endings.Ended w g = absurd g
@@ -112,7 +112,7 @@ module _ (tells : Option ℕ) where
   unread_not old new request n m (Some endings.WriteFault) s is = cc
   unread_not old new request n m (Some endings.NoMemory) s is = cc
 
-  -- ---- over the link as it was before the request was read, and as it is behind the reply
+  -- ---- over the link as it was before the request was read, and as it is after the reply
 
   pub stop : (l0 l1 l2 t0 t1 t2 : Option (List ℕ)) (held came : List ℕ) (n m : Notes) (told ending : Ending)
       → Gives l0 l1 came → EndsBy tells (held ++ came) l1 t1 t2 n m ending → l2 ≡ l1 → t1 ≡ t0 → told ≡ ending → Stops tells l0 l2 t0 t2 held n m told

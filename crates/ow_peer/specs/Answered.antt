@@ -12,7 +12,7 @@ use Rattle.ow_decide.specs.declared.replies.Reply.TheVariants as replies
 use Rattle.ow_hall.specs.Comes.{Answers, Outcome, Replies}
 use Rattle.ow_desk.specs.Notes.{CalledBy, Notes}
 
--- all calls are at the clock's moment, where it tells one
+-- all calls are at the clock's moment, where it reports one
 module _ (tells : Option ℕ) where
   -- a request: its entry, or the mark that the book is full or that the store failed
   abbrev pub AsksFor : Request → Result Reply Want → Notes → Notes → Type 0
@@ -32,7 +32,7 @@ module _ (tells : Option ℕ) where
   AnsweredBy request answer n m = AsksFor request (Ok (replies.Now answer)) n m
       ⊎ ((id : Id) × (middle : Notes) × Waits request id n middle × Collects id middle m (Ok answer))
 
-  -- memory was wanted: nothing is noted, or that the request waits
+  -- memory ran out: nothing is noted, or that the request waits
   abbrev pub Unanswered : Request → Notes → Notes → Type 0
   Unanswered request n m = (m ≡ n) ⊎ ((id : Id) × Waits request id n m)
 

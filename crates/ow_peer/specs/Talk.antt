@@ -1,4 +1,4 @@
--- What a connection comes to: one request after the other, and one reply to each.
+-- What happens on a connection: one request after the other, and one reply to each.
 use Rattle.std.specs.Prelude.{◌≡◌, ◌≢◌, ◌⊎◌, ◌++◌, Bool, true, false, ℕ, List, [], ◌∷◌, Option, Some, None, Ok, Err, drop}
 use Rattle.ow_traits.specs.Streams.{Takes, TakesFront}
 use Rattle.ow_http.specs.Read.{IsRead}
@@ -19,7 +19,7 @@ use Rattle.ow_peer.specs.Answered.{AnsweredBy, Unanswered}
 
 -- ---- the last reply
 
--- the answer that tells why bytes are no request, or that memory was wanted
+-- the answer that says why bytes are no request, or that memory ran out
 abbrev pub refused : HttpRefusal → Answer
 refused e = refusal_of (reasons.Http e)
 
@@ -36,13 +36,13 @@ pub record Exchange : Type 0 where
   pub request : Request
   pub answer : Answer
 
--- all calls of the hall are at the clock's moment, where it tells one
+-- all calls of the hall are at the clock's moment, where it reports one
 module _ (tells : Option ℕ) where
-  -- the request at the front of the bytes is answered
+  -- the request that the bytes begin with is answered
   abbrev pub AnswersFront : List ℕ → Notes → Notes → Bool → Answer → Type 0
   AnswersFront bytes n m close answer = (request : Request) × IsRead bytes (Ok request) × (request.close ≡ close) × AnsweredBy tells request answer n m
 
-  -- memory was wanted for a request, before its answer or for its reply
+  -- memory ran out for a request, before its answer or for its reply
   abbrev pub IsWanting : Request → Notes → Notes → Type 0
   IsWanting request n m = Unanswered tells request n m ⊎ ((answer : Answer) × AnsweredBy tells request answer n m)
 
@@ -52,7 +52,7 @@ module _ (tells : Option ℕ) where
 
   -- ---- the ending
 
-  -- behind all exchanges, by the bytes that no request was made of, and what the link took since
+  -- after all exchanges, by the bytes that no request was made of, and what the link took since
   abbrev pub EndsBy : List ℕ → Option (List ℕ) → Option (List ℕ) → Option (List ℕ) → Notes → Notes → Ending → Type 0
   EndsBy bytes left old new n m endings.Ended = (bytes ≡ []) × IsAtEnd left × (m ≡ n) × (new ≡ old)
   EndsBy bytes left old new n m endings.CutShort = (answer : Answer) × TellsCut bytes left n m answer × Takes old new (reply_bytes answer)
@@ -66,7 +66,7 @@ module _ (tells : Option ℕ) where
 
   -- ---- the whole
 
-  -- requests that the bytes begin with, each answered behind the one before, with what was written
+  -- requests that the bytes begin with, each answered after the one before, with what was written
   abbrev pub Chats : List Exchange → List ℕ → List ℕ → Notes → Notes → List ℕ → Type 0
   Chats [] bytes rest n m written = (rest ≡ bytes) × (m ≡ n) × (written ≡ [])
   Chats (x ∷ xs) bytes rest n m written = IsRead bytes (Ok x.request) × (x.request.close ≡ false)
@@ -88,7 +88,7 @@ module _ (tells : Option ℕ) where
 
   -- ---- for private clauses: one exchange
 
-  -- some bytes come behind those that are held, the request at their front is answered, and the link takes the reply
+  -- some bytes come after the held ones, the request at their front is answered, and the link takes the reply
   pub record GoesOn (left_old left_new taken_old taken_new : Option (List ℕ)) (held now : List ℕ) (n m : Notes) : Type 0 where
     pub came : List ℕ
     pub gives : Gives left_old left_new came
@@ -117,13 +117,13 @@ ending_of sent.Whole ending = ending
 ending_of sent.Fault ending = endings.WriteFault
 ending_of sent.NoMemory ending = endings.NoMemory
 
--- that memory was wanted is told, where there is some for that
+-- that memory ran out is reported, where there is some for that
 abbrev pub GivesUp : Option (List ℕ) → Option (List ℕ) → Ending → Type 0
 GivesUp old new endings.NoMemory = (new ≡ old) ⊎ Takes old new (reply_bytes (refused https.NoMemory))
 GivesUp old new endings.WriteFault = TakesFront old new (reply_bytes (refused https.NoMemory))
 GivesUp old new ending = ⊥
 
--- a reply is written, and the connection goes on where that is wanted
+-- a reply is written, and the connection goes on unless it is to close
 abbrev pub RepliesWith : Option (List ℕ) → Option (List ℕ) → Answer → Bool → Option Ending → Type 0
 RepliesWith old new answer close None = (close ≡ false) × Takes old new (reply_bytes answer)
 RepliesWith old new answer close (Some endings.Closed) = (close ≡ true) × Takes old new (reply_bytes answer)

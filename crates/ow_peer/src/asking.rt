@@ -47,7 +47,7 @@ pub(crate) fn answer_of<H: Wait, P: Keeper + Drop, C: Clock>(
     }
 }
 
-// What the hall answers at once. The lock is free again behind this call.
+// What the hall answers at once. The lock is free again after this call.
 fn ask<H: Wait, P: Keeper + Drop, C: Clock>(
     rt: &H,
     alloc: Global,
@@ -61,7 +61,7 @@ fn ask<H: Wait, P: Keeper + Drop, C: Clock>(
     notes.ask(alloc, &mut *hold(rt, desk), clock.now(), request)
 }
 
-// What became of an activation. The lock is free again behind this call.
+// What became of an activation. The lock is free again after this call.
 fn collect<H: Wait, P: Keeper + Drop, C: Clock>(
     rt: &H,
     alloc: Global,
@@ -75,7 +75,7 @@ fn collect<H: Wait, P: Keeper + Drop, C: Clock>(
     notes.collect(alloc, &mut *hold(rt, desk), clock.now(), id)
 }
 
-// The answer that an activation comes to, or that its request's time is over.
+// The answer of an activation, or that its request's time is over.
 fn collect_on<H: Wait, P: Keeper + Drop, C: Clock>(
     rt: &H,
     alloc: Global,

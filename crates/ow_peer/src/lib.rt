@@ -6,4 +6,4 @@ mod ending;
 mod talking;
 
 pub use ending::Ending;
-pub use talking::connection;
+pub use talking::{connection, connection_over};

@@ -18,8 +18,8 @@ use std::sync::{Mutex, Wait};
 
 // What a connection reads its peer's bytes with.
 #[derive(Drop)]
-struct Reader {
-    routes: Routes,
+struct Reader<'a> {
+    routes: &'a Routes,
     inbox: Inbox,
 }
 
@@ -33,12 +33,39 @@ pub fn connection<H: Wait, K: Link, P: Keeper + Drop, C: Clock>(
     clock: &C,
     notes: &mut Receipts<P>,
 ) -> Ending
-    ensures talks { Talks (C.tells clock.now) (K.left link.old) (K.left link.new) (K.taken link.old) (K.taken link.new) notes.old.notes notes.new.notes result }
-    ensures later { K.faults link.old ≤ K.faults link.new }
-    ensures unread { result ≡ Ending.ReadFault → Rose (K.faults link.old) (K.faults link.new) }
-    ensures unwritten { result ≡ Ending.WriteFault → Rose (K.faults link.old) (K.faults link.new) }
+    ensures talks { Talks (C.tells clock.now) (K.left link.old) (K.left link.new)
+        (K.taken link.old) (K.taken link.new) notes.old.notes notes.new.notes result }
+    ensures faults_grow { K.faults link.old ≤ K.faults link.new }
+    ensures unread { result ≡ Ending.ReadFault
+        → Rose (K.faults link.old) (K.faults link.new) }
+    ensures unwritten { result ≡ Ending.WriteFault
+        → Rose (K.faults link.old) (K.faults link.new) }
 {
-    let Ok(mut reader) = make_reader(alloc) else {
+    let Ok(routes) = Routes::new(alloc) else {
+        return give_up(alloc, link);
+    };
+    connection_over(rt, alloc, &routes, link, desk, clock, notes)
+}
+
+/// Does what `connection` does, with routes that many connections share.
+pub fn connection_over<H: Wait, K: Link, P: Keeper + Drop, C: Clock>(
+    rt: &H,
+    alloc: Global,
+    routes: &Routes,
+    link: &mut K,
+    desk: &Mutex<Desk<P>>,
+    clock: &C,
+    notes: &mut Receipts<P>,
+) -> Ending
+    ensures talks { Talks (C.tells clock.now) (K.left link.old) (K.left link.new)
+        (K.taken link.old) (K.taken link.new) notes.old.notes notes.new.notes result }
+    ensures faults_grow { K.faults link.old ≤ K.faults link.new }
+    ensures unread { result ≡ Ending.ReadFault
+        → Rose (K.faults link.old) (K.faults link.new) }
+    ensures unwritten { result ≡ Ending.WriteFault
+        → Rose (K.faults link.old) (K.faults link.new) }
+{
+    let Ok(mut reader) = make_reader(alloc, routes) else {
         return give_up(alloc, link);
     };
     for _ in rt.forever() {
@@ -49,11 +76,11 @@ pub fn connection<H: Wait, K: Link, P: Keeper + Drop, C: Clock>(
     Ending::NoMemory
 }
 
-fn make_reader(alloc: Global) -> Result<Reader, NoMemory>
+fn make_reader(alloc: Global, routes: &Routes) -> Result<Reader<'_>, NoMemory>
     ensures { IfOk result (λ r. r.inbox ≡ []) }
 {
     Ok(Reader {
-        routes: Routes::new(alloc)?,
+        routes,
         inbox: Inbox::new(alloc)?,
     })
 }
@@ -62,18 +89,18 @@ fn make_reader(alloc: Global) -> Result<Reader, NoMemory>
 fn exchange<H: Wait, K: Link, P: Keeper + Drop, C: Clock>(
     rt: &H,
     alloc: Global,
-    reader: &mut Reader,
+    reader: &mut Reader<'_>,
     link: &mut K,
     desk: &Mutex<Desk<P>>,
     clock: &C,
     notes: &mut Receipts<P>,
 ) -> Option<Ending>
     ensures exchanged { Exchanges (C.tells clock.now) (K.left link.old) (K.left link.new) (K.taken link.old) (K.taken link.new) reader.old.inbox reader.new.inbox notes.old.notes notes.new.notes result }
-    ensures later { K.faults link.old ≤ K.faults link.new }
+    ensures faults_grow { K.faults link.old ≤ K.faults link.new }
     ensures unread { result ≡ Some Ending.ReadFault → Rose (K.faults link.old) (K.faults link.new) }
     ensures unwritten { result ≡ Some Ending.WriteFault → Rose (K.faults link.old) (K.faults link.new) }
 {
-    match reader.inbox.receive(alloc, &reader.routes, link) {
+    match reader.inbox.receive(alloc, reader.routes, link) {
         Arrival::Asked(request) => serve(rt, alloc, link, desk, clock, notes, &request),
         Arrival::Refused(e) => Some(ending_of(tell(alloc, link, e), Ending::Closed)),
         Arrival::CutShort => {
@@ -98,7 +125,7 @@ fn serve<H: Wait, K: Link, P: Keeper + Drop, C: Clock>(
 ) -> Option<Ending>
     ensures serves { Serves (C.tells clock.now) (K.taken link.old) (K.taken link.new) request.now notes.old.notes notes.new.notes result }
     ensures left { K.left link.new ≡ K.left link.old }
-    ensures later { K.faults link.old ≤ K.faults link.new }
+    ensures faults_grow { K.faults link.old ≤ K.faults link.new }
     ensures unwritten { result ≡ Some Ending.WriteFault → Rose (K.faults link.old) (K.faults link.new) }
 {
     match answer_of(rt, alloc, desk, clock, notes, request) {
@@ -107,11 +134,11 @@ fn serve<H: Wait, K: Link, P: Keeper + Drop, C: Clock>(
     }
 }
 
-// Writes the reply. The connection goes on behind it unless its end was asked for.
+// Writes the reply. The connection goes on after it unless its end was requested.
 fn reply<K: Link>(alloc: Global, link: &mut K, answer: &Answer, close: bool) -> Option<Ending>
     ensures replies { RepliesWith (K.taken link.old) (K.taken link.new) answer.now close result }
     ensures left { K.left link.new ≡ K.left link.old }
-    ensures later { K.faults link.old ≤ K.faults link.new }
+    ensures faults_grow { K.faults link.old ≤ K.faults link.new }
     ensures unwritten { result ≡ Some Ending.WriteFault → Rose (K.faults link.old) (K.faults link.new) }
 {
     match send_reply(alloc, link, answer) {
@@ -126,22 +153,22 @@ fn reply<K: Link>(alloc: Global, link: &mut K, answer: &Answer, close: bool) -> 
     }
 }
 
-// Tells that memory was wanted, where there is some for that.
+// Reports that memory ran out, where there is some for that.
 fn give_up<K: Link>(alloc: Global, link: &mut K) -> Ending
     ensures gives_up { GivesUp (K.taken link.old) (K.taken link.new) result }
     ensures left { K.left link.new ≡ K.left link.old }
-    ensures later { K.faults link.old ≤ K.faults link.new }
+    ensures faults_grow { K.faults link.old ≤ K.faults link.new }
     ensures unwritten { result ≡ Ending.WriteFault → Rose (K.faults link.old) (K.faults link.new) }
 {
     let sent = tell(alloc, link, HttpRefusal::NoMemory);
     ending_of(sent, Ending::NoMemory)
 }
 
-// Tells why bytes are no request, or that memory was wanted.
+// Reports why bytes are no request, or that memory ran out.
 fn tell<K: Link>(alloc: Global, link: &mut K, e: HttpRefusal) -> Sent
     ensures sent { Sends (K.taken link.old) (K.taken link.new) (refused e) result }
     ensures left { K.left link.new ≡ K.left link.old }
-    ensures later { K.faults link.old ≤ K.faults link.new }
+    ensures faults_grow { K.faults link.old ≤ K.faults link.new }
     ensures fault { result ≡ Sent.Fault → Rose (K.faults link.old) (K.faults link.new) }
 {
     match refusal(alloc, &Reason::Http(e)) {
@@ -150,7 +177,7 @@ fn tell<K: Link>(alloc: Global, link: &mut K, e: HttpRefusal) -> Sent
     }
 }
 
-// How a connection ends behind its last reply.
+// How a connection ends after its last reply.
 fn ending_of(sent: Sent, ending: Ending) -> Ending
     ensures { result ≡ ending_of sent ending }
 {

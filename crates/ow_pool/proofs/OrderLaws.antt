@@ -52,7 +52,7 @@ at_position p slots n e =
     let h = position-Some p slots n vacant_slot e in
     record { slot = get_or slots n vacant_slot; there = slice_get-get_or slots n vacant_slot h.0; passes = h.1 }
 
--- equal keys are told by the word for them
+-- keys that pass `same_key` are equal
 abbrev pub KeysTell : Type 0
 KeysTell = (a b : Key) → same_key a b ≡ true → a ≡ b
 

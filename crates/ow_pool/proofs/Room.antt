@@ -93,7 +93,7 @@ pub facts : (n : ℕ) (slots : List Slot) → AllByRecursion (Facts n slots) (ca
 facts n [] = tt
 facts n (s ∷ slots) = put_facts n s slots s.state refl (candidates_from (suc n) slots) (lift_facts n s slots (candidates_from (suc n) slots) (facts (suc n) slots))
 
--- no slot stands twice among the candidates
+-- no slot occurs twice among the candidates
 abbrev pub Distinct : List Candidate → Type 0
 Distinct [] = Unit {0}
 Distinct (c ∷ cs) = (is_among cs c.slot ≡ false) × Distinct cs

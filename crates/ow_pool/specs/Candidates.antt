@@ -54,7 +54,7 @@ abbrev pub outside : (ℕ → Bool) → ℕ → List Slot → ℕ
 outside set n [] = 0
 outside set n (s ∷ slots) = share_outside set n s + outside set (suc n) slots
 
--- the shortest beginning of a list that passes, of those that go on from what is done
+-- the shortest prefix of a list that passes, among the prefixes longer than what is done
 abbrev pub shortest : (List Candidate → Bool) → List Candidate → List Candidate → Option (List Candidate)
 shortest passes done [] = None
 shortest passes done (c ∷ left) = if passes (done ++ c ∷ []) then Some (done ++ c ∷ []) else shortest passes (done ++ c ∷ []) left
@@ -68,7 +68,7 @@ numbers_of (Some cs) = Some (map (λ c. c.slot) cs)
 abbrev pub IsCandidate : ℕ → Candidate → Slot → Type 0
 IsCandidate n c s = candidate_in n s.state ≡ Some c
 
--- each stands before all that are removed later
+-- each comes before all that are removed later
 abbrev pub AreInOrder : List Candidate → Type 0
 AreInOrder [] = Unit {0}
 AreInOrder (c ∷ cs) = AllByRecursion (λ d. is_before c d ≡ true) cs × AreInOrder cs

@@ -15,7 +15,7 @@ use Rattle.ow_pool.specs.declared.answers.Place.{Place}
 use Rattle.ow_pool.specs.declared.answers.Place.TheVariants as places
 use Rattle.ow_pool.specs.Rules.{IsWithinPool}
 
--- the container of a state is what a start with this key is told to find
+-- the container of a state is the one that a start with this key is to find
 abbrev pub IsFor : Start → Key → State → Type 0
 IsFor starts.Warm key (Idle own last_used) = own ≡ key
 IsFor starts.Prewarmed key (Prewarmed kind memory) = (kind ≡ kind_of key.exec) × (memory ≡ key.memory)

@@ -28,7 +28,7 @@ pub fn place(slots: &Slots, head: Option<&Head>, wants: &[Prewarm], pool: u32) -
 
 fn choose(slots: &[Slot], head: Option<&Head>, wants: &[Prewarm], pool: u32) -> Place
     requires within { IsWithinPool slots.now pool }
-    requires few { length slots.now < 2 ^ 32 }
+    requires bounded { length slots.now < 2 ^ 32 }
     requires head { IsHeadSized (option_copied head) }
     ensures { result ≡ place_of slots.now (option_copied head.entry) wants.now pool }
 {
@@ -40,7 +40,7 @@ fn choose(slots: &[Slot], head: Option<&Head>, wants: &[Prewarm], pool: u32) -> 
 
 fn place_head(slots: &[Slot], key: &Key, pool: u32) -> Place
     requires within { IsWithinPool slots.now pool }
-    requires few { length slots.now < 2 ^ 32 }
+    requires bounded { length slots.now < 2 ^ 32 }
     requires head { IsMemory key.now.memory }
     ensures { result ≡ placed slots.now key.now pool }
 {
@@ -67,7 +67,7 @@ fn place_head(slots: &[Slot], key: &Key, pool: u32) -> Place
 
 fn place_wanted(slots: &[Slot], wants: &[Prewarm], pool: u32) -> Place
     requires within { IsWithinPool slots.now pool }
-    requires few { length slots.now < 2 ^ 32 }
+    requires bounded { length slots.now < 2 ^ 32 }
     ensures { result ≡ prewarming slots.now wants.now pool }
 {
     match vacant(slots) {
@@ -193,7 +193,7 @@ fn memory_of(slot: &Slot) -> u64
 // Nothing where the closing slots make room; else the containers that make room.
 fn removal(slots: &[Slot], memory: u32, pool: u32) -> Place
     requires within { IsWithinPool slots.now pool }
-    requires few { length slots.now < 2 ^ 32 }
+    requires bounded { length slots.now < 2 ^ 32 }
     requires head { IsMemory memory }
     ensures { result ≡ removal slots.now memory pool }
 {

@@ -113,8 +113,7 @@ fn start(
     Ok(())
 }
 
-/// The key of a version of guest's action, which the namespace runs.
-/// The value, in a box, which a way out lets go of by one call.
+/// The value, in a box, which a return path drops by one call.
 pub(crate) fn boxed<T: Drop>(alloc: Global, value: T) -> Result<Box<T>, Fail> {
     match Box::new(alloc, value) {
         Ok(held) => Ok(held),
@@ -122,6 +121,7 @@ pub(crate) fn boxed<T: Drop>(alloc: Global, value: T) -> Result<Box<T>, Fail> {
     }
 }
 
+/// The key of a version of guest's action, which the namespace runs.
 pub(crate) fn key_of(
     alloc: Global,
     namespace: &str,

@@ -71,7 +71,7 @@ const READY: &[Event] = &[
     Event::Answered(2),
 ];
 
-// The slots after what happened, each event so many milliseconds after the one before it.
+// The slots after these events, each `step` milliseconds after the one before it.
 fn after(alloc: Global, count: u32, events: &[Event], step: u64) -> Result<Slots, Fail> {
     let mut slots = Slots::new(alloc, count)?;
     take(alloc, &mut slots, events, step)?;
@@ -154,7 +154,7 @@ fn answer(
     Ok(shown(alloc, &place(slots, head, wants, pool))?)
 }
 
-// The same of three slots, behind these events.
+// The same for three slots, after these events.
 fn next_after(
     alloc: Global,
     events: &[Event],

@@ -1,4 +1,4 @@
--- The action that stands behind a name in a binding, as it is read step by step, and how a package is shown with its actions.
+-- The action that a name in a binding calls, as it is read step by step, and how a package is shown with its actions.
 use Rattle.std.proofs.Common.{◌≡◌, ◌∙◌, ◌||◌, ℕ, Bool, true, if◌then◌else◌, List, [], ◌∷◌, Option, Some, None, is_some, option_map, option_and_then, refl, sym, ap}
 use Rattle.std.specs.Str.{bytes_eq}
 use Rattle.std.proofs.lemmas.Bool.{or_right}
@@ -49,7 +49,7 @@ by_reached rs name t p None e = rw e refl
 by_reached rs name t p (Some q) e =
     rw e (unmade p q (as_action (found kinds.Action (lying_in t name.name) rs)) ∙ row_form rs (lying_in t name.name) (found kinds.Action (lying_in t name.name) rs) refl)
 
--- what stands behind a name in a binding
+-- the action that a name in a binding calls
 behind_is : (rs : List Row) (name m t : FullName) (p : Package) → package_of name ≡ Some m → package_at (standing rs) m ≡ Some p → p.binding ≡ Some t
     → behind (standing rs) name name.namespace ≡ behind_in (standing rs) name p (Some t)
 behind_is rs name m t p lies is binds =

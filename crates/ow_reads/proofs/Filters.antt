@@ -1,4 +1,4 @@
--- What is found among those that pass another test.
+-- What is found among the elements that pass another test.
 use Rattle.std.proofs.Common.{◌≡◌, ◌≤◌, Bool, true, false, List, [], ◌∷◌, length, Some, None, refl, sym, ap, subst, arith}
 use Rattle.std.specs.List.{filter, find}
 
@@ -27,7 +27,7 @@ find_uncounted p (x ∷ xs) few = by_test (p x) refl (find_uncounted p xs)
     by_test true e rest = let h : length (x ∷ filter p xs) ≤ 0 = rw e at few in absurd (omega (arith, h))
     by_test false e rest = rw e (rest (rw e at few))
 
--- a filter by a test that all pass which another keeps
+-- a filter by a test is the same after a filter by a wider test
 pub filter_filter : {X : Type 0} (p q : X → Bool) (xs : List X) → ((x : X) → p x ≡ true → q x ≡ true) → filter p (filter q xs) ≡ filter p xs
 filter_filter p q [] goes = refl
 filter_filter {X = X} p q (x ∷ xs) goes = by_tests (p x) (q x) refl refl (filter_filter p q xs goes)

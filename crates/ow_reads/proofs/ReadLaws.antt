@@ -1,4 +1,4 @@
--- What is seen by whoever asks, where what is asked is granted.
+-- What the caller sees, where the read is granted.
 use Rattle.std.proofs.Common.{◌≡◌, ◌∙◌, ◌||◌, ◌==◌, ◌⊎◌, ℕ, Bool, true, false, not, List, Option, Some, None, Result, Ok, Err, map, take, drop, refl, sym, ap, subst, inl, inr}
 use Rattle.std.specs.Result.{result_ok}
 use Rattle.std.specs.Str.{bytes_eq}
@@ -54,14 +54,14 @@ opened_seen : (rights : ByText Rights) (rs : List Row) (here : List ℕ) (r : Ro
 opened_seen rights rs here r None ordered = refl
 opened_seen rights rs here r (Some kind) ordered = shared_at_seen rights rs (path_package here r kind) ordered
 
--- whether what is seen or all that stands is asked, the same shared packages grant
+-- the same shared packages grant a read, whether they are looked up among what is seen or among all rows
 same_grant : (rs : List Row) (h : Holder) (reading : Reading) (p : Parts) → AreRows rs
     → (unless (not (may h Read (namespace_of p.route) || is_opened h.home (visible_rows h.rights rs) p.route (read_kind reading))) not_granted >>= (λ (u : Unit {0}). call_for h p))
     ≡ (unless (not (may h Read (namespace_of p.route) || is_opened h.home rs p.route (read_kind reading))) not_granted >>= (λ (u : Unit {0}). call_for h p))
 same_grant rs h reading p ordered =
     ap (λ (b : Bool). unless (not (may h Read (namespace_of p.route) || b)) not_granted >>= (λ (u : Unit {0}). call_for h p)) (opened_seen h.rights rs h.home p.route (read_kind reading) ordered)
 
--- what is granted of a read is granted of any request
+-- over the view of a key a read gets the same call, or the same refusal, as `granted_call` gives over all rows
 pub same_call : (rs : List Row) (ended : List Record) (h : Holder) (reading : Reading) (p : Parts) → AreRows rs → read_call (view_over rs ended h) reading p ≡ granted_call h rs (Reads reading) p
 same_call rs ended h Namespaces p ordered = refl
 same_call rs ended h (Rows kind) p ordered = same_grant rs h (Rows kind) p ordered
@@ -84,7 +84,7 @@ pub or_ok : (r : Result Call CallRefusal) (c : Call) → or_call_reason r ≡ Ok
 or_ok (Ok x) c is = let h : x ≡ c = cc in ap Ok h
 or_ok (Err e) c is = cc
 
--- ---- the name of a call stands in the namespace of its path
+-- ---- the name of a call lies in the namespace of its path
 
 fault_free : (o : Option NameRefusal) (r : Result FullName NameRefusal) (n : FullName) → or_fault o r ≡ Ok n → r ≡ Ok n
 fault_free None r n is = is
@@ -188,7 +188,7 @@ open_by rs true o e either opened = refl
 open_by rs false o e (inl none) opened = let h : is_shared_at rs None ≡ true = subst (λ (x : Option FullName). is_shared_at rs x ≡ true) none opened in cc
 open_by rs false o e (inr same) opened = subst (λ (x : Option FullName). is_shared_at rs x ≡ true) same opened
 
--- an entity whose reading is granted stands in a namespace that may be read, or belongs to a shared package
+-- an entity whose reading is granted lies in a namespace that may be read, or belongs to a shared package
 pub granted_open : (h : Holder) (rs : List Row) (kind : EntityKind) (p : Parts) (c : Call) (n : FullName) → granted_call h rs (Reads (OneRow kind)) p ≡ Ok c → c.name ≡ Some n
     → IsOpenTo h.rights rs kind n
 granted_open h rs kind p c n is name_is =

@@ -1,4 +1,4 @@
--- What is seen of the records by whoever asks.
+-- What the caller sees of the records.
 use Rattle.std.proofs.Common.{◌≡◌, ◌∙◌, ◌≤◌, ℕ, Bool, true, false, if◌then◌else◌, List, [], ◌∷◌, length, Option, Some, None, Ok, map, take, drop, reverse, refl, sym, ap, subst, arith}
 use Rattle.std.specs.List.{filter, find}
 use Rattle.std.proofs.lemmas.Bool.{and_parts}
@@ -47,7 +47,7 @@ records_shown rs ended h p c vs granted is = ap (λ (xs : List V). shows (list (
 
 -- ---- one record
 
--- of an id that stands there once, the record that is found is the only one
+-- where an id appears once among the records, the record that is found is the only one
 once_only : (id : Id) (q : Record → Bool) (r : Record) (rs : List Record) → length (filter (is_of_id id) rs) ≤ 1 → find (is_of_id id) rs ≡ Some r → q r ≡ false
     → ((x : Record) → q x ≡ true → is_of_id id x ≡ true) → find q rs ≡ None
 once_only id q r [] few found other narrow = refl

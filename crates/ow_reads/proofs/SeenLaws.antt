@@ -1,4 +1,4 @@
--- What whoever asks may see of the rows is what stands there, of what is granted.
+-- What the caller may see of the rows agrees with the stored rows, wherever it is granted.
 use Rattle.std.proofs.Common.{◌≡◌, ◌∙◌, ◌||◌, ◌==◌, ◌⊎◌, ℕ, Bool, true, false, if◌then◌else◌, List, [], ◌∷◌, Option, Some, None, IfSome, is_some, option_map, option_and_then, map, Less, refl, sym, ap, subst, inl, inr}
 use Rattle.std.specs.List.{filter, find, list_any, AllByRecursion}
 use Rattle.std.specs.List.Sorted.{IsStrictlySortedBy}
@@ -84,12 +84,12 @@ any_of {X = X} p q x (y ∷ ys) is passes = by_test (p y) refl (any_of p q x ys)
         or_left (q y) (list_any q ys) (subst (λ (z : X). q z ≡ true) (sym same) passes)
     by_test false e rest = or_right (q y) (list_any q ys) (rest (rw e at is) passes)
 
--- those of a namespace in which whoever asks may read
+-- a row of a namespace in which the caller may read is seen
 pub visible_own : (rights : ByText Rights) (rs : List Row) (r : Row) → may_read rights (name_of r).namespace ≡ true → is_visible rights rs r ≡ true
 unfolding is_visible
 visible_own rights rs r reads = or_left _ _ reads
 
--- those that a package shows
+-- a row that a package shows is seen
 visible_by : (rights : ByText Rights) (rs : List Row) (n : FullName) (p : Package) (r : Row) → found kinds.Package n rs ≡ Some (rows.Package p) → is_open rights p ≡ true
     → (belongs_to p.name r || is_bound rs p.name.namespace p.binding r) ≡ true → is_visible rights rs r ≡ true
 unfolding is_visible
@@ -126,7 +126,7 @@ open_seen rights rs n p ordered is opened =
     let seen : found kinds.Package n (visible_rows rights rs) ≡ Some (rows.Package p) = seen_at rights rs kinds.Package n ordered ∙ (ap (kept (is_visible rights rs)) stands ∙ stays) in
     ap as_package seen
 
--- each package is seen as it stands, or not at all
+-- each package is seen as it is stored, or not at all
 as_kept : (q : Row → Bool) (o : Option Row) → (as_package (kept q o) ≡ as_package o) ⊎ (as_package (kept q o) ≡ None)
 as_kept q None = inl refl
 as_kept q (Some r) = by_test (q r) refl
@@ -139,7 +139,7 @@ seen_or_none : (rights : ByText Rights) (rs : List Row) (n : FullName) → AreRo
     → (package_at (standing (visible_rows rights rs)) n ≡ package_at (standing rs) n) ⊎ (package_at (standing (visible_rows rights rs)) n ≡ None)
 seen_or_none rights rs n ordered = rw (seen_at rights rs kinds.Package n ordered) (as_kept (is_visible rights rs) (found kinds.Package n rs))
 
--- what holds of the package where it stands so, and where there is none, holds of the one that is seen
+-- what holds of the stored package, and also where there is none, holds of the one that is seen
 seen_either : (P : Option Package → Type 0) (rights : ByText Rights) (rs : List Row) (n : FullName) → AreRows rs → P (package_at (standing rs) n) → P None → P (package_at (standing (visible_rows rights rs)) n)
 seen_either P rights rs n ordered stands none =
     elim (seen_or_none rights rs n ordered) [ inl e ↦ subst P (sym e) stands | inr e ↦ subst P (sym e) none ]
@@ -214,7 +214,7 @@ shown_seen : (rights : ByText Rights) (rs : List Row) (n : FullName) (p : Packag
     → shown_actions p (visible_rows rights rs) ≡ shown_actions p rs
 shown_seen rights rs n p ordered is opened = ap (λ (xs : List Row). map package_entry xs) (behind_seen rights rs n p p.binding ordered is opened refl)
 
--- ---- what is found by a name of which it is granted
+-- ---- what is found by a name for which it is granted
 
 -- the package that grants it where it is shared: of an action the one in which it lies
 abbrev pub granting : EntityKind → FullName → Option FullName
@@ -223,11 +223,11 @@ granting kinds.Package name = Some name
 granting kinds.Rule name = None
 granting kinds.Trigger name = None
 
--- it stands in a namespace in which whoever asks may read, or belongs to a shared package
+-- it lies in a namespace in which the caller may read, or belongs to a shared package
 abbrev pub IsOpenTo : ByText Rights → List Row → EntityKind → FullName → Type 0
 IsOpenTo rights rs kind name = (may_read rights name.namespace || is_shared_at rs (granting kind name)) ≡ true
 
--- what is seen wherever it is found
+-- where any row that is found is seen, the same is found among the rows that are seen
 seen_if : (rights : ByText Rights) (rs : List Row) (kind : EntityKind) (n : FullName) → AreRows rs → ((r : Row) → found kind n rs ≡ Some r → is_visible rights rs r ≡ true)
     → found kind n (visible_rows rights rs) ≡ found kind n rs
 seen_if rights rs kind n ordered visible = seen_at rights rs kind n ordered ∙ by_row (found kind n rs) refl
@@ -239,7 +239,7 @@ seen_if rights rs kind n ordered visible = seen_at rights rs kind n ordered ∙ 
 pub kind_is : (kind : EntityKind) (n : FullName) (r : Row) → is_row kind n r ≡ true → kind_place kind ≡ kind_place (kind_of r)
 kind_is kind n r is = let h = (bytes_eq-Decides (key kind n) (key_of r)).0 is in cc
 
--- an action that is called so lies in the package
+-- an action of this name lies in the package
 lies_so : (m n : FullName) (r : Row) → is_row kinds.Action n r ≡ true → name_of r ≡ n → m.namespace ≡ n.namespace → n.package ≡ Some m.name → lies_in m r ≡ true
 lies_so m n r is named there inside =
     and_from (stands_in kinds.Action m.namespace r) (lies_under m.name r)
@@ -300,11 +300,11 @@ effective_seen rights rs m t p name ordered lies is opened binds named =
     ∙ (ap (λ (o : Option Package). behind_package (standing rs) name (if_reached m.namespace name.namespace o)) (sym is)
     ∙ ap (λ (o : Option FullName). behind_name (standing rs) name name.namespace o) (sym lies)))))
 
--- the choice of an action that is read
+-- the action that is read: in a binding the one that the name calls there, and elsewhere the stored one of that name
 abbrev chosen : Option FullName → Option Row → Option Row → Option Row
 chosen target behind stands = if is_some target then behind else stands
 
--- what stands in a namespace that may be read is seen as it stands
+-- a row in a namespace that may be read is seen as it is stored
 own_seen : (rights : ByText Rights) (rs : List Row) (kind : EntityKind) (name : FullName) → AreRows rs → may_read rights name.namespace ≡ true → IsNamed rs kind name
     → found kind name (visible_rows rights rs) ≡ found kind name rs
 own_seen rights rs kind name ordered reads named = seen_if rights rs kind name ordered (λ r at.

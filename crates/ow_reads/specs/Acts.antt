@@ -70,7 +70,7 @@ right_for Invokes = InvokeRight
 right_for Fires = InvokeRight
 right_for Sets = Write
 
--- who asks has that right, or what is wanted is granted by a shared package; the list of namespaces is granted to each key. A read's answer
+-- the caller has that right, or a shared package grants what is wanted; the list of namespaces is granted to each key. A read's answer
 -- rests on `Reading.read_grant`, over what may be seen, which grants the same: these cases are for private clauses
 abbrev pub grant_for : Holder → List Row → Act → Parts → Result (Unit {0}) Reason
 grant_for h rs (Reads Namespaces) p = Ok tt

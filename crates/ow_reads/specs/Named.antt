@@ -22,7 +22,7 @@ abbrev pub bound_name : FullName → Option FullName → FullName
 bound_name name None = name
 bound_name name (Some target) = lying_in target name.name
 
--- of an action its package, and the action that stands behind the name
+-- of an action its package, and the action that the name calls
 abbrev pub AreNamed : List Row → EntityKind → FullName → Type 0
 AreNamed rs kinds.Action name = IsPackageNamed rs (package_of name) × IsNamed rs kinds.Action (bound_name name (target_of rs (package_of name)))
 AreNamed rs kind name = IsNamed rs kind name

@@ -1,5 +1,5 @@
--- What reads are answered, of what whoever asks may see: the first refusal, in the order of their places from the grant on, or
--- what is shown.
+-- What reads are answered, from what the caller may see: the first refusal, in the order of their places from the grant on, or what is
+-- shown.
 use Rattle.std.specs.Prelude.{◌&&◌, ◌||◌, ℕ, List, [], Bool, false, find, map, not, is_some, if◌then◌else◌, option_and_then, option_map, Option, Some, None, Result, Ok, Err}
 use Rattle.std.specs.Result.{result_ok}
 use Rattle.ow_value.specs.Value.{V, list, items_of}
@@ -81,7 +81,7 @@ abbrev pub is_shared_at : List Entity → Option FullName → Bool
 is_shared_at rs None = false
 is_shared_at rs (Some name) = is_shared (package_at (standing rs) name)
 
--- what is wanted of an entity of this kind is granted where its package is shared, whatever namespace that stands in
+-- what is wanted of an entity of this kind is granted where its package is shared, in whatever namespace the package lies
 abbrev pub is_opened : List ℕ → List Entity → Route → Option EntityKind → Bool
 is_opened here rs r None = false
 is_opened here rs r (Some kind) = is_shared_at rs (path_package here r kind)
@@ -119,7 +119,7 @@ target_of rs (Some name) = option_and_then (λ p. p.binding) (package_at (standi
 abbrev pub action_behind : List Entity → FullName → Option Entity
 action_behind rs name = option_map (λ e. entities.Action e.action) (effective (standing rs) name name.namespace)
 
--- the action of the name: in a binding the one behind it, and elsewhere the one that stands there
+-- the action of the name: in a binding the one that the name calls, and elsewhere the stored one of that name
 abbrev pub action_read : List Entity → FullName → Option Entity
 action_read rs name = if is_some (target_of rs (package_of name)) then action_behind rs name else found kinds.Action name rs
 

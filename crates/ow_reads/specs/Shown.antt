@@ -23,6 +23,6 @@ abbrev pub shown_with : List V → Row → V
 shown_with actions (rows.Package p) = with_member (row_value (rows.Package p)) (codes "actions") (list (items_of actions))
 shown_with actions r = row_value r
 
--- a row, over the rows that stand
+-- a row, over the current rows
 abbrev pub shown_row : List Row → Row → V
 shown_row rs r = shown_with (actions_of rs r) r

@@ -1,4 +1,4 @@
--- Who asks, and what is granted to a key.
+-- Who makes a request, and what is granted to a key.
 use Rattle.std.specs.Prelude.{ℕ, List, Bool, codes, Option, Result}
 use Rattle.ow_names.specs.Path.{home}
 use Rattle.ow_http.specs.declared.reason.Reason.{Reason}
@@ -10,7 +10,7 @@ use Rattle.ow_tenant.specs.declared.rights.Right.{Right}
 use Rattle.ow_reads.specs.Reasons.{unknown_key}
 use Rattle.ow_reads.specs.Steps.{or_else}
 
--- in whose name what the office itself calls is run
+-- the subject in whose name the office's own calls run
 abbrev pub office : List ℕ
 office = codes "office"
 

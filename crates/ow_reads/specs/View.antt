@@ -1,4 +1,4 @@
--- What whoever asks may see: every read is answered of this, and of the request.
+-- What the caller may see: every read is answered from this and from the request.
 use Rattle.std.specs.Prelude.{◌≤◌, ◌&&◌, ◌||◌, ℕ, List, Bool, false, filter, length, is_some, Option, Some, None}
 use Rattle.std.specs.List.{list_any}
 use Rattle.ow_names.specs.declared.full.FullName.{FullName}
@@ -28,13 +28,13 @@ pub record View : Type 0 where
   pub rows : List Row
   pub records : List Record
 
--- it may read in a namespace
+-- the key may read in a namespace
 abbrev pub may_read : ByText Rights → List ℕ → Bool
 may_read rights namespace = has_right Read (rights_or_none (value_at namespace rights))
 
 -- ---- packages
 
--- whoever asks may read in its namespace, or it is shared
+-- the caller may read in the package's namespace, or the package is shared
 abbrev pub is_open : ByText Rights → Package → Bool
 is_open rights p = may_read rights p.name.namespace || p.publish
 
@@ -42,19 +42,19 @@ is_open rights p = may_read rights p.name.namespace || p.publish
 abbrev pub belongs_to : FullName → Row → Bool
 belongs_to name r = is_row kinds.Package name r || lies_in name r
 
--- it belongs to the package that is bound, which is reached from the binding's namespace
+-- the row belongs to the package that is bound, which is reached from the binding's namespace
 abbrev pub is_bound : List Row → List ℕ → Option FullName → Row → Bool
 is_bound rs from None r = false
 is_bound rs from (Some target) r = is_some (reached_package (standing rs) target from) && belongs_to target r
 
--- a package that whoever asks may see shows itself and its actions, and a binding the package that it binds and the actions of that
+-- a package that the caller may see shows itself and its actions, and a binding the package that it binds and the actions of that
 abbrev pub is_shown_by : ByText Rights → List Row → Row → Row → Bool
 is_shown_by rights rs (rows.Package p) r = is_open rights p && (belongs_to p.name r || is_bound rs p.name.namespace p.binding r)
 is_shown_by rights rs other r = false
 
 -- ---- what is seen
 
--- a row of a namespace in which it may read, or one that a package shows
+-- a row of a namespace in which the key may read, or one that a package shows
 unfoldable pub is_visible : ByText Rights → List Row → Row → Bool
 is_visible rights rs r = may_read rights (name_of r).namespace || list_any (λ b. is_shown_by rights rs b r) rs
 
@@ -62,7 +62,7 @@ is_visible rights rs r = may_read rights (name_of r).namespace || list_any (λ b
 abbrev pub visible_rows : ByText Rights → List Row → List Row
 visible_rows rights rs = filter (is_visible rights rs) rs
 
--- a record of a namespace in which it may read
+-- a record of a namespace in which the key may read
 abbrev pub is_visible_record : ByText Rights → Record → Bool
 is_visible_record rights r = may_read rights r.namespace
 

@@ -1,4 +1,4 @@
-// Who asks, and what is granted to the holder of a key.
+// Who makes a request, and what is granted to the holder of a key.
 ghost use Rattle.std.specs.Prelude.{◌≡◌, MatchResult, Ok, Err, IfOk};
 ghost use Rattle.ow_names.specs.Path.{home};
 ghost use Rattle.ow_reads.specs.Tenants.{asker, may, office};
@@ -41,7 +41,7 @@ pub(crate) fn home_of<'a>(holder: &'a Holder, namespace: &'a [u8]) -> &'a [u8]
     namespace
 }
 
-/// In whose name what the office itself calls is run.
+/// The subject in whose name the office's own calls run.
 pub fn office(alloc: Global) -> Result<Str, NoMemory>
     ensures { IfOk result (λ s. s ≡ office) }
 {

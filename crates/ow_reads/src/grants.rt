@@ -17,7 +17,7 @@ use ow_tenant::Holder;
 use ow_value::{Bytes, NoMemory};
 use std::alloc::Global;
 
-/// The call that a request makes, where whoever asks may make it.
+/// The call that a request makes, where the caller may make it.
 pub fn granted_call(
     alloc: Global,
     holder: &Holder,
@@ -37,7 +37,7 @@ pub fn granted_call(
     }
 }
 
-// That whoever asks has the right that is wanted in the namespace of the path, or that a shared package grants what is wanted.
+// Grants where the caller has the right that is wanted in the namespace of the path, or where a shared package grants what is wanted.
 fn grant_for(
     alloc: Global,
     holder: &Holder,
@@ -78,7 +78,7 @@ pub(crate) fn namespace_of(route: &Route) -> &[u8]
     }
 }
 
-// Whether the package of the path stands and is shared.
+// Whether there is a package of the path, and it is shared.
 fn is_opened(
     alloc: Global,
     tables: &Tables,

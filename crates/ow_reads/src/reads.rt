@@ -1,4 +1,4 @@
-// What reads show, of what whoever asks may see.
+// What reads show, from what the caller may see.
 ghost use Rattle.std.specs.Prelude.{◌≡◌, [], List, Some, None, Ok, true, if◌then◌else◌, IfOk, OnOk, option_copied};
 ghost use Rattle.ow_value.specs.View.{view};
 ghost use Rattle.ow_http.specs.Parts.{Parts};
@@ -26,10 +26,9 @@ use ow_http::{Call, HttpRefusal, Part, Reason, Request, Route, ServiceRefusal};
 use ow_names::{EntityName, FullName, NameRefusal, read_name};
 use ow_packages::{package_of, reached_package};
 use ow_records::{Id, Record, Records, write_logs, write_record, write_response};
-use ow_several::copied3;
 use ow_tables::Tables;
 use ow_tenant::Holder;
-use ow_value::{NoMemory, PlainData, Val};
+use ow_value::{NoMemory, PlainData, Val, copied3};
 use std::alloc::Global;
 
 /// What a read shows, or its first refusal. No two of the records may have one id.
@@ -52,7 +51,7 @@ pub fn read(
     }
 }
 
-// What a read shows that is granted.
+// What a granted read shows.
 fn shown(
     alloc: Global,
     holder: &Holder,
@@ -116,7 +115,7 @@ fn row_shown(
     }
 }
 
-// The row of the name. Of an action in a binding it is the one behind the name.
+// The row of the name. Of an action in a binding it is the one that the name calls.
 fn row_read<'a>(
     alloc: Global,
     tables: &'a Tables,
@@ -132,7 +131,7 @@ fn row_read<'a>(
     }
 }
 
-// The row that stands there.
+// The stored row of the name.
 fn row_named<'a>(tables: &'a Tables, kind: EntityKind, name: &FullName) -> Option<&'a Row>
     ensures value { option_copied result ≡ found kind name.now tables.now.rows }
     ensures named { IsNamed tables.now.rows kind name.now }
@@ -140,7 +139,7 @@ fn row_named<'a>(tables: &'a Tables, kind: EntityKind, name: &FullName) -> Optio
     tables.row(kind, name)
 }
 
-// The action of the name: in a binding the one behind it.
+// The action of the name: in a binding the one that the name calls.
 fn action_read<'a>(
     alloc: Global,
     tables: &'a Tables,

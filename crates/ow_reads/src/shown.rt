@@ -1,4 +1,4 @@
-// Rows as clients see them, among those that stand.
+// Rows as clients see them, among the current rows.
 ghost use Rattle.std.specs.Prelude.{◌≡◌, [], ◌∷◌, codes, IfOk};
 ghost use Rattle.ow_value.specs.Value.{list, items_of};
 ghost use Rattle.ow_value.specs.View.{view};

@@ -23,7 +23,7 @@ written_so : (r : Record) (v : V) → is_written_as r v ≡ true → record_valu
 unfolding is_written_as
 written_so r v e = (values (record_value r) v).0 e
 
--- what a comparison with a value that is seen as the record is written tells
+-- a comparison with a value that is seen as the written record decides `is_written_as`
 pub told_alike : (r : Record) (v w : Val) (same : Bool) → view v ≡ record_value r → IsTrue same ↔ (v ≡ w) → same ≡ is_written_as r (view w)
 unfolding is_written_as
 told_alike r v w same e h = tested same v w h ∙ ap (λ z. same_value z (view w)) e

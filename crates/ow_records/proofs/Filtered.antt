@@ -72,7 +72,7 @@ module _ (key : Record → List ℕ) where
   not_less a b Equal e n = above_test a b ∙ ap (λ o. not (is_le o)) e
   not_less a b Greater e n = absurd (n refl)
 
-  -- behind those that aren't greater it is put last
+  -- a record is put last, after records that aren't greater
   put_last : (r : Record) (xs rs : List Record) → Rises key (xs ++ r ∷ rs) → put_by key r xs ≡ xs ++ r ∷ []
   unfolding Rises
   put_last r [] rs rises = refl

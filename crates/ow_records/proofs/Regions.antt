@@ -1,4 +1,4 @@
--- The records of one namespace: where the records are sorted by their namespaces and ids, they stand together, by their ids.
+-- The records of one namespace: where the records are sorted by their namespaces and ids, they are adjacent, by their ids.
 use Rattle.std.proofs.Common.{◌≡◌, ◌≢◌, ℕ, zero, suc, ◌-◌, ◌<◌, ◌≤◌, Bool, true, false, cond, min, List, [], ◌∷◌, ◌++◌, length, fold, filter, get_or, take, drop, Ordering, Less, Equal, Greater, is_lt, refl, sym, ap, ◌∙◌, subst, append_assoc, arith}
 use Rattle.std.specs.Prelude.{reverse}
 use Rattle.std.specs.List.{AllByRecursion}
@@ -123,7 +123,7 @@ module _ (namespace : List ℕ) where
   unfolding Rises
   filter_sorted rs = filter_fold rs [] [] tt refl
 
-  -- ---- what stands together
+  -- ---- the records of one namespace are adjacent
 
   same_region : (a b : List ℕ) → bytes_eq (region a) (region b) ≡ bytes_eq a b
   same_region a b = both _ _
@@ -162,7 +162,7 @@ last_taken xs m le =
     let back = reverse (take (length xs - m) xs) in
     ap (take m) (turned_at (length xs - m) xs) ∙ ap (λ n. take n (front ++ back)) (front_length m xs le) ∙ take-append_seam front back
 
--- the last ones, but for so many, the last first
+-- without the last `skip` items, the last `limit` items, the last first
 pub last_shown : {A : Type 0} (xs rest : List A) (n m skip limit : ℕ) → rest ≡ take (length xs - n) xs → n ≡ min skip (length xs) → m ≡ min limit (length rest)
     → reverse (drop (length rest - m) rest) ≡ take limit (drop skip (reverse xs))
 last_shown xs rest n m skip limit r is_n is_m =
@@ -176,7 +176,7 @@ last_alone zero (x ∷ []) d e = refl
 last_alone zero (x ∷ y ∷ ys) d e = absurd (omega arith)
 last_alone (suc i) (x ∷ xs) d e = last_alone i xs d (omega arith)
 
--- turned round, the last one stands first
+-- in reverse order, the last item comes first
 pub last_first : {A : Type 0} (xs : List A) (x : A) → 1 ≤ length xs → x ≡ get_or xs (length xs - 1) x → reverse xs ≡ x ∷ reverse (take (length xs - 1) xs)
 last_first xs x le at =
     turned_at (length xs - 1) xs ∙ ap (λ zs. reverse zs ++ reverse (take (length xs - 1) xs)) (last_alone (length xs - 1) xs x (omega arith) ∙ ap (λ z. z ∷ []) (sym at))

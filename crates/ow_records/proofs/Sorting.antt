@@ -67,7 +67,7 @@ module _ (key : Record → List ℕ) where
       by_test true more = (p, h)
       by_test false more = (h.0, more)
 
-  -- all behind a greater one are greater
+  -- all records after a greater one are greater
   pub all_above : (r x : Record) (xs : List Record) → text_cmp (key r) (key x) ≡ Less → AllByRecursion (λ y. text_cmp (key x) (key y) ≢ Greater) xs
       → AllByRecursion (λ y. text_cmp (key r) (key y) ≡ Less) xs
   all_above r x xs lt h = all_weaker _ _ xs (λ y n. below_then (key r) (key x) (key y) _ lt refl n) h
@@ -123,7 +123,7 @@ module _ (key : Record → List ℕ) where
 
   -- ---- a put taken back
 
-  -- so many first ones, but for the last of them, and the others
+  -- xs is ys without the last of its first i records
   abbrev pub WithoutLast : ℕ → List Record → List Record → Type 0
   WithoutLast i ys xs = (j : ℕ) × (i ≡ suc j) × (take j ys ++ drop (suc j) ys ≡ xs)
 
@@ -142,7 +142,7 @@ module _ (key : Record → List ℕ) where
       by_test true g = cc
       by_test false g = cc
 
-  -- the last of those that aren't greater is the one that was put
+  -- the last record that isn't greater is the one that was put
   pub put_back : (r : Record) (xs : List Record) (i : ℕ) → i ≤ length (put_by key r xs) → IsBehind key (key r) (put_by key r xs) i → WithoutLast i (put_by key r xs) xs
   put_back r [] zero le h = absurd (not_itself (key r) (h.1 0 r (omega arith) (omega arith)))
   put_back r [] (suc zero) le h = (0, refl, refl)
@@ -161,7 +161,7 @@ module _ (key : Record → List ℕ) where
           let rest = more n (omega arith) (λ j d a b. h.0 (suc j) d (omega arith) (omega arith), λ j d a b. h.1 (suc j) d (omega arith) (omega arith)) in
           (suc rest.0, ap suc rest.1, ap (λ ys. x ∷ ys) rest.2)
 
-  -- ---- the same, as a search and a change tell it
+  -- ---- the same, in the terms of a search and a change
 
   pub put_between : (k : List ℕ) (xs ys new : List Record) (r : Record) (i : ℕ) → ys ≡ xs → k ≡ key r → new ≡ take i xs ++ r ∷ drop i xs → IsBehind key k ys i → new ≡ put_by key r xs
   put_between k xs ys new r i e f n h =
@@ -232,7 +232,7 @@ module _ (key : Record → List ℕ) where
   unfolding Rises
   find_sorted k rs = find_fold k rs [] [] tt refl
 
-  -- behind a greater one none has the key
+  -- from a record with a greater key on, none has the key
   none_behind : (k : List ℕ) (x : Record) (xs : List Record) → Rises key (x ∷ xs) → is_lt (text_cmp (key x) k) ≡ false → has_key k x ≡ false → find (has_key k) (x ∷ xs) ≡ None
   unfolding Rises
   none_behind k x xs h e f =
@@ -270,7 +270,7 @@ and_true : (b : Bool) → b ≡ (b && true)
 and_true true = refl
 and_true false = refl
 
--- an activation is told by the numbers of its id
+-- an activation is identified by the numbers of its id
 pub id_told : (id : Id) (r : Record) → is_of_id id r ≡ has_key id_key (id_numbers id) r
 id_told id r =
     ap (λ t. (r.id.namespace == id.namespace) && t) (and_true (r.id.count == id.count))

@@ -59,7 +59,7 @@ as_path v = option_and_then path_of (as_text v)
 abbrev pub small_version : ℕ → Option ℕ
 small_version n = if nat_lt n (2 ^ 32) then Some n else None
 
--- the number of `0.0.n`; what stands in front of n is not looked at
+-- the number n of `0.0.n`; the four bytes before n are not checked
 abbrev pub version_of : List ℕ → Option ℕ
 version_of s = option_and_then small_version (digits_of (drop 4 s))
 

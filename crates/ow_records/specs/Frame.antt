@@ -52,7 +52,7 @@ counted Alone u = u
 counted Component u = record { components = one_more u.components; conductors = u.conductors }
 counted Run u = record { components = u.components; conductors = one_more u.conductors }
 
--- one more activation stands in the tree
+-- one more activation in the tree
 abbrev pub with_used : Role → Frame → Frame
 with_used role f = record {
   id = f.id;

@@ -23,13 +23,13 @@ abbrev pub number_of_bytes : Result (List ℕ) FromHexError → Option ℕ
 number_of_bytes (Ok bytes) = Some (from_be_bytes w64 bytes)
 number_of_bytes (Err e) = None
 
--- the number that sixteen hexadecimal digits are, of either case
+-- the number of sixteen hexadecimal digits, of either case
 abbrev pub hex_number : List ℕ → Option ℕ
 hex_number s = number_of_bytes (decode_sized s 8)
 
 abbrev pub id_with : Option ℕ → Option ℕ → Option Id
 id_with namespace count = option_and_then (λ n. option_map (λ c. record { namespace = n; count = c }) count) namespace
 
--- the id that thirty-two hexadecimal digits are, of either case
+-- the id of thirty-two hexadecimal digits, of either case
 unfoldable pub id_of : List ℕ → Option Id
 id_of s = if nat_lt (length s) 16 then None else id_with (hex_number (take 16 s)) (hex_number (drop 16 s))

@@ -1,4 +1,4 @@
--- What the types of a record's fields tell of them.
+-- What the types of a record's fields guarantee.
 use Rattle.std.specs.Prelude.{◌≤◌, ◌<◌, ◌^◌, IfSome}
 use Rattle.std.specs.Str.{IsUtf8}
 use Rattle.std.specs.List.{AllByRecursion}

@@ -8,7 +8,7 @@ use Rattle.ow_value.specs.Value.{text_cmp}
 use Rattle.ow_records.specs.declared.record.Record.{Record}
 use Rattle.ow_records.specs.Records.{id_key, sorted_by}
 
--- names of one length stand together
+-- names of one length are adjacent
 abbrev pub region : List ℕ → List ℕ
 region namespace = length namespace ∷ namespace
 
@@ -23,7 +23,7 @@ unfoldable pub Rises : (Record → List ℕ) → List Record → Type 0
 Rises key [] = Unit {0}
 Rises key (x ∷ xs) = AllByRecursion (λ y. text_cmp (key x) (key y) ≢ Greater) xs × Rises key xs
 
--- behind those whose keys aren't greater
+-- the place after all records whose keys aren't greater
 abbrev pub IsBehind : (Record → List ℕ) → List ℕ → List Record → ℕ → Type 0
 IsBehind key k xs i = IsPartitionPoint (λ y. is_le (text_cmp (key y) k) ≡ true) (λ y. is_le (text_cmp (key y) k) ≡ false) xs i
 

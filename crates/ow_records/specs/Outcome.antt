@@ -18,7 +18,7 @@ use Rattle.ow_entity.specs.declared.bounds.Limits.{Limits}
 abbrev pub failure : ℕ → List ℕ → ResponseView
 failure code message = record { code = code; result = (codes "error", text message) ∷ [] }
 
--- an object is the result, and tells an error where it has the name `error`
+-- an object is the result, and reports an error where it has the name `error`
 abbrev pub of_object : List (List ℕ × V) → ResponseView
 of_object members = record { code = if is_some (find (codes "error") members) then 1 else 0; result = members }
 

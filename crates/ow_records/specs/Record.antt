@@ -29,7 +29,7 @@ wait_of accepted Overran start = Some (start - accepted)
 wait_of accepted Abandoned start = None
 wait_of accepted (Composed response children) start = None
 
--- how long the last run took to begin from its start, where it began before the end, the activation wasn't abandoned and is no composite
+-- the time from the start until the last run began, where it began before the end, the activation wasn't abandoned and is no composite
 abbrev pub init_of : Ending → ℕ → Option ℕ → Option ℕ
 init_of (Replied reply) start None = None
 init_of (Replied reply) start (Some begun) = Some (begun - start)
@@ -38,7 +38,7 @@ init_of Overran start (Some begun) = Some (begun - start)
 init_of Abandoned start begun = None
 init_of (Composed response children) start begun = None
 
--- the annotations of an activation that ended so, started at this moment, and whose last run began at that one, where it did
+-- the annotations of an activation with this ending and this start, whose last run began at `begun`, where it began
 abbrev pub notes_of : Activation → Ending → ℕ → Option ℕ → Notes
 notes_of a ending start begun = record {
   binding = a.binding;
@@ -51,7 +51,7 @@ notes_of a ending start begun = record {
   wait_time = wait_of a.at ending start;
 }
 
--- the record of an activation that ended so at the last moment, and started at the first; the run began between, where it did
+-- the record of an activation with this ending, from `start` to `at`; the last run began at `begun`, where it began
 abbrev pub record_from : Activation → Ending → ℕ → Option ℕ → ℕ → Record
 record_from a ending start begun at = record {
   id = a.id;
@@ -66,6 +66,6 @@ record_from a ending start begun at = record {
   response = outcome ending a.action.limits;
 }
 
--- the record of an activation that ended so at the last moment, and whose last run, if any, was ordered at the first and began between, where it did
+-- the record of an activation with this ending at `at`; the last run, if any, was ordered at `started`; it began at `begun`, where it did
 abbrev pub record_of : Activation → Ending → Option ℕ → Option ℕ → ℕ → Record
 record_of a ending started begun at = record_from a ending (start_of a.at ending started) begun at

@@ -1,4 +1,4 @@
--- By what number a client knows that there is no such record.
+-- The number by which a client knows that there is no such record.
 use Rattle.std.specs.Prelude.{ℕ}
 use Rattle.ow_records.specs.declared.record_refusal.RecordRefusal.{RecordRefusal}
 use Rattle.ow_records.specs.declared.record_refusal.RecordRefusal.TheVariants.{BadRecord, NoMemory, NotFound}

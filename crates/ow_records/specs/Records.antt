@@ -10,9 +10,9 @@ use Rattle.ow_records.specs.Written.{summary_value}
 
 -- what records are seen as
 pub record RecordsView : Type 0 where
-  -- by the ends of their activations
+  -- in the order in which their activations ended
   pub items : List Record
-  -- for how many more records memory is there
+  -- the number of further records that there is memory for
   pub room : ℕ
 
 -- whether the record is that of the activation
@@ -43,6 +43,6 @@ id_key r = id_numbers r.id
 
 -- ---- lists
 
--- the summaries of the records of the namespace, the greatest id first, but for the first `skip`, and at most `limit`
+-- the summaries of the records of the namespace, the greatest id first, without the first `skip`, and at most `limit`
 abbrev pub listing : List ℕ → ℕ → ℕ → List Record → List V
 listing namespace skip limit rs = map summary_value (take limit (drop skip (reverse (sorted_by id_key (filter (is_in namespace) rs)))))

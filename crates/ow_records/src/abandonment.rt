@@ -4,11 +4,10 @@ ghost use Rattle.ow_records.specs.Unrecorded.{abandoned_notes, abandoned_record}
 
 use crate::forms::is_topmost;
 use crate::{Ending, Notes, Record, Span, Unrecorded, outcome};
-use ow_several::{copied3, joined3};
-use ow_value::{Lines, NoMemory, PlainData};
+use ow_value::{Lines, NoMemory, PlainData, copied3, joined3};
 use std::alloc::Global;
 
-/// The record of the activation, which is abandoned at this moment, in milliseconds. It counts from its acceptance, and ends no
+/// The record of the activation, which is abandoned at this moment, in milliseconds. The record starts at the acceptance, and ends no
 /// sooner.
 pub fn abandoned(alloc: Global, activation: &Unrecorded, at: u64) -> Result<Record, NoMemory>
     ensures { IfOk result (λ r. r ≡ abandoned_record activation.now at) }

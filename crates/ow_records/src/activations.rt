@@ -4,8 +4,7 @@ ghost use Rattle.std.specs.Prelude.{◌≡◌, ◌↔◌, IsTrue, IfOk};
 use crate::{Form, Id, Role};
 use ow_entity::Action;
 use ow_names::{EntityName, FullName};
-use ow_several::{copied3, joined2};
-use ow_value::{NoMemory, Params, PlainData, Shared, Str};
+use ow_value::{NoMemory, Params, PlainData, Shared, Str, copied3, joined2};
 use std::alloc::Global;
 
 /// What was accepted.
@@ -17,7 +16,7 @@ pub struct Activation {
     pub at: u64,
     /// The namespace that is charged for it.
     pub namespace: EntityName,
-    /// The action as it stood at the acceptance.
+    /// The action as it was stored at the acceptance.
     pub action: Shared<Action>,
     /// The binding through which the action was called, if any.
     pub binding: Option<FullName>,
@@ -27,7 +26,7 @@ pub struct Activation {
     pub subject: Str,
     /// The activation that it is a part of.
     pub cause: Option<Id>,
-    /// Up to which moment, in milliseconds, the request that made it waits for the end.
+    /// The moment, in milliseconds, until which the request that made it waits for the end.
     pub until: Option<u64>,
     /// What it does.
     pub form: Form,
@@ -35,7 +34,7 @@ pub struct Activation {
     pub role: Role,
     /// The first activation of its composition, or itself.
     pub top: Id,
-    /// How many composites stand from the first one of its composition down to this activation.
+    /// How many composites there are from the first one of its composition down to this activation.
     pub depth: u32,
     /// The parameters of a conductor itself, with which each of its runs is made; none for others.
     pub own: Params,

@@ -11,7 +11,7 @@ pub(crate) fn hex_16(number: u64) -> [u8; 16]
     digits
 }
 
-/// The number that sixteen digits are, of either case.
+/// The number of sixteen digits, of either case.
 pub(crate) fn hex_number(digits: &[u8]) -> Option<u64>
     ensures { result ≡ hex_number digits.now }
 {

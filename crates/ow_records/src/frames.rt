@@ -3,8 +3,7 @@ ghost use Rattle.std.specs.Prelude.{◌≡◌, ◌↔◌, IsTrue, IfOk};
 ghost use Rattle.ow_records.specs.Frame.{conducted_by, counted, first_frame, with_child, with_end, with_used};
 
 use crate::{Id, Response, Role};
-use ow_several::copied3;
-use ow_value::{Items, NoMemory, PlainData, copy_slice};
+use ow_value::{Items, NoMemory, PlainData, copied3, copy_slice};
 use std::alloc::Global;
 
 /// The end of a child.

@@ -17,7 +17,7 @@ pub struct Id {
 impl Id {
     ghost use Rattle.ow_records.specs.Id.{id_of, id_text};
 
-    /// The id that thirty-two hexadecimal digits are, of either case.
+    /// The id of thirty-two hexadecimal digits, of either case.
     #[tactic(auto, unfolding(crate::specs::Id::id_of))]
     pub fn of_text(text: &str) -> Option<Id>
         ensures { result ≡ id_of text.now }
@@ -31,7 +31,7 @@ impl Id {
         Some(Id { namespace, count })
     }
 
-    /// Puts thirty-two hexadecimal digits behind the bytes. After an error a part of it may stand there.
+    /// Appends thirty-two hexadecimal digits to the bytes. After an error some of the digits may have been appended.
     #[tactic(auto, unfolding(crate::specs::Id::id_text))]
     pub fn push_text(self, bytes: &mut Vec<u8>) -> Result<(), NoMemory>
         ensures { OnOk result (bytes.new.items ≡ bytes.old.items ++ id_text self) }

@@ -1,4 +1,4 @@
-// What the types of records tell of them. These functions do nothing but look.
+// What the types of records guarantee. These functions only read.
 ghost use Rattle.std.specs.Prelude.{◌≡◌, ◌<◌, ◌^◌, IfSome};
 ghost use Rattle.std.specs.List.{AllByRecursion};
 ghost use Rattle.std.specs.Str.{IsUtf8};
@@ -21,7 +21,7 @@ pub fn known_id(id: Id)
     let _ = count;
 }
 
-/// Makes known what the types of the fields tell.
+/// Makes known what the types of the fields guarantee.
 pub fn known_record(ended: &Record)
     ensures { IsKnown ended.now }
 {
@@ -37,7 +37,7 @@ pub fn known_record(ended: &Record)
     known_response(&ended.response);
 }
 
-/// Makes known what the types of the fields tell.
+/// Makes known what the types of the fields guarantee.
 pub fn known_unrecorded(activation: &Unrecorded)
     ensures { IsKnownUnrecorded activation.now }
 {
@@ -52,7 +52,7 @@ pub fn known_unrecorded(activation: &Unrecorded)
     known_version(activation.version);
 }
 
-/// Makes known what the types of the fields tell of what is kept of it.
+/// Makes known what the types of the fields guarantee of the kept part of the activation.
 pub fn known_activation(activation: &Activation)
     ensures { IsKnownUnrecorded (unrecorded_of activation.now) }
 {
@@ -68,7 +68,7 @@ pub fn known_activation(activation: &Activation)
     known_version(action.version);
 }
 
-/// Makes known what the types of the ids tell.
+/// Makes known what the types of the ids guarantee.
 pub fn known_ids(ids: &[Id])
     ensures { AllByRecursion IsId ids.now }
 {
@@ -79,7 +79,7 @@ pub fn known_ids(ids: &[Id])
     }
 }
 
-/// Makes known what the types of the records tell.
+/// Makes known what the types of the records guarantee.
 pub fn known_records(records: &[Shared<Record>])
     ensures { AllByRecursion IsKnown records.now }
 {

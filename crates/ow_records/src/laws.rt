@@ -7,7 +7,7 @@ pub fn ids_read_back()
     ensures { IdsReadBack }
 {}
 
-/// So it does as lower-case digits.
+/// The text of an id also reads as that id in lower-case digits.
 #[tactic(auto, using(crate::proofs::LowerIds::lower_ids_back))]
 pub fn lower_ids_read_back()
     ensures { LowerIdsReadBack }
@@ -36,7 +36,7 @@ pub fn written_is_read()
     ensures { WrittenIsRead }
 {}
 
-/// The fields of what is written of a record tell that record.
+/// The fields of a written record give that record.
 #[tactic(auto, using(crate::proofs::ReadBack::fields_back))]
 pub fn fields_read_back()
     ensures { FieldsReadBack }

@@ -6,7 +6,7 @@ use crate::{Record, write_summary};
 use ow_value::{NoMemory, Shared, Vals};
 use std::alloc::Global;
 
-/// The summaries of the records, the last first, but for the first `skip` of them, and at most `limit`.
+/// The summaries of the records, the last first, without the first `skip` of them, and at most `limit`.
 pub(crate) fn last_shown(
     alloc: Global,
     records: &[Shared<Record>],

@@ -8,7 +8,7 @@ use ow_traits::RunReply;
 use ow_value::{Lines, MEGABYTE, NoMemory, PlainData, Str, copy_slice};
 use std::alloc::Global;
 
-/// The logs of the record of what ended so; the limit is told in MB.
+/// The logs of the record of an activation with this ending. The limit is in MB.
 pub(crate) fn logs_of(alloc: Global, ending: &Ending, limit: u32) -> Result<Lines, NoMemory>
     ensures { IfOk result (λ r. r ≡ logs_of limit ending.now) }
 {

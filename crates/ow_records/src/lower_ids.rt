@@ -10,7 +10,7 @@ use crate::ids::Id;
 impl Id {
     ghost use Rattle.ow_records.specs.LowerId.{id_of_lower};
 
-    /// The id that thirty-two lower-case hexadecimal digits are.
+    /// The id of thirty-two lower-case hexadecimal digits.
     #[tactic(auto, unfolding(crate::specs::LowerId::id_of_lower))]
     pub fn of_lower(text: &[u8]) -> Option<Id>
         ensures { result ≡ id_of_lower text.now }

@@ -55,7 +55,7 @@ pub struct Notes {
     pub kind: Option<ExecKind>,
     /// The limits of the action.
     pub limits: Option<Limits>,
-    /// Where the action stands.
+    /// The full name of the action.
     pub path: Option<FullName>,
     /// Whether it is the first of its composition.
     pub topmost: bool,

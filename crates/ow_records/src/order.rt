@@ -10,7 +10,7 @@ use ow_names::EntityName;
 use ow_value::Shared;
 use std::cmp::Ordering;
 
-/// Behind those whose ids aren't greater.
+/// The place after all records whose ids aren't greater.
 pub(crate) fn place_by_id(records: &[Shared<Record>], id: &Id) -> usize
     requires { Rises id_key records.now }
     ensures bound { result ≤ length records.now }
@@ -19,7 +19,7 @@ pub(crate) fn place_by_id(records: &[Shared<Record>], id: &Id) -> usize
     records.partition_point(|kept| id_order(kept.get(), id).is_le())
 }
 
-/// Behind those of lower namespaces, and of the same one whose ids aren't greater.
+/// The place after all records of lower namespaces, and of the same namespace with ids that aren't greater.
 pub(crate) fn place_by_namespace(records: &[Shared<Record>], added: &Record) -> usize
     requires { Rises namespace_key records.now }
     ensures bound { result ≤ length records.now }
@@ -48,7 +48,7 @@ fn first_if<'a>(records: &'a [Shared<Record>], id: &Id) -> Option<&'a Record>
     if kept.id == *id { Some(kept) } else { None }
 }
 
-/// The records of the namespace, which stand together.
+/// The records of the namespace, which are adjacent.
 pub(crate) fn part<'a>(
     records: &'a [Shared<Record>],
     namespace: &EntityName,
@@ -71,7 +71,7 @@ fn id_order(kept: &Record, id: &Id) -> Ordering
         .then(kept.id.count.cmp(&id.count))
 }
 
-// Names of one length stand together, by their bytes.
+// Names are ordered by their lengths, and names of one length by their bytes.
 fn namespace_order(kept: &Record, namespace: &EntityName) -> Ordering
     ensures { result ≡ text_cmp (region_of kept.now) (region namespace.now) }
 {

@@ -5,10 +5,9 @@ ghost use Rattle.ow_records.specs.Outcome.{failure, of_exit, of_object, of_overr
 
 use crate::{Id, Response};
 use ow_entity::Limits;
-use ow_several::copied2;
 use ow_traits::RunReply;
 use ow_value::{
-    Fields, Items, MEGABYTE, NoMemory, Params, PlainData, Scratch, Str, Val, ValueRefusal,
+    Fields, Items, MEGABYTE, NoMemory, Params, PlainData, Scratch, Str, Val, ValueRefusal, copied2,
     read_val_in,
 };
 use std::alloc::Global;
@@ -120,7 +119,7 @@ fn valued(alloc: Global, value: Val) -> Result<Response, NoMemory>
     }
 }
 
-// An object with the name `error` is an error that the action tells.
+// An object with the name `error` is an error that the action reports.
 fn told(object: Params) -> Response
     ensures { result ≡ of_object object }
 {

@@ -9,8 +9,7 @@ use crate::logs::logs_of;
 use crate::{Activation, Ending, ExecKind, Id, Notes, Response, Span, outcome_in};
 use ow_entity::Limits;
 use ow_names::EntityName;
-use ow_several::{copied3, joined2, joined3};
-use ow_value::{Lines, NoMemory, PlainData, Scratch, Str};
+use ow_value::{Lines, NoMemory, PlainData, Scratch, Str, copied3, joined2, joined3};
 use std::alloc::Global;
 
 /// What is kept of an activation that has ended.
@@ -38,8 +37,8 @@ pub struct Record {
     pub response: Response,
 }
 
-/// The record of an activation that ended so at this moment, and whose last run, if any, was ordered at that one, and began at
-/// that, where a container was initialised for it. Moments are in milliseconds. The scratch is for reading answers.
+/// The record of an activation that ended with `ending` at the moment `at`. Its last run, if any, was ordered at `started`. That run began
+/// at `begun`, where a container was initialised for it. Moments are in milliseconds. The scratch is for reading answers.
 pub fn record_of(
     alloc: Global,
     scratch: &mut Scratch,

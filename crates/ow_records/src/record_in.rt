@@ -9,8 +9,7 @@ use crate::fields_in::{cause_in, id_in, lines_in, name_in, number_in, text_in, v
 use crate::notes_in::notes_in;
 use crate::{Id, Notes, Record, RecordRefusal, Response, Span, write_record};
 use ow_names::EntityName;
-use ow_several::{joined2, joined3};
-use ow_value::{Lines, NoMemory, Params, PlainData, Str, Val};
+use ow_value::{Lines, NoMemory, Params, PlainData, Str, Val, joined2, joined3};
 use std::alloc::Global;
 
 // The fields that own no memory.
@@ -65,7 +64,7 @@ fn is_written(alloc: Global, found: &Record, value: &Val) -> Result<bool, NoMemo
     Ok(written.same(value))
 }
 
-/// The record that the fields of the value tell, which may be written otherwise.
+/// The record that the fields of the value give. The value may be written in another form.
 #[tactic(auto, unfolding(crate::specs::RecordIn::record_from))]
 pub fn read_fields(alloc: Global, value: &Val) -> Result<Option<Record>, NoMemory>
     ensures { IfOk result (λ r. r ≡ record_from (view value.now)) }

@@ -16,7 +16,7 @@ pub enum RecordRefusal {
 }
 
 impl RecordRefusal {
-    /// By which a client tells the refusals apart. Want of memory has 0.
+    /// The number by which a client distinguishes the refusals. Out of memory has 0.
     pub fn number(self) -> u32
         ensures { result ≡ record_refusal_number self }
     {

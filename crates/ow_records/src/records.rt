@@ -14,13 +14,13 @@ use ow_value::{NoMemory, Shared, Vals};
 use std::alloc::Global;
 use std::marker::Model;
 
-/// The records, by the ends of their activations.
+/// The records, in the order in which their activations ended.
 #[derive(Drop)]
 pub struct Records {
     by_end: Vec<Shared<Record>>,
-    // The same ones by their ids.
+    // The same records, by their ids.
     by_id: Vec<Shared<Record>>,
-    // The same ones by their namespaces, and then by their ids.
+    // The same records, by their namespaces, and then by their ids.
     by_namespace: Vec<Shared<Record>>,
 }
 
@@ -67,7 +67,7 @@ impl Records {
         Ok(())
     }
 
-    /// Puts the record behind the others. This takes no memory.
+    /// Appends the record. This takes no memory.
     pub fn add(&mut self, ready: ReadyRecord)
         requires { 1 ≤ self.old.room }
         ensures { self.new.items ≡ self.old.items ++ ready ∷ [] }
@@ -90,14 +90,14 @@ impl Records {
         self.by_end.len()
     }
 
-    /// The records, lent, by the ends of their activations.
+    /// The records, lent, in the order in which their activations ended.
     pub fn items(&self) -> &[Shared<Record>]
         ensures { result.now ≡ self.now.items }
     {
         &self.by_end
     }
 
-    /// Takes out all but the first so many. This takes no memory.
+    /// Removes all but the first `count` records. This takes no memory.
     pub fn cut(&mut self, count: usize)
         ensures { self.new.items ≡ take count self.old.items }
     {
@@ -106,7 +106,7 @@ impl Records {
         }
     }
 
-    /// The record of the activation, the first one where the id stands twice.
+    /// The record of the activation, the first one where the id occurs twice.
     pub fn get(&self, id: &Id) -> Result<&Record, RecordRefusal>
         ensures { MatchResult result (λ r. find (is_of_id id.now) self.now.items ≡ Some r.now)
             (λ e. (find (is_of_id id.now) self.now.items ≡ None) × (e ≡ RecordRefusal.NotFound)) }
@@ -114,7 +114,7 @@ impl Records {
         self.found(id).ok_or(RecordRefusal::NotFound)
     }
 
-    /// What lists show of the records of the namespace: the greatest id first, but for the first `skip`, and at most
+    /// What lists show of the records of the namespace: the greatest id first, without the first `skip`, and at most
     /// `limit`.
     pub fn list(
         &self,
@@ -134,7 +134,7 @@ impl Records {
         first_of(&self.by_id, id)
     }
 
-    // Takes out the last one, if there is one.
+    // Removes the last record, if there is one.
     fn take_last(&mut self)
         ensures { self.new.items ≡ take (length self.old.items - 1) self.old.items }
     {
@@ -175,7 +175,7 @@ fn put_at(list: &mut Vec<Shared<Record>>, place: usize, added: Shared<Record>)
     };
 }
 
-// Takes out what `put_by_id` put in.
+// Removes what `put_by_id` put in.
 fn take_by_id(list: &mut Vec<Shared<Record>>, added: &Record)
     requires { Rises id_key list.old.items }
     ensures { (before : List Record) → list.old.items ≡ put_by id_key added.now before → list.new.items ≡ before }
@@ -184,7 +184,7 @@ fn take_by_id(list: &mut Vec<Shared<Record>>, added: &Record)
     take_before(list, place);
 }
 
-// Takes out what `put_by_namespace` put in.
+// Removes what `put_by_namespace` put in.
 fn take_by_namespace(list: &mut Vec<Shared<Record>>, added: &Record)
     requires { Rises namespace_key list.old.items }
     ensures { (before : List Record) → list.old.items ≡ put_by namespace_key added.now before → list.new.items ≡ before }
@@ -193,7 +193,7 @@ fn take_by_namespace(list: &mut Vec<Shared<Record>>, added: &Record)
     take_before(list, place);
 }
 
-// Takes out the one before the place, if there is one.
+// Removes the record before the place, if there is one.
 fn take_before(list: &mut Vec<Shared<Record>>, place: usize)
     requires { place ≤ vec_len list.old }
     ensures { list.new.items ≡ take (place - 1) list.old.items ++ drop place list.old.items }

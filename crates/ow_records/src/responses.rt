@@ -46,7 +46,7 @@ impl Response {
         self.code
     }
 
-    /// The object that is answered.
+    /// The object of the answer.
     pub fn result(&self) -> &Params
         ensures { result.now ≡ self.now.result }
     {

@@ -27,7 +27,7 @@ pub struct Unrecorded {
     pub limits: Limits,
     /// The namespace that is charged for it.
     pub namespace: EntityName,
-    /// Where the action stands.
+    /// The full name of the action.
     pub path: FullName,
     /// In whose name it is run.
     pub subject: Str,

@@ -51,7 +51,7 @@ pub fn write_summary(alloc: Global, ended: &Record) -> Result<Val, NoMemory>
     Ok(Val::Object(fields.into_params()?))
 }
 
-// Puts the members of the record, but for its cause, where none are.
+// Puts the members of the record, except its cause, into fields that are empty.
 fn put_record(alloc: Global, fields: &mut Fields, ended: &Record) -> Result<(), NoMemory>
     requires { fields.old ≡ [] }
     ensures { OnOk result (fields.new ≡ record_members None ended.now) }
@@ -71,7 +71,7 @@ fn put_record(alloc: Global, fields: &mut Fields, ended: &Record) -> Result<(), 
     put_version(alloc, fields, ended.version)
 }
 
-// Puts what lists show of the record, where nothing is.
+// Puts what lists show of the record, into fields that are empty.
 fn put_summary(alloc: Global, fields: &mut Fields, ended: &Record) -> Result<(), NoMemory>
     requires { fields.old ≡ [] }
     ensures { OnOk result (object (members_of fields.new) ≡ summary_value ended.now) }
@@ -87,7 +87,7 @@ fn put_summary(alloc: Global, fields: &mut Fields, ended: &Record) -> Result<(),
     put_version(alloc, fields, ended.version)
 }
 
-// Puts the parts of the response, where none are.
+// Puts the parts of the response, into fields that are empty.
 fn put_response(alloc: Global, fields: &mut Fields, response: &Response) -> Result<(), NoMemory>
     requires { fields.old ≡ [] }
     ensures { OnOk result (object (members_of fields.new) ≡ response_value response.now) }
@@ -100,7 +100,7 @@ fn put_response(alloc: Global, fields: &mut Fields, response: &Response) -> Resu
     put(alloc, fields, "success", Val::Bool(code == 0))
 }
 
-/// What a code of a response is called.
+/// The name of a code of a response.
 pub fn status_text(code: u8) -> &'static str
     ensures { result.now ≡ status_text code }
 {

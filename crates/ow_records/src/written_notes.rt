@@ -100,7 +100,7 @@ fn add_mark(alloc: Global, list: &mut Vec<Val>, key: &str, marked: bool) -> Resu
     }
 }
 
-// Puts the annotation behind the others.
+// Appends the annotation.
 fn add(alloc: Global, list: &mut Vec<Val>, key: &str, value: Val) -> Result<(), NoMemory>
     ensures { OnOk result (views list.new.items ≡ views list.old.items ++ pair_value (key.now, view value) ∷ []) }
 {

@@ -117,7 +117,7 @@ puts_join (drafts.Rule d) overwrite all r unrefused made =
     joined all d old r (first_none (rule_refusal (drafts.Rule d) all) _ unrefused) (made_has d old r (of_result (rule_made d old) r made))
 puts_join (drafts.Trigger d) overwrite all r unrefused made = absurd (no_trigger (trigger_made d (as_trigger (old_row (drafts.Trigger d) all))) r made)
 
--- the same of a change that a put was made
+-- the same for the change that a put makes
 pub change_joins : (draft : Draft) (overwrite : Bool) (all : List Row) (made : Result Change TableRefusal) → OnOk made (put_refusal draft overwrite all ≡ None)
     → IfOk made (λ c. finished_row draft (old_row draft all) ≡ Ok c.row) → IfOk made (λ c. (r : Rule) → c.row ≡ rows.Rule r → IsJoined all r)
 change_joins draft overwrite all (Ok c) unrefused row = λ r e. puts_join draft overwrite all r unrefused (row ∙ ap Ok e)

@@ -34,13 +34,13 @@ items_done params xs i vs le e = ap items_of (e ∙ ap (λ ys. map (filled_value
 pub members_done : (params : Pairs) (ps : List Pair) (i : ℕ) (qs : Pairs) → length ps ≤ i → qs ≡ map (filled_pair params) (take i ps) → members_of qs ≡ filled_members params (members_of (pair_views ps))
 members_done params ps i qs le e = ap members_of (e ∙ ap (λ ys. map (filled_pair params) ys) (take_all i ps le)) ∙ members_filled params ps
 
--- an object, by what it stands for
+-- an object, by the value that replaces it where it is a hole
 pub filled_object : (params ms : Pairs) (o : Option V) → o ≡ hole params ms → unwrap_or o (object (filled_members params (members_of ms))) ≡ filled params (object (members_of ms))
 filled_object params ms o e =
     ap (λ h. unwrap_or h (object (filled_members params (members_of ms)))) e
     ∙ ap (λ qs. unwrap_or (hole params qs) (object (filled_members params (members_of ms)))) (sym (pairs_in-members_of ms))
 
--- the names rise, so each comes behind the last
+-- the names rise, so each is put after the last
 appended : (params : Pairs) (ps : List Pair) (i : ℕ) (p : Pair) → AreParams (pair_views ps) → i < length ps → p ≡ get_or ps i p
     → with_pair (map (filled_pair params) (take i ps)) p.name (filled params (view p.value)) ≡ map (filled_pair params) (take i ps) ++ filled_pair params p ∷ []
 unfolding IsStrictlySortedBy

@@ -14,7 +14,7 @@ behind : (k n : ℕ) (t : Bool) → nat_lt k n ≡ t → ◌≡◌ {A = Option �
 behind k n true is = rw (lt_suc k n, is) (ap Some (omega arith))
 behind k n false is = rw (lt_suc k n, is) refl
 
--- the first place behind an element that doesn't pass is one further
+-- an element that doesn't pass, put before a list, moves the first place that passes by one
 pub position-cons_fails : (p : ℕ → Bool) (x : ℕ) (xs : List ℕ) → p x ≡ false → position p (x ∷ xs) ≡ option_map suc (position p xs)
 position-cons_fails p x xs fails = rw fails (behind _ (length xs) _ refl)
 
@@ -40,12 +40,12 @@ line_by b bs i true here at rest =
     rw (← e, here) refl
 line_by b bs i false later at rest = line_later b bs i (position is_newline bs) refl later (sym (position-cons_fails is_newline b bs later) ∙ at) rest
 
--- where a newline stands, the first line stands before it
+-- the first line is what is before the first newline, and the other lines are those of the bytes after it
 pub lines_at : (bs : List ℕ) (i : ℕ) → position is_newline bs ≡ Some i → lines_in bs ≡ take i bs ∷ lines_in (drop (suc i) bs)
 lines_at [] i at = cc
 lines_at (b ∷ bs) i at = line_by b bs i _ refl at (lines_at bs)
 
--- where none stands, all is one line
+-- where there is no newline, all is one line
 abbrev whole : List ℕ → List (List ℕ)
 whole [] = []
 whole (b ∷ bs) = (b ∷ bs) ∷ []

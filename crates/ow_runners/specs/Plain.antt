@@ -24,7 +24,7 @@ PlainStarts Program = ⊥
 abbrev pub plain_giving : Giving
 plain_giving = record { replies = PlainGives; starts = PlainStarts }
 
--- it never fails, and made so many runs
+-- the tally of a runner that never fails and made this many runs
 abbrev pub plain_tally : ℕ → Tally
 plain_tally runs = record { faults = 0; runs = runs }
 

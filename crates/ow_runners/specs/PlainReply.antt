@@ -10,14 +10,14 @@ use Rattle.ow_runners.specs.Equality.{is_value}
 
 -- ---- filling
 
--- what an object stands for whose only name is `$`, with a text, or `$all`: the parameter that the text names, null where there is
--- none, or the object of all parameters
+-- the value that replaces an object whose only name is `$`, with a text, or `$all`. For `$` it is the parameter that the text names, or
+-- null where there is none; for `$all` it is the object of all parameters
 abbrev pub meant : Pairs → Option V → Option V → Option V
 meant params (Some (text name)) all = Some (unwrap_or (find name params) null)
 meant params named (Some v) = Some (object (members_of params))
 meant params named None = None
 
--- the same of any object: most stand for themselves
+-- the value that replaces an object where it is a hole; most objects are none, and nothing replaces them
 abbrev pub hole : Pairs → Pairs → Option V
 hole params members = if length members == 1 then meant params (find (codes "$") members) (find (codes "$all") members) else None
 

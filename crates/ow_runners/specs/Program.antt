@@ -40,12 +40,12 @@ is_newline b = b == 10
 
 -- ---- for private clauses
 
--- the byte at the front of the first line
+-- the lines with the byte put before the first of them
 abbrev pub with_byte : ℕ → List (List ℕ) → List (List ℕ)
 with_byte b [] = (b ∷ []) ∷ []
 with_byte b (line ∷ lines) = (b ∷ line) ∷ lines
 
--- the lines of bytes: each ends at a newline, and the last one at the end where no newline stands there
+-- the lines of bytes: each ends at a newline, and the last one at the end of the bytes where they don't end with a newline
 abbrev pub lines_in : List ℕ → List (List ℕ)
 lines_in [] = []
 lines_in (b ∷ bs) = if is_newline b then [] ∷ lines_in bs else with_byte b (lines_in bs)
@@ -54,7 +54,7 @@ lines_in (b ∷ bs) = if is_newline b then [] ∷ lines_in bs else with_byte b (
 abbrev pub logs_in : List ℕ → List (List ℕ)
 logs_in bytes = map utf8_lossy (lines_in bytes)
 
--- the status in place of one that a program ended without
+-- the status in the reply of a program that ended without one
 abbrev pub no_status : ℤ
 no_status = negsuc 0
 

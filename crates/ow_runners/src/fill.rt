@@ -48,7 +48,7 @@ fn fill_members(alloc: Global, members: &Params, params: &Params) -> Result<Para
     Ok(fields.into_params()?)
 }
 
-// What an object stands for, where it is a hole.
+// The value that an object is replaced by, where it is a hole.
 fn hole(alloc: Global, members: &Params, params: &Params) -> Result<Option<Val>, NoMemory>
     ensures { IfOk result (λ o. option_map view o ≡ hole params.now members.now) }
 {

@@ -9,7 +9,7 @@ use ow_value::{Lines, NoMemory, Str};
 use std::alloc::Global;
 use std::process::Output;
 
-// The status in place of one that a program ended without.
+// The status in the reply of a program that ended without one.
 const NO_STATUS: i32 = -1;
 
 /// The reply of a program that has ended. What is no UTF-8 in what it wrote becomes U+FFFD.
@@ -49,7 +49,7 @@ fn logs_of(alloc: Global, bytes: &[u8]) -> Result<Lines, NoMemory>
     Lines::from_vec(logs)
 }
 
-// The first line, and what stands behind it.
+// The first line without its newline, and the bytes after that newline.
 fn first_line(bytes: &[u8]) -> (&[u8], &[u8])
     requires some { 0 < length bytes.now }
     ensures lines { lines_in bytes.now ≡ result.0.now ∷ lines_in result.1.now }

@@ -1,5 +1,5 @@
-// Programs of the system. They take no arguments. A shell that reads the parameters as its input carries out what stands in
-// `$(..)` of a text, before it finds that the whole is no command.
+// Programs of the system. They take no arguments. A shell reads the parameters as its input. It runs what is in `$(..)` of a text before
+// it finds that the whole is no command.
 use crate::runs::{params_of, programs, reply_of};
 use ow_runners::ProgramRunner;
 use ow_traits::{Kind, RunReply, Runner};
@@ -7,7 +7,7 @@ use ow_value::{Fields, Lines, Params, Str, Val, write_val};
 use std::alloc::Global;
 use std::test::Fail;
 
-// The name of a program, parameters, and the reply: what it is, and each line of its logs behind a slash.
+// The name of a program, parameters, and the reply: what it is, and each line of its logs after a slash.
 const ROWS: &str = r#"cat|{"a":1}|answer {"a":1}
 cat|{"b":[1,"x"],"a":null}|answer {"a":null,"b":[1,"x"]}
 true|{"a":1}|answer 
@@ -159,7 +159,7 @@ fn ten_megabytes_of_errors_are_read(rt: HostRuntime) -> Result<(), Fail> {
     Ok(())
 }
 
-// Whether the logs are those of a copy by `dd`, whose last line tells a time.
+// Whether the logs are those of a copy by `dd`, whose last line has a time.
 fn are_of_copy(logs: &Lines) -> bool {
     match logs.as_slice() {
         [read, written, _] => {
@@ -169,7 +169,7 @@ fn are_of_copy(logs: &Lines) -> bool {
     }
 }
 
-// Whether a program that answers has its logs told.
+// Whether the reply of a program that answers has its logs.
 fn tells_copy<R: Runner>(alloc: Global, runner: &mut R) -> Result<bool, Fail> {
     let params = params_of(alloc, r#"{"a":1}"#)?;
     match reply_of(alloc, runner, Kind::Program, "dd", &params)? {

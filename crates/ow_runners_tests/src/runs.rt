@@ -26,7 +26,7 @@ pub(crate) fn programs(alloc: Global) -> Result<Pairs, Fail> {
     Ok(Pairs::from_vec(pairs)?)
 }
 
-/// The parameters that the text tells.
+/// The parameters that the text holds.
 pub(crate) fn params_of(alloc: Global, text: &str) -> Result<Params, Fail> {
     match read_val(alloc, text.as_bytes())? {
         Val::Object(params) => Ok(params),

@@ -1,4 +1,4 @@
--- The threads that are begun before anybody is accepted, and what they come to.
+-- The threads that are begun before any peer is accepted, and their results.
 use Rattle.std.proofs.Common.{◌≡◌, ◌++◌, ◌∙◌, ℕ, zero, Bool, false, List, [], ◌∷◌, Option, Some, None, IsSomeAnd, Result, Ok, Err, OnOk, length, map, ap, arith, refl, subst, sym, append_assoc, append-nil}
 use Rattle.std.proofs.lemmas.List.{map-append}
 use Rattle.ow_traits.specs.Runner.{Giving, Tally}
@@ -26,7 +26,7 @@ module _ {T W : Type 0} (IsFor : T → W → Type 0) where
   pub started_one : (t : T) (w : W) (old new : List (T × Bool)) → new ≡ old ++ (t, false) ∷ [] → IsFor t w → AllStarted IsFor (w ∷ []) old new
   started_one t w old new is mine = record { started = t ∷ []; tasks = is; all_for = (mine, tt) }
 
-  -- where that is what was told
+  -- where that is the result
   pub started_if : {A E : Type 0} (w : W) (old new : List (T × Bool)) {r q : Result A E} → r ≡ q → OnOk q (AllStarted IsFor (w ∷ []) old new) → OnOk r (AllStarted IsFor (w ∷ []) old new)
   started_if w old new is so = subst (λ x. OnOk x (AllStarted IsFor (w ∷ []) old new)) (sym is) so
 
@@ -74,7 +74,7 @@ module _ {T K R : Type 0} (IsFor : T → Work K R → Type 0) where
         (started_both IsFor (map (λ r. Turns r) was.workers) (Turns r ∷ []) old middle new was.begun one);
   }
 
-  -- behind the last of them
+  -- after the last of them
   pub midway_end : (all runners rest : List R) (old new : List (T × Bool)) → all ≡ runners → Midway all rest old new → length rest ≡ 0 → AllStarted IsFor (map (λ r. Turns r) runners) old new
   midway_end all runners [] old new same m h = subst (λ rs. AllStarted IsFor (map (λ r. Turns r) rs) old new) (sym (append-nil m.workers) ∙ sym m.all_are ∙ same) m.begun
   midway_end all runners (r ∷ rest) old new same m h = absurd (omega arith)
@@ -88,13 +88,13 @@ module _ {T K R : Type 0} (IsFor : T → Work K R → Type 0) where
     begun = started_both IsFor (map (λ r. Turns r) workers) (Sweeps ∷ Reaps last ∷ []) old a new turns (started_both IsFor (Sweeps ∷ []) (Reaps last ∷ []) a b new sweeps reaps);
   }
 
-  -- behind the last call
+  -- after the last call
   pub begins_by : {A E : Type 0} (r : Result A E) (workers runners : List R) (last : R) (old a b new : List (T × Bool)) → runners ≡ workers ++ last ∷ []
       → AllStarted IsFor (map (λ r. Turns r) workers) old a → AllStarted IsFor (Sweeps ∷ []) a b → OnOk r (AllStarted IsFor (Reaps last ∷ []) b new) → OnOk r (BeginsAll IsFor runners old new)
   begins_by (Ok x) workers runners last old a b new are turns sweeps reaps = begins_so workers runners last old a b new are turns sweeps reaps
   begins_by (Err e) workers runners last old a b new are turns sweeps reaps = tt
 
--- ---- what they come to
+-- ---- their results
 
 all_end_by : {T W D : Type 0} (IsFor : T → W → Type 0) (ends : T → D → Type 0) (goes : W → D → Type 0) → ((t : T) (w : W) (d : D) → IsFor t w → ends t d → goes w d)
     → (ts : List T) (ws : List W) (ds : List D) → AllFor IsFor ts ws → AllEnd ends ts ds → AllEnd goes ws ds

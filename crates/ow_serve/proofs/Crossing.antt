@@ -9,20 +9,22 @@ use Rattle.ow_traits.specs.declared.runners.Runner as Runner
 use Rattle.ow_serve.specs.contracts.duty.Done as Done
 use Rattle.ow_serve.specs.contracts.duty.Duty as Duty
 use Rattle.ow_serve.specs.contracts.duty.Work as Work
-use Rattle.ow_serve.specs.contracts.place.Place as Place
+use Rattle.ow_serve.specs.contracts.shared_state.SharedState as SharedState
 use Rattle.ow_value.proofs.Crossing.{values}
 use Rattle.ow_serve.proofs.Crossing.Halls.{desk_send, receipts_send}
 use Rattle.ow_serve.proofs.Crossing.Boards.{board_send, board_sync, pass_send}
+use Rattle.ow_serve.proofs.Crossing.Routes.{routes_send, routes_sync}
 mod Entries
 mod Halls
 mod Boards
+mod Routes
 
 module _ (P B : RattleType) (p : Keeper.Ghosts P.Denot) (sp : IsSend P) (sb : IsSend B) where
-  pub place_send : IsSend (Place.the_row P B p)
-  place_send = search (sendable, crosses, desk_send, board_send) depth 50 fits 20000
+  pub shared_state_send : IsSend (SharedState.the_row P B p)
+  shared_state_send = search (sendable, crosses, desk_send, board_send, routes_send) depth 50 fits 20000
 
-  pub place_sync : IsSync (Place.the_row P B p)
-  place_sync = search (sendable, crosses, desk_send, board_sync) depth 50 fits 20000
+  pub shared_state_sync : IsSync (SharedState.the_row P B p)
+  shared_state_sync = search (sendable, crosses, desk_send, board_sync, routes_sync) depth 50 fits 20000
 
 module _ (R P B : RattleType) (p : Keeper.Ghosts P.Denot) (sr : IsSend R) (sp : IsSend P) where
   pub done_send : IsSend (Done.the_row R P B p)
@@ -34,4 +36,4 @@ module _ (H K R P C G B : RattleType) (k : Link.Ghosts K.Denot) (r : Runner.Ghos
   work_send = search sendable depth 50 fits 20000
 
   pub duty_send : IsSend (Duty.the_row H K R P C G B k r p c)
-  duty_send = search (sendable, crosses, work_send, pass_send, place_send, place_sync, receipts_send) depth 50 fits 20000
+  duty_send = search (sendable, crosses, work_send, pass_send, shared_state_send, shared_state_sync, receipts_send) depth 50 fits 20000

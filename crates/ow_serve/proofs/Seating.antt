@@ -166,7 +166,7 @@ earlier_all : {T : Type 0} (ts : List T) → earlier zero (map (λ t. (t, false)
 earlier_all [] = refl
 earlier_all (t ∷ ts) = earlier_all ts
 
--- those that were started before stay to be joined
+-- the tasks that were started before stay to be joined
 pub earlier_behind : {T : Type 0} (before : List (T × Bool)) (ts : List T) → earlier (length before) (before ++ map (λ t. (t, false)) ts) ≡ pending zero before
 earlier_behind [] ts = earlier_all ts
 earlier_behind ((b, true) ∷ before) ts = earlier_behind before ts

@@ -77,7 +77,7 @@ works_by {f = f} {g = g} {a = a} {b = b} {tells = tells} {opening = opening} {ol
 
 -- ---- one turn
 
--- a turn, and behind it what books the reply that it left
+-- a turn, followed by the calls that book the reply that it left
 pub works_so : {gives : Giving} {tells : Option ℕ} {opening : ℕ} {old new : Stand} (turn : Turn) (behind : Stand) (left : Option Job) → left ≡ to_book turn
     → Turned gives old.tally behind.tally tells opening old.notes behind.notes old.view behind.view turn → old.tally.faults ≤ behind.tally.faults → Leads (BooksOnce tells) (left, behind) (None, new)
     → WorksOnce gives tells opening old new

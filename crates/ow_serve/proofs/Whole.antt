@@ -43,7 +43,7 @@ module _ {T K D : Type 0} (Own : Notes → Type 0) (left taken : K → Option (L
   abbrev Mine : K → D → Type 0
   Mine k d = IsServed left taken tells k (notes d) (ending d)
 
-  -- what the peers came to
+  -- the results of the peers
   talk_by : (old new : Option (List K)) (before now : List (T × Bool)) (seats : List (Option D)) (joined : List D) (s : Seated IsFor Mine old new before now seats)
       → AllEnd task_ends (pending (length before) now) joined
       → AllTalk (TalksAlone left taken tells) s.peers (map notes (filled seats joined)) (endings_in (map ending (filled seats joined)))
@@ -52,7 +52,7 @@ module _ {T K D : Type 0} (Own : Notes → Type 0) (left taken : K → Option (L
       let mine : AllEnd task_ends s.started joined = subst (λ ts. AllEnd task_ends ts joined) started all in
       all_talk left taken tells notes ending s.peers (filled seats joined) (all_served IsFor Mine task_ends serves s.started s.peers seats joined s.seated mine)
 
-  -- what the tasks came to that were started before
+  -- the results of the tasks that were started before
   work_by : (old new : Option (List K)) (before now : List (T × Bool)) (seats : List (Option D)) (others : List D) (s : Seated IsFor Mine old new before now seats)
       → ((os : List D) → AllEnd task_ends (pending zero before) os → Work (map notes os)) → AllEnd task_ends (earlier (length before) now) others → Work (map notes others)
   work_by old new before now seats others s works all =
@@ -129,7 +129,7 @@ module _ {T K D : Type 0} (Own : Notes → Type 0) (left taken : K → Option (L
   serves_by old new before now most first seats stopped end book receipts endings works is a (inr x) =
       left_so old new before now most seats x.0 x.1 receipts endings (subst (λ n. AllEnd task_ends (pending n now) x.0) is x.2) (subst (λ n. AllEnd task_ends (earlier n now) x.1) is x.3) works stopped end book a x.4
 
--- what is left fills the seats with what the tasks came to that were joined first, and has behind it what the others came to
+-- what is left: the results of the tasks that were joined first fill the seats, and the results of the others follow
 pub closes_by : {T D V E F G : Type 0} (Own : Notes → Type 0) (task_ends : T → D → Type 0) (items : V → List D) (notes : D → Notes) (ending : D → Option Ending) (old middle now : List (T × Bool))
     (seats : List (Option D)) (stopped : Stopped) (end : ServedEnd) (book : Option BookView) (receipts : List Notes) (endings : List Ending) (first : ℕ)
     (peers : Result V E) (others : Result V F) (all : Result (V × V) G)
@@ -229,7 +229,7 @@ over_none told why end is = subst (λ e. IsOpenedOver told e) (sym is) (by_why w
 
 -- ---- the last drain
 
--- entries come behind those that are there
+-- entries are appended to the ones that are there
 appended : (first : Entry) (n m : Notes) (more : List Placed) → m.entries ≡ n.entries ++ more → BeginsWith first n → BeginsWith first m
 appended first n m more is begins = (begins.0 ++ more, is ∙ ap (λ ps. ps ++ more) begins.1)
 
@@ -244,7 +244,7 @@ keeps_noted B at event (Answers t) n = keeps_posted (posting B t) B (record { at
 keeps_noted B at event Wants n = λ first begins. begins
 keeps_noted B at event Fails n = λ first begins. begins
 
--- a drain is noted behind what is there
+-- a drain is noted after what is there
 pub keeps_first : (tells : Option ℕ) (r : Result Drain Want) (n m : Notes) → CalledBy tells events.Drain (drain_outcome r) n m → KeepsFirst n m
 keeps_first tells r n m has =
     let call = has.2 in
@@ -272,7 +272,7 @@ opens_laid r x hall desk opens is same =
 begins_opening : (e : Entry) (n : Notes) → n ≡ opening_notes e → BeginsWith e n
 begins_opening e n is = ([], ap (λ (x : Notes). x.entries) is)
 
--- what stands at the first place of receipts that begin so
+-- what is at the first place of receipts that begin so
 first_standing : (first : Entry) (own : Notes) (rest : List Notes) → BeginsWith first own → (more : List Entry) × (standing_at 0 (placed (own ∷ rest)) ≡ first ∷ more)
 first_standing first own rest begins = (standing_at 0 (begins.0 ++ placed rest), ap (λ ps. standing_at 0 (ps ++ placed rest)) begins.1)
 
@@ -306,7 +306,7 @@ book_begins own rest receipts stopped end book told are is_end given =
     by_end ends.NoMemory at = tt
     by_end (ends.Unmatched difference) at = tt
 
--- where memory was wanted nothing is said
+-- where memory ran out nothing is said
 pub begins_wanting : (own : Notes) (end : ServedEnd) (book : Option BookView) → end ≡ ends.NoMemory → BookBegins own end book
 begins_wanting own end book is = subst (λ e. BookBegins own e book) (sym is) tt
 
@@ -322,7 +322,7 @@ begins_on n m (ends.BadKept key) book keeps begins = tt
 begins_on n m ends.NoMemory book keeps begins = tt
 begins_on n m (ends.Unmatched difference) book keeps begins = tt
 
--- one that is ended before anybody was accepted
+-- a service that is ended before a peer was accepted
 pub begins_not : (n : Notes) (end : ServedEnd) (book : Option BookView) → (end ≡ ends.NoMemory) ⊎ (end ≡ ends.NoWorker) → BookBegins n end book
 begins_not n end book (inl is) = subst (λ e. BookBegins n e book) (sym is) tt
 begins_not n end book (inr is) = subst (λ e. BookBegins n e book) (sym is) tt
@@ -343,7 +343,7 @@ opening_entry t loaded at entries is =
 pub one_entry : (t : Table) (loaded : List (List ℕ × List ℕ)) (at : ℕ) (entries : List Entry) → entries ≡ (opened t loaded at).entries → (e : Entry) × (entries ≡ e ∷ [])
 one_entry t loaded at entries is = let one = opening_entry t loaded at entries is in (one.0, one.1)
 
--- over the table, at the moment, and with the rows that the store told
+-- over the table, at the moment, and with the rows that the store reported
 pub opens_so : (tells : Option ℕ) (told : KeptRows) (t : Table) (loaded : List (List ℕ × List ℕ)) (at : ℕ) (entries : List Entry) (n : Notes) (end : ServedEnd) (book : Option BookView)
     → IfSome tells (λ m. at ≡ m) → entries ≡ (opened t loaded at).entries → IfSome told (λ kept. loaded ≡ kept) → IsOk (judged loaded) → (e : Entry) × (entries ≡ e ∷ []) × (n ≡ opening_notes e)
     → BookBegins n end book → BookOpens tells told t end book

@@ -1,4 +1,4 @@
--- What a thread may come to, and which threads are begun.
+-- The results that a thread may have, and which threads are begun.
 use Rattle.std.specs.Prelude.{◌≡◌, ◌++◌, ℕ, Bool, false, List, [], ◌∷◌, Option, Some, None, IsSomeAnd, map}
 use Rattle.ow_traits.specs.Runner.{Giving, RanNone, Tally}
 use Rattle.ow_desk.specs.Notes.{Notes, no_notes}
@@ -8,7 +8,7 @@ use Rattle.ow_serve.specs.Working.{MakesReapings, MakesSweeps, MakesTurns, Outse
 use Rattle.ow_serve.specs.declared.duty.Work.{Work}
 use Rattle.ow_serve.specs.declared.duty.Work.TheVariants.{Turns, Sweeps, Reaps, Serves}
 
--- ---- what a thread may come to
+-- ---- the results that a thread may have
 
 -- a connection over the link that leaves these receipts, where it began with others, and this ending
 abbrev pub TalksFrom : {K : Type 0} → (K → Option (List ℕ)) → (K → Option (List ℕ)) → Option ℕ → K → Notes → Notes → Ending → Type 0
@@ -34,7 +34,7 @@ IsServed left taken tells link m told = (ending : Ending) × (told ≡ Some endi
 
 -- ---- which threads are begun
 
--- each task is for what stands at its place, for private clauses
+-- each task is for what is at its place, for private clauses
 abbrev pub AllFor : {T W : Type 0} → (T → W → Type 0) → List T → List W → Type 0
 AllFor IsFor [] [] = Unit {0}
 AllFor IsFor (t ∷ ts) (w ∷ ws) = IsFor t w × AllFor IsFor ts ws

@@ -28,19 +28,19 @@ use Rattle.ow_serve.specs.Peers.{AcceptsAll, AllTalk, HasNoPeer, endings_in, fil
 
 -- ---- the receipts of the service itself
 
--- those of an opening, which stands at the first place of a book
+-- the receipts of an opening, whose entry is at the first place of a book
 abbrev pub opening_notes : Entry → Notes
 opening_notes first = record no_notes { entries = record { place = 0; entry = first } ∷ [] }
 
--- one drain that told this
+-- one drain that answered this
 abbrev pub DrainsOnce : Option ℕ → Drain → Notes → Notes → Type 0
 DrainsOnce tells drain n m = CalledBy tells events.Drain (Answers (told.Drain drain)) n m
 
--- one that told that some are still open
+-- one drain that answered that some are still open
 abbrev pub StaysOpen : Option ℕ → Notes → Notes → Type 0
 StaysOpen tells n m = (many : ℕ) × DrainsOnce tells (drains.StillOpen many) n m
 
--- such drains, and behind them one that told that all is drained
+-- such drains, followed by one that answered that all is drained
 pub record Drains (tells : Option ℕ) (n m : Notes) : Type 0 where
   pub before : Notes
   pub stays : Leads (StaysOpen tells) n before
@@ -95,7 +95,7 @@ pub record Leaves (Own : Notes → Type 0) (served : List Notes) (told : List (O
   pub legal : IsLegal table book.entries
   pub is_end : IsEnd stopped receipts book end
 
--- where there is a book; there is none only where memory was wanted, for private clauses
+-- where there is a book; there is none only where memory ran out, for private clauses
 abbrev pub Left : (Notes → Type 0) → List Notes → List (Option Ending) → List Notes → Stopped → ServedEnd → Option BookView → List Notes → List Ending → Type 0
 Left Own served told others stopped end (Some book) receipts endings = Leaves Own served told others stopped end book.ledger receipts endings
 Left Own served told others stopped end None receipts endings = end ≡ ends.NoMemory
@@ -104,7 +104,7 @@ Left Own served told others stopped end None receipts endings = end ≡ ends.NoM
 abbrev pub earlier : {T : Type 0} → ℕ → List (T × Bool) → List T
 earlier first tasks = pending 0 (joined first tasks)
 
--- what the tasks from `first` on came to fills the seats, and what the earlier ones came to stands behind it; or memory was wanted
+-- the results of the tasks from `first` on fill the seats, and the results of the earlier ones follow; or memory ran out
 -- (for private clauses)
 abbrev pub Closes : {T D : Type 0} → (Notes → Type 0) → (T → D → Type 0) → (D → Notes) → (D → Option Ending) → ℕ → List (T × Bool) → List (Option D) → Stopped → ServedEnd → Option BookView → List Notes → List Ending → Type 0
 Closes Own task_ends notes ending first tasks seats stopped end book receipts endings = (end ≡ ends.NoMemory)
@@ -132,15 +132,15 @@ IsUnopened telling store (ends.BadKept key) (Some back) = HasStartCause telling 
 IsUnopened telling store (ends.BadKept key) None = ⊥
 IsUnopened telling store end back = Unit {0}
 
--- one that was opened was opened over rows that are allowed, where the store tells them
+-- a service that was opened was opened over rows that are allowed, where the store reports them
 abbrev pub IsOpenedOver : KeptRows → ServedEnd → Type 0
 IsOpenedOver told ends.StoreFault = Unit {0}
 IsOpenedOver told (ends.BadKept key) = Unit {0}
 IsOpenedOver told ends.NoMemory = Unit {0}
 IsOpenedOver told end = IfSome told (λ rows. IsOk (judged rows))
 
--- a book goes on from that of the opening over this office table, at the moment of the clock, where it tells that, and over the rows that
--- the store told, where it tells them; these are allowed
+-- a book goes on from that of the opening over this office table, at the moment of the clock, where it reports that, and over the rows
+-- that the store reported, where it reports them; these are allowed
 pub record OpensOver (tells : Option ℕ) (told : KeptRows) (t : Table) (book : Ledger) : Type 0 where
   pub rows : List (List ℕ × List ℕ)
   pub told_are : IfSome told (λ kept. rows ≡ kept)
@@ -158,7 +158,7 @@ BookOpens tells told t end book = Unit {0}
 
 -- ---- the store
 
--- where it tells its rows, they are what is kept of the book, which is a legal one; where there is no book, of a legal one
+-- where the store reports its rows, they are what is kept of the book, which is a legal one; where there is no book, of a legal one
 abbrev pub KeepsBook : KeptRows → Option BookView → Type 0
 KeepsBook told (Some book) = (t : Table) × IsLegal t book.ledger.entries × HoldsBook told t book.ledger
 KeepsBook told None = (t : Table) × (L : Ledger) × IsLegal t L.entries × HoldsBook told t L
@@ -172,8 +172,8 @@ LeavesStore telling store end back book = IfSome back (λ s. KeepsBook (telling 
 
 -- ---- the service
 
--- behind the last peer: the receipts are the book, which is a legal one; the first are the service's own; each peer that was accepted has its receipts and its ending; and
--- the others did their work
+-- after the last peer: the receipts are the book, which is a legal one; the first are the service's own; each peer that was accepted
+-- has its receipts and its ending; and the others did their work
 pub record IsWhole {K : Type 0} (Own : Notes → Type 0) (Talks : K → Notes → Ending → Type 0) (Work : List Notes → Type 0) (old new : Option (List K)) (book : Ledger) (receipts : List Notes) (endings : List Ending) : Type 0 where
   pub matches : Matches receipts book
   pub table : Table
@@ -188,7 +188,7 @@ pub record IsWhole {K : Type 0} (Own : Notes → Type 0) (Talks : K → Notes �
   pub talk : AllTalk Talks peers served endings
   pub work : Work others
 
--- by the end; no more peers came than so many
+-- by the end; no more than `most` peers came
 abbrev pub Serves : {K : Type 0} → (Notes → Type 0) → (K → Notes → Ending → Type 0) → (List Notes → Type 0) → Option (List K) → Option (List K) → ℕ → ServedEnd → Option BookView → List Notes → List Ending → Type 0
 Serves Own Talks Work old new most ends.Closed (Some book) receipts endings =
     IsWhole Own Talks Work old new book.ledger receipts endings × (length endings ≤ most) × (HasNoPeer new ⊎ (length endings ≡ most))

@@ -7,18 +7,18 @@ use Rattle.ow_peer.specs.declared.ending.Ending.{Ending}
 use Rattle.ow_serve.specs.declared.accepting.Stopped.{Stopped}
 use Rattle.ow_serve.specs.declared.accepting.Stopped.TheVariants as stops
 
--- those that a listener gave which tells its peers, and those that are still to come
+-- of a listener that reports its peers: the peers that it gave, and the ones that are still to come
 abbrev pub AcceptsAll : {K : Type 0} → Option (List K) → List K → Option (List K) → Type 0
 AcceptsAll None peers new = new ≡ None
 AcceptsAll (Some all) peers new = (rest : List _) × (all ≡ peers ++ rest) × (new ≡ Some rest)
 
--- none is still to come, where the listener tells it
+-- none is still to come, where the listener reports it
 abbrev pub HasNoPeer : {K : Type 0} → Option (List K) → Type 0
 HasNoPeer None = Unit {0}
 HasNoPeer (Some peers) = peers ≡ []
 
 module _ {T K D : Type 0} (IsFor : T → K → Type 0) (Serves : K → D → Type 0) where
-  -- each peer has what it came to, where the service itself served it, or else a task that was started is for it, for private clauses
+  -- each peer has its result, where the service itself served it, or else a task that was started is for it, for private clauses
   abbrev pub Seats : List T → List K → List (Option D) → Type 0
   Seats ts ks [] = (ts ≡ []) × (ks ≡ [])
   Seats ts [] (seat ∷ seats) = ⊥
@@ -34,7 +34,7 @@ module _ {T K D : Type 0} (IsFor : T → K → Type 0) (Serves : K → D → Typ
     pub tasks : now ≡ before ++ map (λ t. (t, false)) started
     pub seated : Seats started peers seats
 
-  -- none is accepted any more: no peer is left, or so many came, or the listener failed; no more came than so many, for private clauses
+  -- none is accepted any more: no peer is left, or `most` came, or the listener failed; no more came than `most`, for private clauses
   abbrev pub AcceptsPeers : Option (List K) → Option (List K) → List (T × Bool) → List (T × Bool) → ℕ → List (Option D) → Stopped → Type 0
   AcceptsPeers old new before now most seats stops.Closed = Seated old new before now seats × (length seats ≤ most) × (HasNoPeer new ⊎ (length seats ≡ most))
   AcceptsPeers old new before now most seats stops.Fault = Seated old new before now seats × (length seats ≤ most)
@@ -53,7 +53,7 @@ seat_of Started = Some None
 seat_of (Ran done) = Some (Some done)
 seat_of Refused = None
 
--- what tasks came to takes the seats that are free, for private clauses
+-- the results of tasks take the seats that are free, for private clauses
 abbrev pub filled : {D : Type 0} → List (Option D) → List D → List D
 filled [] ds = []
 filled (Some d ∷ seats) ds = d ∷ filled seats ds

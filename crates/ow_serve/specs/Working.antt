@@ -22,7 +22,7 @@ pub data Leads {S : Type 0} (Step : S → S → Type 0) : S → S → Type 0 whe
 
 -- ---- how a thread begins
 
--- what its clock tells, the moment of the opening, and what its pass shows of the board
+-- what its clock reports, the moment of the opening, and what its pass shows of the board
 pub record Outset : Type 0 where
   pub tells : Option ℕ
   pub opened : ℕ
@@ -37,13 +37,13 @@ fresh_outset tells opened = outset tells opened fresh_view
 
 -- ---- workers
 
--- where a worker stands: its notes, what its pass shows of the board, and its runner's counts of faults and runs
+-- the state of a worker: its notes, what its pass shows of the board, and its runner's counts of faults and runs
 pub record Stand : Type 0 where
   pub notes : Notes
   pub view : View
   pub tally : Tally
 
--- it stands at these
+-- the state with these parts
 abbrev pub stand : Notes → View → Tally → Stand
 stand n v tally = record { notes = n; view = v; tally = tally }
 
@@ -58,7 +58,7 @@ abbrev pub next_job : Next → Option Job
 next_job (nexts.Book job) = Some job
 next_job next = None
 
--- one call that books the reply which is left, and runs no code: before it and behind it, which reply is left, and where the worker stands
+-- one call that books the reply which is left, and runs no code: the reply that is left and the worker's state, before it and after it
 pub record BooksOnce (tells : Option ℕ) (old new : Option Job × Stand) : Type 0 where
   pub job : Job
   pub turn : Turn
@@ -69,7 +69,7 @@ pub record BooksOnce (tells : Option ℕ) (old new : Option Job × Stand) : Type
   pub later : old.1.tally.faults ≤ new.1.tally.faults
   pub ran : RanNone old.1.tally new.1.tally
 
--- one turn, and behind it the calls that book its reply, until none is left
+-- one turn, followed by the calls that book its reply, until none is left
 pub record WorksOnce (gives : Giving) (tells : Option ℕ) (opening : ℕ) (old new : Stand) : Type 0 where
   pub turn : Turn
   pub behind : Stand
@@ -77,8 +77,8 @@ pub record WorksOnce (gives : Giving) (tells : Option ℕ) (opening : ℕ) (old 
   pub later : old.tally.faults ≤ behind.tally.faults
   pub books : Leads (BooksOnce tells) (to_book turn, behind) (None, new)
 
--- a worker's turns, one after the other, with a runner that gave this at first, at these counts, and is at those now: behind the last turn it
--- ran no code
+-- a worker's turns, one after the other, with a runner that gave this at first, at these counts, and is at those now: after the last turn
+-- it ran no code
 pub record MakesTurns (gives : Giving) (tally now : Tally) (o : Outset) (n m : Notes) : Type 0 where
   pub last : Stand
   pub works : Leads (WorksOnce gives o.tells o.opened) (stand n o.view tally) last
@@ -95,7 +95,7 @@ SweepsOnce tells n m = (watch : Watch) × Watched tells n m watch
 abbrev pub MakesSweeps : Option ℕ → Notes → Notes → Type 0
 MakesSweeps tells n m = Leads (SweepsOnce tells) n m
 
--- one reaping of the first slots, so many, of which so many were taken
+-- one reaping of the first `slots` slots, of which `count` were taken
 abbrev pub ReapsOnce : Option ℕ → ℕ → Notes × View → Notes × View → Type 0
 ReapsOnce tells opened old new = (slots : ℕ) × (count : ℕ) × HasReaped tells opened old.0 new.0 old.1 new.1 slots count
 
@@ -116,7 +116,7 @@ AllWorked gives tally o [] [] = Unit {0}
 AllWorked gives tally o (r ∷ rs) (n ∷ ns) = HasWorked (gives r) (tally r) o n × AllWorked gives tally o rs ns
 AllWorked gives tally o rs ns = ⊥
 
--- each runner but the last has a worker; behind these stand the sweeper, and the reaper, who has the last runner
+-- each runner but the last has a worker; the workers are followed by the sweeper, and by the reaper, who has the last runner
 pub record AllWork {R : Type 0} (gives : R → Giving) (tally : R → Tally) (o : Outset) (runners : List R) (others : List Notes) : Type 0 where
   pub workers : List R
   pub last : R
@@ -129,6 +129,6 @@ pub record AllWork {R : Type 0} (gives : R → Giving) (tally : R → Tally) (o 
   pub swept : MakesSweeps o.tells no_notes by_sweeper
   pub reaped : MakesReapings o no_notes by_reaper
 
--- they began with a pass that shows nothing, at some moment, which is that of the clock where it tells one
+-- they began with a pass that shows nothing, at some moment, which is that of the clock where it reports one
 abbrev pub AllWorkBy : {R : Type 0} → (R → Giving) → (R → Tally) → Option ℕ → List R → List Notes → Type 0
 AllWorkBy gives tally tells runners others = (opened : ℕ) × IfSome tells (λ m. opened ≡ m) × AllWork gives tally (fresh_outset tells opened) runners others

@@ -9,9 +9,9 @@ ghost use Rattle.ow_serve.specs.Working.{fresh_outset, outset};
 ghost use Rattle.ow_serve.specs.declared.duty.Work.TheVariants.{Serves};
 
 use crate::duty::{Done, Duty, Work};
-use crate::house::House;
-use ow_edge::{Crew, Leave};
+use crate::service_context::ServiceContext;
 use ow_links::{Accepted, Link, Listener};
+use ow_system::{Crew, Leave};
 use ow_threads::{Begun, Clock, Gate};
 use ow_traits::{Keeper, Runner};
 use ow_value::NoMemory;
@@ -30,8 +30,8 @@ pub(crate) enum Stopped {
     NoMemory,
 }
 
-/// Accepts peers until none comes any more, the listener fails, or so many came. It gives a seat for each, in order: what the peer came
-/// to, where the service served it itself, for want of a thread.
+/// Accepts peers until none comes any more, the listener fails, or `most` came. It gives a seat for each, in order. The seat has
+/// the peer's result where the service served the peer itself, for want of a thread.
 pub(crate) fn accept_all<
     H: Wait + Threads + Clone + Drop + Send + 'static,
     K: Link + Drop + Send + 'static,
@@ -46,17 +46,17 @@ pub(crate) fn accept_all<
     alloc: Global,
     listener: &mut L,
     most: u64,
-    house: &mut House<P, R, C, G>,
+    service: &mut ServiceContext<P, R, C, G>,
     crew: &mut Crew<V, Duty<H, K, R, P, C, G>>,
 ) -> (Vec<Option<Done<R, P>>>, Stopped)
 where
     R::Container: Send + 'static,
-    ensures accepted { AcceptsPeers (λ t k. (t.work ≡ Serves k) × (t.notes.notes ≡ no_notes) × (outset (C.tells t.clock.value) t.opened (view_of t.pass) ≡ fresh_outset (C.tells house.old.clock.value) house.old.opened))
-        (λ k d. IsServed K.left K.taken (C.tells house.old.clock.value) k d.notes.notes d.ending)
+    ensures accepted { AcceptsPeers (λ t k. (t.work ≡ Serves k) × (t.notes.notes ≡ no_notes) × (outset (C.tells t.clock.value) t.opened (view_of t.pass) ≡ fresh_outset (C.tells service.old.clock.value) service.old.opened))
+        (λ k d. IsServed K.left K.taken (C.tells service.old.clock.value) k d.notes.notes d.ending)
         (L.peers listener.old) (L.peers listener.new) crew.old.tasks crew.new.tasks most result.0.items result.1 }
-    ensures notes { house.new.notes.notes ≡ house.old.notes.notes }
-    ensures clock { (house.new.clock ≡ house.old.clock) × (house.new.opened ≡ house.old.opened) }
-    ensures later { L.faults listener.old ≤ L.faults listener.new }
+    ensures notes { service.new.notes.notes ≡ service.old.notes.notes }
+    ensures clock { (service.new.clock ≡ service.old.clock) × (service.new.opened ≡ service.old.opened) }
+    ensures faults_grow { L.faults listener.old ≤ L.faults listener.new }
     ensures fault { result.1 ≡ Stopped.Fault → Rose (L.faults listener.old) (L.faults listener.new) }
 {
     let mut seats = Vec::new(alloc);
@@ -69,7 +69,7 @@ where
             Ok(Accepted::Closed) => return (seats, Stopped::Closed),
             Err(_) => return (seats, Stopped::Fault),
         };
-        let Ok(duty) = house.duty(rt, alloc, Work::Serves { link }) else {
+        let Ok(duty) = service.duty(rt, alloc, Work::Serves { link }) else {
             return (seats, Stopped::NoMemory);
         };
         match seat_of(crew.begin(rt, duty, true)) {

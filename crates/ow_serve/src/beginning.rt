@@ -1,4 +1,4 @@
-// The threads that the service begins before it accepts anybody.
+// The threads that the service begins before it accepts a peer.
 ghost use Rattle.std.specs.Prelude.{◌≡◌, ◌⊎◌, ◌<◌, ◌≤◌, ◌∷◌, [], length, map, IfErr, OnOk};
 ghost use Rattle.ow_board.specs.Board.{view_of};
 ghost use Rattle.ow_desk.specs.Notes.{no_notes};
@@ -7,10 +7,10 @@ ghost use Rattle.ow_serve.specs.Working.{fresh_outset, outset};
 ghost use Rattle.ow_serve.specs.declared.duty.Work.TheVariants.{Turns};
 
 use crate::duty::{Duty, Work};
-use crate::house::House;
 use crate::served::ServedEnd;
-use ow_edge::{Crew, Leave};
+use crate::service_context::ServiceContext;
 use ow_links::Link;
+use ow_system::{Crew, Leave};
 use ow_threads::{Begun, Clock, Gate};
 use ow_traits::{Keeper, Runner};
 use std::alloc::Global;
@@ -30,23 +30,23 @@ pub(crate) fn begin_all<
     rt: &H,
     alloc: Global,
     runners: Vec<R>,
-    house: &mut House<P, R, C, G>,
+    service: &mut ServiceContext<P, R, C, G>,
     crew: &mut Crew<V, Duty<H, K, R, P, C, G>>,
 ) -> Result<(), ServedEnd>
 where
     R::Container: Send + 'static,
     requires runners { 2 ≤ length runners.items }
-    ensures begins { OnOk result (BeginsAll (λ t w. (t.work ≡ w) × (t.notes.notes ≡ no_notes) × (outset (C.tells t.clock.value) t.opened (view_of t.pass) ≡ fresh_outset (C.tells house.old.clock.value) house.old.opened)) runners.items crew.old.tasks crew.new.tasks) }
+    ensures begins { OnOk result (BeginsAll (λ t w. (t.work ≡ w) × (t.notes.notes ≡ no_notes) × (outset (C.tells t.clock.value) t.opened (view_of t.pass) ≡ fresh_outset (C.tells service.old.clock.value) service.old.opened)) runners.items crew.old.tasks crew.new.tasks) }
     ensures worker { IfErr result (λ e. (e ≡ ServedEnd.NoMemory) ⊎ ((e ≡ ServedEnd.NoWorker) × (0 < crew.new.faults))) }
-    ensures notes { house.new.notes.notes ≡ house.old.notes.notes }
-    ensures clock { (house.new.clock ≡ house.old.clock) × (house.new.opened ≡ house.old.opened) }
+    ensures notes { service.new.notes.notes ≡ service.old.notes.notes }
+    ensures clock { (service.new.clock ≡ service.old.clock) × (service.new.opened ≡ service.old.opened) }
 {
     let mut runners = runners;
     let last = runners.pop();
-    begin_workers(rt, alloc, runners, house, crew)?;
-    begin(rt, alloc, Work::Sweeps, house, crew)?;
+    begin_workers(rt, alloc, runners, service, crew)?;
+    begin(rt, alloc, Work::Sweeps, service, crew)?;
     match last {
-        Some(runner) => begin(rt, alloc, Work::Reaps { runner }, house, crew),
+        Some(runner) => begin(rt, alloc, Work::Reaps { runner }, service, crew),
         None => Ok(()),
     }
 }
@@ -64,18 +64,18 @@ fn begin_workers<
     rt: &H,
     alloc: Global,
     runners: Vec<R>,
-    house: &mut House<P, R, C, G>,
+    service: &mut ServiceContext<P, R, C, G>,
     crew: &mut Crew<V, Duty<H, K, R, P, C, G>>,
 ) -> Result<(), ServedEnd>
 where
     R::Container: Send + 'static,
-    ensures begins { OnOk result (AllStarted (λ t w. (t.work ≡ w) × (t.notes.notes ≡ no_notes) × (outset (C.tells t.clock.value) t.opened (view_of t.pass) ≡ fresh_outset (C.tells house.old.clock.value) house.old.opened)) (map (λ r. Turns r) runners.items) crew.old.tasks crew.new.tasks) }
+    ensures begins { OnOk result (AllStarted (λ t w. (t.work ≡ w) × (t.notes.notes ≡ no_notes) × (outset (C.tells t.clock.value) t.opened (view_of t.pass) ≡ fresh_outset (C.tells service.old.clock.value) service.old.opened)) (map (λ r. Turns r) runners.items) crew.old.tasks crew.new.tasks) }
     ensures worker { IfErr result (λ e. (e ≡ ServedEnd.NoMemory) ⊎ ((e ≡ ServedEnd.NoWorker) × (0 < crew.new.faults))) }
-    ensures notes { house.new.notes.notes ≡ house.old.notes.notes }
-    ensures clock { (house.new.clock ≡ house.old.clock) × (house.new.opened ≡ house.old.opened) }
+    ensures notes { service.new.notes.notes ≡ service.old.notes.notes }
+    ensures clock { (service.new.clock ≡ service.old.clock) × (service.new.opened ≡ service.old.opened) }
 {
     for runner in runners {
-        begin(rt, alloc, Work::Turns { runner }, house, crew)?;
+        begin(rt, alloc, Work::Turns { runner }, service, crew)?;
     }
     Ok(())
 }
@@ -93,17 +93,17 @@ fn begin<
     rt: &H,
     alloc: Global,
     work: Work<K, R>,
-    house: &mut House<P, R, C, G>,
+    service: &mut ServiceContext<P, R, C, G>,
     crew: &mut Crew<V, Duty<H, K, R, P, C, G>>,
 ) -> Result<(), ServedEnd>
 where
     R::Container: Send + 'static,
-    ensures begins { OnOk result (AllStarted (λ t w. (t.work ≡ w) × (t.notes.notes ≡ no_notes) × (outset (C.tells t.clock.value) t.opened (view_of t.pass) ≡ fresh_outset (C.tells house.old.clock.value) house.old.opened)) (work ∷ []) crew.old.tasks crew.new.tasks) }
+    ensures begins { OnOk result (AllStarted (λ t w. (t.work ≡ w) × (t.notes.notes ≡ no_notes) × (outset (C.tells t.clock.value) t.opened (view_of t.pass) ≡ fresh_outset (C.tells service.old.clock.value) service.old.opened)) (work ∷ []) crew.old.tasks crew.new.tasks) }
     ensures worker { IfErr result (λ e. (e ≡ ServedEnd.NoMemory) ⊎ ((e ≡ ServedEnd.NoWorker) × (0 < crew.new.faults))) }
-    ensures notes { house.new.notes.notes ≡ house.old.notes.notes }
-    ensures clock { (house.new.clock ≡ house.old.clock) × (house.new.opened ≡ house.old.opened) }
+    ensures notes { service.new.notes.notes ≡ service.old.notes.notes }
+    ensures clock { (service.new.clock ≡ service.old.clock) × (service.new.opened ≡ service.old.opened) }
 {
-    let Ok(duty) = house.duty(rt, alloc, work) else {
+    let Ok(duty) = service.duty(rt, alloc, work) else {
         return Err(ServedEnd::NoMemory);
     };
     match crew.begin(rt, duty, false) {

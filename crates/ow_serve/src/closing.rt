@@ -11,8 +11,8 @@ ghost use Rattle.ow_serve.specs.Ended.{Drains, KeepsBook, KeepsFirst};
 ghost use Rattle.ow_serve.specs.Peers.{endings_in, filled};
 
 use crate::duty::Done;
-use crate::house::House;
-use crate::place::Place;
+use crate::service_context::ServiceContext;
+use crate::shared_state::SharedState;
 use ow_board::{Pass, is_full};
 use ow_desk::Receipts;
 use ow_floor::Drain;
@@ -32,111 +32,114 @@ const PAUSE: u64 = 10;
 pub(crate) fn drain<H: Wait, P: Keeper + Drop, R: Runner + Drop, C: Clock + Drop, G: Gate + Drop>(
     rt: &H,
     alloc: Global,
-    house: &mut House<P, R, C, G>,
+    service: &mut ServiceContext<P, R, C, G>,
 ) -> Result<(), NoMemory>
-    ensures drained { OnOk result (Drains (C.tells house.old.clock.value) house.old.notes.notes house.new.notes.notes) }
-    ensures first { KeepsFirst house.old.notes.notes house.new.notes.notes }
+    ensures drained { OnOk result (Drains (C.tells service.old.clock.value) service.old.notes.notes service.new.notes.notes) }
+    ensures first { KeepsFirst service.old.notes.notes service.new.notes.notes }
 {
     for _ in rt.forever() {
-        match drain_once(rt, alloc, house) {
+        match drain_once(rt, alloc, service) {
             Ok(Drain::Drained(_)) => return Ok(()),
-            Ok(Drain::StillOpen(_)) => house.clock.pause(Bell::Close, PAUSE),
+            Ok(Drain::StillOpen(_)) => service.clock.pause(Bell::Close, PAUSE),
             Err(e) => return Err(e),
         }
     }
     Err(NoMemory)
 }
 
-// The lock is free again behind this call.
+// The lock is free again after this call.
 fn drain_once<H: Wait, P: Keeper + Drop, R: Runner + Drop, C: Clock + Drop, G: Gate + Drop>(
     rt: &H,
     alloc: Global,
-    house: &mut House<P, R, C, G>,
+    service: &mut ServiceContext<P, R, C, G>,
 ) -> Result<Drain, NoMemory>
-    ensures called { CalledBy (C.tells house.old.clock.value) events.Drain (drain_outcome result) house.old.notes.notes house.new.notes.notes }
-    ensures first { KeepsFirst house.old.notes.notes house.new.notes.notes }
-    ensures clock { house.new.clock ≡ house.old.clock }
+    ensures called { CalledBy (C.tells service.old.clock.value) events.Drain (drain_outcome result) service.old.notes.notes service.new.notes.notes }
+    ensures first { KeepsFirst service.old.notes.notes service.new.notes.notes }
+    ensures clock { service.new.clock ≡ service.old.clock }
 {
-    let at = house.clock.now();
-    house
+    let at = service.clock.now();
+    service
         .notes
-        .drain(alloc, &mut *hold(rt, &house.place.desk), at)
+        .drain(alloc, &mut *hold(rt, &service.shared.desk), at)
 }
 
 /// Stops each container that lies on the board. No code runs.
 pub(crate) fn clear<P: Keeper + Drop, R: Runner>(
-    place: &Place<P, R::Container>,
+    shared: &SharedState<P, R::Container>,
     pass: &mut Pass<R::Container>,
     runner: &mut R,
 )
-    requires { IsPassOf place.now.board pass.old }
-    ensures pass { IsPassOf place.now.board pass.new }
+    requires { IsPassOf shared.now.board pass.old }
+    ensures pass { IsPassOf shared.now.board pass.new }
     ensures ran { RanNone (R.tally runner.old) (R.tally runner.new) }
 {
-    for i in 0..place.board.slots() {
-        clear_slot(place, pass, runner, i);
+    for i in 0..shared.board.slots() {
+        clear_slot(shared, pass, runner, i);
     }
 }
 
 fn clear_slot<P: Keeper + Drop, R: Runner>(
-    place: &Place<P, R::Container>,
+    shared: &SharedState<P, R::Container>,
     pass: &mut Pass<R::Container>,
     runner: &mut R,
     i: u32,
 )
-    requires pass { IsPassOf place.now.board pass.old }
-    requires slot { i < size place.now.board }
-    ensures pass { IsPassOf place.now.board pass.new }
+    requires pass { IsPassOf shared.now.board pass.old }
+    requires slot { i < size shared.now.board }
+    ensures pass { IsPassOf shared.now.board pass.new }
     ensures ran { RanNone (R.tally runner.old) (R.tally runner.new) }
 {
-    let word = place.board.look(pass, i);
+    let word = shared.board.look(pass, i);
     if is_full(word) {
-        if let Ok(container) = place.board.take(pass, i, word) {
+        if let Ok(container) = shared.board.take(pass, i, word) {
             runner.stop(container);
         }
     }
 }
 
-/// The store, where nothing else shares the place any more, and the book as it stands.
+/// The store, where nothing else holds the shared state any more, and the book in its current state.
 pub(crate) fn left_of<H: Wait, P: Keeper + Drop, B: Drop>(
     rt: &H,
     alloc: Global,
-    place: Arc<Place<P, B>, Global>,
+    shared: Arc<SharedState<P, B>, Global>,
 ) -> Result<(Option<P>, Book), NoMemory>
     ensures told { IfOk result (λ l. (t : Table) × IsLegal t l.1.ledger.entries × IfSome l.0 (λ s. HoldsBook (P.telling s).rows t l.1.ledger)) }
     ensures kept { IfOk result (λ l. IfSome l.0 (λ s. KeepsBook (P.telling s).rows None)) }
 {
-    match Arc::try_unwrap(place) {
-        Ok(place) => {
-            let (store, book) = place.into_desk().open().finish();
+    match Arc::try_unwrap(shared) {
+        Ok(shared) => {
+            let (store, book) = shared.into_desk().open().finish();
             Ok((Some(store), book))
         }
-        Err(place) => Ok((None, book_of(rt, alloc, &place)?)),
+        Err(shared) => Ok((None, book_of(rt, alloc, &shared)?)),
     }
 }
 
-// The book as it stands.
+// The book in its current state.
 fn book_of<H: Wait, P: Keeper + Drop, B: Drop>(
     rt: &H,
     alloc: Global,
-    place: &Place<P, B>,
+    shared: &SharedState<P, B>,
 ) -> Result<Book, NoMemory>
     ensures { IfOk result (λ b. (t : Table) × IsLegal t b.ledger.entries) }
 {
-    let desk = hold(rt, &place.desk);
+    let desk = hold(rt, &shared.desk);
     desk.hall().book().copy(alloc)
 }
 
-/// The store, where nothing else shares the place any more.
-pub(crate) fn store_of<P: Keeper + Drop, B: Drop>(place: Arc<Place<P, B>, Global>) -> Option<P>
+/// The store, where nothing else holds the shared state any more.
+pub(crate) fn store_of<P: Keeper + Drop, B: Drop>(
+    shared: Arc<SharedState<P, B>, Global>,
+) -> Option<P>
     ensures { IfSome result (λ s. KeepsBook (P.telling s).rows None) }
 {
-    let place = Arc::into_inner(place)?;
-    let (store, _book) = place.into_desk().open().finish();
+    let shared = Arc::into_inner(shared)?;
+    let (store, _book) = shared.into_desk().open().finish();
     Some(store)
 }
 
-/// What all peers came to, in order: what the service served itself stands in its seat, what threads came to takes the free ones.
+/// The results of all peers, in order. The results of the peers that the service served itself are in their seats; the results of threads
+/// take the free ones.
 pub(crate) fn in_order<T: Drop>(
     alloc: Global,
     seats: Vec<Option<T>>,
@@ -178,7 +181,7 @@ pub(crate) fn gathered<R: Runner + Drop, P: Keeper + Drop>(
     Ok((receipts, endings))
 }
 
-// Puts the receipts and the endings behind the others.
+// Appends the receipts and the endings to the others.
 fn put_all<R: Runner + Drop, P: Keeper + Drop>(
     dones: Vec<Done<R, P>>,
     receipts: &mut Vec<Receipts<P>>,

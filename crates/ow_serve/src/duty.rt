@@ -6,12 +6,12 @@ ghost use Rattle.ow_peer.specs.declared.ending.Ending.{Ending};
 ghost use Rattle.ow_serve.specs.Duties.{Ends, TalksFrom};
 ghost use Rattle.ow_serve.specs.Working.{MakesReapings, MakesSweeps, MakesTurns, outset};
 
-use crate::place::Place;
+use crate::shared_state::SharedState;
 use crate::working::{reap_on, sweep_on, work_on};
 use ow_board::Pass;
 use ow_desk::Receipts;
 use ow_links::Link;
-use ow_peer::{Ending, connection};
+use ow_peer::{Ending, connection_over};
 use ow_threads::{Clock, Gate, Task};
 use ow_traits::{Keeper, Runner};
 use std::alloc::Global;
@@ -44,12 +44,12 @@ pub struct Duty<
     pub(crate) alloc: Global,
     pub(crate) work: Work<K, R>,
     pub(crate) pass: Pass<R::Container>,
-    pub(crate) place: Arc<Place<P, R::Container>, Global>,
+    pub(crate) shared: Arc<SharedState<P, R::Container>, Global>,
     pub(crate) clock: Arc<C, Global>,
     pub(crate) gate: Arc<G, Global>,
     pub(crate) opened: u64,
     pub(crate) notes: Receipts<P>,
-    ghost own: { IsPassOf place.value.board pass },
+    ghost own: { IsPassOf shared.value.board pass },
 }
 
 /// What a thread leaves.
@@ -84,59 +84,59 @@ where
             alloc,
             work,
             pass,
-            place,
+            shared,
             clock,
             gate,
             opened,
             notes,
         } = self;
-        let hands = Hands {
+        let context = ThreadContext {
             rt,
             alloc,
             pass,
-            place,
+            shared,
             clock,
             gate,
             opened,
             notes,
         };
         match work {
-            Work::Turns { runner } => work_with(hands, runner),
-            Work::Sweeps => sweep_with(hands),
-            Work::Reaps { runner } => reap_with(hands, runner),
-            Work::Serves { link } => serve_with(hands, link),
+            Work::Turns { runner } => work_with(context, runner),
+            Work::Sweeps => sweep_with(context),
+            Work::Reaps { runner } => reap_with(context, runner),
+            Work::Serves { link } => serve_with(context, link),
         }
     }
 }
 
 // What a thread works with, whatever it does.
 #[derive(Drop)]
-struct Hands<H: Wait + Drop, B: Drop, P: Keeper + Drop, C: Clock + Drop, G: Gate + Drop> {
+struct ThreadContext<H: Wait + Drop, B: Drop, P: Keeper + Drop, C: Clock + Drop, G: Gate + Drop> {
     rt: H,
     alloc: Global,
     pass: Pass<B>,
-    place: Arc<Place<P, B>, Global>,
+    shared: Arc<SharedState<P, B>, Global>,
     clock: Arc<C, Global>,
     gate: Arc<G, Global>,
     opened: u64,
     notes: Receipts<P>,
-    ghost own: { IsPassOf place.value.board pass },
+    ghost own: { IsPassOf shared.value.board pass },
 }
 
 fn work_with<H: Wait + Drop, R: Runner + Drop, P: Keeper + Drop, C: Clock + Drop, G: Gate + Drop>(
-    hands: Hands<H, R::Container, P, C, G>,
+    context: ThreadContext<H, R::Container, P, C, G>,
     runner: R,
 ) -> Done<R, P>
     ensures ending { result.ending ≡ None }
-    ensures turns { IsSomeAnd result.runner (λ r. MakesTurns (R.gives runner) (R.tally runner) (R.tally r) (outset (C.tells hands.clock.value) hands.opened (view_of hands.pass)) hands.notes.notes result.notes.notes) }
+    ensures turns { IsSomeAnd result.runner (λ r. MakesTurns (R.gives runner) (R.tally runner) (R.tally r) (outset (C.tells context.clock.value) context.opened (view_of context.pass)) context.notes.notes result.notes.notes) }
 {
-    let (mut hands, mut runner) = (hands, runner);
-    let (alloc, opened) = (hands.alloc, hands.opened);
-    let own = &mut hands;
+    let (mut context, mut runner) = (context, runner);
+    let (alloc, opened) = (context.alloc, context.opened);
+    let own = &mut context;
     work_on(
         &own.rt,
         alloc,
-        &own.place,
+        &own.shared,
         &mut own.pass,
         &mut runner,
         &*own.clock,
@@ -145,44 +145,44 @@ fn work_with<H: Wait + Drop, R: Runner + Drop, P: Keeper + Drop, C: Clock + Drop
         &mut own.notes,
     );
     Done {
-        notes: hands.notes,
+        notes: context.notes,
         ending: None,
         runner: Some(runner),
     }
 }
 
 fn sweep_with<H: Wait + Drop, R: Runner + Drop, P: Keeper + Drop, C: Clock + Drop, G: Gate + Drop>(
-    hands: Hands<H, R::Container, P, C, G>,
+    context: ThreadContext<H, R::Container, P, C, G>,
 ) -> Done<R, P>
     ensures ending { result.ending ≡ None }
-    ensures sweeps { MakesSweeps (C.tells hands.clock.value) hands.notes.notes result.notes.notes }
+    ensures sweeps { MakesSweeps (C.tells context.clock.value) context.notes.notes result.notes.notes }
 {
-    let mut hands = hands;
-    let alloc = hands.alloc;
-    let own = &mut hands;
-    sweep_on(&own.rt, alloc, &own.place, &*own.clock, &mut own.notes);
+    let mut context = context;
+    let alloc = context.alloc;
+    let own = &mut context;
+    sweep_on(&own.rt, alloc, &own.shared, &*own.clock, &mut own.notes);
     Done {
-        notes: hands.notes,
+        notes: context.notes,
         ending: None,
         runner: None,
     }
 }
 
 fn reap_with<H: Wait + Drop, R: Runner + Drop, P: Keeper + Drop, C: Clock + Drop, G: Gate + Drop>(
-    hands: Hands<H, R::Container, P, C, G>,
+    context: ThreadContext<H, R::Container, P, C, G>,
     runner: R,
 ) -> Done<R, P>
     ensures ending { result.ending ≡ None }
     ensures ran { IsSomeAnd result.runner (λ r. RanNone (R.tally runner) (R.tally r)) }
-    ensures reapings { MakesReapings (outset (C.tells hands.clock.value) hands.opened (view_of hands.pass)) hands.notes.notes result.notes.notes }
+    ensures reapings { MakesReapings (outset (C.tells context.clock.value) context.opened (view_of context.pass)) context.notes.notes result.notes.notes }
 {
-    let (mut hands, mut runner) = (hands, runner);
-    let (alloc, opened) = (hands.alloc, hands.opened);
-    let own = &mut hands;
+    let (mut context, mut runner) = (context, runner);
+    let (alloc, opened) = (context.alloc, context.opened);
+    let own = &mut context;
     reap_on(
         &own.rt,
         alloc,
-        &own.place,
+        &own.shared,
         &mut own.pass,
         &mut runner,
         &*own.clock,
@@ -191,7 +191,7 @@ fn reap_with<H: Wait + Drop, R: Runner + Drop, P: Keeper + Drop, C: Clock + Drop
         &mut own.notes,
     );
     Done {
-        notes: hands.notes,
+        notes: context.notes,
         ending: None,
         runner: Some(runner),
     }
@@ -204,22 +204,23 @@ fn serve_with<
     P: Keeper + Drop,
     C: Clock + Drop,
     G: Gate + Drop,
->(hands: Hands<H, R::Container, P, C, G>, link: K) -> Done<R, P>
-    ensures served { (e : Ending) × (result.ending ≡ Some e) × TalksFrom K.left K.taken (C.tells hands.clock.value) link hands.notes.notes result.notes.notes e }
+>(context: ThreadContext<H, R::Container, P, C, G>, link: K) -> Done<R, P>
+    ensures served { (e : Ending) × (result.ending ≡ Some e) × TalksFrom K.left K.taken (C.tells context.clock.value) link context.notes.notes result.notes.notes e }
 {
-    let (mut hands, mut link) = (hands, link);
-    let alloc = hands.alloc;
-    let own = &mut hands;
-    let ending = connection(
+    let (mut context, mut link) = (context, link);
+    let alloc = context.alloc;
+    let own = &mut context;
+    let ending = connection_over(
         &own.rt,
         alloc,
+        &own.shared.routes,
         &mut link,
-        &own.place.desk,
+        &own.shared.desk,
         &*own.clock,
         &mut own.notes,
     );
     Done {
-        notes: hands.notes,
+        notes: context.notes,
         ending: Some(ending),
         runner: None,
     }

@@ -12,16 +12,16 @@ ghost use Rattle.ow_serve.specs.Working.{outset};
 use crate::accepting::Stopped;
 use crate::closing::{clear, drain, gathered, in_order, left_of, store_of};
 use crate::duty::{Done, Duty};
-use crate::house::House;
-use crate::place::Place;
 use crate::served::{Served, ServedEnd, nothing};
+use crate::service_context::ServiceContext;
+use crate::shared_state::SharedState;
 use ow_audit::first_difference;
 use ow_board::Pass;
 use ow_desk::Receipts;
-use ow_edge::{Crew, Leave};
 use ow_hall::Book;
 use ow_links::Link;
 use ow_peer::Ending;
+use ow_system::{Crew, Leave};
 use ow_threads::{Bell, Clock, Gate};
 use ow_traits::{Keeper, Runner};
 use ow_value::NoMemory;
@@ -29,7 +29,7 @@ use std::alloc::Global;
 use std::sync::Wait;
 use std::thread::Threads;
 
-/// Ends workers, sweeper and reaper, and gives what they came to.
+/// Ends workers, sweeper and reaper, and returns their results.
 pub(crate) fn end_all<
     H: Wait + Threads + Drop + Send + 'static,
     K: Link + Drop + Send + 'static,
@@ -41,7 +41,7 @@ pub(crate) fn end_all<
 >(
     rt: &H,
     alloc: Global,
-    house: &House<P, R, C, G>,
+    service: &ServiceContext<P, R, C, G>,
     crew: &mut Crew<V, Duty<H, K, R, P, C, G>>,
 ) -> Result<Vec<Done<R, P>>, NoMemory>
 where
@@ -49,8 +49,8 @@ where
     ensures joined { Joined (λ t d. Ends K.left K.taken R.gives R.tally (outset (C.tells t.clock.value) t.opened (view_of t.pass)) t.work t.notes.notes d.notes.notes d.ending d.runner) (λ v. v.items) crew.old.tasks crew.new.tasks 0 result }
     ensures faults { crew.new.faults ≡ crew.old.faults }
 {
-    house.place.end();
-    house.clock.ring(Bell::Close);
+    service.shared.end();
+    service.clock.ring(Bell::Close);
     crew.join(rt, alloc, 0)
 }
 
@@ -66,7 +66,7 @@ pub(crate) fn close<
 >(
     rt: &H,
     alloc: Global,
-    house: House<P, R, C, G>,
+    service: ServiceContext<P, R, C, G>,
     seats: Vec<Option<Done<R, P>>>,
     stopped: Stopped,
     first: u64,
@@ -74,20 +74,20 @@ pub(crate) fn close<
 ) -> Served<P>
 where
     R::Container: Send + 'static,
-    ensures closes { Closes (Drains (C.tells house.clock.value) house.notes.notes) (λ t d. Ends K.left K.taken R.gives R.tally (outset (C.tells t.clock.value) t.opened (view_of t.pass)) t.work t.notes.notes d.notes.notes d.ending d.runner) (λ d. d.notes.notes) (λ d. d.ending) first crew.old.tasks seats.items stopped result.end result.book (map (λ r. r.notes) result.receipts.items) result.endings.items }
+    ensures closes { Closes (Drains (C.tells service.clock.value) service.notes.notes) (λ t d. Ends K.left K.taken R.gives R.tally (outset (C.tells t.clock.value) t.opened (view_of t.pass)) t.work t.notes.notes d.notes.notes d.ending d.runner) (λ d. d.notes.notes) (λ d. d.ending) first crew.old.tasks seats.items stopped result.end result.book (map (λ r. r.notes) result.receipts.items) result.endings.items }
     ensures faults { crew.new.faults ≡ crew.old.faults }
-    ensures begins { BookBegins house.notes.notes result.end result.book }
+    ensures begins { BookBegins service.notes.notes result.end result.book }
     ensures store { IfSome result.store (λ s. KeepsBook (P.telling s).rows result.book) }
 {
-    let mut house = house;
+    let mut service = service;
     let joined = crew.join(rt, alloc, first);
-    let drained = drain(rt, alloc, &mut house);
-    let others = end_all(rt, alloc, &house, crew);
+    let drained = drain(rt, alloc, &mut service);
+    let others = end_all(rt, alloc, &service, crew);
     let all = all_of(alloc, seats, joined, drained, others);
-    leave(rt, alloc, house, all, stopped)
+    leave(rt, alloc, service, all, stopped)
 }
 
-// What the peers came to, in order, and what the others came to.
+// The results of the peers, in order, and the results of the others.
 fn all_of<R: Runner + Drop, P: Keeper + Drop>(
     alloc: Global,
     seats: Vec<Option<Done<R, P>>>,
@@ -110,26 +110,26 @@ fn all_of<R: Runner + Drop, P: Keeper + Drop>(
 fn leave<H: Wait, R: Runner + Drop, P: Keeper + Drop, C: Clock + Drop, G: Gate + Drop>(
     rt: &H,
     alloc: Global,
-    house: House<P, R, C, G>,
+    service: ServiceContext<P, R, C, G>,
     all: Result<(Vec<Done<R, P>>, Vec<Done<R, P>>), NoMemory>,
     stopped: Stopped,
 ) -> Served<P>
-    ensures left { (tells : Option ℕ) (n : Notes) → (IsOk all → Drains tells n house.notes.notes) → IfOk all (λ a. Left (Drains tells n) (map (λ d. d.notes.notes) a.0.items) (map (λ d. d.ending) a.0.items) (map (λ d. d.notes.notes) a.1.items) stopped result.end result.book (map (λ r. r.notes) result.receipts.items) result.endings.items) }
+    ensures left { (tells : Option ℕ) (n : Notes) → (IsOk all → Drains tells n service.notes.notes) → IfOk all (λ a. Left (Drains tells n) (map (λ d. d.notes.notes) a.0.items) (map (λ d. d.ending) a.0.items) (map (λ d. d.notes.notes) a.1.items) stopped result.end result.book (map (λ r. r.notes) result.receipts.items) result.endings.items) }
     ensures none { OnErr all (result.end ≡ ServedEnd.NoMemory) }
-    ensures begins { BookBegins house.notes.notes result.end result.book }
+    ensures begins { BookBegins service.notes.notes result.end result.book }
     ensures store { IfSome result.store (λ s. KeepsBook (P.telling s).rows result.book) }
 {
-    let House {
-        place,
+    let ServiceContext {
+        shared,
         pass,
         notes,
         ..
-    } = house;
+    } = service;
     match all {
         Ok((peers, others)) => {
-            let others = cleared(&place, pass, others);
+            let others = cleared(&shared, pass, others);
             let gathered = gathered(alloc, notes, peers, others);
-            match (left_of(rt, alloc, place), gathered) {
+            match (left_of(rt, alloc, shared), gathered) {
                 (Ok((store, book)), Ok((receipts, endings))) => {
                     compared(alloc, book, receipts, endings, stopped, store)
                 }
@@ -137,17 +137,17 @@ fn leave<H: Wait, R: Runner + Drop, P: Keeper + Drop, C: Clock + Drop, G: Gate +
                 (Err(_), _) => nothing(alloc, ServedEnd::NoMemory, None),
             }
         }
-        Err(_) => nothing(alloc, ServedEnd::NoMemory, store_of(place)),
+        Err(_) => nothing(alloc, ServedEnd::NoMemory, store_of(shared)),
     }
 }
 
 // What lies on the board is stopped, with the runner of the reaper, who is the last of the others.
 fn cleared<R: Runner + Drop, P: Keeper + Drop>(
-    place: &Place<P, R::Container>,
+    shared: &SharedState<P, R::Container>,
     pass: Pass<R::Container>,
     others: Vec<Done<R, P>>,
 ) -> Vec<Done<R, P>>
-    requires { IsPassOf place.now.board pass }
+    requires { IsPassOf shared.now.board pass }
     ensures { map (λ d. d.notes.notes) result.items ≡ map (λ d. d.notes.notes) others.items }
 {
     let (mut pass, mut others) = (pass, others);
@@ -157,7 +157,7 @@ fn cleared<R: Runner + Drop, P: Keeper + Drop>(
             ending,
             runner,
         } = last;
-        let runner = stopped_by(place, &mut pass, runner);
+        let runner = stopped_by(shared, &mut pass, runner);
         others.push_reserved(Done {
             notes,
             ending,
@@ -168,14 +168,14 @@ fn cleared<R: Runner + Drop, P: Keeper + Drop>(
 }
 
 fn stopped_by<R: Runner + Drop, P: Keeper + Drop>(
-    place: &Place<P, R::Container>,
+    shared: &SharedState<P, R::Container>,
     pass: &mut Pass<R::Container>,
     runner: Option<R>,
 ) -> Option<R>
-    requires { IsPassOf place.now.board pass.old }
+    requires { IsPassOf shared.now.board pass.old }
 {
     let mut runner = runner?;
-    clear(place, pass, &mut runner);
+    clear(shared, pass, &mut runner);
     Some(runner)
 }
 

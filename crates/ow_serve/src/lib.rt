@@ -6,11 +6,11 @@ mod accepting;
 mod beginning;
 mod closing;
 mod duty;
-mod house;
 mod leaving;
-mod place;
 mod served;
 mod service;
+mod service_context;
+mod shared_state;
 mod working;
 
 pub use duty::{Done, Duty};

@@ -1,4 +1,4 @@
-// What a service came to.
+// The result of a service.
 ghost use Rattle.std.specs.Prelude.{◌≡◌, [], None};
 
 use ow_audit::Difference;
@@ -16,7 +16,7 @@ pub enum ServedEnd {
     Closed,
     /// The listener failed. All that was accepted has ended.
     ListenFault,
-    /// No thread was to be had for a worker, the sweeper or the reaper. No peer was accepted.
+    /// No thread was available for a worker, the sweeper or the reaper. No peer was accepted.
     NoWorker,
     /// The store failed at the opening.
     StoreFault,
@@ -28,17 +28,18 @@ pub enum ServedEnd {
     Unmatched(Difference),
 }
 
-/// What a service came to, and what it leaves.
+/// The result of a service, and what it leaves.
 #[derive(Drop)]
 pub struct Served<P: Keeper + Drop> {
     /// How it ended.
     pub end: ServedEnd,
     /// The store, where it could be taken out of what the threads shared.
     pub store: Option<P>,
-    /// The book as it stood when all threads had ended.
+    /// The book as it was when all threads had ended.
     pub book: Option<Book>,
-    /// Those of the service itself, which hold the opening and the drains; those of the peers, in the order in which they were accepted;
-    /// and those of workers, sweeper and reaper.
+    /// The receipts of the service itself, which hold the opening and the drains; the receipts of the peers, in the order in which they
+    /// were
+    /// accepted; and the receipts of workers, sweeper and reaper.
     pub receipts: Vec<Receipts<P>>,
     /// How the connections of the peers ended, in the same order.
     pub endings: Vec<Ending>,

@@ -11,23 +11,23 @@ use crate::accepting::accept_all;
 use crate::beginning::begin_all;
 use crate::closing::store_of;
 use crate::duty::Duty;
-use crate::house::House;
 use crate::leaving::{close, end_all};
 use crate::served::{Served, ServedEnd, nothing};
-use ow_edge::{Crew, Leave};
+use crate::service_context::ServiceContext;
+use ow_command_line::ServeWords;
 use ow_hall::{Hall, StartFault, StartRefusal};
 use ow_links::{Link, Listener};
+use ow_system::{Crew, Leave};
 use ow_tenant::Tenants;
 use ow_threads::{Clock, Gate};
 use ow_traits::{Keeper, Runner};
-use ow_words::ServeWords;
 use std::alloc::Global;
 use std::sync::{Arc, Wait};
 use std::thread::Threads;
 
 /// Opens the service over the store and the office table, and serves the peers that the listener gives, each in a thread of its own,
 /// while workers run what is accepted. The last runner is the reaper's, each other one has a worker. It stops accepting where no peer
-/// comes any more, the listener fails, or as many came as the words tell; then all that was accepted ends, all threads are joined, what
+/// comes any more, the listener fails, or as many came as `words` allows. Then all that was accepted ends, all threads are joined, what
 /// lies on the board is stopped, and the receipts of all threads are compared with the book.
 pub fn serve<
     H: Wait + Threads + Clone + Drop + Send + 'static,
@@ -55,10 +55,14 @@ where
     requires wants { AreWantsSized tenants.wants }
     requires pool { IsPoolSized tenants.pool }
     requires runners { 2 ≤ length runners.items }
-    ensures serves { Serves (OpensAndDrains (C.tells clock.value)) (TalksAlone K.left K.taken (C.tells clock.value)) (AllWorkBy R.gives R.tally (C.tells clock.value) runners.items)
-        (L.peers listener.old) (L.peers listener.new) (unwrap_or words.connections 18446744073709551615) result.end result.book (map (λ r. r.notes) result.receipts.items) result.endings.items }
+    ensures serves { Serves (OpensAndDrains (C.tells clock.value))
+        (TalksAlone K.left K.taken (C.tells clock.value))
+        (AllWorkBy R.gives R.tally (C.tells clock.value) runners.items)
+        (L.peers listener.old) (L.peers listener.new) (unwrap_or words.connections 18446744073709551615)
+        result.end result.book (map (λ r. r.notes) result.receipts.items) result.endings.items }
     ensures listener { result.listener_faults ≡ L.faults listener.new - L.faults listener.old }
-    ensures fault { result.end ≡ ServedEnd.ListenFault → Rose (L.faults listener.old) (L.faults listener.new) }
+    ensures fault { result.end ≡ ServedEnd.ListenFault
+        → Rose (L.faults listener.old) (L.faults listener.new) }
     ensures worker { result.end ≡ ServedEnd.NoWorker → 0 < result.spawner_faults }
     ensures unopened { IsUnopened P.telling store result.end result.store }
     ensures allowed { IsOpenedOver (P.telling store).rows result.end }
@@ -67,8 +71,8 @@ where
 {
     let opened = clock.now();
     match Hall::start(alloc, store, tenants, opened) {
-        Ok(hall) => match House::new(alloc, hall, clock, gate, opened) {
-            Ok(house) => run(rt, alloc, &words, listener, runners, house, leave),
+        Ok(hall) => match ServiceContext::new(alloc, hall, clock, gate, opened) {
+            Ok(service) => run(rt, alloc, &words, listener, runners, service, leave),
             Err(_) => nothing(alloc, ServedEnd::NoMemory, None),
         },
         Err(refusal) => {
@@ -105,30 +109,31 @@ fn run<
     words: &ServeWords,
     listener: &mut L,
     runners: Vec<R>,
-    house: House<P, R, C, G>,
+    service: ServiceContext<P, R, C, G>,
     leave: V,
 ) -> Served<P>
 where
     R::Container: Send + 'static,
     requires runners { 2 ≤ length runners.items }
-    ensures serves { Serves (Drains (C.tells house.clock.value) house.notes.notes) (TalksAlone K.left K.taken (C.tells house.clock.value)) (AllWork R.gives R.tally (fresh_outset (C.tells house.clock.value) house.opened) runners.items)
+    ensures serves { Serves (Drains (C.tells service.clock.value) service.notes.notes) (TalksAlone K.left K.taken (C.tells service.clock.value)) (AllWork R.gives R.tally (fresh_outset (C.tells service.clock.value) service.opened) runners.items)
         (L.peers listener.old) (L.peers listener.new) (unwrap_or words.now.connections 18446744073709551615) result.end result.book (map (λ r. r.notes) result.receipts.items) result.endings.items }
     ensures listener { result.listener_faults ≡ L.faults listener.new - L.faults listener.old }
-    ensures fault { result.end ≡ ServedEnd.ListenFault → Rose (L.faults listener.old) (L.faults listener.new) }
+    ensures fault { result.end ≡ ServedEnd.ListenFault
+        → Rose (L.faults listener.old) (L.faults listener.new) }
     ensures worker { result.end ≡ ServedEnd.NoWorker → 0 < result.spawner_faults }
     ensures opened { IsOpenedEnd result.end }
-    ensures begins { BookBegins house.notes.notes result.end result.book }
+    ensures begins { BookBegins service.notes.notes result.end result.book }
     ensures store { IfSome result.store (λ s. KeepsBook (P.telling s).rows result.book) }
 {
     let mut crew: Crew<V, Duty<H, K, R, P, C, G>> = Crew::new(alloc, leave);
     let before = listener.faults();
-    let mut served = serve_all(rt, alloc, words, listener, runners, house, &mut crew);
+    let mut served = serve_all(rt, alloc, words, listener, runners, service, &mut crew);
     served.listener_faults = listener.faults().saturating_sub(before);
     served.spawner_faults = crew.faults();
     served
 }
 
-// The same, but for the counts of faults.
+// The same, except the counts of faults.
 fn serve_all<
     H: Wait + Threads + Clone + Drop + Send + 'static,
     K: Link + Drop + Send + 'static,
@@ -144,34 +149,35 @@ fn serve_all<
     words: &ServeWords,
     listener: &mut L,
     runners: Vec<R>,
-    house: House<P, R, C, G>,
+    service: ServiceContext<P, R, C, G>,
     crew: &mut Crew<V, Duty<H, K, R, P, C, G>>,
 ) -> Served<P>
 where
     R::Container: Send + 'static,
     requires runners { 2 ≤ length runners.items }
     requires fresh { crew.old.tasks ≡ [] }
-    ensures serves { Serves (Drains (C.tells house.clock.value) house.notes.notes) (TalksAlone K.left K.taken (C.tells house.clock.value)) (AllWork R.gives R.tally (fresh_outset (C.tells house.clock.value) house.opened) runners.items)
+    ensures serves { Serves (Drains (C.tells service.clock.value) service.notes.notes) (TalksAlone K.left K.taken (C.tells service.clock.value)) (AllWork R.gives R.tally (fresh_outset (C.tells service.clock.value) service.opened) runners.items)
         (L.peers listener.old) (L.peers listener.new) (unwrap_or words.now.connections 18446744073709551615) result.end result.book (map (λ r. r.notes) result.receipts.items) result.endings.items }
-    ensures later { L.faults listener.old ≤ L.faults listener.new }
-    ensures fault { result.end ≡ ServedEnd.ListenFault → Rose (L.faults listener.old) (L.faults listener.new) }
+    ensures faults_grow { L.faults listener.old ≤ L.faults listener.new }
+    ensures fault { result.end ≡ ServedEnd.ListenFault
+        → Rose (L.faults listener.old) (L.faults listener.new) }
     ensures worker { result.end ≡ ServedEnd.NoWorker → 0 < crew.new.faults }
     ensures opened { IsOpenedEnd result.end }
-    ensures begins { BookBegins house.notes.notes result.end result.book }
+    ensures begins { BookBegins service.notes.notes result.end result.book }
     ensures store { IfSome result.store (λ s. KeepsBook (P.telling s).rows result.book) }
 {
-    let mut house = house;
-    match begin_all(rt, alloc, runners, &mut house, crew) {
+    let mut service = service;
+    match begin_all(rt, alloc, runners, &mut service, crew) {
         Ok(()) => {
             let first = crew.started();
             let most = words.connections.unwrap_or(u64::MAX);
-            let (seats, stopped) = accept_all(rt, alloc, listener, most, &mut house, crew);
-            close(rt, alloc, house, seats, stopped, first, crew)
+            let (seats, stopped) = accept_all(rt, alloc, listener, most, &mut service, crew);
+            close(rt, alloc, service, seats, stopped, first, crew)
         }
         Err(end) => {
-            let _ = end_all(rt, alloc, &house, crew);
-            let House { place, .. } = house;
-            nothing(alloc, end, store_of(place))
+            let _ = end_all(rt, alloc, &service, crew);
+            let ServiceContext { shared, .. } = service;
+            nothing(alloc, end, store_of(shared))
         }
     }
 }

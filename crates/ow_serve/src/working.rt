@@ -4,7 +4,7 @@ ghost use Rattle.ow_traits.specs.Runner.{Idles, RanNone, Steady};
 ghost use Rattle.ow_board.specs.Board.{IsPassOf, view_of};
 ghost use Rattle.ow_serve.specs.Working.{BooksOnce, Leads, MakesReapings, MakesSweeps, MakesTurns, WorksOnce, next_job, outset, stand, to_book};
 
-use crate::place::Place;
+use crate::shared_state::SharedState;
 use ow_board::Pass;
 use ow_desk::Receipts;
 use ow_threads::{Bell, Clock, Gate};
@@ -23,7 +23,7 @@ const LONG_PAUSE: u64 = 1000;
 enum Next {
     /// The next turn.
     Turn,
-    /// The next turn, behind a pause.
+    /// The next turn, after a pause.
     Pause,
     /// It books a reply that is still to be booked.
     Book(Job),
@@ -33,7 +33,7 @@ enum Next {
 pub(crate) fn work_on<H: Wait, P: Keeper + Drop, R: Runner, C: Clock, G: Gate>(
     rt: &H,
     alloc: Global,
-    place: &Place<P, R::Container>,
+    shared: &SharedState<P, R::Container>,
     pass: &mut Pass<R::Container>,
     runner: &mut R,
     clock: &C,
@@ -41,15 +41,15 @@ pub(crate) fn work_on<H: Wait, P: Keeper + Drop, R: Runner, C: Clock, G: Gate>(
     opened: u64,
     notes: &mut Receipts<P>,
 )
-    requires { IsPassOf place.now.board pass.old }
-    ensures pass { IsPassOf place.now.board pass.new }
+    requires { IsPassOf shared.now.board pass.old }
+    ensures pass { IsPassOf shared.now.board pass.new }
     ensures turns { MakesTurns (R.gives runner.old) (R.tally runner.old) (R.tally runner.new) (outset (C.tells clock.now) opened (view_of pass.old)) notes.old.notes notes.new.notes }
 {
     for _ in rt.forever() {
-        if place.is_over() {
+        if shared.is_over() {
             return;
         }
-        work_once(rt, alloc, place, pass, runner, clock, gate, opened, notes);
+        work_once(rt, alloc, shared, pass, runner, clock, gate, opened, notes);
     }
 }
 
@@ -57,7 +57,7 @@ pub(crate) fn work_on<H: Wait, P: Keeper + Drop, R: Runner, C: Clock, G: Gate>(
 fn work_once<H: Wait, P: Keeper + Drop, R: Runner, C: Clock, G: Gate>(
     rt: &H,
     alloc: Global,
-    place: &Place<P, R::Container>,
+    shared: &SharedState<P, R::Container>,
     pass: &mut Pass<R::Container>,
     runner: &mut R,
     clock: &C,
@@ -65,16 +65,16 @@ fn work_once<H: Wait, P: Keeper + Drop, R: Runner, C: Clock, G: Gate>(
     opened: u64,
     notes: &mut Receipts<P>,
 )
-    requires { IsPassOf place.now.board pass.old }
-    ensures pass { IsPassOf place.now.board pass.new }
+    requires { IsPassOf shared.now.board pass.old }
+    ensures pass { IsPassOf shared.now.board pass.new }
     ensures runner { Steady (R.gives runner.old) (R.gives runner.new) (R.tally runner.old) (R.tally runner.new) }
     ensures works { WorksOnce (R.gives runner.old) (C.tells clock.now) opened (stand notes.old.notes (view_of pass.old) (R.tally runner.old)) (stand notes.new.notes (view_of pass.new) (R.tally runner.new)) }
 {
     let turned = turn(
         rt,
         alloc,
-        &place.desk,
-        &place.board,
+        &shared.desk,
+        &shared.board,
         pass,
         runner,
         clock,
@@ -85,7 +85,7 @@ fn work_once<H: Wait, P: Keeper + Drop, R: Runner, C: Clock, G: Gate>(
     match next_of(turned) {
         Next::Turn => {}
         Next::Pause => clock.pause(Bell::Work, PAUSE),
-        Next::Book(job) => book_on(rt, alloc, place, pass, runner, clock, notes, job),
+        Next::Book(job) => book_on(rt, alloc, shared, pass, runner, clock, notes, job),
     }
 }
 
@@ -93,15 +93,15 @@ fn work_once<H: Wait, P: Keeper + Drop, R: Runner, C: Clock, G: Gate>(
 fn book_on<H: Wait, P: Keeper + Drop, R: Runner, C: Clock>(
     rt: &H,
     alloc: Global,
-    place: &Place<P, R::Container>,
+    shared: &SharedState<P, R::Container>,
     pass: &mut Pass<R::Container>,
     runner: &mut R,
     clock: &C,
     notes: &mut Receipts<P>,
     job: Job,
 )
-    requires { IsPassOf place.now.board pass.old }
-    ensures pass { IsPassOf place.now.board pass.new }
+    requires { IsPassOf shared.now.board pass.old }
+    ensures pass { IsPassOf shared.now.board pass.new }
     ensures runner { Idles (R.gives runner.old) (R.gives runner.new) (R.tally runner.old) (R.tally runner.new) }
     ensures books { Leads (BooksOnce (C.tells clock.now)) (Some job, stand notes.old.notes (view_of pass.old) (R.tally runner.old)) (None, stand notes.new.notes (view_of pass.new) (R.tally runner.new)) }
 {
@@ -111,8 +111,8 @@ fn book_on<H: Wait, P: Keeper + Drop, R: Runner, C: Clock>(
         let turned = again(
             rt,
             alloc,
-            &place.desk,
-            &place.board,
+            &shared.desk,
+            &shared.board,
             pass,
             runner,
             clock,
@@ -158,17 +158,17 @@ fn left(turned: Turn) -> Option<Job>
 pub(crate) fn sweep_on<H: Wait, P: Keeper + Drop, B: Drop, C: Clock>(
     rt: &H,
     alloc: Global,
-    place: &Place<P, B>,
+    shared: &SharedState<P, B>,
     clock: &C,
     notes: &mut Receipts<P>,
 )
     ensures { MakesSweeps (C.tells clock.now) notes.old.notes notes.new.notes }
 {
     for _ in rt.forever() {
-        if place.is_over() {
+        if shared.is_over() {
             return;
         }
-        let _ = watch(rt, alloc, &place.desk, clock, notes);
+        let _ = watch(rt, alloc, &shared.desk, clock, notes);
         clock.pause(Bell::Close, LONG_PAUSE);
     }
 }
@@ -177,7 +177,7 @@ pub(crate) fn sweep_on<H: Wait, P: Keeper + Drop, B: Drop, C: Clock>(
 pub(crate) fn reap_on<H: Wait, P: Keeper + Drop, R: Runner, C: Clock, G: Gate>(
     rt: &H,
     alloc: Global,
-    place: &Place<P, R::Container>,
+    shared: &SharedState<P, R::Container>,
     pass: &mut Pass<R::Container>,
     runner: &mut R,
     clock: &C,
@@ -185,20 +185,20 @@ pub(crate) fn reap_on<H: Wait, P: Keeper + Drop, R: Runner, C: Clock, G: Gate>(
     opened: u64,
     notes: &mut Receipts<P>,
 )
-    requires { IsPassOf place.now.board pass.old }
-    ensures pass { IsPassOf place.now.board pass.new }
+    requires { IsPassOf shared.now.board pass.old }
+    ensures pass { IsPassOf shared.now.board pass.new }
     ensures ran { RanNone (R.tally runner.old) (R.tally runner.new) }
     ensures reapings { MakesReapings (outset (C.tells clock.now) opened (view_of pass.old)) notes.old.notes notes.new.notes }
 {
     for _ in rt.forever() {
-        if place.is_over() {
+        if shared.is_over() {
             return;
         }
         let _ = reap(
             rt,
             alloc,
-            &place.desk,
-            &place.board,
+            &shared.desk,
+            &shared.board,
             pass,
             runner,
             clock,

@@ -17,7 +17,7 @@ const HELLO: &str =
 
 type Store = MemoryKeeper;
 
-// A desk over the table, and a store of whose calls those of these numbers fail. The opening makes those of the numbers 0 and 1.
+// A desk over the table, and a store whose calls with these numbers fail. The opening makes the calls with the numbers 0 and 1.
 fn open(alloc: Global, failing: &[u64]) -> Result<(Desk<Store>, Issuer<Store>), Fail> {
     let mut source = MemorySource::new(TABLE.as_bytes().to_vec(alloc)?, Vec::new(alloc));
     let tenants = Tenants::read(alloc, &mut source)?;
@@ -28,7 +28,7 @@ fn open(alloc: Global, failing: &[u64]) -> Result<(Desk<Store>, Issuer<Store>), 
     }
 }
 
-// What the peer sends: each line stands for a request. `~` stands for bytes that are no whole request.
+// What the peer sends: each line describes a request. `~` marks bytes that are no whole request.
 fn request_text(alloc: Global, line: &str) -> Result<String, Fail> {
     if let Some(bytes) = line.strip_prefix('~') {
         return Ok(String::from_str(alloc, bytes)?);
@@ -73,7 +73,7 @@ fn statuses(alloc: Global, written: &[u8]) -> Result<String, Fail> {
     Ok(all)
 }
 
-// How the connection of the peer ends, and what it was told.
+// How the connection of the peer ends, and what the peer received.
 fn told<H: Wait>(
     rt: &H,
     alloc: Global,
@@ -109,7 +109,7 @@ fn a_reply_to_each_request(rt: HostRuntime) -> Result<(), Fail> {
             "GET /api/v1/namespaces/_/actions/hello\nGET /api/v1/namespaces/_/actions|k2\n",
             "Ended 404 401 ",
         ),
-        // A web request needs no key: that the action isn't one of the web is told to everybody.
+        // A web request needs no key: anybody may learn that the action isn't one of the web.
         (
             "PUT /api/v1/namespaces/_/actions/hello\nGET /api/v1/web/guest/default/hello|k2\n",
             "Ended 200 404 ",

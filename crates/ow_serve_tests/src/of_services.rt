@@ -1,4 +1,4 @@
-// What services come to.
+// The results of services.
 use crate::gates::Turnstile;
 use crate::peers::Peer;
 use crate::services::{Case, System, told};
@@ -15,7 +15,7 @@ const HELLO: Peer = Peer {
     rest: "",
 };
 
-// It asks for the end of its connection.
+// It requests the end of its connection.
 const HOWDY: Peer = Peer {
     action: "howdy",
     greeting: "Howdy",
@@ -31,7 +31,7 @@ const LATER: Peer = Peer {
     rest: "GET /api/v",
 };
 
-// What each of them is told: the action as it stands, and its greeting; a reply of 322 bytes, and one of 91.
+// What each of them receives: the stored action, and its greeting; a reply of 322 bytes, and one of 91.
 const HELLO_TOLD: &str = r#"413 bytes
 200 OK
 Content-Type: application/json

@@ -1,4 +1,4 @@
-// Peers in memory: what each of them sends, and what it is told, which can be read when its link is gone.
+// Peers in memory: what each of them sends, and what it receives, which can be read when its link is gone.
 ghost use Rattle.std.specs.Prelude.{None};
 
 use ow_links::{Accepted, Link, Listener};
@@ -15,14 +15,14 @@ pub(crate) struct Peer<'a> {
     pub(crate) greeting: &'a str,
     /// Further lines in the head of the invocation.
     pub(crate) head: &'a str,
-    /// What is sent behind the invocation.
+    /// What is sent after the invocation.
     pub(crate) rest: &'a str,
 }
 
-/// The bytes that a peer was told.
+/// The bytes that a peer received.
 pub(crate) type Heard = Arc<Mutex<Vec<u8>>, Global>;
 
-/// The link of a peer. It tells no content.
+/// The link of a peer. It reports no content.
 #[derive(Drop)]
 pub(crate) struct PeerLink<H: Wait + Drop + Send + 'static> {
     rt: H,
@@ -37,7 +37,7 @@ pub(crate) struct PeerLink<H: Wait + Drop + Send + 'static> {
 pub(crate) struct PeerListener<H: Wait + Drop + Send + 'static> {
     links: VecDeque<PeerLink<H>>,
     calls: Calls,
-    /// What each peer was told.
+    /// What each peer received.
     pub(crate) heard: Vec<Heard>,
 }
 
@@ -118,7 +118,7 @@ impl<H: Wait + Drop + Send + 'static> Listener for PeerListener<H> {
     }
 }
 
-// What the peer has sent behind so many bytes.
+// What the peer has sent after the first `at` bytes.
 fn unread(sent: &[u8], at: usize) -> &[u8] {
     sent.get(at..).unwrap_or(&[])
 }
@@ -160,7 +160,7 @@ fn copied<H: Wait>(rt: &H, alloc: Global, heard: &Mutex<Vec<u8>>) -> Result<Vec<
     Ok(heard.lock(rt).to_vec(alloc)?)
 }
 
-// A reply without what stands before its status. Its lines end in a line feed alone, and so does its body.
+// A reply without what precedes its status. Its lines end in a line feed alone, and so does its body.
 fn push_reply(text: &mut String, reply: &str) -> Result<(), Fail> {
     for line in reply.lines() {
         text.push_str(line)?;
@@ -169,7 +169,7 @@ fn push_reply(text: &mut String, reply: &str) -> Result<(), Fail> {
     Ok(())
 }
 
-/// How many bytes the peer was told, and the replies.
+/// How many bytes the peer received, and the replies.
 pub(crate) fn heard_text<H: Wait>(
     rt: &H,
     alloc: Global,

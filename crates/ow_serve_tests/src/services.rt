@@ -1,18 +1,18 @@
-// A service over peers in memory, and what it came to as a text.
+// A service over peers in memory, and its result as a text.
 ghost use Rattle.std.specs.Prelude.{◌≤◌, length, IfOk};
 ghost use Rattle.ow_traits.specs.Prewarms.{AreWantsSized};
 ghost use Rattle.ow_tenant.specs.Table.{IsPoolSized};
 
 use crate::peers::{Heard, Peer, PeerListener, heard_text};
-use ow_edge::{Bells, RefusingLeave, SystemClock};
+use ow_command_line::ServeWords;
 use ow_peer::Ending;
 use ow_runners::PlainRunner;
 use ow_serve::{Served, ServedEnd, serve};
+use ow_system::{Bells, RefusingLeave, SystemClock};
 use ow_tenant::Tenants;
 use ow_threads::Gate;
 use ow_traits::{Keeper, MemoryKeeper, MemorySource};
 use ow_value::NoMemory;
-use ow_words::ServeWords;
 use std::alloc::Global;
 use std::sync::{Arc, Wait};
 use std::test::Fail;
@@ -44,7 +44,7 @@ fn tenants(alloc: Global) -> Result<Tenants, Fail>
     Ok(Tenants::read(alloc, &mut source)?)
 }
 
-// The value, in a box, since each way out of a function lets go of what it holds: of a box by one call.
+// The value, in a box, since each return path of a function drops what it holds: a box is dropped by one call.
 fn held<T: Drop>(alloc: Global, value: T) -> Result<Box<T>, Fail> {
     match Box::new(alloc, value) {
         Ok(held) => Ok(held),
@@ -52,7 +52,7 @@ fn held<T: Drop>(alloc: Global, value: T) -> Result<Box<T>, Fail> {
     }
 }
 
-// Those of two workers, and that of the reaper.
+// The runners of two workers, and the reaper's.
 fn three_runners(alloc: Global) -> Result<Vec<PlainRunner>, NoMemory>
     ensures { IfOk result (λ runners. 2 ≤ length runners.items) }
 {
@@ -110,7 +110,7 @@ fn push_heard<H: Wait>(
     Ok(())
 }
 
-// The end, the faults of the listener and the duties without a thread; how each connection ended; and what each peer was told.
+// The end, the faults of the listener and the duties without a thread; how each connection ended; and what each peer received.
 fn text_of<H: Wait, P: Keeper + Drop>(
     rt: &H,
     alloc: Global,
@@ -126,7 +126,7 @@ fn text_of<H: Wait, P: Keeper + Drop>(
     Ok(text)
 }
 
-/// What a service comes to whose workers pass this gate, as a text: nothing else of it is let go of by the callers.
+/// The result, as a text, of a service whose workers pass this gate. The callers drop nothing else of the service.
 pub(crate) fn told<H: System, G: Gate + Drop + Send + Sync + 'static>(
     rt: &H,
     alloc: Global,

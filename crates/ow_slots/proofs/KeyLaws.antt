@@ -1,4 +1,4 @@
--- Keys are told apart by their values.
+-- Keys are distinguished by their values.
 use Rattle.std.proofs.Common.{◌≡◌, ◌&&◌, ◌↔◌, ℕ, Bool, List, [], ◌∷◌, Option, Some, None, refl, ap, IsTrue}
 use Rattle.std.specs.Bool.{Decides}
 use Rattle.std.specs.Str.{bytes_eq}
@@ -10,7 +10,7 @@ use Rattle.ow_entity.specs.declared.exec.Exec.TheVariants.{Plain, Program, Seque
 use Rattle.ow_slots.specs.declared.keys.Key.{Key}
 use Rattle.ow_slots.specs.Key.{same_package, same_name, same_names, same_exec, same_key}
 
--- a test of a pair of facts tells another fact that they amount to
+-- a test that decides one fact decides an equivalent fact
 through : {P Q : Type 0} (b : Bool) → Decides b P → (P → Q) → (Q → P) → Decides b Q
 through b d to back = (λ t. to (d.0 t), λ q. d.1 (back q))
 
@@ -68,7 +68,7 @@ same_fields : (n n' : List ℕ) (f f' : FullName) (v v' : ℕ) (x x' : Exec) (m 
     → key_of n f v x m ≡ key_of n' f' v' x' m'
 same_fields n n' f f' v v' x x' m m' en ef ev ex em = cc
 
--- the word for equal keys tells whether they are equal
+-- the test `same_key` decides whether keys are equal
 pub key_told : (a b : Key) → Decides (same_key a b) (a ≡ b)
 key_told a b = through (same_key a b)
     (Decides-and _ _ (bytes_eq-Decides a.namespace b.namespace)
@@ -88,6 +88,6 @@ key_told a b = through (same_key a b)
       ),
     ))
 
--- and so does each test that tells it
+-- and each test that decides this has the same result
 pub told : (r : Bool) (a b : Key) → (IsTrue r ↔ (a ≡ b)) → r ≡ same_key a b
 told r a b e = same_from_decides r (same_key a b) (e.0, e.1) (key_told a b)

@@ -1,4 +1,4 @@
--- What the tests that callers make tell.
+-- What the tests that callers make decide.
 use Rattle.std.proofs.Common.{◌≡◌, ◌↔◌, Bool, true, false, List, Option, Some, None, refl, arith, IsTrue, ◌∙◌, sym, ap, get_or, ℕ, ◌<◌, subst}
 use Rattle.std.specs.Prelude.{is_some, nat_lt, not}
 use Rattle.std.proofs.lemmas.Bool.Decides.{nat_tests}

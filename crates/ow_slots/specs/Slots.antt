@@ -56,7 +56,7 @@ abbrev pub gone_answer : ℕ → ℕ → Option Slot → Result (Unit {0}) SlotR
 gone_answer slot generation None = Err (NoSlot slot 0)
 gone_answer slot generation (Some s) = slot_answer slot generation s
 
--- the first that passes stands at this place, for private clauses
+-- the first that passes is at this place, for private clauses
 pub record IsPlace {X : Type 0} (p : X → Bool) (xs : List X) (place : ℕ) : Type 0 where
   pub item : X
   pub within : place < length xs

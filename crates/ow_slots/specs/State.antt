@@ -46,7 +46,7 @@ holds run (Opening r kind memory) = r == run
 holds run (Busy w) = w.run == run
 holds run state = false
 
--- there is a container that can be told to be gone
+-- there is a container that can be reported as gone
 abbrev pub takes_gone : State → Bool
 takes_gone Vacant = false
 takes_gone (Opening run kind memory) = false
@@ -150,7 +150,7 @@ CanGo s = (is_idle s.state || is_prewarmed s.state) ≡ true
 abbrev pub IsUnrecorded : Slot → Type 0
 IsUnrecorded s = recorded_of s.state ≡ None
 
--- the container of a slot, of this generation, can be told to be gone
+-- the container of a slot, of this generation, can be reported as gone
 abbrev pub goes : ℕ → Slot → Bool
 goes generation s = (s.generation == generation) && takes_gone s.state
 

@@ -4,9 +4,8 @@ ghost use Rattle.ow_slots.specs.Key.{kind_of, same_key, same_kind};
 
 use ow_entity::Exec;
 use ow_names::{EntityName, FullName};
-use ow_several::copied3;
 use ow_traits::Kind;
-use ow_value::{NoMemory, PlainData};
+use ow_value::{NoMemory, PlainData, copied3};
 use std::alloc::Global;
 
 /// What a container that ran an action can run again: the same version of the same action, for the same namespace.

@@ -33,7 +33,7 @@ impl Model for Slots {
 }
 
 impl Slots {
-    /// So many slots, all vacant.
+    /// `count` slots, all vacant.
     pub fn new(alloc: Global, count: u32) -> Result<Slots, NoMemory>
         ensures { IfOk result (λ s. s ≡ replicate count vacant_slot) }
     {
@@ -58,7 +58,7 @@ impl Slots {
     /// All slots, by number.
     pub fn as_slice(&self) -> &[Slot]
         ensures value { result.now ≡ self.now }
-        ensures few { length self.now < 2 ^ 32 }
+        ensures bounded { length self.now < 2 ^ 32 }
     {
         self.slots.as_slice()
     }
@@ -129,7 +129,8 @@ impl Slots {
         Ok(())
     }
 
-    /// The run is answered; `alive` where its container can run again. Tells the moment at which it was recorded as overrun.
+    /// The run is answered; `alive` where its container can run again. Returns the moment at which it was recorded as overrun, where it
+    /// was.
     pub fn answered(&mut self, run: u64, alive: bool, at: u64) -> Result<Option<u64>, SlotRefusal>
         ensures answer { result ≡ run_answer run (λ s. recorded_of s.state) (first_with (runs run) self.old) }
         ensures slots { self.new ≡ change_first (has (runs run)) (with_state (answered_state alive at)) self.old }
@@ -141,7 +142,7 @@ impl Slots {
         Ok(self.slots[place].answer(alive, at))
     }
 
-    /// The run is lost. Tells the moment at which it was recorded as overrun.
+    /// The run is lost. Returns the moment at which it was recorded as overrun, where it was.
     pub fn lost(&mut self, run: u64) -> Result<Option<u64>, SlotRefusal>
         ensures answer { result ≡ run_answer run (λ s. recorded_of s.state) (first_with (holds run) self.old) }
         ensures slots { self.new ≡ change_first (has (holds run)) (with_state lost_state) self.old }

@@ -160,7 +160,7 @@ impl State {
         }
     }
 
-    // Whether its container can be told to be gone.
+    // Whether its container can be reported as gone.
     fn takes_gone(&self) -> bool
         ensures { result ≡ takes_gone self.now }
     {
@@ -285,7 +285,7 @@ impl Slot {
         self.can_open()
     }
 
-    // Whether its container, of this generation, can be told to be gone.
+    // Whether its container, of this generation, can be reported as gone.
     fn goes(&self, generation: u32) -> bool
         ensures { result ≡ goes generation self.now }
     {
@@ -344,7 +344,7 @@ impl Slot {
         self.put(state.begun(at));
     }
 
-    // Tells the moment at which the run was recorded as overrun.
+    // Returns the moment at which the run was recorded as overrun, where it was.
     pub(crate) fn answer(&mut self, alive: bool, at: u64) -> Option<u64>
         ensures slot { self.new ≡ with_state (answered_state alive at) self.old }
         ensures recorded { result ≡ recorded_of self.old.state }
@@ -355,7 +355,7 @@ impl Slot {
         recorded
     }
 
-    // Tells the moment at which the run was recorded as overrun.
+    // Returns the moment at which the run was recorded as overrun, where it was.
     pub(crate) fn lose(&mut self) -> Option<u64>
         ensures slot { self.new ≡ with_state lost_state self.old }
         ensures recorded { result ≡ recorded_of self.old.state }
@@ -405,7 +405,7 @@ impl Slot {
         mem::replace(&mut self.state, State::Vacant)
     }
 
-    // What it held is let go of by one call.
+    // Replaces the state. One call drops what the old one held.
     fn put(&mut self, state: State)
         ensures { self.new ≡ record self.old { state = state } }
     {

@@ -14,7 +14,7 @@ use Rattle.ow_tables.specs.Rows.{key, key_of, found, found_after, with_row, chan
 abbrev finds : List ℕ → List Row → Option Row
 finds k rows = find (λ r. bytes_eq k (key_of r)) rows
 
--- ---- behind a put
+-- ---- after a put
 
 -- the row of the key is the one that was put, and any other is found as before
 pub put_finds : (k : List ℕ) (r : Row) (rows : List Row) → finds k (with_row r rows) ≡ cond (bytes_eq k (key_of r)) (Some r) (finds k rows)
@@ -38,7 +38,7 @@ put_finds k r (x ∷ xs) = by_order (text_cmp (key_of r) (key_of x)) refl (put_f
         ∙ behind (bytes_eq k (key_of x)) (bytes_eq k (key_of r)) (finds k xs)
         (λ t. ap (λ a. bytes_eq a (key_of r)) ((bytes_eq-Decides k (key_of x)).0 t) ∙ test_of (key_of x) (key_of r) Less (turned (key_of r) (key_of x) Greater e))
 
--- ---- behind a removal
+-- ---- after a removal
 
 none_either : (b : Bool) (f : Option Row) → f ≡ None → f ≡ cond b None f
 none_either true f e = e
@@ -74,7 +74,7 @@ without_finds k l (x ∷ xs) = by_test (bytes_eq l (key_of x)) refl (without_fin
         apart : (a b c : List ℕ) → a ≡ c → bytes_eq b c ≡ false → bytes_eq a b ≡ false
         apart a b c e h = turned_test a b (ap (bytes_eq b) e ∙ h) (bytes_eq a b) refl
 
--- ---- behind a change
+-- ---- after a change
 
 by_kind : (r : Row) (removes : Bool) (kind : EntityKind) (name : FullName) (rows : List Row) → let c : Change = record { row = r; removes = removes } in
     found kind name (changed c rows) ≡ found_after c kind name (found kind name rows)

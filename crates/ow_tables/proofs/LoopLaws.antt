@@ -146,7 +146,7 @@ action_row (Some (rows.Package p)) a e = cc
 action_row (Some (rows.Rule r)) a e = cc
 action_row (Some (rows.Trigger t)) a e = cc
 
--- two names under which one action stands call the same
+-- two names under which one action is stored call the same
 same_action : (all : List Row) (m n : FullName) (a b : Action) → action_at (standing all) m ≡ Some a → key kinds.Action n ≡ key_of (rows.Action a) → action_at (standing all) n ≡ Some b → b ≡ a
 same_action all m n a b e same f =
     let here : finds (key kinds.Action m) all ≡ Some (rows.Action a) = action_row (found kinds.Action m all) a e in

@@ -1,4 +1,4 @@
--- Rows of one kind in one namespace stand together, from where a search finds the first to where it finds the last.
+-- Rows of one kind in one namespace are adjacent, from where a search finds the first to where it finds the last.
 use Rattle.std.proofs.Common.{◌≡◌, ◌≢◌, ℕ, zero, suc, ◌<◌, ◌≤◌, ◌&&◌, ◌==◌, Bool, min, List, [], ◌∷◌, ◌++◌, length, filter, get_or, take, drop, Ordering, Less, Equal, Greater, refl, sym, ap, ◌∙◌, subst, inl, inr, arith}
 use Rattle.std.specs.List.Sorted.{IsStrictlySortedBy, IsPartitionedBy}
 use Rattle.std.specs.Ordering.{nat_cmp, ordering_index, ordering_then, is_lt, is_le}
@@ -27,7 +27,7 @@ below_or_same Less p e q = cc
 below_or_same Equal p e q = cc
 below_or_same Greater p e q = cc
 
--- of two rows in order the first one's region doesn't come behind the second one's
+-- of two rows in order the first one's region doesn't come after the second one's
 regions_rise : (a b : Row) → IsPart a → IsPart b → text_cmp (key_of a) (key_of b) ≡ Less → text_cmp (region_of a) (region_of b) ≢ Greater
 regions_rise a b ha hb lt =
     let na = (name_of a).namespace in
@@ -62,7 +62,7 @@ parts_before k bs h i j d le lt e = lt_down _ _ (ranks_at k bs i j d h le lt) e
 pub parts_through : (k : List ℕ) (bs : List Row) → AreKept bs → IsPartitionedBy (λ b. is_le (text_cmp (region_of b) k)) bs
 parts_through k bs h i j d le lt e = le_down _ _ (ranks_at k bs i j d h le lt) e
 
--- ---- what stands between
+-- ---- the rows of a region
 
 without_slash : (a b : List ℕ) → bytes_eq (a ++ 47 ∷ []) (b ++ 47 ∷ []) ≡ bytes_eq a b
 without_slash a b = both _ _

@@ -129,7 +129,7 @@ AreRows-filter test (x ∷ xs) h = by_test (test x) (AreRows-filter test xs h.1)
     by_test true behind = (all_filter key_of _ test xs h.0, behind)
     by_test false behind = behind
 
--- ---- the same, as a search and a change tell it
+-- ---- the same, in the terms of a search and a change
 
 pub same_key : (r : Row) (kind : EntityKind) (name : FullName) → kind ≡ kind_of r → name ≡ name_of r → key kind name ≡ key_of r
 same_key r kind name e f = ap₂ key e f

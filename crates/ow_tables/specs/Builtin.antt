@@ -11,7 +11,7 @@ use Rattle.ow_entity.specs.declared.rows.Row.{Row}
 use Rattle.ow_entity.specs.declared.rows.Row.TheVariants as rows
 use Rattle.ow_tables.specs.Rows.{key_of}
 
--- /whisk.system/utils/echo, which answers what it is given
+-- /whisk.system/utils/echo, which returns what it is given
 abbrev pub echo : Action
 echo = record {
   name = record { namespace = codes "whisk.system"; «package» = Some (codes "utils"); name = codes "echo" };

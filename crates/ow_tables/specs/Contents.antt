@@ -5,7 +5,7 @@ use Rattle.ow_entity.specs.declared.rows.Row.{Row}
 pub record Contents : Type 0 where
   -- in the order of their kinds and full texts
   pub rows : List Row
-  -- for how many more rows memory is there
+  -- the number of further rows that there is memory for
   pub room : ℕ
 
 pub record Change : Type 0 where

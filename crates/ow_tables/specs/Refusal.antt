@@ -1,4 +1,4 @@
--- Why a change is refused, by what number a client knows it, and in which order the refusals are told.
+-- Why a change is refused, the number by which a client knows each refusal, and the order in which they are reported.
 use Rattle.std.specs.Prelude.{◌&&◌, ℕ, Bool, not, List, [], ◌∷◌, is_some, option_map, unwrap_or, if◌then◌else◌, Option, Some, None}
 use Rattle.std.specs.Result.{result_err}
 use Rattle.ow_names.specs.declared.full.FullName.{FullName}
@@ -35,7 +35,7 @@ table_refusal_number SequenceLoops = 20
 table_refusal_number NotEmpty = 21
 table_refusal_number (Entity e) = refusal_number e
 
--- a refusal of a draft is one of the tables, and want of memory is the same everywhere
+-- a refusal of a draft is one of the tables, and out of memory is the same everywhere
 abbrev pub table_refusal : EntityRefusal → TableRefusal
 table_refusal entity.NoMemory = NoMemory
 table_refusal e = Entity e
@@ -82,7 +82,7 @@ abbrev pub target_refusal : Option FullName → List ℕ → List Row → Option
 target_refusal None from rows = None
 target_refusal (Some target) from rows = option_map refusal_of_package (binding_refusal (standing rows) target from)
 
--- the entity stands, and is not to be overwritten
+-- the entity exists, and is not to be overwritten
 abbrev pub exists_refusal : Bool → Option Row → Option TableRefusal
 exists_refusal overwrite old = if not overwrite && is_some old then Some Exists else None
 
@@ -100,9 +100,9 @@ abbrev pub holding_refusal : EntityKind → FullName → List Row → Option Tab
 holding_refusal kinds.Package name rows = if holds_actions name rows then Some NotEmpty else None
 holding_refusal kind name rows = None
 
--- ---- what is told
+-- ---- what is reported
 
--- over which row a draft is put
+-- the old row that a draft is put over
 abbrev pub old_row : Draft → List Row → Option Row
 old_row draft rows = found (draft_kind draft) (draft_name draft) rows
 

@@ -1,4 +1,4 @@
--- The rows of one kind in one namespace, which stand together, for private clauses.
+-- The rows of one kind in one namespace, which are adjacent, for private clauses.
 use Rattle.std.specs.Prelude.{ℕ, List, [], ◌∷◌, ◌++◌, map}
 use Rattle.std.specs.List.{AllByRecursion}
 use Rattle.ow_names.specs.Slash.{HasNoSlash}
@@ -20,7 +20,7 @@ region_of r = region (kind_of r) (namespace_of r)
 abbrev pub IsPart : Row → Type 0
 IsPart r = HasNoSlash (namespace_of r)
 
--- what tables keep of their rows: no namespace has a slash in it, so the keys of a namespace stand together
+-- what tables maintain of their rows: they are in order, and no namespace has a slash in it, so the keys of a namespace are adjacent
 pub record AreKept (rows : List Row) : Type 0 where
   pub rise : AreRows rows
   pub parts : AllByRecursion HasNoSlash (map namespace_of rows)

@@ -28,7 +28,7 @@ key kind name = kind_place kind ∷ full_text name
 abbrev pub key_of : Row → List ℕ
 key_of r = key (kind_of r) (name_of r)
 
--- the keys rise, so no kind and name stands twice
+-- the keys rise, so no kind and name occurs twice
 abbrev pub AreRows : List Row → Type 0
 AreRows rows = IsStrictlySortedBy text_cmp (map key_of rows)
 
@@ -41,13 +41,13 @@ is_row kind name r = bytes_eq (key kind name) (key_of r)
 abbrev pub found : EntityKind → FullName → List Row → Option Row
 found kind name rows = find (is_row kind name) rows
 
--- the rows as what stands under each kind and name
+-- the rows as a look-up by kind and name
 abbrev pub standing : List Row → EntityKind → FullName → Option Row
 standing rows kind name = found kind name rows
 
 -- ---- changes
 
--- the rows with this one in the place of the one of its kind and name, or else before the first that comes behind it
+-- the rows with this one instead of the row of its kind and name, or else before the first row that comes after it
 abbrev pub with_row : Row → List Row → List Row
 with_row r [] = r ∷ []
 with_row r (x ∷ xs) = match_ordering (text_cmp (key_of r) (key_of x)) (r ∷ x ∷ xs) (r ∷ xs) (x ∷ with_row r xs)
@@ -71,10 +71,10 @@ found_after c kind name before = if is_row kind name c.row then (if c.removes th
 
 -- ---- lists
 
--- whether the row is of the kind and stands in the namespace, in a package or not
+-- whether the row is of the kind and in the namespace, in a package or not
 abbrev pub stands_in : EntityKind → List ℕ → Row → Bool
 stands_in kind namespace r = kind_place kind == kind_place (kind_of r) && bytes_eq namespace (name_of r).namespace
 
--- the summaries of the rows of the kind in the namespace, but for the first `skip`, and at most `limit`
+-- the summaries of the rows of the kind in the namespace, without the first `skip`, and at most `limit`
 abbrev pub listing : EntityKind → List ℕ → ℕ → ℕ → List Row → List V
 listing kind namespace skip limit rows = map summary_value (take limit (drop skip (filter (stands_in kind namespace) rows)))

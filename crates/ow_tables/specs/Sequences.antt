@@ -32,7 +32,7 @@ abbrev pub through_name : Standing → FullName → Option FullName → FullName
 through_name standing name None = name
 through_name standing name (Some bundle) = through_package name (package_at standing bundle)
 
--- the action that a name stands for, through one binding where its package is one, whoever can reach it
+-- the name of the action that a name means, through one binding where its package is one, whether or not a caller can reach it
 abbrev pub named_action : Standing → FullName → FullName
 named_action standing name = through_name standing name (package_of name)
 

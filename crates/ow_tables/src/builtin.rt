@@ -21,7 +21,7 @@ pub fn is_builtin(row: &Row) -> bool
     }
 }
 
-/// The action that answers what it is given.
+/// The action that returns what it is given.
 pub(crate) fn echo(alloc: Global) -> Result<Action, NoMemory>
     ensures { IfOk result (λ a. a ≡ echo) }
 {
@@ -113,14 +113,14 @@ fn is_utils_in(namespace: &str, local: &str) -> bool
     namespace == "whisk.system" && local == "utils"
 }
 
-// The text is a name, so only memory can be wanting.
+// The text is a name, so this fails only if out of memory.
 fn name(alloc: Global, text: &str) -> Result<EntityName, NoMemory>
     ensures { IfOk result (λ n. n ≡ text.now) }
 {
     read_name(alloc, text.as_bytes()).map_err(|_| NoMemory)
 }
 
-// The text is plain code, so only memory can be wanting.
+// The text is plain code, so this fails only if out of memory.
 fn plain_code(alloc: Global, text: &str) -> Result<PlainCode, NoMemory>
     ensures { IfOk result (λ c. c ≡ text.now) }
 {

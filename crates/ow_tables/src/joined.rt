@@ -20,7 +20,7 @@ pub fn rule_at<'a, T: Lookup>(rows: &'a T, name: &FullName) -> Option<&'a Rule>
     }
 }
 
-/// That the trigger of a draft over an old rule is in its namespace, and that its action can be called from there.
+/// Checks that the trigger of a draft over an old rule is in its namespace, and that its action can be called from there.
 pub(crate) fn check_joined<T: Lookup>(
     alloc: Global,
     rows: &T,

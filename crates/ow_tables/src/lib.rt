@@ -1,7 +1,7 @@
 #![tactic(auto)]
 
-//! The database of the entities that stand, in the order of their kinds and names. A change is made ready first,
-//! which may be refused and takes all the memory, and is made then, which does neither.
+//! The stored entities, in the order of their kinds and names. A change is made ready first: that takes all the memory,
+//! and may be refused. Then it is made, which takes no memory and is never refused.
 mod builtin;
 mod inside;
 mod joined;

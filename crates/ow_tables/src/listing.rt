@@ -10,7 +10,7 @@ use ow_names::EntityName;
 use ow_value::{NoMemory, Vals};
 use std::alloc::Global;
 
-/// The summaries of the rows of the kind in the namespace, but for the first `skip`, and at most `limit`.
+/// The summaries of the rows of the kind in the namespace, without the first `skip`, and at most `limit`.
 pub(crate) fn listing(
     alloc: Global,
     rows: &[Row],
@@ -29,7 +29,7 @@ pub(crate) fn listing(
     summaries(alloc, &rest[..many])
 }
 
-/// The rows of the kind in the namespace, which stand together.
+/// The rows of the kind in the namespace, which are adjacent.
 pub(crate) fn part<'a>(rows: &'a [Row], kind: EntityKind, namespace: &EntityName) -> &'a [Row]
     requires { AreKept rows.now }
     ensures { result.now ≡ filter (stands_in kind namespace.now) rows.now }

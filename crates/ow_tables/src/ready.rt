@@ -4,7 +4,7 @@ ghost use Rattle.std.specs.Prelude.{◌≡◌};
 use ow_entity::Row;
 use std::marker::Model;
 
-/// A change that was found right and has its memory, to be made by `Tables::apply`.
+/// A change that was not refused and has its memory, to be made by `Tables::apply`.
 #[derive(Drop)]
 pub struct Ready {
     pub(crate) row: Row,
@@ -24,7 +24,7 @@ impl Model for Ready {
 }
 
 impl Ready {
-    /// The row as it will stand, or the one that will be taken out.
+    /// The row that will be put, or the one that will be taken out.
     pub fn row(&self) -> &Row
         ensures { result.now ≡ self.now.row }
     {

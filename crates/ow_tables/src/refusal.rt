@@ -9,11 +9,11 @@ use ow_value::NoMemory;
 /// Why tables don't change, or have no such row.
 #[derive(Clone, Copy, PartialEq, Eq, Debug, Drop)]
 pub enum TableRefusal {
-    /// The entity doesn't stand, or the package in which it is to lie.
+    /// The entity doesn't exist, or the package in which it is to lie doesn't.
     NotFound,
     /// The package is a binding: the one in which the entity lies or is to lie, or the one that is to be bound.
     BindsABinding,
-    /// An entity of the kind and the name stands, and it is not to be overwritten.
+    /// An entity of the kind and the name exists, and it is not to be overwritten.
     Exists,
     /// The package holds actions.
     NotEmpty,
@@ -21,14 +21,14 @@ pub enum TableRefusal {
     SequenceTooLong,
     /// The sequence contains itself, through bindings and other sequences too.
     SequenceLoops,
-    /// The draft makes no entity. Want of memory is none of these.
+    /// The draft makes no entity. Out of memory is not reported as this.
     Entity(EntityRefusal),
-    /// The rows stand as before.
+    /// Out of memory. The rows are as before.
     NoMemory,
 }
 
 impl TableRefusal {
-    /// By which a client tells the refusals apart. Want of memory has 0.
+    /// The number by which a client distinguishes the refusals. Out of memory has 0.
     pub fn number(self) -> u32
         ensures { result ≡ table_refusal_number self }
     {

@@ -1,4 +1,4 @@
-// The order of rows, and where they stand in it.
+// The order of rows, and their places in it.
 ghost use Rattle.std.specs.Prelude.{◌≡◌, ◌≤◌, ◌<◌, length, IfOk, IfErr};
 ghost use Rattle.std.specs.List.{HoldsAt};
 ghost use Rattle.std.specs.List.Sorted.{IsPartitionPoint};
@@ -12,7 +12,7 @@ use ow_entity::{EntityKind, Row};
 use ow_names::{EntityName, FullName};
 use std::cmp::Ordering;
 
-/// Where the row of the kind and the name stands, or would.
+/// The place of the row of the kind and the name, or where it would be inserted.
 pub(crate) fn place(rows: &[Row], kind: EntityKind, name: &FullName) -> Result<usize, usize>
     requires { AreRows rows.now }
     ensures ok { IfOk result (λ i. (i < length rows.now) × HoldsAt (λ b. text_cmp (key_of b) (key kind name.now) ≡ Equal) rows.now i) }
@@ -21,7 +21,7 @@ pub(crate) fn place(rows: &[Row], kind: EntityKind, name: &FullName) -> Result<u
     rows.binary_search_by(|row| order(row, kind, name))
 }
 
-/// How the row stands to the kind and the name.
+/// How the row compares to the kind and the name.
 pub(crate) fn order(row: &Row, kind: EntityKind, name: &FullName) -> Ordering
     ensures order { result ≡ text_cmp (key_of row.now) (key kind name.now) }
     ensures kind { result ≡ Equal → kind_of row.now ≡ kind }
@@ -32,7 +32,7 @@ pub(crate) fn order(row: &Row, kind: EntityKind, name: &FullName) -> Ordering
         .then(row.name().compare(name))
 }
 
-/// How the row stands to those of the kind in the namespace.
+/// How the row compares to the rows of the kind in the namespace.
 pub(crate) fn region_order(row: &Row, kind: EntityKind, namespace: &EntityName) -> Ordering
     ensures { result ≡ text_cmp (region_of row.now) (region kind namespace.now) }
 {

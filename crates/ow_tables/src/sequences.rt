@@ -17,8 +17,8 @@ use std::alloc::Global;
 /// The most components of a sequence.
 pub const MOST_COMPONENTS: usize = 50;
 
-/// That the action, where it is a sequence, isn't too long and doesn't lead back to itself. At most `most` other
-/// sequences are followed.
+/// Checks that the action, where it is a sequence, isn't too long and doesn't lead back to itself. At most `most` other sequences are
+/// followed.
 pub(crate) fn check_sequence<T: Lookup>(
     alloc: Global,
     rows: &T,
@@ -84,7 +84,7 @@ fn leads<T: Lookup>(
     Ok(false)
 }
 
-// Looks at each component: whether one is the goal. The actions of the others join those that were found.
+// Whether one of the components is the goal. The actions of the others are added to the actions that were found.
 fn looked_at<T: Lookup>(
     alloc: Global,
     rows: &T,
@@ -106,7 +106,7 @@ fn looked_at<T: Lookup>(
     Ok(false)
 }
 
-// Joins the action of the name to those that were found, where there is one and it wasn't found before.
+// Adds the action of the name to the actions that were found, where there is one and it wasn't found before.
 fn find_on<T: Lookup>(
     alloc: Global,
     rows: &T,
@@ -140,7 +140,7 @@ fn join(
     Ok(())
 }
 
-// The action that the name stands for, through one binding.
+// The full name of the action that the name means, through one binding.
 fn named_action<T: Lookup>(alloc: Global, rows: &T, name: &FullName) -> Result<FullName, NoMemory>
     ensures { IfOk result (λ n. n ≡ named_action (T.found rows.now) name.now) }
 {

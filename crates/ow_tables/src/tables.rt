@@ -1,4 +1,4 @@
-// The rows of the entities that stand.
+// The rows of the stored entities.
 ghost use Rattle.std.specs.Prelude.{◌≡◌, ◌≢◌, ◌≤◌, ◌+◌, is_some, length, map, filter, Option, List, [], ◌∷◌, true, false, Some, None, Ok, IfOk, OnOk, IfErr, OnErr, MatchResult};
 ghost use Rattle.std.specs.Result.{result_err};
 ghost use Rattle.std.specs.Option.{option_copied};
@@ -33,7 +33,7 @@ use std::alloc::Global;
 use std::marker::Model;
 use std::mem::replace;
 
-/// The entities that stand, in the order of their kinds and the bytes of their full texts.
+/// The stored entities, in the order of their kinds and the bytes of their full texts.
 #[derive(Drop)]
 pub struct Tables {
     rows: Vec<Row>,
@@ -76,7 +76,7 @@ impl Tables {
         }
     }
 
-    /// Puts the row in its place, or in that of the row of its kind and name.
+    /// Puts the row at its place, or over the row of its kind and name.
     pub(crate) fn add(&mut self, row: Row) -> Result<(), NoMemory>
         ensures { OnOk result (self.new.rows ≡ with_row row self.old.rows) }
     {
@@ -85,7 +85,7 @@ impl Tables {
         Ok(())
     }
 
-    /// Makes the row of the draft ready to stand. This takes all the memory that the change needs.
+    /// Makes the row of the draft ready to be put. This takes all the memory that the change needs.
     pub fn prepare_put(
         &mut self,
         alloc: Global,
@@ -149,8 +149,8 @@ impl Tables {
         self.make(ready);
     }
 
-    /// Puts rows as they stood in an earlier run, each in its place by kind and full text, or in that of the row of its
-    /// kind and name. Where they come in this order, each moves no more rows than stood before.
+    /// Puts the rows of an earlier run, each at its place by kind and full text, or over the row of its kind and name.
+    /// Where they come in this order, each moves no more rows than there were before.
     pub fn resume(&mut self, rows: Vec<Row>) -> Result<(), NoMemory>
         ensures rows { OnOk result (self.new.rows ≡ resumed rows.items self.old.rows) }
         ensures unchanged { OnErr result (self.new ≡ self.old) }
@@ -158,6 +158,24 @@ impl Tables {
         self.make_room(rows.len())?;
         self.put_all(rows);
         Ok(())
+    }
+
+    /// Makes room for that many more rows.
+    pub fn reserve(&mut self, count: usize) -> Result<(), NoMemory>
+        ensures rows { self.new.rows ≡ self.old.rows }
+        ensures room { OnOk result (count ≤ self.new.room) }
+        ensures unchanged { OnErr result (self.new ≡ self.old) }
+    {
+        self.make_room(count)
+    }
+
+    /// Puts rows one after another, each in its place by kind and full text, or in that of the row of its kind and name. This takes no
+    /// memory.
+    pub fn put_rows(&mut self, rows: Vec<Row>)
+        requires { length rows.items ≤ self.old.room }
+        ensures { self.new.rows ≡ resumed rows.items self.old.rows }
+    {
+        self.put_all(rows);
     }
 
     /// The row of the kind and the name.
@@ -182,15 +200,15 @@ impl Tables {
         part(&self.rows, kind, namespace)
     }
 
-    /// Makes known that the rows stand in order, none twice.
+    /// Makes known that the rows are in order, none twice.
     pub fn are_ordered(&self)
         ensures { AreRows self.now.rows }
     {
         let _rows = self.rows.as_slice();
     }
 
-    /// What lists show of the rows of the kind that stand in the namespace, in packages too: by name, but for the first
-    /// `skip`, and at most `limit`.
+    /// What lists show of the rows of the kind in the namespace, in packages too: by name, without the first `skip`,
+    /// and at most `limit`.
     pub fn list(
         &self,
         alloc: Global,
@@ -262,7 +280,7 @@ impl Tables {
         order.is_eq() || reached
     }
 
-    // Memory for so many more rows.
+    // Takes memory for `count` more rows.
     fn make_room(&mut self, count: usize) -> Result<(), NoMemory>
         ensures rows { self.new.rows ≡ self.old.rows }
         ensures room { OnOk result (count ≤ self.new.room) }
@@ -272,7 +290,7 @@ impl Tables {
         Ok(())
     }
 
-    // That a rule's trigger is in its namespace, and its action can be called from there.
+    // Checks that a rule's trigger is in its namespace, and its action can be called from there.
     fn check_joined(&self, alloc: Global, draft: &Draft) -> Result<(), TableRefusal>
         ensures { MatchResult result (λ _. rule_refusal draft.now self.now.rows ≡ None)
             (λ e. e ≢ TableRefusal.NoMemory → rule_refusal draft.now self.now.rows ≡ Some e) }
@@ -283,7 +301,7 @@ impl Tables {
         }
     }
 
-    // That the package in which the name lies, if any, stands and is no binding.
+    // Checks that the package in which the name lies, if any, exists and is no binding.
     fn check_package(&self, alloc: Global, name: &FullName) -> Result<(), TableRefusal>
         ensures { MatchResult result (λ _. package_refusal (package_of name.now) self.now.rows ≡ None)
             (λ e. e ≢ TableRefusal.NoMemory → package_refusal (package_of name.now) self.now.rows ≡ Some e) }
@@ -298,7 +316,7 @@ impl Tables {
         }
     }
 
-    // That the package which the draft gives to be bound, if any, can be bound.
+    // Checks that the package that the draft binds, if any, can be bound.
     fn check_target(&self, draft: &Draft) -> Result<(), TableRefusal>
         ensures { result_err result ≡ target_refusal (target_of draft.now) (draft_name draft.now).namespace self.now.rows }
     {
@@ -308,7 +326,7 @@ impl Tables {
         }
     }
 
-    // That the name, if it lies in a package, lies in none that is a binding.
+    // Checks that the name, if it lies in a package, doesn't lie in a binding.
     fn check_unbound(&self, alloc: Global, name: &FullName) -> Result<(), TableRefusal>
         ensures { MatchResult result (λ _. bound_refusal (package_of name.now) self.now.rows ≡ None)
             (λ e. e ≢ TableRefusal.NoMemory → bound_refusal (package_of name.now) self.now.rows ≡ Some e) }
@@ -322,7 +340,7 @@ impl Tables {
         }
     }
 
-    // That a package that is to be removed holds no action.
+    // Checks that a package that is to be removed holds no action.
     fn check_empty(&self, kind: EntityKind, name: &FullName) -> Result<(), TableRefusal>
         ensures { result_err result ≡ holding_refusal kind name.now self.now.rows }
     {
@@ -364,7 +382,7 @@ impl Tables {
         Ok(row.copy(alloc)?)
     }
 
-    // The row of the draft, where the package in which it is to lie stands.
+    // The row of the draft, where the package in which it is to lie exists.
     fn made(&self, alloc: Global, draft: Draft, overwrite: bool) -> Result<Row, TableRefusal>
         ensures unrefused { OnOk result (put_refusal draft overwrite self.now.rows ≡ None) }
         ensures refused { IfErr result (λ e. e ≢ TableRefusal.NoMemory → put_refusal draft overwrite self.now.rows ≡ Some e) }
@@ -379,7 +397,7 @@ impl Tables {
         }
     }
 
-    // That the draft can join what it is to join, lie where it is to lie, and bind what it is to bind.
+    // Checks that the draft can join what it is to join, lie where it is to lie, and bind what it is to bind.
     fn check_put(&self, alloc: Global, draft: &Draft) -> Result<(), TableRefusal>
         ensures joined { OnOk result (rule_refusal draft.now self.now.rows ≡ None) }
         ensures place { OnOk result (package_refusal (package_of (draft_name draft.now)) self.now.rows ≡ None) }
@@ -393,7 +411,7 @@ impl Tables {
         self.check_target(draft)
     }
 
-    // The row of the draft, over the one that stands, if any, where it is no sequence that is too long or leads back.
+    // The row of the draft, over the stored row, if any, where it is no sequence that is too long or leads back to itself.
     fn finished(&self, alloc: Global, draft: Draft, overwrite: bool) -> Result<Row, TableRefusal>
         ensures way { OnOk result (exists_refusal overwrite (old_row draft self.now.rows) ≡ None) }
         ensures row { IfOk result (λ r. finished_row draft (old_row draft self.now.rows) ≡ Ok r) }
@@ -417,7 +435,7 @@ impl Tables {
         }
     }
 
-    // That the row is no sequence that is too long or leads back to itself.
+    // Checks that the row is no sequence that is too long or leads back to itself.
     fn check_sequence(&self, alloc: Global, row: &Row) -> Result<(), TableRefusal>
         ensures { MatchResult result (λ _. sequence_refusal self.now.rows (Ok row.now) ≡ None)
             (λ e. e ≢ TableRefusal.NoMemory → sequence_refusal self.now.rows (Ok row.now) ≡ Some e) }
@@ -493,7 +511,7 @@ impl Lookup for Tables {
     }
 }
 
-// The package that the draft gives to be bound.
+// The package that the draft binds.
 fn target_of(draft: &Draft) -> Option<&FullName>
     ensures { option_copied result ≡ target_of draft.now }
 {

@@ -1,4 +1,4 @@
--- Moments that rise: how many of them count, and what is left as the first are let go and one is put behind.
+-- Rising moments: how many of them count, and what is left when the first are dropped and one is appended.
 use Rattle.std.proofs.Common.{◌≡◌, ℕ, zero, suc, ◌+◌, ◌<◌, ◌≤◌, List, [], ◌∷◌, ◌++◌, Bool, true, false, cond, length, drop, get_or, refl, sym, ap, ◌∙◌, subst, arith}
 use Rattle.std.specs.Prelude.{count_by}
 use Rattle.std.specs.List.Sorted.{IsNonDecreasing, IsPartitionPoint}
@@ -79,7 +79,7 @@ pub AllUpTo-more : (a b : ℕ) (xs : List ℕ) → a ≤ b → AllUpTo a xs → 
 AllUpTo-more a b [] le u = tt
 AllUpTo-more a b (x ∷ xs) le u = let first : x ≤ a = u.0 in (omega arith, AllUpTo-more a b xs le u.1)
 
--- ---- what is let go
+-- ---- what is dropped
 
 pub LetsGo-none : (now : ℕ) (xs : List ℕ) → LetsGo now xs xs
 LetsGo-none now xs = record { counts = λ m le. refl; rise = λ r. r; up_to = λ at u. u }
@@ -93,7 +93,7 @@ LetsGo-more now xs ys zs x h e old =
       up_to = λ at u. (g.up_to at u).1;
     }
 
--- a moment put behind what is left
+-- a moment appended to what is left
 pub add_counts : (now : ℕ) (xs ys zs : List ℕ) (at : ℕ) → LetsGo at xs ys → zs ≡ ys ++ at ∷ [] → at ≤ now → count_by (counts_at now) zs ≡ with_one (counts_at now at) (count_by (counts_at now) xs)
 add_counts now xs ys zs at h e le = ap (count_by (counts_at now)) e ∙ (counts-push (counts_at now) ys at ∙ ap (with_one (counts_at now at)) (h.counts now le))
 
@@ -103,7 +103,7 @@ add_rise xs ys zs at h e r u = subst Rise (sym e) (Rise-push ys at (h.rise r) (h
 pub add_up_to : (xs ys zs : List ℕ) (at : ℕ) → LetsGo at xs ys → zs ≡ ys ++ at ∷ [] → AllUpTo at xs → AllUpTo at zs
 add_up_to xs ys zs at h e u = subst (AllUpTo at) (sym e) (AllUpTo-push ys at (h.up_to at u))
 
--- the first of some moments was let go
+-- the first of some moments was dropped
 pub popped : (xs zs : List ℕ) (first : ℕ) → 0 < length xs → first ≡ get_or xs 0 first → zs ≡ drop 1 xs → xs ≡ first ∷ zs
 popped [] zs first some at rest = absurd (omega (arith, some))
 popped (x ∷ xs) zs first some at rest = ap (λ (y : ℕ). y ∷ xs) (sym at) ∙ ap (λ (ys : List ℕ). first ∷ ys) (sym rest)

@@ -113,7 +113,7 @@ read_full None new bytes h full = h
 read_full (Some all) new bytes h full =
     (sym (ap (take most_read) h.1 ∙ take_front most_read bytes h.0 full), h.2 ∙ ap Some (sym (ap (drop most_read) h.1 ∙ drop_front most_read bytes h.0 full)))
 
--- where these bytes were read, no more than so many were
+-- where these bytes were read, and they are at most `most`, at most that many were read
 pub has_up_to : (most : ℕ) (old new : Option (List ℕ)) (bytes : List ℕ) → HasRead old new bytes → length bytes ≤ most → ReadsUpTo most old new
 has_up_to most None new bytes h le = tt
 has_up_to most (Some all) new bytes h le = (length bytes, le, h.2 ∙ ap Some (sym (ap (drop (length bytes)) h.1 ∙ drop_front (length bytes) bytes h.0 refl)))
@@ -212,7 +212,7 @@ tells-rows (Some text) left bytes (Err NoMemory) b short h f = tt
 tells-rows (Some text) left bytes (Err UnknownKey) b short h f = h
 tells-rows (Some text) left bytes (Err NotGranted) b short h f = h
 
--- what is told of an error that an error was made of
+-- a result that is an error with P agrees with the table, where each error with P does
 pub tells-made : (old left : Option (List ℕ)) (r : Result Table TenantRefusal) (P : TenantRefusal → Type 0) → IsErrAnd r P → ((e : TenantRefusal) → P e → TellsTable old left (Err e)) → TellsTable old left r
 tells-made old left (Ok t) P h f = absurd h
 tells-made old left (Err e) P h f = f e h

@@ -1,4 +1,4 @@
--- How a window stands to one more note, and how all windows do where one was changed.
+-- How a window agrees with one more note, and how all windows do where one was changed.
 use Rattle.std.proofs.Common.{◌≡◌, ◌≢◌, ℕ, ◌+◌, ◌-◌, ◌<◌, ◌≤◌, List, [], ◌∷◌, Bool, true, false, Some, None, refl, sym, ap, ◌∙◌, subst, arith}
 use Rattle.std.specs.Prelude.{◌&&◌, count_by}
 use Rattle.std.specs.Str.{bytes_eq}
@@ -225,7 +225,7 @@ fresh-room n f w r h = record {
 pub fresh-window : (n : List ℕ) (old : ByText Window) → value_at n old ≡ None → no_window ≡ window_of n old
 fresh-window n old none = sym (ap or_none none)
 
--- a window that stands as that of a namespace without one does
+-- a new window, which agrees with the notes wherever that of a namespace without one does
 pub fresh-notes : (n : List ℕ) (old new : ByText Window) (w : Window) (notes : Notes) → value_at n old ≡ None → new ≡ with_value old n w → (Stands n no_window notes → Stands n w notes) → StandsAs old notes → StandsAs new notes
 fresh-notes n old new w notes none put stands h =
     all-kept n old new w notes (closed-others n old old new w refl put) (closed-window n old new w put) (stands (subst (λ (v : Window). Stands n v notes) (sym (fresh-window n old none)) (h n))) h

@@ -2,7 +2,7 @@
 use Rattle.std.specs.Prelude.{◌≡◌, ◌+◌, ◌≤◌, ℕ, List, [], ◌∷◌, Bool, count_by, if◌then◌else◌, ⊤}
 use Rattle.ow_tenant.specs.Notes.{counts_at}
 
--- those that are kept, and for how many more there is room, for private clauses
+-- the kept moments, and for how many more there is room, for private clauses
 pub record Kept : Type 0 where
   pub moments : List ℕ
   pub room : ℕ
@@ -26,7 +26,7 @@ Rise (x ∷ xs) = AllFrom x xs × Rise xs
 abbrev pub with_one : Bool → ℕ → ℕ
 with_one b n = if b then n + 1 else n
 
--- moments are let go that don't count at `now` any more, for private clauses
+-- moments are dropped that don't count at `now` any more, for private clauses
 pub record LetsGo (now : ℕ) (old new : List ℕ) : Type 0 where
   pub counts : (m : ℕ) → now ≤ m → count_by (counts_at m) new ≡ count_by (counts_at m) old
   pub rise : Rise old → Rise new

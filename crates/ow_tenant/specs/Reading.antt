@@ -17,29 +17,29 @@ Tells want (Err NotGranted) = ⊥
 abbrev pub most_read : ℕ
 most_read = most_bytes + 1
 
--- what a source that tells its bytes is read as, and what it has left
+-- what a source that reports its bytes is read as, and what it has left
 abbrev pub TellsTable : Option (List ℕ) → Option (List ℕ) → Result Table TenantRefusal → Type 0
 TellsTable None left result = (want : Result Table ℕ) × Tells want result
 TellsTable (Some text) left (Ok t) = (table_of text ≡ Ok t) × (left ≡ Some (drop most_read text))
 TellsTable (Some text) left (Err (BadRow row)) = (table_of text ≡ Err row) × (left ≡ Some (drop most_read text))
 TellsTable (Some text) left (Err e) = Tells (table_of text) (Err e)
 
--- of a source that tells its bytes no more than so many were read
+-- of a source that reports its bytes at most `most` were read
 abbrev pub ReadsUpTo : ℕ → Option (List ℕ) → Option (List ℕ) → Type 0
 ReadsUpTo most None left = Unit {0}
 ReadsUpTo most (Some text) left = (count : ℕ) × (count ≤ most) × (left ≡ Some (drop count text))
 
--- these bytes of a source that tells its own were read, and it has the others left, for private clauses
+-- these bytes of a source that reports its own were read, and it has the others left, for private clauses
 abbrev pub HasRead : Option (List ℕ) → Option (List ℕ) → List ℕ → Type 0
 HasRead None left bytes = left ≡ None
 HasRead (Some all) left bytes = (rest : List ℕ) × (all ≡ bytes ++ rest) × (left ≡ Some rest)
 
--- a source that tells what it has left has nothing left, for private clauses
+-- a source that reports what it has left has nothing left, for private clauses
 abbrev pub IsAtEnd : Option (List ℕ) → Type 0
 IsAtEnd None = ⊤
 IsAtEnd (Some rest) = rest ≡ []
 
--- the bytes that were read of a source that tells its own, and what it has left, for private clauses
+-- the bytes that were read of a source that reports its own, and what it has left, for private clauses
 abbrev pub ReadsBytes : Option (List ℕ) → Option (List ℕ) → List ℕ → Type 0
 ReadsBytes None left bytes = left ≡ None
 ReadsBytes (Some text) left bytes = (bytes ≡ take most_read text) × (left ≡ Some (drop most_read text))

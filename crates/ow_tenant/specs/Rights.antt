@@ -22,7 +22,7 @@ has_right Read r = r.read
 has_right Write r = r.write
 has_right Invoke r = r.invoke
 
--- those that are told, or none
+-- the given rights, or none
 abbrev pub rights_or_none : Option Rights → Rights
 rights_or_none None = no_rights
 rights_or_none (Some r) = r

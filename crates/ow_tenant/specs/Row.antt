@@ -28,7 +28,7 @@ limit_or default (c ∷ cs) = number_within 0 4294967295 (c ∷ cs)
 abbrev pub is_name : List ℕ → Bool
 is_name text = is_none (first_fault text)
 
--- a name, but not the one that stands for a reader's own namespace, nor the service's own
+-- a name, but not the one that means a reader's own namespace, nor the service's own
 abbrev pub may_be_listed : List ℕ → Bool
 may_be_listed text = is_name text && not (bytes_eq text (codes "_")) && not (bytes_eq text (codes "whisk.system"))
 
@@ -57,7 +57,7 @@ kind_of text =
     else if bytes_eq text (codes "program:1") then Some kinds.Program
     else None
 
--- ---- rows, by what stands behind their first word
+-- ---- rows, by what follows their first word
 
 abbrev pub limits_of_fields : List ℕ → List ℕ → List ℕ → Option NamespaceLimits
 limits_of_fields a b c = option_and_then (λ per_minute. option_and_then (λ concurrent. option_map (λ fires. record { per_minute = per_minute; concurrent = concurrent; fires = fires })

@@ -18,7 +18,7 @@ use Rattle.ow_tenant.specs.declared.rights.Right.{Right}
 use Rattle.ow_tenant.specs.declared.entries.Space.{Space}
 use Rattle.ow_tenant.specs.declared.entries.Holder.{Holder}
 
--- the namespaces by their names; who holds each key; the memory of all containers, where a row tells it; what is wanted ahead and
+-- the namespaces by their names; who holds each key; the memory of all containers, where a row gives it; what is wanted ahead and
 -- the programs, in the order of their rows
 pub record Table : Type 0 where
   pub namespaces : ByText Space
@@ -31,7 +31,7 @@ pub record Table : Type 0 where
 abbrev pub AreHomes : Table → Type 0
 AreHomes t = AllByRecursion (λ (e : List ℕ × Holder). IsName e.1.home) t.keys
 
--- the memory of all containers is within its bounds, where a row tells it
+-- the memory of all containers is within its bounds, where a row gives it
 abbrev pub IsPoolSized : Option ℕ → Type 0
 IsPoolSized pool = IfSome pool (λ m. (512 ≤ m) × (m ≤ 65536))
 
@@ -71,7 +71,7 @@ with_namespace t number name limits =
     if is_listed name t || list_any (has_number number) t.namespaces then None
     else Some (record t { namespaces = with_value t.namespaces name (record { number = number; limits = limits }) })
 
--- a new key, with all rights on its own namespace, which stands in an earlier row
+-- a new key, with all rights on its own namespace, which an earlier row lists
 abbrev pub with_key : Table → List ℕ → List ℕ → List ℕ → Option Table
 with_key t key subject home =
     if is_key_of key t || not (is_listed home t) then None

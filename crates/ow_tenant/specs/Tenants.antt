@@ -1,5 +1,5 @@
 -- What the office table says to those who ask.
-use Rattle.std.specs.Prelude.{◌≡◌, ℕ, List, codes, map, if◌then◌else◌, Option, Some, None, option_map, slice_get, Result, Ok, Err}
+use Rattle.std.specs.Prelude.{◌≡◌, ℕ, Bool, List, codes, map, is_some, if◌then◌else◌, Option, Some, None, option_map, slice_get, Result, Ok, Err}
 use Rattle.std.specs.Option.{unwrap_or}
 use Rattle.std.specs.Str.{bytes_eq}
 use Rattle.ow_value.specs.Value.{V, text}
@@ -18,7 +18,7 @@ use Rattle.ow_tenant.specs.declared.tenants.KeyNumber.{KeyNumber}
 
 -- ---- keys
 
--- who holds a key, where one is told
+-- who holds a key, where one is given
 abbrev pub holder_of : Option (List ℕ) → Table → Option Holder
 holder_of None t = None
 holder_of (Some key) t = value_at key t.keys
@@ -70,6 +70,10 @@ limits_of namespace t = limits_or_default (value_at namespace t.namespaces)
 -- the number of a namespace, 0 of the service's own
 abbrev pub number_of : List ℕ → Table → Option ℕ
 number_of namespace t = if bytes_eq namespace (codes "whisk.system") then Some 0 else option_map (λ s. s.number) (value_at namespace t.namespaces)
+
+-- the table has a row of the namespace. The service's own has none
+abbrev pub is_listed : List ℕ → Table → Bool
+is_listed namespace t = is_some (value_at namespace t.namespaces)
 
 -- the memory of all containers, in MB
 abbrev pub pool_of : Table → ℕ

@@ -1,4 +1,4 @@
--- How windows stand to what was noted.
+-- How windows agree with what was noted.
 use Rattle.std.specs.Prelude.{◌≡◌, ◌≢◌, ◌+◌, ◌^◌, ◌≤◌, ◌<◌, ℕ, List, [], Option, Some, None, count_by}
 use Rattle.ow_value.specs.ByText.{ByText, value_at}
 use Rattle.ow_tenant.specs.Notes.{Notes, concurrent, counts_at, fires, is_ended, is_invoked, latest, minute}
@@ -18,7 +18,7 @@ pub record Stands (namespace : List ℕ) (w : Window) (notes : Notes) : Type 0 w
   pub fired_rise : Rise w.fires.moments
   pub fired_up_to : AllUpTo (latest notes) w.fires.moments
 
--- there is room for so many invocations and so many fires more
+-- there is room for n more invocations and f more fires
 pub record HasRoom (n f : ℕ) (w : Window) : Type 0 where
   pub invoked : n ≤ w.invocations.room
   pub fired : f ≤ w.fires.room
@@ -38,11 +38,11 @@ or_none (Some w) = w
 abbrev pub window_of : List ℕ → ByText Window → Window
 window_of namespace ws = or_none (value_at namespace ws)
 
--- each namespace's window stands as these notes
+-- each namespace's window agrees with these notes
 abbrev pub StandsAs : ByText Window → Notes → Type 0
 StandsAs ws notes = (namespace : List ℕ) → Stands namespace (window_of namespace ws) notes
 
--- there is room for so many invocations and so many fires more in a namespace
+-- a namespace has room for n more invocations and f more fires
 abbrev pub HasRoomIn : List ℕ → ℕ → ℕ → ByText Window → Type 0
 HasRoomIn namespace n f ws = HasRoom n f (window_of namespace ws)
 

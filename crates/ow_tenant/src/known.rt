@@ -1,4 +1,4 @@
-// What the types of a table's parts tell of them. These functions do nothing but look.
+// What the types of a table's parts say of them. These functions only look.
 ghost use Rattle.std.specs.List.{AllByRecursion};
 ghost use Rattle.ow_names.specs.Name.{IsName};
 

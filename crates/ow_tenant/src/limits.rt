@@ -17,7 +17,7 @@ pub struct NamespaceLimits {
 }
 
 impl NamespaceLimits {
-    /// Those of a namespace of which the table says nothing else.
+    /// The limits of a namespace of which the table says nothing else.
     pub fn defaults() -> NamespaceLimits
         ensures { result ≡ default_limits }
     {

@@ -1,4 +1,4 @@
-// Moments, of which those of the last minute are counted.
+// Moments. The moments of the last minute are counted.
 ghost use Rattle.std.specs.Prelude.{◌≡◌, ◌≤◌, ◌<◌, ◌+◌, [], ◌-◌, count_by, OnOk, ℕ};
 ghost use Rattle.ow_tenant.specs.Notes.{counts_at};
 ghost use Rattle.ow_tenant.specs.Queue.{AllUpTo, LetsGo, Rise, with_one};
@@ -12,7 +12,7 @@ use std::marker::Model;
 /// How long a moment counts, in milliseconds.
 const MINUTE: u64 = 60_000;
 
-/// Moments that don't fall. One that doesn't count any more is let go as another comes.
+/// Moments that don't fall. A moment that doesn't count any more is dropped when another is added.
 #[derive(Drop)]
 pub(crate) struct Queue {
     moments: VecDeque<u64>,
@@ -71,7 +71,7 @@ impl Queue {
     }
 }
 
-// Lets go of the first moments, which don't count at `now` any more.
+// Drops the moments at the front that don't count at `now` any more.
 fn drop_old(moments: &mut VecDeque<u64>, now: u64)
     ensures lets_go { LetsGo now moments.old.items moments.new.items }
     ensures capacity { deque_capacity moments.new ≡ deque_capacity moments.old }

@@ -21,11 +21,11 @@ use std::alloc::Global;
 /// The most bytes that are read at once.
 const PIECE: usize = 65_536;
 
-/// The bytes of the source, but no more than one behind those that a table may have.
+/// The bytes of the source, but at most one more than a table may have.
 pub(crate) fn read_bytes<S: Source>(alloc: Global, source: &mut S) -> Result<Vec<u8>, TenantRefusal>
     ensures told { IfOk result (λ v. ReadsBytes (S.left source.old) (S.left source.new) v.items) }
     ensures most { ReadsUpTo most_read (S.left source.old) (S.left source.new) }
-    ensures later { S.faults source.old ≤ S.faults source.new }
+    ensures faults_grow { S.faults source.old ≤ S.faults source.new }
     ensures why { IfErr result (λ e. e ≢ TenantRefusal.NoMemory → e ≡ TenantRefusal.ReadFault) }
     ensures cause { result ≡ Err TenantRefusal.ReadFault → Rose (S.faults source.old) (S.faults source.new) }
 {
@@ -52,7 +52,7 @@ fn make_room(alloc: Global) -> Result<Vec<u8>, TenantRefusal>
     }
 }
 
-// Reads up to `space` bytes, and puts them behind those that are there. Answers how many.
+// Reads up to `space` bytes and appends them to `text`. Answers how many.
 fn read_piece<S: Source>(
     source: &mut S,
     text: &mut Vec<u8>,
@@ -65,7 +65,7 @@ fn read_piece<S: Source>(
     ensures told { OnOk result ((before : Option (List ℕ)) → HasRead before (S.left source.old) text.old.items → HasRead before (S.left source.new) text.new.items) }
     ensures most { (before : Option (List ℕ)) → HasRead before (S.left source.old) text.old.items → ReadsUpTo (length text.old.items + space) before (S.left source.new) }
     ensures end { IfOk result (λ n. n ≡ 0 → IsAtEnd (S.left source.new)) }
-    ensures later { S.faults source.old ≤ S.faults source.new }
+    ensures faults_grow { S.faults source.old ≤ S.faults source.new }
     ensures why { IfErr result (λ e. e ≢ TenantRefusal.NoMemory → e ≡ TenantRefusal.ReadFault) }
     ensures cause { result ≡ Err TenantRefusal.ReadFault → Rose (S.faults source.old) (S.faults source.new) }
 {

@@ -32,7 +32,7 @@ pub enum WindowRefusal {
 }
 
 impl TenantRefusal {
-    /// By which a client tells the refusals apart. A fault of reading and want of memory have 0.
+    /// The number by which a client distinguishes the refusals. A fault of reading and out of memory have 0.
     pub fn number(self) -> u32
         ensures { result ≡ tenant_number self }
     {
@@ -47,7 +47,7 @@ impl TenantRefusal {
 }
 
 impl WindowRefusal {
-    /// By which a client tells the refusals apart.
+    /// The number by which a client distinguishes the refusals.
     pub fn number(self) -> u32
         ensures { result ≡ window_number self }
     {

@@ -7,7 +7,7 @@ ghost use Rattle.ow_traits.specs.Streams.{Rose};
 ghost use Rattle.ow_tenant.specs.Reading.{ReadsUpTo, TellsTable, most_read};
 ghost use Rattle.ow_traits.specs.Prewarms.{AreWantsSized};
 ghost use Rattle.ow_tenant.specs.Table.{IsPoolSized, no_rows};
-ghost use Rattle.ow_tenant.specs.Tenants.{Knows, granted_names, holder_at, holder_of, limits_of, may, name_value, number_of, pool_of};
+ghost use Rattle.ow_tenant.specs.Tenants.{Knows, granted_names, holder_at, holder_of, is_listed, limits_of, may, name_value, number_of, pool_of};
 
 use crate::entries::{Holder, Space};
 use crate::known::known_homes;
@@ -17,16 +17,15 @@ use crate::refusal::TenantRefusal;
 use crate::rights::{Right, Rights};
 use crate::table::Draft;
 use ow_names::EntityName;
-use ow_several::copied4;
 use ow_traits::{Prewarms, Source};
-use ow_value::{ByText, NoMemory, Pairs, PlainData, Shared, Str, Val, Vals};
+use ow_value::{ByText, NoMemory, Pairs, PlainData, Shared, Str, Val, Vals, copied4};
 use std::alloc::Global;
 use std::marker::Model;
 
 /// The most bytes of the table.
 pub const MOST_BYTES: usize = 4_194_304;
 
-/// The memory of all containers where no row tells it, in MB.
+/// The memory of all containers where no row gives it, in MB.
 const DEFAULT_POOL: u32 = 2048;
 
 /// A key of the table it was asked of.
@@ -61,7 +60,7 @@ impl Tenants {
         ensures most { ReadsUpTo most_read (S.left source.old) (S.left source.new) }
         ensures sized { IfOk result (λ t. AreWantsSized t.wants) }
         ensures pool { IfOk result (λ t. IsPoolSized t.pool) }
-        ensures later { S.faults source.old ≤ S.faults source.new }
+        ensures faults_grow { S.faults source.old ≤ S.faults source.new }
         ensures cause { result ≡ Err TenantRefusal.ReadFault → Rose (S.faults source.old) (S.faults source.new) }
     {
         let text = read_bytes(alloc, source)?;
@@ -145,7 +144,7 @@ impl Tenants {
         &self.keys.get().entries()[key.place].1
     }
 
-    /// The namespace that the key's holder stands in.
+    /// The namespace to which the key's holder belongs.
     pub fn home(&self, key: KeyNumber) -> &EntityName
         requires { key.place < length self.now.keys }
         ensures { Some result.now ≡ option_map (λ h. h.home) (holder_at key.place self.now) }
@@ -183,6 +182,16 @@ impl Tenants {
             Some(space) => Some(u64::from(space.number)),
             None => None,
         }
+    }
+
+    /// Whether the office table has a row of the namespace. The service's own has none.
+    pub fn is_listed(&self, namespace: &EntityName) -> bool
+        ensures { result ≡ is_listed namespace.now self.now }
+    {
+        self.namespaces
+            .get()
+            .find(namespace.as_str().as_bytes())
+            .is_some()
     }
 
     /// The names of the namespaces in which the key has a right, in the order of their bytes.

@@ -153,7 +153,7 @@ impl Windows {
         Ok(())
     }
 
-    // Takes the namespace's window out, in whose place an empty one stands.
+    // Takes the namespace's window out, and puts an empty one in its place.
     fn open(&mut self, namespace: &EntityName) -> (usize, Window)
         requires { IsSome (value_at namespace.now self.old) }
         ensures window { result.1 ≡ window_of namespace.now self.old }

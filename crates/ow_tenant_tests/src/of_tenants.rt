@@ -371,7 +371,7 @@ fn a_copy_is_the_same_table(rt: HostRuntime) -> Result<(), Fail> {
     Ok(())
 }
 
-// Puts 10,000 keys behind the text, in an order that isn't that of their bytes.
+// Appends 10,000 keys to the text, in an order that isn't that of their bytes.
 fn with_keys(alloc: Global, text: &mut String) -> Result<(), AllocError> {
     for i in 0..10_000u64 {
         let number = (i * 7919) % 10_000;

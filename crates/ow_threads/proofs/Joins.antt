@@ -5,7 +5,7 @@ use Rattle.std.proofs.lemmas.List.{append-nil}
 use Rattle.ow_threads.specs.Slots.{after_join, task_due}
 use Rattle.ow_threads.specs.Tasks.{AllEnd, joined, pending}
 
--- how many slots are to stay, before a slot and behind it
+-- how many slots are to stay, before a slot and after it
 pub record Staying (stays : Bool) (before now : ℕ) : Type 0 where
   pub none_before : stays ≡ false → before ≡ 0
   pub none_now : stays ≡ false → now ≡ 0
@@ -41,7 +41,7 @@ pending_some false before now (t, false) rest task counts due =
     let same : t ≡ task = cc in
     rw (counts.none_before refl, counts.none_now refl) (ap (λ u. u ∷ pending 0 rest) same)
 
--- one task more, and what it came to
+-- one more task, and its result
 pub all_end_snoc : {T D : Type 0} (ends : T → D → Type 0) (tasks : List T) (dones : List D) (task : T) (done : D)
     → AllEnd ends tasks dones → ends task done → AllEnd ends (tasks ++ task ∷ []) (dones ++ done ∷ [])
 all_end_snoc ends [] [] task done all one = (one, tt)
@@ -49,7 +49,7 @@ all_end_snoc ends [] (d ∷ dones) task done all one = absurd all
 all_end_snoc ends (t ∷ tasks) [] task done all one = absurd all
 all_end_snoc ends (t ∷ tasks) (d ∷ dones) task done all one = (all.0, all_end_snoc ends tasks dones task done all.1 one)
 
--- of all the slots the rest is still to be joined: what the others became, and what those of their tasks that were run came to
+-- the rest of all the slots is still to be joined: what the other slots became, and the results of their tasks that were run
 pub record Midway {T D : Type 0} (ends : T → D → Type 0) (from number : ℕ) (all rest slots : List (T × Bool)) (dones : List D) : Type 0 where
   pub became : joined from all ≡ slots ++ joined (from - number) rest
   pub run : List T
@@ -67,7 +67,7 @@ midway_start ends from all =
       due = rw none refl;
     }
 
--- behind a slot that has no task to run
+-- after a slot that has no task to run
 pub midway_none : {T D : Type 0} (ends : T → D → Type 0) (from number : ℕ) (all rest slots : List (T × Bool)) (dones : List D) (slot : T × Bool)
     → Midway ends from number all (slot ∷ rest) slots dones → task_due (nat_lt number from) slot ≡ None
     → Midway ends from (number + 1) all rest (slots ++ after_join (nat_lt number from) slot ∷ []) dones
@@ -82,7 +82,7 @@ midway_none ends from number all rest slots dones slot was none =
       due = was.due ∙ ap (λ s. was.run ++ s) (pending_none stays before now slot rest (staying number from) none);
     }
 
--- behind one that has
+-- after a slot that has one
 pub midway_some : {T D : Type 0} (ends : T → D → Type 0) (from number : ℕ) (all rest slots : List (T × Bool)) (dones : List D) (slot : T × Bool) (task : T) (done : D)
     → Midway ends from number all (slot ∷ rest) slots dones → task_due (nat_lt number from) slot ≡ Some task → ends task done
     → Midway ends from (number + 1) all rest (slots ++ after_join (nat_lt number from) slot ∷ []) (dones ++ done ∷ [])
@@ -97,7 +97,7 @@ midway_some ends from number all rest slots dones slot task done was some one =
       due = rw append_assoc (was.due ∙ ap (λ s. was.run ++ s) (pending_some stays before now slot rest task (staying number from) some));
     }
 
--- behind the last slot
+-- after the last slot
 pub midway_end : {T D : Type 0} (ends : T → D → Type 0) (from number : ℕ) (all slots : List (T × Bool)) (dones : List D)
     → Midway ends from number all [] slots dones → AllEnd ends (pending from all) dones × (slots ≡ joined from all)
 midway_end ends from number all slots dones was = (rw (was.due, append-nil) was.all_end, sym (append-nil slots) ∙ sym was.became)

@@ -1,4 +1,4 @@
-// The clock, and a clock in memory that stands still.
+// The clock, and a clock in memory that doesn't move.
 ghost use Rattle.std.specs.Prelude.{◌≡◌, ℕ, Option, Some, IfSome};
 
 /// What a pause waits for beside its time.
@@ -12,23 +12,23 @@ pub enum Bell {
     Close,
 }
 
-/// Tells the moment, and lets a worker wait.
+/// Returns the moment, and lets a worker wait.
 pub trait Clock {
-    /// The moment in milliseconds, where the clock tells it.
+    /// The moment in milliseconds, where the clock reports it.
     ghost tells: { Self → Option ℕ };
 
-    /// The moment, in milliseconds. It may be earlier than one that was told before.
+    /// The moment, in milliseconds. It may be earlier than one that was returned before.
     fn now(&self) -> u64
         ensures { IfSome (tells self.now) (λ t. result ≡ t) };
 
-    /// Waits for at most so many milliseconds, or for the bell. It may end at once: how long it takes is not promised.
+    /// Waits for at most `ms` milliseconds, or for the bell. It may end at once: how long it takes is not promised.
     fn pause(&self, bell: Bell, ms: u64);
 
     /// Lets pauses that wait for this bell end early, those of other threads too. Where nothing waits it does nothing.
     fn ring(&self, bell: Bell);
 }
 
-/// A clock that tells one moment. Its pauses end at once.
+/// A clock that always returns one moment. Its pauses end at once.
 #[derive(Clone, Copy, Debug)]
 pub struct FixedClock {
     at: u64,

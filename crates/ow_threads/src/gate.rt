@@ -1,11 +1,11 @@
 // Gates at which a worker may be held, so that the order of several workers can be chosen.
 
-/// Where a worker stands.
+/// Where a worker is.
 #[derive(Clone, Copy, Debug, PartialEq, Eq)]
 pub enum Stage {
     /// It is about to carry out the run of this number.
     BeforeRun(u64),
-    /// It has carried out the run of this number, and hasn't told its end yet. A sweep may have recorded one.
+    /// It has carried out the run of this number, and hasn't reported its end yet. A sweep may have recorded one.
     AfterRun(u64),
     /// It is about to take the container out of the slot of this number.
     BeforeTake(u32),
@@ -15,7 +15,7 @@ pub enum Stage {
 
 /// Holds workers back.
 pub trait Gate {
-    /// Lets a worker pass that stands at this stage. It may wait first, for as long as it likes.
+    /// Lets a worker at this stage pass. It may wait first, for as long as it likes.
     fn pass(&self, stage: Stage);
 }
 

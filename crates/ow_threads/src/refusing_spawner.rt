@@ -8,8 +8,8 @@ use std::alloc::Global;
 use std::mem;
 use std::snapshot::Snapshot;
 
-/// Keeps the tasks that are begun, and runs each when it is joined. The calls of `begin` whose numbers stand in `failing` get no
-/// thread; the first has the number 0. Nor does one that finds no memory.
+/// Keeps the tasks that are begun, and runs each when it is joined. The calls of `begin` whose numbers are in `failing` get no
+/// thread; the first has the number 0. A call that finds no memory gets none either.
 #[derive(Drop)]
 pub struct RefusingSpawner<T: Task> {
     slots: Vec<Slot<T>>,

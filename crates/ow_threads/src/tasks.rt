@@ -10,18 +10,18 @@ use std::alloc::Global;
 pub enum Begun<D: Drop> {
     /// It was started, and can be joined.
     Started,
-    /// No thread was to be had, and the call ran the task itself: this is what the task came to.
+    /// No thread was available, and the call ran the task itself: this is the task's result.
     Ran(D),
-    /// No thread was to be had, and the task was dropped.
+    /// No thread was available, and the task was dropped.
     Refused,
 }
 
 /// Work that a thread may do.
 pub trait Task: Drop + Send + 'static {
-    /// What the work comes to.
+    /// The result of the work.
     type Done: Drop + Send + 'static;
 
-    /// What this task may come to.
+    /// The results that this task may have.
     ghost ends: { Self → Self.Done → Type 0 };
 
     /// Does the work.
@@ -37,17 +37,17 @@ pub trait Spawner<T: Task> {
     /// The tasks that were started, each with whether it is joined.
     ghost tasks: { Self → List (T × Bool) };
 
-    /// How many calls of `begin` got no thread. The count stands still at the greatest u64.
+    /// How many calls of `begin` got no thread. The count saturates at the greatest u64.
     fn faults(&self) -> u64
         ensures { result ≡ faults self.now };
 
-    /// Starts a task. Where no thread is to be had the count of faults rises, and this call runs the task if `here` holds,
+    /// Starts a task. Where no thread is available the count of faults rises, and this call runs the task if `here` holds,
     /// or else drops it.
     fn begin(&mut self, task: T, here: bool) -> Begun<T::Done>
         ensures { Began T.ends (faults self.old) (faults self.new) (tasks self.old) (tasks self.new) task here result };
 
-    /// Waits for the tasks numbered `from` or more that aren't joined yet, and gives what they came to, in order.
-    /// For want of memory it joins none.
+    /// Waits for the tasks numbered `from` or more that aren't joined yet, and returns their results in order.
+    /// Where memory runs out it joins none.
     fn join(&mut self, alloc: Global, from: u64) -> Result<Vec<T::Done>, NoMemory>
         ensures joined { Joined T.ends (λ v. v.items) (tasks self.old) (tasks self.new) from result }
         ensures faults { faults self.new ≡ faults self.old };

@@ -5,7 +5,7 @@ use ow_threads::{Begun, RefusingSpawner, Spawner, Task};
 use std::alloc::Global;
 use std::test::Fail;
 
-// Comes to twice its number.
+// A task whose result is twice its number.
 #[derive(Drop)]
 struct Doubling {
     number: u32,
@@ -21,7 +21,7 @@ impl Task for Doubling {
     }
 }
 
-// What became of a task, and what it came to where the call ran it.
+// What became of a task, and its result where the call ran it.
 fn begun<S: Spawner<Doubling>>(
     spawner: &mut S,
     number: u32,

@@ -1,9 +1,9 @@
-// The clock that stands still, and the gate that holds nobody.
+// The clock that doesn't move, and the gate that holds nobody.
 use ow_threads::{Bell, Clock, FixedClock, Gate, OpenGate, Stage};
 
 const HOUR: u64 = 3_600_000;
 
-// The moment behind a pause for each bell, and its ring.
+// The moment after a pause for each bell, and after its ring.
 fn moment_behind<C: Clock + Send + Sync>(clock: &C, ms: u64) -> u64 {
     for bell in [Bell::Work, Bell::End(1), Bell::Close] {
         clock.pause(bell, ms);

@@ -77,13 +77,13 @@ AreRows-drop zero rows up = up
 AreRows-drop (suc n) [] up = tt
 AreRows-drop (suc n) (r ∷ rows) up = AreRows-drop n rows up.1
 
--- where it stands among the rows from `below` on, it stands among all
+-- a key that is at a place of the rows from `below` on is at that place, counted from `below`, of all rows
 there_from : (rows : List Row) (key : List ℕ) (below i : ℕ) → below ≤ length rows → StandsAt key_of key (drop below rows) i → StandsAt key_of key rows (below + i)
 there_from rows key below i le at =
     let n = length-drop below rows in
     (omega (arith, at.0, n, le), λ d. subst (λ r. text_cmp r.0 key ≡ Equal) (get_or-drop below rows i d) (at.1 d))
 
--- and likewise where it would stand
+-- and likewise the place where a key would be inserted
 parts_from : (rows : List Row) (key : List ℕ) (below i : ℕ) → below ≤ length rows → AllWithin (λ r. text_cmp r.0 key ≡ Less) rows 0 below → PartsAt key_of key (drop below rows) i
     → PartsAt key_of key rows (below + i)
 parts_from rows key below i le all parts = (less, greater)

@@ -1,4 +1,4 @@
--- How what a sink took goes on with each write, and when its count of faults rose.
+-- How the bytes that a sink took grow with each write, and when its count of faults rose.
 use Rattle.std.proofs.Common.{◌≡◌, ◌≤◌, ◌++◌, ℕ, List, [], Option, Some, None, Ok, Err, Result, OnOk, OnErr, refl, ap, append_assoc, append-nil, take, drop, arith, sym, ◌∙◌, subst}
 use Rattle.std.proofs.lemmas.List.{take-append-drop}
 use Rattle.ow_traits.specs.Streams.{Takes, Writes, TakesUpTo, TakesFront, Rose}
@@ -63,7 +63,7 @@ TakesUpTo-all old new bytes all =
     let P : List ℕ → Type 0 = λ b. Takes old new b in
     subst P e all.took
 
--- ---- a front of the bytes
+-- ---- a prefix of the bytes
 
 pub took_all : (old new : Option (List ℕ)) (bytes : List ℕ) → Takes old new bytes → TakesFront old new bytes
 took_all old new bytes took = ([], record { front = bytes; whole = sym (append-nil bytes); took = took })
@@ -71,12 +71,12 @@ took_all old new bytes took = ([], record { front = bytes; whole = sym (append-n
 pub took_nothing : (old : Option (List ℕ)) (bytes : List ℕ) → TakesFront old old bytes
 took_nothing old bytes = (bytes, TakesUpTo-none old bytes)
 
--- all bytes or a front of them, by how the call ended
+-- all bytes or a prefix of them, by how the call ended
 pub took_front : {T E : Type 0} (r : Result T E) (old new : Option (List ℕ)) (bytes : List ℕ) → OnOk r (Takes old new bytes) → OnErr r (TakesFront old new bytes) → TakesFront old new bytes
 took_front (Ok x) old new bytes ok err = took_all old new bytes ok
 took_front (Err x) old new bytes ok err = err
 
--- some bytes, and then a front of those that follow
+-- some bytes, and then a prefix of the bytes that follow
 pub TakesFront-then : (old mid new : Option (List ℕ)) (a b : List ℕ) → Takes old mid a → TakesFront mid new b → TakesFront old new (a ++ b)
 TakesFront-then old mid new a b first then' = (
   then'.0,
@@ -87,7 +87,7 @@ TakesFront-then old mid new a b first then' = (
   },
 )
 
--- a front of some bytes is one of more bytes
+-- a prefix of some bytes is a prefix of more bytes
 pub TakesFront-longer : (old new : Option (List ℕ)) (bytes later : List ℕ) → TakesFront old new bytes → TakesFront old new (bytes ++ later)
 TakesFront-longer old new bytes later part = (
   part.0 ++ later,

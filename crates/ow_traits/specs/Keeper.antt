@@ -1,4 +1,4 @@
--- What a keeper does with the rows that it tells, and when it may fail.
+-- What a keeper does with the rows that it reports, and when it may fail.
 use Rattle.std.specs.Prelude.{◌≡◌, ◌≤◌, ℕ, List, Option, Some, None, Result, Ok, Err}
 use Rattle.ow_traits.specs.Changes.{changed}
 use Rattle.ow_traits.specs.Streams.{Rose}
@@ -7,23 +7,23 @@ use Rattle.ow_traits.specs.declared.change_list.Change.{Change}
 use Rattle.ow_traits.specs.declared.keepers.KeeperError.{KeeperError}
 use Rattle.ow_traits.specs.declared.keepers.KeeperError.TheVariants.{Failed}
 
--- a count of faults doesn't fall, and the store fails only where it rose; want of memory is free
+-- a count of faults doesn't fall, and the store fails only where it rose; out of memory needs no fault
 pub record KeepsCause {T : Type 0} (before now : ℕ) (result : Result T KeeperError) : Type 0 where
   pub later : before ≤ now
   pub rose : result ≡ Err Failed → Rose before now
 
--- the commit that was asked for, by its result
+-- the requested commit, by its result
 abbrev pub attempt_of : {T : Type 0} → List Change → Result T KeeperError → Attempt
 attempt_of changes (Ok done) = made changes
 attempt_of changes (Err e) = unmade changes
 
--- a load from a keeper that tells its rows: these, which stay
+-- a load from a keeper that reports its rows: these rows, which stay
 abbrev pub Loads : Option (List (List ℕ × List ℕ)) → Option (List (List ℕ × List ℕ)) → Result (List (List ℕ × List ℕ)) KeeperError → Type 0
 Loads None new result = new ≡ None
 Loads (Some rows) new (Ok loaded) = (loaded ≡ rows) × (new ≡ Some rows)
 Loads (Some rows) new (Err e) = new ≡ Some rows
 
--- a commit to a keeper that tells its rows: all the changes in order, or none
+-- a commit to a keeper that reports its rows: all the changes in order, or none
 abbrev pub Commits : {T : Type 0} → Option (List (List ℕ × List ℕ)) → Option (List (List ℕ × List ℕ)) → List Change → Result T KeeperError → Type 0
 Commits None new changes result = new ≡ None
 Commits (Some rows) new changes (Ok done) = new ≡ Some (changed changes rows)

@@ -18,7 +18,7 @@ pub record Tally : Type 0 where
   pub faults : ℕ
   pub runs : ℕ
 
--- those of a new runner
+-- the counts of a new runner
 abbrev pub no_calls : Tally
 no_calls = record { faults = 0; runs = 0 }
 
@@ -42,12 +42,12 @@ pub record Steady (old new : Giving) (before now : Tally) : Type 0 where
   pub starts_on : (kind : Kind) → old.starts kind → new.starts kind
   pub later : before.faults ≤ now.faults
 
--- so does one that runs no code
+-- a call that runs no code keeps this
 pub record Idles (old new : Giving) (before now : Tally) : Type 0 where
   pub steady : Steady old new before now
   pub ran : RanNone before now
 
--- and one that runs code once
+-- and so does a call that runs code once
 pub record Runs (old new : Giving) (before now : Tally) : Type 0 where
   pub steady : Steady old new before now
   pub ran : RanOnce before now

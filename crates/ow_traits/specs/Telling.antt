@@ -1,13 +1,13 @@
--- What a keeper tells of itself.
+-- What a keeper reports of itself.
 use Rattle.std.specs.Prelude.{ℕ, Bool, true, false, List, ◌∷◌, Option, Some, None}
 use Rattle.ow_traits.specs.declared.change_list.Change.{Change}
 
--- a commit that a keeper was asked for: its changes, and whether they were made
+-- a requested commit: its changes, and whether they were made
 pub record Attempt : Type 0 where
   pub changes : List Change
   pub made : Bool
 
--- the rows, how many calls failed, and the commits that were asked for, the newest first: rows and commits where the keeper tells them
+-- the rows, how many calls failed, and the requested commits, the newest first: rows and commits where the keeper reports them
 pub record Telling : Type 0 where
   pub rows : Option (List (List ℕ × List ℕ))
   pub faults : ℕ

@@ -1,4 +1,4 @@
-// Sources and sinks over the system's readers and writers. As such they tell no content; what a reader or a writer itself tells holds on.
+// Sources and sinks over the system's readers and writers. They report no bytes; what the reader or the writer itself reports still holds.
 ghost use Rattle.std.specs.Prelude.{◌≡◌, ◌≤◌, ◌<◌, length, None, IfOk, OnOk};
 ghost use Rattle.std.specs.Io.KnownBytes.{ReadConsumes, WriteAppends};
 ghost use Rattle.ow_traits.specs.Adapters.{unread, written};

@@ -2,14 +2,14 @@
 ghost use Rattle.std.specs.Prelude.{◌≡◌, ◌≤◌, ◌↔◌, ◌+◌, ◌-◌, ◌^◌, min, Contains, IsTrue};
 ghost use Rattle.ow_traits.specs.Streams.{Rose};
 
-/// A counter of calls, the numbers of those that are to fail, and a count of faults. The first call has the number 0.
+/// A counter of calls, the numbers of the calls that are to fail, and a count of faults. The first call has the number 0.
 #[derive(Drop)]
 pub struct Calls {
-    /// How many there were. The count stands still at the greatest u64.
+    /// How many calls there were. The count saturates at the greatest u64.
     pub made: u64,
-    /// The numbers of those that are to fail.
+    /// The numbers of the calls that are to fail.
     pub failing: Vec<u64>,
-    /// How many failed. The count stands still at the greatest u64.
+    /// How many calls failed. The count saturates at the greatest u64.
     pub faults: u64,
 }
 
@@ -27,11 +27,11 @@ impl Calls {
         }
     }
 
-    /// Counts a call, and answers whether it is to fail.
+    /// Counts a call, and returns whether it is to fail.
     pub fn fails_next(&mut self) -> bool
         ensures listed { IsTrue result ↔ Contains self.old.failing.items self.old.made }
         ensures rose { IsTrue result → Rose self.old.faults self.new.faults }
-        ensures later { self.old.faults ≤ self.new.faults }
+        ensures faults_grow { self.old.faults ≤ self.new.faults }
         ensures made { self.new.made ≡ min (self.old.made + 1) (2 ^ 64 - 1) }
         ensures failing { self.new.failing ≡ self.old.failing }
     {
@@ -44,11 +44,11 @@ impl Calls {
         fails
     }
 
-    /// Counts a fault. The count stands still at the greatest u64.
+    /// Counts a fault. The count saturates at the greatest u64.
     pub fn count_fault(&mut self)
         ensures faults { self.new.faults ≡ min (self.old.faults + 1) (2 ^ 64 - 1) }
         ensures rose { Rose self.old.faults self.new.faults }
-        ensures later { self.old.faults ≤ self.new.faults }
+        ensures faults_grow { self.old.faults ≤ self.new.faults }
         ensures made { self.new.made ≡ self.old.made }
         ensures failing { self.new.failing ≡ self.old.failing }
     {

@@ -1,4 +1,4 @@
-// What rows are kept by from one run of the service to the next.
+// Stores that keep rows from one run of the service to the next.
 ghost use Rattle.std.specs.Prelude.{◌≡◌};
 ghost use Rattle.ow_traits.specs.Keeper.{Commits, KeepsCause, Loads, attempt_of};
 ghost use Rattle.ow_traits.specs.Telling.{Telling, with_attempt};
@@ -27,12 +27,12 @@ impl From<NoMemory> for KeeperError {
     }
 }
 
-/// What keeps rows. A commit that fails leaves them.
+/// A store of rows. A commit that fails leaves the rows unchanged.
 pub trait Keeper {
-    /// The kept rows, how many calls failed, and the commits that were asked for.
+    /// The kept rows, how many calls failed, and the requested commits.
     ghost telling: { Self → Telling };
 
-    /// How many calls failed. The count stands still at the greatest u64.
+    /// How many calls failed. The count saturates at the greatest u64.
     fn faults(&self) -> u64
         ensures { result ≡ (telling self.now).faults };
 

@@ -5,7 +5,7 @@ use crate::calls::Calls;
 use crate::{Failed, Sink, Source};
 use std::alloc::Global;
 
-/// Reads from bytes in memory. The calls of `read` whose numbers stand in `failing` fail; the first has the number 0.
+/// Reads from bytes in memory. The calls of `read` whose numbers are in `failing` fail; the first has the number 0.
 #[derive(Drop)]
 pub struct MemorySource {
     bytes: Vec<u8>,
@@ -57,8 +57,8 @@ impl Source for MemorySource {
     }
 }
 
-/// Keeps the bytes that are written to it. The calls of `write` whose numbers stand in `failing` fail; the first has the number 0.
-/// So does one that finds no memory.
+/// Keeps the bytes that are written to it. The calls of `write` whose numbers are in `failing` fail; the first has the
+/// number 0. A call that is out of memory fails too.
 #[derive(Drop)]
 pub struct MemorySink {
     bytes: Vec<u8>,

@@ -6,7 +6,7 @@ use crate::{Changes, Keeper, KeeperError, Rows};
 use ow_value::PlainData;
 use std::alloc::Global;
 
-/// Keeps rows in memory. The calls of `load` and `commit` whose numbers stand in `failing` fail; both count, and the first has the number 0.
+/// Keeps rows in memory. The calls of `load` and `commit` whose numbers are in `failing` fail; both count, and the first has the number 0.
 #[derive(Drop)]
 pub struct MemoryKeeper {
     rows: Rows,

@@ -11,7 +11,7 @@ use crate::Change;
 use ow_value::{NoMemory, Str};
 use std::cmp::Ordering;
 
-// Where the key stands, or would. It is looked for near the end first, since the keys of what is new are mostly among the last.
+// The place of the key, or where it would be inserted. The search starts near the end, since new keys are mostly among the last.
 pub(crate) fn place(rows: &[(Str, Str)], key: &str) -> Result<usize, usize>
     requires { AreRows rows.now }
     ensures ok { IfOk result (λ i. (i < length rows.now) × HoldsAt (λ r. text_cmp r.0 key.now ≡ Equal) rows.now i) }
@@ -24,7 +24,7 @@ pub(crate) fn place(rows: &[(Str, Str)], key: &str) -> Result<usize, usize>
     }
 }
 
-// How many of the first rows surely stand below the key: those up to some step before the end. The steps grow by eight times.
+// A number of first rows whose keys are all below the key: all but the last `step` rows, or 0. The step grows by eight times.
 fn rows_below(rows: &[(Str, Str)], key: &str, step: usize) -> usize
     requires sorted { AreRows rows.now }
     requires step { 0 < step }

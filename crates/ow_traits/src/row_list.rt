@@ -9,7 +9,7 @@ use ow_value::{NoMemory, PlainData, Str, copy_slice, same_slices};
 use std::alloc::Global;
 use std::marker::Model;
 
-/// Rows of a key and a text, in the order of the keys' bytes. No key stands twice.
+/// Rows of a key and a text, in the order of the keys' bytes. No key occurs twice.
 #[derive(Drop)]
 pub struct Rows {
     rows: Vec<(Str, Str)>,
@@ -77,7 +77,7 @@ impl Rows {
         put_row(&mut self.rows, key, text)
     }
 
-    /// Makes the changes in their order: all of them, or none for want of memory.
+    /// Makes the changes in their order: all of them, or none if out of memory.
     pub fn apply(&mut self, alloc: Global, changes: &Changes) -> Result<(), NoMemory>
         ensures ok { OnOk result (self.new ≡ changed changes.now self.old) }
         ensures err { OnErr result (self.new ≡ self.old) }

@@ -1,4 +1,4 @@
-// What actions are run by.
+// Runners, which run actions.
 ghost use Rattle.std.specs.Prelude.{◌≡◌, IfOk};
 ghost use Rattle.ow_traits.specs.Runner.{Giving, Idles, Initialises, Replies, Runs, Starts, Tally};
 
@@ -6,28 +6,28 @@ use crate::{Kind, RunReply};
 use ow_value::{NoMemory, Params, Str};
 use std::alloc::Global;
 
-/// What came of the start of a container.
+/// The result of the start of a container.
 #[derive(Drop)]
 pub enum Started<B: Drop> {
-    /// It is up.
+    /// The container is up.
     Up(B),
-    /// It did not come up: a `NoStart` or a `Fault`.
+    /// The container did not come up: a `NoStart` or a `Fault`.
     Down(RunReply),
 }
 
-/// What runs actions, each in a container. What it gives to a code with parameters stays through all calls, and so do the kinds whose
-/// containers come up; a fault is no such reply, and comes only where the count rose.
+/// A runner runs actions, each in a container. The replies that it gives to a code with parameters never change, and neither do the kinds
+/// whose containers come up. A fault is no such reply, and occurs only where the count of faults rose.
 pub trait Runner {
-    /// What a run takes place in.
+    /// The container of a run.
     type Container: Drop;
 
     /// Which replies it gives to a kind, a code and parameters, and of which kinds its containers come up.
     ghost gives: { Self → Giving };
 
-    /// How many calls failed, and how often code was run. Both counts stand still at the greatest u64.
+    /// How many calls failed, and how often code was run. Both counts saturate at the greatest u64.
     ghost tally: { Self → Tally };
 
-    /// How many calls failed. The count stands still at the greatest u64.
+    /// How many calls failed. The count saturates at the greatest u64.
     fn faults(&self) -> u64
         ensures { result ≡ (tally self.now).faults };
 
@@ -41,7 +41,7 @@ pub trait Runner {
         ensures idles { Idles (gives self.old) (gives self.new) (tally self.old) (tally self.new) }
         ensures started { IfOk result (Starts (gives self.old) (tally self.old) (tally self.new) kind) };
 
-    /// Makes a container ready for the code. Where it can't be, the reply, which is no answer, is that of each run of the code.
+    /// Makes a container ready for the code. Where that fails, the reply is no answer, and each run of the code has the same reply.
     fn init(
         &mut self,
         alloc: Global,

@@ -8,8 +8,9 @@ use crate::{Kind, RunReply, Runner, Started};
 use ow_value::{Items, NoMemory, Params, PlainData, Str};
 use std::alloc::Global;
 
-/// Gives the replies of its script, whatever is run: the first to the first run. A run behind the last is a fault, and so is one whose
-/// reply is `Fault`. The calls of `start`, `init` and `run` whose numbers stand in `failing` fail; the first has the number 0.
+/// Gives the replies of its script, whatever is run: the first reply to the first run. A run after the last reply is a
+/// fault, and so is a run whose reply is `Fault`. The calls of `start`, `init` and `run` whose numbers are in `failing`
+/// fail; the first has the number 0.
 #[derive(Drop)]
 pub struct ScriptRunner {
     script: Items<RunReply>,

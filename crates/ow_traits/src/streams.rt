@@ -6,38 +6,38 @@ ghost use Rattle.ow_traits.specs.Streams.{HasCause, Reads, ReadsSome, Rose, Take
 #[derive(Clone, Copy, Debug, PartialEq, Eq)]
 pub struct Failed;
 
-/// What bytes are read from.
+/// A source, from which bytes are read.
 pub trait Source {
-    /// The bytes that are left, where the source tells them.
+    /// The bytes that are left, where the source reports them.
     ghost left: { Self → Option (List ℕ) };
 
     /// How many calls failed.
     ghost faults: { Self → ℕ };
 
-    /// How many calls failed. The count stands still at the greatest u64.
+    /// How many calls failed. The count saturates at the greatest u64.
     fn faults(&self) -> u64
         ensures { result ≡ faults self.now };
 
-    /// Reads some bytes into the front of `room` and answers how many; none only at the end or where there is no room.
+    /// Reads some bytes into the start of `room` and returns how many; none only at the end or where there is no room.
     fn read(&mut self, room: &mut [u8]) -> Result<usize, Failed>
         ensures count { IfOk result (λ n. n ≤ length room.new) }
         ensures told { Reads (left self.old) (left self.new) room.new result }
         ensures cause { HasCause (faults self.old) (faults self.new) result };
 }
 
-/// What bytes are written to.
+/// A sink, to which bytes are written.
 pub trait Sink {
-    /// The bytes that the sink took, where it tells them.
+    /// The bytes that the sink took, where it reports them.
     ghost taken: { Self → Option (List ℕ) };
 
     /// How many calls failed.
     ghost faults: { Self → ℕ };
 
-    /// How many calls failed. The count stands still at the greatest u64.
+    /// How many calls failed. The count saturates at the greatest u64.
     fn faults(&self) -> u64
         ensures { result ≡ faults self.now };
 
-    /// Takes some bytes of the front of `piece` and answers how many. To take none of a piece that isn't empty is a fault.
+    /// Takes some of the first bytes of `piece` and returns how many. To take none of a piece that isn't empty is a fault.
     fn write(&mut self, piece: &[u8]) -> Result<usize, Failed>
         ensures count { IfOk result (λ n. n ≤ length piece.now) }
         ensures told { Writes (taken self.old) (taken self.new) piece.now result }
@@ -63,8 +63,8 @@ pub fn write_all<O: Sink>(out: &mut O, bytes: &[u8]) -> Result<(), Failed>
     Ok(())
 }
 
-/// Reads some bytes into the first `space` places of `room` and answers how many; none only at the end.
-/// What stands in `room` behind the bytes that were read means nothing afterwards.
+/// Reads some bytes into the first `space` places of `room` and returns how many; none only at the end. The bytes in
+/// `room` after the bytes that were read have no meaning afterwards.
 pub fn read_some<S: Source>(source: &mut S, room: &mut [u8], space: usize) -> Result<usize, Failed>
     requires some { 0 < space }
     requires within { space ≤ length room.old }

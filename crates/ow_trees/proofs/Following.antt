@@ -107,7 +107,7 @@ end_next : (at : ℕ) (ending : Ending) (o : Option Open) → cause_of (task_by 
 end_next at ending None = refl
 end_next at ending (Some o) = sym (or_none o.task.cause)
 
--- behind the end of a composite its cause may owe a step
+-- after the end of a composite its cause may owe a step
 pub cause_next : (at : ℕ) (id : Id) (r : ResponseView) (v : Shown) (T : Trace) → Stands v T → cause_of (task_by (find (is_of id) v.open_items)) ≡ next_in (compose_items at id r T)
 cause_next at id r v T st =
     ap (λ (u : Shown). cause_of (task_by (find (is_of id) u.open_items))) st.is ∙ end_next at (Composed r (children_of (find (is_frame id) (frames T)))) (find (is_of id) (open_items T))
@@ -230,7 +230,7 @@ last_step ms i m next within is =
 pub last_end : (ms : List Moved) (i : ℕ) (next : Option Id) → length ms ≤ i → option_or (last_next (drop i ms)) next ≡ next
 last_end ms i next past = ap (λ o. option_or o next) (at_drop_all last_next ms i past)
 
--- the moves behind the first ones tell which composite may owe a step
+-- the moves after the first ones determine which composite may owe a step
 pub next_told : (before after : List Moved) (items : Trace) (start : ℕ) (next : Option Id) → start ≡ length before → after ≡ before ++ moved items → next ≡ last_next (drop start after) → next ≡ next_in items
 next_told before after items start next size is told =
     told ∙ (ap (λ n. last_next (drop n after)) size ∙ (ap (λ ms. last_next (drop (length before) ms)) is ∙ (ap last_next (drop-append_seam before (moved items)) ∙ last_moved items)))
@@ -241,7 +241,7 @@ unanswered_by : (at run : ℕ) (reply : RunReply) (v : Shown) (r : Option Run) �
 unanswered_by at run reply v None e = refl
 unanswered_by at run reply v (Some r) e = cc
 
--- a reply that no slot is busy with adds nothing
+-- a reply of a run that no slot is busy with adds nothing
 pub unanswered : (rs : Standing) (at run : ℕ) (reply : RunReply) (T : Trace) → None ≡ reply_recorded run T → answered_items at run reply T ≡ steps_after rs at T (answered_items at run reply T)
 unanswered rs at run reply T e =
     let none = unanswered_by at run reply (shown T) (busy_run run (shown T)) (sym e) in

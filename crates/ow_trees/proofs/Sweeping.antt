@@ -90,7 +90,7 @@ sweeping_next rs at late most T v w start before after size less grows moves tol
 
 -- ---- the end
 
--- so many were late, and each of these has ended
+-- this many were late, and each of these has ended
 pub record IsSwept (rs : Standing) (at late : ℕ) (T : Trace) (w : Shown) (start after : List Moved) : Type 0 where
   pub stands : Stands w (swept_all rs at T ++ T)
   pub count : late ≡ late_in (swept_all rs at T)

@@ -46,7 +46,7 @@ form_step Leaf a used f = None
 form_step Sequence a used f = seq_step_of (components_of a.action.exec) a.params f
 form_step Conductor a used f = conduct_step_of a.own a.params used f
 
--- the step of a sequence or of a conductor, whose tree has used so many
+-- the step of a sequence or of a conductor, by what its tree has used
 abbrev pub next_step : Activation → Used → Frame → Option Step
 next_step a used f = form_step a.form a used f
 
@@ -68,7 +68,7 @@ child_plan id cause called params form role depth = record {
   depth = depth;
 }
 
--- how many composites stand from the first one down to a child of this form, below one of this depth
+-- how many composites there are from the first one down to a child of this form, below one of this depth
 abbrev pub depth_below : Form → ℕ → ℕ
 depth_below form depth = if is_composite form then one_more depth else depth
 
@@ -77,7 +77,7 @@ abbrev pub component_plan : Id → Activation → Effective → Pairs → Plan
 component_plan id cause called params =
     child_plan id cause called params (form_of called.action) Component (depth_below (form_of called.action) cause.depth)
 
--- the conductor's own action, as it stood when the conductor was accepted
+-- the conductor's own action, as it was when the conductor was accepted
 abbrev pub own_action : Activation → Effective
 own_action a = record { action = a.action; params = []; binding = a.binding }
 
@@ -85,7 +85,7 @@ own_action a = record { action = a.action; params = []; binding = a.binding }
 abbrev pub run_plan : Id → Activation → Pairs → Plan
 run_plan id cause params = child_plan id cause (own_action cause) params Leaf Run cause.depth
 
--- ---- what the step comes to
+-- ---- what the step results in
 
 -- a step that names no component
 abbrev pub plain_advance : Id → Activation → Step → Option Advance
@@ -120,7 +120,8 @@ advance_by rs id a used f (Some step) = step_advance rs id a used f step
 abbrev pub advance_with : Standing → Id → Activation → Used → Frame → Option Advance
 advance_with rs id a used f = advance_by rs id a used f (next_step a used f)
 
--- what an open composite of this frame does next; nothing while its last child is open. A child's id is the next of the namespace of the composite's own
+-- what an open composite of this frame does next; nothing while its last child is open. A child's id is the next id of the namespace of the
+-- composite's own id
 abbrev pub advance_of : Standing → Shown → Activation → Frame → Option Advance
 advance_of rs v a f = advance_with rs (next_id v.drawn a.id.namespace) a (used_by (find (is_frame a.top) v.frames)) f
 

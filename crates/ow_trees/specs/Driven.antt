@@ -67,6 +67,6 @@ pub record IsDriven (rs : Standing) (at : ℕ) (item : Item) (T : Trace) : Type 
   pub does : IsAdvance rs (next_id (shown T).drawn composite.task.id.namespace) composite.task (used_by (find (is_frame composite.task.top) (frames T))) frame advance
   pub is : item ≡ item_of at composite.task frame advance
 
--- each of these behind those before it
+-- each of these items over the items before it
 abbrev pub AreDriven : Standing → ℕ → Trace → Trace → Type 0
 AreDriven rs at items T = AreEach (IsDriven rs at) items T

@@ -40,27 +40,27 @@ cause_of (Some a) = a.cause
 
 -- ---- what moved
 
--- which composite may owe a step behind a move
+-- which composite may owe a step after a move
 abbrev pub next_moved : Moved → Option Id
 next_moved (moves.Accepted a) = unless_leaf a.form a.id
 next_moved (moves.Ended r) = r.cause
 next_moved m = None
 
--- behind the last of these that tells of one
+-- by the last of these moves that names one
 abbrev pub last_next : List Moved → Option Id
 last_next [] = None
 last_next (m ∷ ms) = option_or (last_next ms) (next_moved m)
 
 -- ---- under way
 
--- so many steps are left, and some were made
+-- this many steps are left, and some were made
 pub record IsFollowing (rs : Standing) (at : ℕ) (start : Option Id) (left : ℕ) (next : Option Id) (T : Trace) (now : Shown) (before after : List Moved) : Type 0 where
   pub made : Trace
   pub stands : Stands now (made ++ T)
   pub rest : stepped left rs at (made ++ T) next ++ made ≡ stepped MOST_STEPS rs at T start
   pub noted : after ≡ before ++ moved made
 
--- so many runs were late, and what they carried has ended
+-- this many runs were late, and what they carried has ended
 pub record IsSweeping (rs : Standing) (at late : ℕ) (T : Trace) (now : Shown) (before after : List Moved) : Type 0 where
   pub made : Trace
   pub left : ℕ

@@ -34,7 +34,7 @@ pub record StepsAreRight : Type 0 where
 abbrev pub IsSweptItem : Standing → ℕ → Item → Trace → Type 0
 IsSweptItem rs at item T = IsDriven rs at item T ⊎ ((overrun_first at T ≡ item ∷ []) ⊎ (item ≡ Swept at))
 
--- each of these behind those before it
+-- each of these items over the items before it
 abbrev pub AreSweptItems : Standing → ℕ → Trace → Trace → Type 0
 AreSweptItems rs at items T = AreEach (IsSweptItem rs at) items T
 

@@ -23,6 +23,6 @@ IsOwed rs at (Accepted a) T = IsCalled rs at a a.cause T
 IsOwed rs at (Ended e) T = IsComposed rs at e e.ending T
 IsOwed rs at item T = Unit {0}
 
--- each of these behind those before it
+-- each of these items over the items before it
 abbrev pub AreOwed : Standing → ℕ → Trace → Trace → Type 0
 AreOwed rs at items T = AreEach (IsOwed rs at) items T

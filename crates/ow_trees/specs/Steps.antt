@@ -1,4 +1,4 @@
--- The steps that composites owe, one behind another.
+-- The steps that composites owe, one after another.
 use Rattle.std.specs.Prelude.{◌+◌, ◌++◌, ℕ, zero, suc, [], ◌∷◌, length, if◌then◌else◌, option_map, Option, Some, None}
 use Rattle.std.specs.List.{find}
 use Rattle.std.specs.Option.{option_or}
@@ -45,13 +45,13 @@ step rs at T id = step_on rs at (shown T) id
 abbrev pub unless_leaf : Form → Id → Option Id
 unless_leaf form id = if is_composite form then Some id else None
 
--- which composite may owe a step behind the item: the one that was accepted, or the cause of what has ended
+-- which composite may owe a step after the item: the one that was accepted, or the cause of what has ended
 abbrev pub next_of : Item → Option Id
 next_of (Accepted a) = unless_leaf a.form a.id
 next_of (Ended e) = e.task.cause
 next_of item = None
 
--- behind the newest item of these that tells of one
+-- by the newest of these items that names one
 abbrev pub next_in : Trace → Option Id
 next_in [] = None
 next_in (item ∷ items) = option_or (next_of item) (next_in items)
@@ -60,7 +60,7 @@ abbrev pub items_by : Option Item → (Item → Trace) → Trace
 items_by None follow = []
 items_by (Some item) follow = follow item
 
--- at most this many steps behind a trace, the newest first: each is owed by the composite that the item before it names
+-- at most this many steps after a trace, the newest first: each is owed by the composite that the item before it names
 abbrev pub stepped : ℕ → Standing → ℕ → Trace → Option Id → Trace
 stepped zero rs at T next = []
 stepped (suc n) rs at T None = []

@@ -14,8 +14,7 @@ use ow_entity::Lookup;
 use ow_floor::{Floor, Plan};
 use ow_packages::Effective;
 use ow_records::{Activation, Form, Frame, Id, Response, Role, Used};
-use ow_several::{copied2, kept_beside};
-use ow_value::{NoMemory, Params, PlainData, Str};
+use ow_value::{NoMemory, Params, PlainData, Str, copied2, kept_beside};
 use std::alloc::Global;
 
 /// What a composite does next.
@@ -113,7 +112,7 @@ fn next_step(
     }
 }
 
-// What the step comes to.
+// What the step results in.
 fn step_advance<L: Lookup>(
     alloc: Global,
     rows: &L,
@@ -265,7 +264,7 @@ fn run_advance(
     Ok(Some(Advance::Call { plan }))
 }
 
-// The conductor's own action, as it stood when the conductor was accepted.
+// The conductor's own action, as it was when the conductor was accepted.
 fn own_action(alloc: Global, composite: &Activation) -> Result<Effective, NoMemory>
     ensures { IfOk result (λ e. e ≡ own_action composite.now) }
 {
@@ -277,7 +276,7 @@ fn own_action(alloc: Global, composite: &Activation) -> Result<Effective, NoMemo
     })
 }
 
-// How many composites stand from the first one down to a child of this form.
+// How many composites there are from the first one down to a child of this form.
 fn depth_below(form: Form, depth: u32) -> u32
     ensures { result ≡ depth_below form depth }
 {

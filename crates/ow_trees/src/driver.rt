@@ -17,8 +17,8 @@ use ow_traits::RunReply;
 use ow_value::NoMemory;
 use std::alloc::Global;
 
-/// Accepts an activation, and makes the steps that follow. `at` is the moment, in milliseconds. What moved is noted. Without memory the plan is dropped, and
-/// some of the steps may have been made.
+/// Accepts an activation, and makes the steps that follow. `at` is the moment, in milliseconds. What moved is noted. Without memory the
+/// plan is dropped, and some of the steps may have been made.
 pub fn accept<L: Lookup>(
     alloc: Global,
     rows: &L,
@@ -62,8 +62,8 @@ pub fn answered<L: Lookup>(
     Ok(Some(recorded))
 }
 
-/// Ends each activation whose live run is late, by the runs' orders, with the steps that follow each of these ends, and tells how many were late. Without memory
-/// some of this may have been done.
+/// Ends each activation whose live run is late, by the runs' orders, with the steps that follow each of these ends. Returns how many were
+/// late. Without memory some of this may have been done.
 pub fn sweep<L: Lookup>(
     alloc: Global,
     rows: &L,
@@ -105,7 +105,7 @@ fn sweep_all<L: Lookup>(
     Ok(late)
 }
 
-// Ends what the first late run carries, with the steps that follow, and tells whether there was one.
+// Ends what the first late run carries, with the steps that follow, and returns whether there was one.
 fn sweep_one<L: Lookup>(
     alloc: Global,
     rows: &L,
@@ -151,7 +151,7 @@ fn follow<L: Lookup>(
     Ok(())
 }
 
-// Makes the step that the composite of this id owes, if it owes one, and tells which may owe one now.
+// Makes the step that the composite of this id owes, if it owes one, and returns which composite may owe one now.
 fn make_step<L: Lookup>(
     alloc: Global,
     rows: &L,
@@ -194,7 +194,7 @@ fn make(
     }
 }
 
-// Accepts one activation, and tells which composite may owe a step now.
+// Accepts one activation, and returns which composite may owe a step now.
 fn accept_one(
     alloc: Global,
     floor: &mut Floor,
@@ -214,7 +214,7 @@ fn accept_one(
     Ok(next)
 }
 
-// Ends the composite of this id, and tells which may owe a step now.
+// Ends the composite of this id, and returns which composite may owe a step now.
 fn end(
     alloc: Global,
     floor: &mut Floor,
@@ -250,7 +250,7 @@ fn unless_leaf(form: Form, id: Id) -> Option<Id>
     if form.is_composite() { Some(id) } else { None }
 }
 
-// Which composite may owe a step behind the last of the moves from this place on that tells of one.
+// Which composite may owe a step, by the last move from this place on that names one.
 fn last_next(moves: &Moves, start: usize) -> Option<Id>
     ensures { result ≡ last_next (drop start moves.now) }
 {
@@ -261,7 +261,7 @@ fn last_next(moves: &Moves, start: usize) -> Option<Id>
     next
 }
 
-// Which composite may owe a step behind a move.
+// Which composite may owe a step after a move.
 fn next_moved(moved: &Moved) -> Option<Id>
     ensures { result ≡ next_moved moved.now }
 {

@@ -1,6 +1,6 @@
 #![tactic(auto)]
 
-//! The steps that sequences and conductors owe, made over a floor: behind an acceptance, a reply and a sweep.
+//! The steps that sequences and conductors owe, made over a floor: after an acceptance, a reply and a sweep.
 mod advances;
 mod bounds;
 mod driver;

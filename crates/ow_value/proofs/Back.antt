@@ -55,7 +55,7 @@ put_last : (found : json.Members) (k : List ℕ) (d : json.Data) → AreBelow fo
 put_last json.no_members k d h = refl
 put_last (json.member j e found) k d h = rw (turned j k Less h.0) (ap (json.member j e) (put_last found k d h.1))
 
--- the first of these names is above those that were found
+-- the first of these names is above all names that were found
 abbrev Follows : json.Members → Members → Type 0
 Follows found no_members = Unit {0}
 Follows found (member k v ps) = AreBelow found k

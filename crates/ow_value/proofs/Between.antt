@@ -1,4 +1,4 @@
--- In a list that parts at a key, what has the key stands together: from where a search finds the first to where it finds the last.
+-- In a list that parts at a key, the items with the key are adjacent: from the first that a search finds to the last that it finds.
 use Rattle.std.proofs.Common.{◌≡◌, ℕ, zero, suc, ◌<◌, Bool, true, false, cond, min, List, [], ◌∷◌, length, filter, get_or, take, drop, Ordering, Less, Equal, Greater, is_eq, is_lt, refl, sym, ap, ◌∙◌, subst, arith}
 use Rattle.std.specs.List.Sorted.{IsPartitionPoint}
 use Rattle.std.specs.Ordering.{is_le}
@@ -38,7 +38,7 @@ module _ {A : Type 0} (key : A → List ℕ) (k : List ℕ) (test : A → Bool) 
   stands_by : (a : A) (o : Ordering) → text_cmp (key a) k ≡ o → test a ≡ is_eq o
   stands_by a o e = sym (has_key a) ∙ test_of k (key a) _ (turned (key a) k o e) ∙ reversed_eq o
 
-  -- of what has the key or a greater one, that with the key stands first
+  -- where each item has the key or a greater one, the items with the key come first
   stands_first : (xs : List A) (j : ℕ) → ((i : ℕ) (d : A) → i < length xs → is_lt (text_cmp (key (get_or xs i d)) k) ≡ false)
       → PartsThrough xs j → filter test xs ≡ take j xs
   stands_first [] j f g = sym (take-nil j)

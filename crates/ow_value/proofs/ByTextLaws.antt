@@ -121,7 +121,7 @@ module _ {W : Type 0} where
       let k : List ℕ = (get_or es i d).0 in
       subst IsByText (insert_at_equal k w es i d s lt (same_text k)) (rises_with es k w s)
 
-  -- ---- a value put in the place of another
+  -- ---- a value that replaces another
 
   pub replaced_new : (es : ByText W) (i : ℕ) (d : List ℕ × W) (w v : W) (k : List ℕ) → d ≡ get_or es i d → w ≡ v → IsByText es → StandsAt k es i → set es i (d.0, w) ≡ with_value es k v
   replaced_new es i d w v k at new s h =
@@ -140,7 +140,7 @@ module _ {W : Type 0} where
   get-set (x ∷ es) zero e lt = refl
   get-set (x ∷ es) (suc i) e lt = get-set es i e (omega arith)
 
-  -- the text stands where it stood
+  -- the text keeps its place
   pub replaced_stands : (es new : ByText W) (i : ℕ) (d : List ℕ × W) (v : W) (k : List ℕ) → IsByText es → StandsAt k es i → new ≡ with_value es k v → StandsAt k new i
   replaced_stands es new i d v k s h e =
       let is : new ≡ set es i ((get_or es i d).0, v) = e ∙ sym (set_there k v es i d s h) in

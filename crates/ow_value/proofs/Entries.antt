@@ -1,4 +1,4 @@
--- Entries whose keys rise, of any value: what stands at a place, and what a put makes of them.
+-- Entries whose keys rise, of any value: the entry at a place, and the entries after a put.
 use Rattle.std.proofs.Common.{◌≡◌, ◌≢◌, ℕ, zero, suc, ◌<◌, List, [], ◌∷◌, ◌++◌, length, map, get_or, set, take, drop, Some, None, Ordering, Less, Equal, Greater, refl, ap, arith}
 use Rattle.std.specs.BTreeMap.{is_at, insert_entry}
 use Rattle.std.specs.List.{AllByRecursion}

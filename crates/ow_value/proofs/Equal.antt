@@ -32,6 +32,6 @@ mutual
       (Decides-and _ _ (Decides-and _ _ (bytes_eq-Decides j k) (values v w)) (members ms ns))
   members a b = (λ h. cc, λ e. cc)
 
--- what a comparison of two values tells
+-- the result of a comparison of two values is that of `same_value`
 pub tested : (r : Bool) (a b : Val) → (IsTrue r ↔ (a ≡ b)) → r ≡ same_value (view a) (view b)
 tested r a b h = same_from_decides r (same_value (view a) (view b)) (Decides-like r (λ e. ap view e) (λ e. view-inj a b e) h) (values (view a) (view b))

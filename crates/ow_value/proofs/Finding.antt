@@ -39,7 +39,7 @@ with_at_gap p ps i le h =
     insert_between p.name (view p.value) (pair_views ps) i (parts_through (λ p. p.0) pair_view p.name ps i le h)
     ∙ ap₂ (λ a b. a ++ pair_view p ∷ b) (take-map pair_view i ps) (drop-map pair_view i ps) ∙ sym (map-append pair_view (take i ps) (p ∷ drop i ps))
 
--- where each name comes behind the last
+-- where each name comes after the last one
 appended : (ps : List Pair) (i : ℕ) (p : Pair) → AreParams (pair_views ps) → i < length ps → p ≡ get_or ps i p → with_pair (pair_views (take i ps)) p.name (view p.value) ≡ pair_views (take i ps) ++ pair_view p ∷ []
 unfolding IsStrictlySortedBy
 appended [] i p h lt at = absurd (omega (arith, lt))

@@ -1,4 +1,4 @@
--- What a search by key finds in a list, where `key` tells the key of each.
+-- What a search by key finds in a list, where `key` gives the key of each item.
 use Rattle.std.proofs.Common.{◌≡◌, ◌≢◌, ◌==◌, ℕ, zero, suc, ◌-◌, ◌<◌, ◌≤◌, true, false, List, [], ◌∷◌, length, map, get_or, Result, Ok, Err, IfOk, IfErr, Ordering, Less, Equal, Greater, is_eq, is_lt, refl, sym, ap, ◌∙◌, subst, inl, inr, arith}
 use Rattle.std.specs.Bool.{IsTrue}
 use Rattle.std.specs.List.{AllByRecursion, HoldsAt}
@@ -44,7 +44,7 @@ rises_at a b k Greater lt e = at_most (text_cmp a k)
     at_most Equal = omega arith
     at_most Greater = omega arith
 
--- texts in order stand in that order to a third
+-- texts in order compare in that order to a third
 pub ranks : (a b k : List ℕ) (o : Ordering) → text_cmp a b ≡ o → o ≢ Greater → ordering_index (text_cmp a k) ≤ ordering_index (text_cmp b k)
 ranks a b k Less e n = rises_at a b k _ e refl
 ranks a b k Equal e n = omega (arith, ap ordering_index (nat_list_cmp_total.congr a b k e))
@@ -76,7 +76,7 @@ reversed_eq Less = refl
 reversed_eq Equal = refl
 reversed_eq Greater = refl
 
--- what stands no further on than one that is below is below, and so with one that isn't above
+-- an order no greater than `Less` is `Less`, and one no greater than an order that isn't `Greater` isn't `Greater`
 pub lt_down : (p q : Ordering) → ordering_index p ≤ ordering_index q → is_lt q ≡ true → is_lt p ≡ true
 lt_down Less q le e = refl
 lt_down Equal Less le e = absurd (omega arith)
@@ -110,7 +110,7 @@ module _ {B : Type 0} (key : B → List ℕ) where
   rises k (b ∷ bs) h (suc i) zero d le lt = absurd (omega arith)
   rises k (b ∷ bs) h (suc i) (suc j) d le lt = rises k bs h.1 i j d (omega arith) (omega arith)
 
-  -- the key stands at that place
+  -- the key is at that place
   abbrev pub StandsAt : List ℕ → List B → ℕ → Type 0
   StandsAt k bs i = (i < length bs) × HoldsAt (λ b. text_cmp (key b) k ≡ Equal) bs i
 

@@ -34,7 +34,7 @@ with_first k v (p ∷ ps) h = rw h.0
 merge_greater : (q : List ℕ × V) (a b : Pairs) → Above q.0 a → Above q.0 b → merge a (q ∷ b) ≡ q ∷ merge a b
 merge_greater q a b g h = with_first q.0 q.1 (merge a b) (above_merge q.0 a b g h)
 
--- nothing is left over which b could stand
+-- an empty list merged with b is b
 pub merge_none : (b : Pairs) → AreParams b → merge [] b ≡ b
 unfolding IsStrictlySortedBy
 merge_none [] h = refl
@@ -161,7 +161,7 @@ module _ (xs ys : List Pair) (g : AreParams (pair_views xs)) (h : AreParams (pai
       let is = here ys j p (greater_in_range xs ys i j e) at in
       pushed done new p _ all is_new (ap (λ m. pair_views done ++ m) (sym (ap (λ zs. merge (pair_views (drop i xs)) (pair_views zs)) is ∙ greater_first p (drop i xs) (drop (j + 1) ys) (AreParams-drop i xs g) (subst (λ zs. AreParams (pair_views zs)) is (AreParams-drop j ys h)) (ap (head_order (drop i xs)) (sym is) ∙ e))) ∙ kept)
 
--- what equals the pair at a place stands there
+-- what equals the pair at a place is at that place
 pub stands : (xs : List Pair) (i : ℕ) (p q : Pair) → q ≡ p → p ≡ get_or xs i p → q ≡ get_or xs i q
 stands xs i p q e at = subst (λ z. z ≡ get_or xs i z) (sym e) at
 

@@ -49,7 +49,7 @@ pub AreValues-pushed : (done new : List Val) (x : Val) → new ≡ done ++ x ∷
 AreValues-pushed done new x is_new h is_v =
     subst (λ vs. AreValues (items_of vs)) (sym (ap views is_new ∙ views-snoc done x)) (AreValues-snoc (views done) (view x) h is_v)
 
--- the values up to a place, and the one that stands there
+-- the values up to a place, and the value there
 pub AreValues-more : (xs : List Val) (i : ℕ) (x : Val) → i < length xs → x ≡ get_or xs i x → AreValues (items_of (views (take i xs))) → IsValue (view x) → AreValues (items_of (views (take (i + 1) xs)))
 AreValues-more xs i x lt at h is_v =
     subst (λ vs. AreValues (items_of vs)) (sym (map_more view xs i x lt ∙ ap (λ y. views (take i xs) ++ view y ∷ []) (sym at))) (AreValues-snoc (views (take i xs)) (view x) h is_v)

@@ -1,4 +1,4 @@
--- A `Val` is known by what it stands for.
+-- A `Val` is determined by the value that it represents.
 use Rattle.std.proofs.Common.{◌≡◌, ℕ, List, [], ◌∷◌, refl, sym, ap, ap₂, ◌∙◌, ◌<◌, length, get_or}
 use Rattle.std.proofs.lemmas.List.{get_or_default}
 use Rattle.ow_value.specs.Value.{V, Items, no_items, item, Pairs, items_of, members_of}
@@ -58,11 +58,11 @@ pair_views-inj (p ∷ ps) (q ∷ qs) e =
     ap₂ (λ z zs. z ∷ zs) (ap₂ (λ k v. record { name = k; value = v }) n (view-inj p.value q.value h)) (pair_views-inj ps qs t)
 pair_views-inj ps qs e = cc
 
--- what stands at one place of two equal lists is equal
+-- the items at one place of two equal lists are equal
 same_at : {X : Type 0} (xs ys : List X) (i : ℕ) (x y : X) → i < length xs → x ≡ get_or xs i x → y ≡ get_or ys i y → xs ≡ ys → x ≡ y
 same_at xs ys i x y lt at_x at_y e = at_x ∙ get_or_default xs i x y lt ∙ ap (λ zs. get_or zs i y) e ∙ sym at_y
 
--- so of two lists that stand for one, each item of the first is the second's at its place
+-- so where two lists represent the same values, each item of the first equals the item of the second at its place
 pub same_value_at : (xs ys : List Val) (i : ℕ) (x y : Val) (vs ws : List V) → i < length xs → x ≡ get_or xs i x → y ≡ get_or ys i y → views xs ≡ vs → views ys ≡ ws → vs ≡ ws → x ≡ y
 same_value_at xs ys i x y vs ws lt at_x at_y g h e = same_at xs ys i x y lt at_x at_y (views-inj xs ys (g ∙ e ∙ sym h))
 

@@ -1,4 +1,4 @@
--- By what a proof tells two values apart: a tree of numbers that gives the value back.
+-- The code by which a proof distinguishes two values: a tree of numbers that gives the value back.
 use Rattle.std.specs.Prelude.{◌≡◌, ℕ, zero, suc, ℤ, pos, negsuc, List, [], ◌∷◌, Bool, true, false, refl}
 use Rattle.std.proofs.Common.{sym, ap, ◌∙◌}
 use base.Stored.{Coded, Gv, gnil, gnum, gcons}

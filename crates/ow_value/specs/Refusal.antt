@@ -1,4 +1,4 @@
--- By what number a client knows each refusal of a value.
+-- The number by which a client knows each refusal of a value.
 use Rattle.std.specs.Prelude.{ℕ}
 use Rattle.ow_value.specs.declared.reader.ValueRefusal.{ValueRefusal}
 use Rattle.ow_value.specs.declared.reader.ValueRefusal.TheVariants.{NotJson, NotWhole, TooDeep, NoMemory}

@@ -1,4 +1,4 @@
--- Sizes that limits are told in.
+-- The units of limits.
 use Rattle.std.specs.Prelude.{ℕ}
 
 -- the bytes of 1 MB

@@ -1,4 +1,4 @@
--- What a `Val` stands for. Its lists and objects are seen as lists already.
+-- The value that a `Val` represents. Its lists and objects are seen as lists already.
 use Rattle.std.specs.Prelude.{ℕ, List, map}
 use Rattle.ow_value.specs.Value.{V, Pairs, null, boolean, whole, text, list, object, items_of, members_of}
 use Rattle.ow_value.specs.declared.val.Val.{Val}

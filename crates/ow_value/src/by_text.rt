@@ -14,7 +14,7 @@ use std::alloc::Global;
 use std::cmp::Ordering;
 use std::marker::Model;
 
-/// Values by texts, in the order of the texts' bytes. No text stands twice.
+/// Values by texts, in the order of the texts' bytes. No text occurs twice.
 #[derive(Drop)]
 pub struct ByText<W: Drop> {
     entries: Vec<(Str, W)>,
@@ -49,7 +49,7 @@ impl<W: Drop> ByText<W> {
         self.entries.as_slice()
     }
 
-    /// At which place the text stands.
+    /// The place of the text.
     pub fn place(&self, text: &[u8]) -> Option<usize>
         ensures { MatchOption result (value_at text.now self.now ≡ None) (λ i. StandsAt text.now self.now i) }
     {
@@ -76,7 +76,7 @@ impl<W: Drop> ByText<W> {
         *self.entries.allocator()
     }
 
-    /// Puts the value in the place of another, which comes back. It takes no memory.
+    /// Replaces the value at the place, and returns the old value. This takes no memory.
     pub fn replace(&mut self, place: usize, value: W) -> W
         requires { place < length self.old }
         ensures new { (text : List ℕ) → StandsAt text self.old place → self.new ≡ with_value self.old text value }
@@ -86,7 +86,7 @@ impl<W: Drop> ByText<W> {
         replace_at(&mut self.entries, place, value)
     }
 
-    /// Puts the value at the text, in place of one that is there.
+    /// Puts the value at the text, and replaces the one that is there.
     pub fn put(&mut self, text: Str, value: W) -> Result<(), NoMemory>
         ensures ok { OnOk result (self.new ≡ with_value self.old text value) }
         ensures err { OnErr result (self.new ≡ self.old) }
@@ -107,7 +107,7 @@ impl<W: PlainData + Drop> PlainData for ByText<W> {
     }
 }
 
-// Where the text stands, or would.
+// The place of the text, or where it would be inserted.
 fn place<W>(entries: &[(Str, W)], text: &[u8]) -> Result<usize, usize>
     requires { IsByText entries.now }
     ensures ok { IfOk result (λ i. (i < length entries.now) × HoldsAt (λ e. text_cmp e.0 text.now ≡ Equal) entries.now i) }

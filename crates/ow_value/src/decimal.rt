@@ -2,7 +2,7 @@
 ghost use Rattle.std.specs.Prelude.{◌≡◌};
 ghost use Rattle.ow_value.specs.Decimal.{decimal_of, digit_after, digits_of, number_after};
 
-/// The number that the digits are, at least one. Zeros may stand in front.
+/// The number of a text of at least one digit. Leading zeros are allowed.
 pub fn digits_of(text: &[u8]) -> Option<u64>
     ensures { result ≡ digits_of text.now }
 {
@@ -12,7 +12,7 @@ pub fn digits_of(text: &[u8]) -> Option<u64>
     number_after(text)
 }
 
-/// As `digits_of`, where no zero stands in front of another digit.
+/// As `digits_of`, without leading zeros: only the text `0` may start with 0.
 pub fn decimal_of(text: &[u8]) -> Option<u64>
     ensures { result ≡ decimal_of text.now }
 {

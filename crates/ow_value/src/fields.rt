@@ -14,7 +14,7 @@ use std::alloc::Global;
 use std::collections::BTreeMap;
 use std::marker::Model;
 
-// A list takes names in any order up to that many, and longer only where each comes behind the last.
+// A list of fewer members takes names in any order. From this length on, it takes a name only after the last one.
 const MOST_LISTED: usize = 128;
 
 /// The members of an object that is being made. Names may come in any order.
@@ -132,7 +132,7 @@ fn put_pair(pairs: &mut Vec<Pair>, name: Str, value: Val) -> Result<(), NoMemory
     Ok(())
 }
 
-// As `place`, which it asks last.
+// As `place`, which it calls only where the name doesn't come last.
 fn place_from_end(pairs: &[Pair], name: &str) -> Result<usize, usize>
     requires { AreParams (pair_views pairs.now) }
     ensures ok { IfOk result (λ i. IsPlace pairs.now name.now i) }
@@ -145,7 +145,7 @@ fn place_from_end(pairs: &[Pair], name: &str) -> Result<usize, usize>
     }
 }
 
-// Whether the name comes behind all that are there.
+// Whether the name comes after all names in the list.
 fn comes_last(pairs: &[Pair], name: &str) -> bool
     requires { AreParams (pair_views pairs.now) }
     ensures { IsTrue result → IsGap pairs.now name.now (length pairs.now) }

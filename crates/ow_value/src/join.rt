@@ -54,7 +54,7 @@ fn merged(alloc: Global, xs: &[Pair], ys: &[Pair]) -> Result<Vec<Pair>, NoMemory
     Ok(pairs)
 }
 
-// How the next names stand to each other. A list that is at its end comes last.
+// The order of the next names. A list that is at its end comes last.
 fn order_at(xs: &[Pair], i: usize, ys: &[Pair], j: usize) -> Ordering
     requires i_in_range { i ≤ length xs.now }
     requires j_in_range { j ≤ length ys.now }

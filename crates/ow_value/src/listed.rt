@@ -60,7 +60,7 @@ impl<T: Drop> Listed<T> {
         self.items.is_empty()
     }
 
-    /// Makes room for so many more. A number that would pass 2^63 - 1 is answered as want of memory.
+    /// Makes room for this many more items. A total of more than 2^63 - 1 is refused as out of memory.
     pub fn reserve(&mut self, count: usize) -> Result<(), NoMemory>
         ensures items { self.new.items ≡ self.old.items }
         ensures room { OnOk result (count ≤ self.new.room) }
@@ -73,7 +73,7 @@ impl<T: Drop> Listed<T> {
         Ok(())
     }
 
-    /// Puts one behind the others, into room that was made before. This takes no memory.
+    /// Appends an item, into room that was made before. This takes no memory.
     pub fn push(&mut self, item: T)
         requires { 1 ≤ self.old.room }
         ensures items { self.new.items ≡ self.old.items ++ item ∷ [] }

@@ -29,7 +29,7 @@ impl Params {
     }
 }
 
-// Where the name stands, or would.
+// The place of the name, or where it would be inserted.
 pub(crate) fn place(pairs: &[Pair], name: &str) -> Result<usize, usize>
     requires { AreParams (pair_views pairs.now) }
     ensures ok { IfOk result (λ i. IsPlace pairs.now name.now i) }

@@ -1,4 +1,4 @@
-// Want of memory.
+// Out of memory, as a refusal.
 ghost use Rattle.std.specs.Prelude.{◌≡◌, [], ◌∷◌, ◌++◌, IfOk, OnOk};
 
 use std::alloc::{AllocError, AllocFailed, Global};
@@ -34,7 +34,7 @@ pub(crate) fn list_for<T>(alloc: Global, count: usize) -> Result<Vec<T>, NoMemor
     Ok(Vec::with_capacity(alloc, count)?)
 }
 
-// Puts the item behind the others.
+// Appends the item.
 pub(crate) fn push<T: Drop>(list: &mut Vec<T>, item: T) -> Result<(), NoMemory>
     ensures items { OnOk result (list.new.items ≡ list.old.items ++ item ∷ []) }
 {

@@ -6,7 +6,7 @@ use crate::val::{Params, Val, Vals};
 use crate::walk;
 use std::alloc::Global;
 
-/// Plain data, which is told apart by its value alone, and whose copies are equal to it.
+/// Plain data, which is distinguished by its value alone, and whose copies are equal to it.
 pub trait PlainData: Sized {
     /// Whether both are equal.
     fn same(&self, other: &Self) -> bool

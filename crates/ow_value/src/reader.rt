@@ -42,7 +42,7 @@ pub enum ValueRefusal {
 impl ValueRefusal {
     ghost use Rattle.ow_value.specs.Refusal.{refusal_number};
 
-    /// By which a client tells the refusals apart. Want of memory has 0.
+    /// The number by which a client distinguishes the refusals. Out of memory has 0.
     pub fn number(&self) -> u32
         ensures { result ≡ refusal_number self.now }
     {
@@ -122,7 +122,7 @@ fn read_any(alloc: Global, scratch: &mut Scratch, text: &[u8]) -> Result<Val, Va
     }
 }
 
-// Reads what the quick reading gave up at too, and tells the refusals apart.
+// Also reads what the quick reading gave up at, and distinguishes the refusals.
 fn read_slowly(alloc: Global, text: &[u8]) -> Result<Val, ValueRefusal>
     ensures { MatchResult result (λ v. IsReadAs text.now (view v))
         (λ e. (limit : ℕ) → e ≢ ValueRefusal.NoMemory → reading limit text.now ≡ Err e) }

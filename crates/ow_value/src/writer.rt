@@ -35,7 +35,7 @@ pub fn val_text(alloc: Global, v: &Val) -> Result<Str, NoMemory>
     written_text(out)
 }
 
-/// What was written, as a text: that of a value, where its tokens are the value's. Nothing stood before it.
+/// What was written, as a text: that of a value, where its tokens are the value's. Nothing was there before it.
 pub fn written_text(out: Writer) -> Result<Str, NoMemory>
     requires { out.before ≡ [] }
     ensures { (v : V) → out.tokens ≡ value_tokens v → IfOk result (λ s. s ≡ compact v) }
@@ -44,7 +44,7 @@ pub fn written_text(out: Writer) -> Result<Str, NoMemory>
     Str::from_string(text)
 }
 
-/// Writes the tokens of a value behind what was written.
+/// Appends the tokens of a value to what was written.
 #[cycle(written)]
 pub fn write_onto(v: &Val, out: &mut Writer) -> Result<(), AllocError>
     ensures ok { OnOk result (out.new.tokens ≡ out.old.tokens ++ value_tokens (view v.now)) }

@@ -21,7 +21,7 @@ web_number NoText = 10
 web_number (Reserved name) = 43
 web_number BadWebResult = 45
 
--- the reason that clients are told. Only a result is refused by `BadWebResult`, and `web_answer` tells that one
+-- the reason that clients receive. Only a result is refused by `BadWebResult`, which `web_answer` reports
 abbrev pub web_reason : WebRefusal → Reason
 web_reason NoMemory = reasons.Call calls.NoMemory
 web_reason NotExported = reasons.Service services.NotExported

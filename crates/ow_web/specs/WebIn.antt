@@ -75,7 +75,7 @@ object_of body = members_read (reading most_nested body)
 abbrev pub body_param : List ℕ → Pairs
 body_param body = (codes "__ow_body", text body) ∷ []
 
--- the query's parameters, and those of the body over them
+-- the query's parameters, overlaid with the body's
 abbrev pub given_by : Media → Pairs → List ℕ → Result Pairs WebRefusal
 given_by media.Form query body = unreserved (merge query (texts_of (pairs_of body)))
 given_by media.Json query body = do
@@ -130,7 +130,7 @@ added_of p =
 
 -- ---- all of it
 
--- the action is open to the web, the extension is known, and whoever asks is let in
+-- the action is open to the web, the extension is known, and the caller is let in
 abbrev pub called : Pairs → Parts → Bool → Result (Unit {0}) WebRefusal
 called notes p known = do
   exported ← checked (is_set notes (codes "web-export")) NotExported

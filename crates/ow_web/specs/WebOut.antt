@@ -87,7 +87,7 @@ headers_of (Some v) = None
 abbrev pub is_framing : Pair → Bool
 is_framing h = is_named (codes "content-length") h || (is_named (codes "transfer-encoding") h || is_named (codes "connection") h)
 
--- the type stands apart
+-- the type is sent separately
 abbrev pub is_sent : Pair → Bool
 is_sent h = not (is_framing h || is_named (codes "content-type") h)
 

@@ -3,8 +3,7 @@ ghost use Rattle.std.specs.Prelude.{◌≡◌, OnOk};
 ghost use Rattle.ow_value.specs.Find.{with_pair};
 ghost use Rattle.ow_value.specs.View.{view};
 
-use ow_several::kept_beside;
-use ow_value::{Fields, NoMemory, Str, Val};
+use ow_value::{Fields, NoMemory, Str, Val, kept_beside};
 use std::alloc::Global;
 
 /// Gives the name this value.

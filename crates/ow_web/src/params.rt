@@ -5,8 +5,7 @@ ghost use Rattle.ow_web.specs.Params.{is_reserved, is_secret, lowered, seen_head
 
 use crate::refusal::WebRefusal;
 use ow_http::is_named;
-use ow_several::copied2;
-use ow_value::{Fields, NoMemory, Params, PlainData, Str, Val};
+use ow_value::{Fields, NoMemory, Params, PlainData, Str, Val, copied2};
 use std::alloc::Global;
 
 /// The pairs as text parameters. Of equal names the later pair counts.

@@ -1,4 +1,4 @@
-// What clients are told of a web request that is refused.
+// What clients receive for a web request that is refused.
 ghost use Rattle.std.specs.Prelude.{◌≡◌, ◌≢◌};
 ghost use Rattle.ow_web.specs.Refusal.{web_reason};
 
@@ -6,7 +6,7 @@ use crate::refusal::WebRefusal;
 use ow_entity::{EntityRefusal, FieldName};
 use ow_http::{CallRefusal, Reason, ServiceRefusal};
 
-/// The reason that clients are told. What is told of a result that is no web response is `web_answer`'s.
+/// The reason that clients receive. The answer to a result that is no web response is `web_answer`.
 pub fn web_reason(refusal: WebRefusal) -> Reason
     requires { refusal ≢ WebRefusal.BadWebResult }
     ensures { result ≡ web_reason refusal }

@@ -33,7 +33,7 @@ pub enum WebRefusal {
 impl WebRefusal {
     ghost use Rattle.ow_web.specs.Refusal.{web_number};
 
-    /// By which a client tells the refusals apart. Out of memory has 0.
+    /// The number by which a client distinguishes the refusals. Out of memory has 0.
     pub fn number(&self) -> u32
         ensures { result ≡ web_number self.now }
     {

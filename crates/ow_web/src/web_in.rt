@@ -19,15 +19,15 @@ use crate::target::extension_of;
 use ow_entity::is_set;
 use ow_http::{Request, Route, Verb, last_named, read_pairs};
 use ow_packages::Effective;
-use ow_several::kept_beside;
 use ow_value::{
-    Fields, NoMemory, Params, PlainData, Str, Val, ValueRefusal, merge, read_val, val_text,
+    Fields, NoMemory, Params, PlainData, Str, Val, ValueRefusal, kept_beside, merge, read_val,
+    val_text,
 };
 use std::alloc::Global;
 use std::str;
 
-/// The parameters that a request gives a web action, and over them those that the service adds. `known` says whether the
-/// office table has the request's key. Whether a parameter may be given isn't looked at here.
+/// The parameters that a request gives a web action, overlaid with the parameters that the service adds. `known` says whether
+/// the office table has the request's key. Whether a parameter may be given isn't checked here.
 pub fn web_request(
     alloc: Global,
     request: &Request,
@@ -64,7 +64,7 @@ fn over(alloc: Global, below: &Params, above: &Params) -> Result<Params, WebRefu
     Ok(merge(alloc, below, above)?)
 }
 
-// That the action is open to the web, the extension is known, and whoever asks is let in.
+// Checks that the action is open to the web, the extension is known, and the caller is let in.
 fn check_called(
     alloc: Global,
     request: &Request,
@@ -87,7 +87,7 @@ fn check_called(
     Ok(())
 }
 
-// Whether the annotation's value lets in whoever asks.
+// Whether the annotation's value lets the caller in.
 fn is_let_in(
     alloc: Global,
     demand: Option<&Val>,

@@ -19,9 +19,9 @@ use crate::shown::{is_scalar, shown_text};
 use crate::target::Extension;
 use ow_http::{Answer, is_named, last_named};
 use ow_records::Response;
-use ow_several::{copied2, kept_beside};
 use ow_value::{
-    Bytes, Fields, NoMemory, Pair, Pairs, Params, PlainData, Str, Val, Whole, bytes_of, write_val,
+    Bytes, Fields, NoMemory, Pair, Pairs, Params, PlainData, Str, Val, Whole, bytes_of, copied2,
+    kept_beside, write_val,
 };
 use std::alloc::Global;
 
@@ -146,7 +146,7 @@ fn plain_headers(alloc: Global) -> Result<Pairs, NoMemory>
     Pairs::from_vec(headers)
 }
 
-// The type as a header, where it is told.
+// The type as a header, where it is given.
 fn typed(alloc: Global, kind: Option<&Str>) -> Result<Vec<(Str, Str)>, NoMemory>
     ensures { IfOk result (λ v. v.items ≡ typed (option_copied kind.entry)) }
 {
@@ -339,7 +339,7 @@ fn is_printable(b: u8) -> bool
     b >= 32 && b <= 126
 }
 
-// The type, and the other headers but those that say where the reply ends.
+// The type, and the other headers except the ones that say where the reply ends.
 fn sent_headers(
     alloc: Global,
     body: Option<&Val>,

@@ -1,4 +1,4 @@
--- Commits behind others.
+-- Commits after others.
 use Rattle.std.proofs.Common.{◌≡◌, ℕ, List, [], ◌∷◌, ◌++◌, refl}
 use Rattle.ow_traits.specs.Changes.{changed}
 use Rattle.ow_traits.specs.Telling.{Attempt, made}

@@ -35,8 +35,8 @@ use Rattle.sqlite.specs.contracts.error.Error as Error
 use Rattle.sqlite.below.sqlite_exec.specs.contracts.work.Workspace as Workspace
 use Rattle.sqlite.specs.contracts.connection.Connection as Connection
 use Rattle.sqlite.below.sqlite_trees.specs.declared.store.Store as Store
-use Rattle.ow_store.specs.contracts.sqlite_keeper.SqliteKeeper as SqliteKeeper
-use Rattle.ow_store.specs.contracts.file_keeper.FileKeeper as FileKeeper
+use Rattle.ow_sqlite.specs.contracts.sqlite_keeper.SqliteKeeper as SqliteKeeper
+use Rattle.ow_sqlite.specs.contracts.file_keeper.FileKeeper as FileKeeper
 use Rattle.sqlite.below.sqlite_disk.specs.declared.Disk as Disk
 use Rattle.sqlite.below.sqlite_disk.specs.declared.calls.Calls as Calls
 use Rattle.sqlite.below.sqlite_disk.specs.declared.start.Start as Start

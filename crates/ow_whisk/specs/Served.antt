@@ -2,8 +2,8 @@
 use Rattle.std.specs.Prelude.{ℕ}
 use Rattle.ow_traits.specs.Prewarms.{AreWantsSized}
 use Rattle.ow_tenant.specs.Table.{IsPoolSized}
-use Rattle.ow_words.specs.declared.status.Status.{Status}
-use Rattle.ow_words.specs.declared.status.Status.TheVariants as statuses
+use Rattle.ow_command_line.specs.declared.status.Status.{Status}
+use Rattle.ow_command_line.specs.declared.status.Status.TheVariants as statuses
 use Rattle.ow_serve.specs.declared.served.ServedEnd.{ServedEnd}
 use Rattle.ow_serve.specs.declared.served.ServedEnd.TheVariants as ends
 

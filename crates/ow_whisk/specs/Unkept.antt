@@ -4,7 +4,7 @@ use Rattle.ow_traits.specs.Changes.{changed}
 use Rattle.ow_traits.specs.Telling.{Attempt, made}
 use Rattle.ow_traits.specs.declared.change_list.Change.{Change}
 
--- the rows behind these commits, the first of which was made first
+-- the rows after these commits, the first of which was made first
 abbrev pub rows_behind : List (List Change × Unit {0}) → List (List ℕ × List ℕ) → List (List ℕ × List ℕ)
 rows_behind [] rows = rows
 rows_behind (c ∷ cs) rows = rows_behind cs (changed c.0 rows)

@@ -7,16 +7,16 @@ mod unkept;
 
 ghost use Rattle.std.specs.Prelude.{◌≡◌};
 ghost use Rattle.std.specs.Process.{exit_status};
-ghost use Rattle.ow_words.specs.Status.{status_number};
+ghost use Rattle.ow_command_line.specs.Status.{status_number};
 ghost use Rattle.ow_whisk.specs.Served.{IsSized};
 
 use crate::serving::{System, served};
 use crate::unkept::Unkept;
+use ow_command_line::{Command, ServeWords, Status, WordsRefusal, read_words, report};
 use ow_office::office;
-use ow_store::FileKeeper;
+use ow_sqlite::FileKeeper;
 use ow_traits::{Keeper, MemorySource, ReaderSource, Source, WriterSink};
 use ow_value::{NoMemory, Str};
-use ow_words::{Command, ServeWords, Status, WordsRefusal, read_words, report};
 use std::alloc::Global;
 use std::fs::File;
 use std::net::{Net, TcpListener, TcpStream};
@@ -87,7 +87,7 @@ fn run_over<P: Keeper + Drop>(
     }
 }
 
-// A status that is told before the office is called.
+// A status that is reported before the office is called.
 fn told(rt: &HostRuntime, status: Status) -> Status
     ensures { result ≡ status }
 {
@@ -95,20 +95,21 @@ fn told(rt: &HostRuntime, status: Status) -> Status
     status
 }
 
-// The files of the table and of the store that the words name. Words that name none are read by the office again, which says what they are.
-// Where memory is wanted to read them, that is told: they may name a store.
+// The files of the table and of the store that the words name. Words that name none are read by the office again, which says what
+// they are. Where there is no memory to read the words, that is the answer, since they may name a store.
 fn named(alloc: Global, words: &[String]) -> Result<(Option<Str>, Option<Str>), NoMemory> {
     match read_words(alloc, words) {
         Ok(Command::Day { table, store }) => Ok((table, store)),
         Ok(Command::Serve(ServeWords { table, store, .. })) => Ok((table, store)),
         Ok(Command::Usage { store, .. }) => Ok((None, store)),
         Ok(Command::Drill { table, store, .. }) => Ok((table, store)),
+        Ok(Command::Deploy { table, store }) => Ok((table, store)),
         Err(WordsRefusal::NoMemory) => Err(NoMemory),
         _ => Ok((None, None)),
     }
 }
 
-// Serves what the office passed on, and tells how the program ends. The store is handed back, where it could be had.
+// Serves what the office passed on, and returns how the program ends. The store is handed back, where it was available.
 fn ended<
     H: System
         + Net<Listener = TcpListener, Stream = TcpStream>

@@ -7,8 +7,8 @@ use ow_traits::{Change, Changes, Keeper, KeeperError, Rows};
 use ow_value::Items;
 use std::alloc::Global;
 
-/// Holds no row in memory: what a day or a service without a store would keep ends with it. The rows that it tells are those that its
-/// commits make of none. There is no row to load before the first commit, and behind it a load is answered with want of memory. No call fails.
+/// Holds no row in memory: what a day or a service without a store would keep ends with it. It reports the rows that its commits make
+/// of none. Before the first commit there is no row to load; after it, the answer to a load is out of memory. No call fails.
 #[derive(Drop)]
 pub struct Unkept {
     committed: bool,

@@ -46,7 +46,7 @@ is_cut bytes rest e s is = subst (λ r. r ≢ NoMemory → IsRead bytes (Err r))
 pub needs_nothing : (held : List ℕ) → IsNeeded held []
 needs_nothing held = record { front = []; last = []; whole = refl; cut = λ some. absurd (some refl); piece = omega arith }
 
--- a piece behind bytes that are cut short
+-- a piece after bytes that are cut short
 pub needs_piece : (held bytes front last : List ℕ) → bytes ≡ held ++ front → IsRead bytes (Err CutShort) → length last ≤ PIECE → IsNeeded held (front ++ last)
 needs_piece held bytes front last same read piece =
     record { front = front; last = last; whole = refl; cut = λ some. subst (λ b. IsRead b (Err CutShort)) same read; piece = piece }

@@ -26,10 +26,10 @@ use Rattle.ow_http.specs.declared.request.Request.{Request}
 use Rattle.ow_http.specs.declared.route.Route.{Route}
 use Rattle.ow_http.specs.declared.verb.Verb.{Verb}
 
-abbrev behind : Asked → List ℕ → Asked
+abbrev pub behind : Asked → List ℕ → Asked
 behind a more = record a { rest = a.rest ++ more }
 
--- with more bytes behind, it is judged the same, and it lies in what was there
+-- with more bytes after it, a head is judged the same, and its request lies in the bytes that were there
 abbrev Stays : (Asked → Result Parts HttpRefusal) → Asked → List ℕ → Parts → Type 0
 Stays judge a more p = (judge (behind a more) ≡ Ok p) × (p.size ≤ a.head + length a.rest)
 

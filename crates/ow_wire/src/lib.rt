@@ -2,6 +2,7 @@
 
 //! Requests off a link, and replies onto it.
 mod inbox;
+mod needing;
 mod replying;
 
 pub use inbox::{Arrival, Inbox};

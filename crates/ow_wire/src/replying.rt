@@ -13,7 +13,7 @@ use std::alloc::Global;
 pub enum Sent {
     /// The link took it.
     Whole,
-    /// The link failed, and took a front of it.
+    /// The link failed, and took a prefix of it.
     Fault,
     /// No memory was left to write it. The link took nothing.
     NoMemory,
@@ -23,7 +23,7 @@ pub enum Sent {
 pub fn send_reply<K: Link>(alloc: Global, link: &mut K, answer: &Answer) -> Sent
     ensures sent { Sends (K.taken link.old) (K.taken link.new) answer.now result }
     ensures left { K.left link.new ≡ K.left link.old }
-    ensures later { K.faults link.old ≤ K.faults link.new }
+    ensures faults_grow { K.faults link.old ≤ K.faults link.new }
     ensures fault { result ≡ Sent.Fault → Rose (K.faults link.old) (K.faults link.new) }
 {
     let Ok(reply) = write_reply(alloc, answer) else {

@@ -12,7 +12,7 @@ use Rattle.ow_board.specs.View.{KeepsOthers}
 use Rattle.ow_worker.specs.Shown.{WasHad}
 use Rattle.ow_worker.specs.Turned.{IsGivenUp, Carried, Performs, RunTurn}
 
--- a run that came to a booking is neither lost nor given up
+-- a run that reached a booking is neither lost nor given up
 pub carried_turns : {gives : Giving} {before now : Tally} {tells : Option ℕ} {opening : ℕ} {order : RunOrder} {n m : Notes} {v w : View} (turn : Turn)
     → Carried gives before now tells opening order n m v w turn → Performs gives before now tells opening order n m v w turn
 carried_turns turns.Ran t = t
@@ -41,7 +41,7 @@ given_up_within f g a b c tells order n m s x = record {
   gives_up = x.gives_up;
 }
 
--- a run behind its container, which it had before
+-- a run that got its container first, and went on from there
 pub run_turned : (gives : Giving) (before now : Tally) (tells : Option ℕ) (opening : ℕ) (order : RunOrder) (n m : Notes) (v w ready : View) (turn : Turn) → WasHad order v ready
     → Performs gives before now tells opening order n m ready w turn → RunTurn gives before now tells opening order n m v w turn
 run_turned gives before now tells opening order n m v w ready turns.Ran had x = (ready, had, x)

@@ -1,4 +1,4 @@
--- What the hall is told of an order, as the receipts hold it.
+-- What is reported to the hall of an order, as the receipts hold it.
 use Rattle.std.specs.Prelude.{◌≡◌, ℕ, Option, Result}
 use Rattle.ow_traits.specs.declared.replies.RunReply.{RunReply}
 use Rattle.ow_floor.specs.declared.answers.FloorRefusal.{FloorRefusal}
@@ -13,7 +13,7 @@ use Rattle.ow_desk.specs.Notes.{CalledBy, Notes}
 use Rattle.ow_worker.specs.declared.outcome.Watch.{Watch}
 use Rattle.ow_worker.specs.declared.outcome.Watch.TheVariants as watches
 
--- each call is at the clock's moment, where it tells one
+-- each call is at the clock's moment, where it reports one
 module _ (tells : Option ℕ) where
   -- an order, which is booked or tallied
   abbrev pub NextNoted : Notes → Notes → Order → Type 0

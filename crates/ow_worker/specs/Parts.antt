@@ -21,7 +21,7 @@ use Rattle.ow_worker.specs.Noted.{FaultNoted, GoneNoted, ReplyNoted}
 -- ---- for private clauses: getting a container up and initialised
 
 module _ (gives : Giving) (before now : Tally) where
-  -- it is had, and is up, or the code is refused, or memory was wanted behind that; or it isn't had
+  -- the container is obtained, and is up, or the code is refused, or memory ran out after that; or it isn't obtained
   abbrev pub Readied : {B : Type 0} → RunOrder → View → View → Readiness B ℕ → Type 0
   Readied order v w (Up living) = IsStarted gives order × WasHad order v w
   Readied order v w (Early held reply) = (is_warm order.start ≡ false) × RefusesCode gives before now order.kind order.code reply × WasHad order v w
@@ -30,10 +30,10 @@ module _ (gives : Giving) (before now : Tally) where
 
 -- ---- what becomes of it
 
--- each call of the hall is at the clock's moment, where it tells one
+-- each call of the hall is at the clock's moment, where it reports one
 module _ (tells : Option ℕ) where
-  -- where there is a reply: a container that answered was put on the board at the second of its put, since the opening, or its slot's word was taken and it is
-  -- gone; for any other, which is stopped, the pass made no step
+  -- where there is a reply: a container that answered was put on the board at the second of its put, since the opening, or its
+  -- slot's word was taken and it is gone; for any other container, which is stopped, the pass made no step
   abbrev pub LaidDown : ℕ → RunOrder → RunReply → Notes → Notes → View → View → Laid → Type 0
   LaidDown opening order reply n m v w Put = (is_answer reply ≡ true) × (m ≡ n) × ((second : ℕ) × IsSecond tells opening second × WasPut order.slot order.generation second v.steps w)
   LaidDown opening order reply n m v w Taken = (is_answer reply ≡ true) × WordTaken order.slot v.steps w × GoneNoted tells order.slot order.generation n m
@@ -44,7 +44,7 @@ module _ (tells : Option ℕ) where
   TakenBack slot generation n m start w =
       (GoneNoted tells slot generation n m × WasTaken slot generation start w) ⊎ ((m ≡ n) × ((seen : ℕ) × WasNotHad slot generation seen start w))
 
-  -- behind the booked reply, by what became of the container, and whether the reply came late
+  -- after the booked reply, by what became of the container, and whether the reply came late
   abbrev pub Ended : RunOrder → Notes → Notes → ℕ → View → View → Laid → Bool → Type 0
   Ended order n m start v w Stopped late = GoneNoted tells order.slot order.generation n m × (w ≡ v)
   Ended order n m start v w Taken late = (m ≡ n) × (w ≡ v)
@@ -66,7 +66,7 @@ module _ (tells : Option ℕ) where
     pub reply_is : job.reply ≡ reply
     pub laid_is : job.laid ≡ laid
 
-  -- the reply is booked, or the store failed at it, or memory was wanted for it
+  -- the reply is booked, or the store failed at it, or memory ran out for it
   abbrev pub Booked : RunOrder → RunReply → Laid → Notes → Notes → ℕ → View → View → Turn → Type 0
   Booked order reply laid n m start v w turns.Ran = Replied order reply laid n m start v w
   Booked order reply laid n m start v w (turns.StoreFault job) = FaultNoted tells order.run reply n m × IsJob order reply laid job × (w ≡ v)

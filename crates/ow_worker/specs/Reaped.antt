@@ -9,7 +9,7 @@ use Rattle.ow_desk.specs.Notes.{Notes}
 use Rattle.ow_worker.specs.Shown.{prewarmed}
 use Rattle.ow_worker.specs.Noted.{GoneNoted}
 
--- for so many seconds a container may lie on the board
+-- a container may lie on the board for this many seconds
 abbrev pub most_idle : ℕ
 most_idle = 600
 
@@ -52,14 +52,14 @@ abbrev pub one_if_some : Option ℕ → ℕ
 one_if_some None = 0
 one_if_some (Some generation) = 1
 
--- each call of the hall is at the clock's moment, where it tells one
+-- each call of the hall is at the clock's moment, where it reports one
 module _ (tells : Option ℕ) where
   -- what was taken is reported as gone
   abbrev pub Reports : ℕ → Notes → Notes → Option ℕ → Type 0
   Reports i n m None = m ≡ n
   Reports i n m (Some generation) = GoneNoted tells i generation n m
 
-  -- the first slots, so many, of which so many were taken
+  -- the first k slots, of which `count` were taken
   abbrev pub Reaped : ℕ → ℕ → Notes → ℕ → View → ℕ → Notes → Type 0
   Reaped elapsed start n zero w count m = (m ≡ n) × (count ≡ 0)
   Reaped elapsed start n (suc k) w count m = (middle : Notes) × (before : ℕ) × (taken : Option ℕ)
@@ -69,7 +69,7 @@ module _ (tells : Option ℕ) where
   abbrev pub HasReaped : ℕ → Notes → Notes → View → View → ℕ → ℕ → Type 0
   HasReaped opened n m v w k count = (now : ℕ) × IfSome tells (λ t. now ≡ t) × Reaped ((now - opened) / 1000) v.steps n k w count m
 
--- of the slots behind so many is shown what was shown before
+-- of the slots from k on, the view shows what it showed before
 abbrev pub KeepsBehind : ℕ → View → View → Type 0
 KeepsBehind k v w = (j : ℕ) → k ≤ j → last_on j w.last ≡ last_on j v.last
 

@@ -19,7 +19,7 @@ prewarmed = 4294967295
 abbrev pub put_second : ℕ → ℕ → ℕ
 put_second now opened = min ((now - opened) / 1000) 4294967294
 
--- it is the second of the clock's moment, where the clock tells one
+-- it is the second of the clock's moment, where the clock reports one
 abbrev pub IsSecond : Option ℕ → ℕ → ℕ → Type 0
 IsSecond tells opened second = (now : ℕ) × IfSome tells (λ t. now ≡ t) × (second ≡ put_second now opened)
 
@@ -63,7 +63,7 @@ abbrev pub Missed : ℕ → ℕ → ℕ → LastStep → Type 0
 Missed generation seen start step = (step.kind ≡ ClaimFull)
     × ((word : ℕ) × (load : ℕ) × (step.claimed ≡ Some (word, load)) × (start < load) × IsFullOf generation word × (seen ≢ word))
 
--- a container isn't had: the step saw this word
+-- a container isn't obtained: the step saw this word
 pub record WasNotHad (slot generation seen start : ℕ) (w : View) : Type 0 where
   pub step : LastStep
   pub of_call : StepOfCall slot start w step

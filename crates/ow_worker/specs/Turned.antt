@@ -22,20 +22,20 @@ use Rattle.ow_worker.specs.Parts.{Settled, TakenBack}
 
 -- ---- runs
 
--- each call of the hall is at the clock's moment, where it tells one
+-- each call of the hall is at the clock's moment, where it reports one
 module _ (tells : Option ℕ) where
-  -- that the run began is told where its start isn't warm
+  -- it is reported that the run began, where its start isn't warm
   abbrev pub ToldBegun : RunOrder → Notes → Notes → Type 0
   ToldBegun order n m = (BegunNoted tells order.run n m × (is_warm order.start ≡ false)) ⊎ ((m ≡ n) × (is_warm order.start ≡ true))
 
-  -- memory was wanted before there was a reply: the run is lost and its container gone; its code was run once, as what began, or the
-  -- container wasn't ready, and it wasn't
+  -- memory ran out before there was a reply: the run is lost and its container gone. Its code was run once, as a run that began, or the
+  -- container wasn't ready and the code wasn't run
   pub record IsGivenUp (before now : Tally) (order : RunOrder) (n m : Notes) : Type 0 where
     pub opened : Notes
     pub opens : (ToldBegun order n opened × RanOnce before now) ⊎ ((opened ≡ n) × (is_warm order.start ≡ false) × RanNone before now)
     pub gives_up : LostAndGone tells order.run order.slot order.generation opened m
 
-  -- the container of a warm or a prewarmed start isn't had, and no code is run
+  -- the container of a warm or a prewarmed start isn't obtained, and no code is run
   pub record NotCarried (before now : Tally) (order : RunOrder) (seen : ℕ) (n m : Notes) (start : ℕ) (w : View) : Type 0 where
     pub start_is : is_cold order.start ≡ false
     pub shown : WasNotHad order.slot order.generation seen start w
@@ -55,7 +55,7 @@ module _ (gives : Giving) (before now : Tally) (tells : Option ℕ) where
       ⊎ ((m ≡ n) × RefusesCode gives before now order.kind order.code reply × RanNone before now)
 
   module _ (opening : ℕ) where
-    -- behind its container a run has a reply: one that the runner gives, or a fault where its count rose
+    -- once it has its container, a run has a reply: one that the runner gives, or a fault where its count rose
     pub record Carried (order : RunOrder) (n m : Notes) (v w : View) (turn : Turn) : Type 0 where
       pub reply : RunReply
       pub replies : Replies gives before now order.kind order.code order.params reply
@@ -63,7 +63,7 @@ module _ (gives : Giving) (before now : Tally) (tells : Option ℕ) where
       pub opens : Opens order reply n opened
       pub settles : Settled tells opening order reply opened m v w turn
 
-    -- its container isn't had; or it is had, and the run goes on from there, or is given up with no later step on that slot
+    -- its container isn't obtained; or it is, and the run goes on from there, or is given up with no later step on that slot
     abbrev pub RunTurn : RunOrder → Notes → Notes → View → View → Turn → Type 0
     RunTurn order n m v w (turns.Lost seen) = NotCarried tells before now order seen n m v.steps w
     RunTurn order n m v w (turns.NoMemory None) = WasHad order v w × IsGivenUp tells before now order n m
@@ -71,8 +71,8 @@ module _ (gives : Giving) (before now : Tally) (tells : Option ℕ) where
 
   -- ---- containers ahead
 
-  -- it has begun: it was put on the board, and is of a kind that the runner starts; or it is given up: its start is refused or memory is
-  -- wanted, and the pass made no step, or its slot wasn't empty
+  -- it has begun: it was put on the board, and is of a kind that the runner starts; or it is given up: its start is refused or memory
+  -- ran out, and the pass made no step, or its slot wasn't empty
   abbrev pub WarmTurn : PrewarmOrder → Notes → Notes → View → View → Turn → Type 0
   WarmTurn order n m v w turns.Warmed = (BegunNoted tells order.run n m × gives.starts order.kind × WasPut order.slot order.generation prewarmed v.steps w)
       ⊎ (LostAndGone tells order.run order.slot order.generation n m × ((IsDown gives before now order × (w ≡ v)) ⊎ WordTaken order.slot v.steps w))
@@ -104,7 +104,7 @@ module _ (gives : Giving) (before now : Tally) (tells : Option ℕ) (opening : �
     pub next : NextNoted tells n taken order
     pub follows : Follows order taken m v w turn
 
-  -- no order for want of memory; or an order, and what follows it
+  -- no order since memory ran out; or an order, and what follows it
   abbrev pub Turned : Notes → Notes → View → View → Turn → Type 0
   Turned n m v w turn = ((m ≡ n) × (w ≡ v) × (turn ≡ turns.NoMemory None) × RanNone before now) ⊎ CarriesOut n m v w turn
 

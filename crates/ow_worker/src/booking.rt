@@ -63,7 +63,7 @@ pub(crate) fn book<H: Wait, P: Keeper + Drop, R: Runner, C: Clock>(
     }
 }
 
-// Behind a booked reply: tells what is gone, and takes back what came late.
+// After a booked reply: reports what is gone, and takes back what came late.
 fn end<H: Wait, P: Keeper + Drop, R: Runner, C: Clock>(
     rt: &H,
     desk: &Mutex<Desk<P>>,

@@ -59,7 +59,7 @@ pub(crate) fn fetch<B: Drop>(
     }
 }
 
-/// Stops the container of this generation where it still lies on the board, and tells that it is gone.
+/// Stops the container of this generation where it still lies on the board, and reports that it is gone.
 pub(crate) fn take_back<H: Wait, P: Keeper + Drop, R: Runner, C: Clock>(
     rt: &H,
     desk: &Mutex<Desk<P>>,

@@ -10,13 +10,13 @@ use ow_traits::RunReply;
 pub enum Laid {
     /// It lies on the board.
     Put,
-    /// The word of its slot was taken. It was stopped, and is told to be gone.
+    /// The word of its slot was taken. It was stopped, and has been reported as gone.
     Taken,
-    /// It was stopped, or never came up. It isn't told yet to be gone.
+    /// It was stopped, or never came up. It hasn't been reported as gone yet.
     Stopped,
 }
 
-/// A reply that is still to be booked. It can't be let go: `again` spends it.
+/// A reply that is still to be booked. It can't be dropped: `again` spends it.
 pub struct Job {
     pub(crate) order: RunOrder,
     pub(crate) reply: RunReply,
@@ -47,25 +47,25 @@ impl Job {
     }
 }
 
-/// What a turn came to.
+/// The result of a turn.
 pub enum Turn {
-    /// A run has its reply, and the hall was told of it: it has it, or told that it came late or to no run.
+    /// A run has its reply, which was reported to the hall: the hall has it, or answered that it came late or to no run.
     Ran,
     /// Containers that were to make room were looked for, and what lay there is gone.
     Removed,
     /// A container was started ahead, or did not come up.
     Warmed,
-    /// The container of a run wasn't had: this word was seen in its place. The run is lost.
+    /// The container of a run wasn't obtained: this word was seen in its place. The run is lost.
     Lost { seen: u64 },
     /// Nothing is to be done.
     Idle,
     /// The store failed at a reply, which is still to be booked.
     StoreFault(Job),
-    /// Memory was wanted: for a reply, which is still to be booked, or before there was one.
+    /// Memory ran out: for a reply, which is still to be booked, or before there was one.
     NoMemory(Option<Job>),
 }
 
-/// What a sweep came to.
+/// The result of a sweep.
 #[derive(Clone, Copy, Debug, PartialEq, Eq)]
 pub enum Watch {
     /// What late runs carry has ended.
@@ -85,6 +85,6 @@ pub(crate) enum Warming {
     Down,
     // The word of its slot was taken, and the container is stopped.
     Taken,
-    // Memory was wanted.
+    // Memory ran out.
     Wanting,
 }

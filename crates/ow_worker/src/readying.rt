@@ -16,8 +16,8 @@ use ow_threads::{Gate, Stage};
 use ow_traits::Runner;
 use std::alloc::Global;
 
-/// Starts the container of a run, or takes it from the board, and initialises it where that is due. Where it isn't had, the word is told
-/// that was seen in its place.
+/// Starts the container of a run, or takes it from the board, and initialises it where that is due. Where the container isn't
+/// obtained, the word that was seen in its place is returned.
 pub(crate) fn make_ready<R: Runner, G: Gate>(
     alloc: Global,
     board: &Board<R::Container>,

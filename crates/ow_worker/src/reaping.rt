@@ -16,12 +16,12 @@ use ow_value::NoMemory;
 use std::alloc::Global;
 use std::sync::{Mutex, Wait};
 
-/// For so many seconds a container may lie on the board.
+/// A container may lie on the board for this many seconds.
 const MOST_IDLE: u64 = 600;
 
-/// Takes each container that lies on the board for 600 seconds and isn't prewarmed, stops it, and tells that it is gone. It answers how
-/// many these are. It doesn't wait for the hall but to tell that. `opened` is the moment of the hall's opening, in milliseconds. After
-/// want of memory the slots up to there stay as they were dealt with, and the others weren't touched.
+/// Takes each container that lies on the board for 600 seconds and isn't prewarmed, stops it, and reports that it is gone. It
+/// answers how many these are. It waits for the hall only to report that. `opened` is the moment of the hall's opening, in milliseconds.
+/// Where memory runs out, the slots up to there stay as they were dealt with, and the others weren't touched.
 pub fn reap<H: Wait, P: Keeper + Drop, R: Runner, C: Clock, G: Gate>(
     rt: &H,
     alloc: Global,

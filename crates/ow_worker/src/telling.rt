@@ -1,4 +1,4 @@
-// What the hall is asked and told of an order.
+// What the hall is asked about an order, and what is reported to it.
 ghost use Rattle.std.specs.Prelude.{◌≡◌, ◌≤◌, ◌+◌, IfErr, IfOk, OnOk, OnErr};
 ghost use Rattle.ow_decide.specs.declared.events.Event.TheVariants as events;
 ghost use Rattle.ow_floor.specs.Calls.{HandsBack};
@@ -85,8 +85,8 @@ pub(crate) fn tell_gone<H: Wait, P: Keeper + Drop, C: Clock>(
     let _ = notes.gone(&mut *hold(rt, desk), clock.now(), slot, generation);
 }
 
-/// The runner's reply. Where it isn't taken it is handed back. The lock is free again behind this call, and who waits for
-/// one of the ends that were recorded is woken.
+/// Reports the runner's reply. A reply that isn't taken is handed back. The lock is free again after this call, and the threads
+/// that wait for one of the recorded ends are woken.
 pub(crate) fn tell_reply<H: Wait, P: Keeper + Drop, C: Clock>(
     rt: &H,
     alloc: Global,

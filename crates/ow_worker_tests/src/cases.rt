@@ -1,5 +1,5 @@
-// Cases: what workers do at an office, and what their receipts hold then. What was made is let go of by one call each, and not where a
-// function ends, since there each of its fields is.
+// Cases: what workers do at an office, and what their receipts hold then. What was made is dropped by one call each, and not where a
+// function ends, since there each of its fields is dropped.
 ghost use Rattle.ow_board.specs.Board.{IsPassOf};
 
 use crate::gates::{ActingGate, Between};
@@ -14,14 +14,14 @@ use std::process::Abort;
 use std::sync::{Mutex, Wait};
 use std::test::Fail;
 
-/// An office, over the table of these rows, that has called the action that is built in so often.
+/// An office over the table of these rows, which has called the built-in action `calls` times.
 #[derive(Clone, Copy)]
 pub(crate) struct Opening<'a> {
     pub(crate) table: &'a str,
     pub(crate) calls: u32,
 }
 
-/// A worker's steps, each with what it comes to, and the text of its receipts behind them.
+/// A worker's steps, each with its result, and the text of its receipts after them.
 #[derive(Clone, Copy)]
 pub(crate) struct Part<'a> {
     pub(crate) steps: &'a str,
@@ -138,7 +138,7 @@ fn check_two_at<H: Wait + Abort, R: Runner + Drop>(
     check_gated(rt, alloc, worker, runners.1, between, parts)
 }
 
-/// Checks what a worker does, and then another one, which may act before while the first stands at its gate.
+/// Checks what a worker does, and then another one, which may act earlier, while the first waits at its gate.
 pub(crate) fn check_two<H: Wait + Abort, R: Runner + Drop>(
     rt: &H,
     alloc: Global,

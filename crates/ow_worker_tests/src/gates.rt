@@ -1,4 +1,4 @@
-// A gate at which another one acts while a worker stands there.
+// A gate at which another worker acts while a worker waits there.
 use crate::worker::Worker;
 use ow_threads::{Gate, Stage};
 use ow_traits::Runner;
@@ -12,7 +12,7 @@ pub(crate) enum Act {
     Reap,
 }
 
-/// What another one does, at which moment, while a worker stands where.
+/// What another worker does, at which moment, and the stage at which a worker waits meanwhile.
 #[derive(Clone, Copy, Debug, PartialEq, Eq)]
 pub(crate) struct Between {
     pub(crate) stage: Stage,

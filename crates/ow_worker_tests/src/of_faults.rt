@@ -14,7 +14,7 @@ use std::process::Abort;
 use std::sync::Wait;
 use std::test::Fail;
 
-// Behind the turn, and behind what is booked again.
+// After the turn, and after what is booked again.
 const FIRST: &str = "2 at 0: run 1 of 0/1 in 0:1 cold
 3 at 0: begun 1
 stored

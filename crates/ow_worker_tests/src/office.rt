@@ -34,7 +34,7 @@ pub(crate) struct Office<C: Drop> {
     ghost wide: { 512 ≤ size board },
 }
 
-/// The value, in a box, since each way out of a function lets go of what it holds.
+/// The value, in a box, since each return path of a function drops what it holds.
 pub(crate) fn boxed<T: Drop, E: Debug + Drop>(
     alloc: Global,
     made: Result<T, E>,
@@ -116,7 +116,7 @@ fn empty_board<C: Drop>(alloc: Global) -> Result<(Board<C>, Pass<C>), Fail>
     }
 }
 
-// It has one way out: a second one would let go of the desk, which takes five minutes to prove.
+// It has one return path: a second one would drop the desk, which takes five minutes to prove.
 fn office_of<C: Drop>(hall: Hall<MemoryKeeper>, board: Board<C>) -> Office<C>
     requires pool { IsPoolSized hall.tenants.pool }
     requires board { 512 ≤ size board }
@@ -130,7 +130,7 @@ fn office_of<C: Drop>(hall: Hall<MemoryKeeper>, board: Board<C>) -> Office<C>
     }
 }
 
-/// An office over the table of these rows, which has called the action that is built in so often, with the first pass of its board. The
+/// An office over the table of these rows, which has called the built-in action `calls` times, with the first pass of its board. The
 /// calls of the store of these numbers fail: those of the opening have the numbers 0 and 1, and those of the calls follow.
 pub(crate) fn open_office<C: Drop>(
     alloc: Global,

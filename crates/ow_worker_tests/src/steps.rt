@@ -1,4 +1,4 @@
-// Tables of steps, each with what it comes to.
+// Tables of steps, each with its result.
 ghost use Rattle.std.specs.Prelude.{◌<◌};
 
 use crate::worker::{Worker, word_of};
@@ -30,7 +30,7 @@ fn number_text(alloc: Global, number: u64) -> Result<String, Fail> {
     Ok(format!(in alloc; "{number}")?)
 }
 
-// What a put of a container comes to: its slot, generation and second are given.
+// The result of a put of a container, whose slot, generation and second are given.
 fn put_text<R: Runner + Drop>(
     alloc: Global,
     worker: &mut Worker<R>,
@@ -58,7 +58,7 @@ fn ask_text<H: Wait, R: Runner + Drop>(
     text_of(alloc, "asked")
 }
 
-// What a step comes to. A word other than these is the method of a request.
+// The result of a step. A word other than these is the method of a request.
 fn told<H: Wait + Abort, R: Runner + Drop, G: Gate>(
     rt: &H,
     alloc: Global,
@@ -83,7 +83,7 @@ fn told<H: Wait + Abort, R: Runner + Drop, G: Gate>(
     }
 }
 
-// A row as it is, but with what its step comes to.
+// The row with the result that its step has now.
 fn row_text<H: Wait + Abort, R: Runner + Drop, G: Gate>(
     rt: &H,
     alloc: Global,
@@ -97,7 +97,7 @@ fn row_text<H: Wait + Abort, R: Runner + Drop, G: Gate>(
     Ok(format!(in alloc; "{step}: {told}\n")?)
 }
 
-/// A table of steps, of which each row says what its step comes to, as it is when the worker makes these steps.
+/// The table of these steps, where each row has the result that its step has when the worker makes these steps.
 pub(crate) fn played<H: Wait + Abort, R: Runner + Drop, G: Gate>(
     rt: &H,
     alloc: Global,

@@ -81,7 +81,7 @@ fn answered_text(alloc: Global, run: u64, answered: &Answered) -> Result<String,
     }
 }
 
-// What was told, where its event was taken.
+// The text of an event that was accepted.
 fn event_text(alloc: Global, event: &Event) -> Result<String, Fail> {
     match event {
         Event::Begun { run } => Ok(format!(in alloc; "begun {run}")?),

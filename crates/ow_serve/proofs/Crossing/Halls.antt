@@ -13,6 +13,7 @@ use Rattle.ow_hall.below.ow_slots.specs.contracts.slots.Slots as Slots
 use Rattle.ow_hall.below.ow_slots.specs.contracts.states.Slot as Slot
 use Rattle.ow_hall.below.ow_records.specs.contracts.activations.Activation as Activation
 use Rattle.ow_hall.below.ow_records.specs.contracts.frames.Frame as Frame
+use Rattle.ow_floor.specs.contracts.undoable.Undoable as Undoable
 use Rattle.ow_floor.specs.contracts.kept_frames.KeptFrames as KeptFrames
 use Rattle.ow_floor.specs.contracts.kept_slots.KeptSlots as KeptSlots
 use Rattle.ow_floor.specs.contracts.kept_slots.SlotStep as SlotStep
@@ -20,17 +21,16 @@ use Rattle.ow_floor.specs.contracts.lists.Marks as Marks
 use Rattle.ow_floor.specs.contracts.lists.Lists as Lists
 use Rattle.ow_floor.specs.contracts.floor.Floor as Floor
 use Rattle.ow_hall.below.ow_counts.specs.contracts.counts.Counts as Counts
-use Rattle.ow_hall.below.ow_kept.specs.contracts.keeping.Keeping as Keeping
+use Rattle.ow_hall.below.ow_commits.specs.contracts.keeping.Keeping as Keeping
 use Rattle.ow_hall.specs.contracts.book.Book as Book
 use Rattle.ow_hall.specs.contracts.state.HallState as HallState
-use Rattle.ow_floor.specs.contracts.kept.Kept as Kept
 use Rattle.ow_hall.specs.contracts.hall.Hall as Hall
 use Rattle.ow_desk.specs.contracts.desk.Desk as Desk
 use Rattle.ow_desk.specs.contracts.receipts.Receipts as Receipts
 
 module _ (T : RattleType) (s : IsSend T) where
-  kept_send : IsSend (Kept.the_field T).row
-  kept_send = search values depth 50 fits 20000
+  undoable_send : IsSend (Undoable.the_field T).row
+  undoable_send = search values depth 50 fits 20000
 
 tenants_send : IsSend (Tenants.the_field).row
 tenants_send = search values depth 50 fits 20000
@@ -66,7 +66,7 @@ frame_send : IsSend (Frame.the_field).row
 frame_send = search values depth 50 fits 20000
 
 kept_frames_send : IsSend (KeptFrames.the_field).row
-kept_frames_send = search (values, kept_send, frame_send) depth 50 fits 20000
+kept_frames_send = search (values, undoable_send, frame_send) depth 50 fits 20000
 
 slot_send : IsSend (Slot.the_field).row
 slot_send = search values depth 50 fits 20000
@@ -81,7 +81,7 @@ marks_send : IsSend (Marks.the_field).row
 marks_send = search values depth 50 fits 20000
 
 lists_send : IsSend (Lists.the_field).row
-lists_send = search (values, marks_send, kept_send, activation_send, activation_sync, records_send, kept_frames_send, kept_slots_send) depth 50 fits 20000
+lists_send = search (values, marks_send, undoable_send, activation_send, activation_sync, records_send, kept_frames_send, kept_slots_send) depth 50 fits 20000
 
 floor_send : IsSend (Floor.the_field).row
 floor_send = search (values, lists_send) depth 50 fits 20000

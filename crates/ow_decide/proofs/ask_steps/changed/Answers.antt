@@ -1,5 +1,5 @@
 use Rattle.std.proofs.Common.{◌≡◌, IfOk, subst, sym}
-use Rattle.ow_kept.specs.Keeping.{StandsForKept}
+use Rattle.ow_commits.specs.Keeping.{StandsForKept}
 use Rattle.ow_tenant.specs.declared.entries.Holder.{Holder}
 use Rattle.ow_reads.specs.declared.acts.Act.{Act}
 use Rattle.ow_decide.specs.Asking.{change_done}

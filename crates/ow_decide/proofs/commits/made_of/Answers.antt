@@ -1,6 +1,6 @@
 use Rattle.std.proofs.Common.{◌∙◌, ap}
 use Rattle.std.specs.List.{flat_map}
-use Rattle.ow_kept.specs.Commits.{changes_of}
+use Rattle.ow_commits.specs.Commits.{changes_of}
 use Rattle.ow_decide.proofs.FireLaws.{followed}
 use Rattle.ow_decide.proofs.commits.made_of.Goals as goal
 

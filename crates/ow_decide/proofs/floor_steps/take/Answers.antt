@@ -6,7 +6,7 @@ use Rattle.ow_decide.specs.Making.{Makes, telling}
 use Rattle.ow_decide.specs.declared.events.Event.{Event}
 use Rattle.ow_tenant.specs.Table.{Table}
 use Rattle.ow_counts.specs.View.{CountsView}
-use Rattle.ow_kept.specs.Keeping.{KeepingView}
+use Rattle.ow_commits.specs.Keeping.{KeepingView}
 use Rattle.ow_decide.proofs.MadeLaws.{begun_quiet, gone_quiet, lost_quiet}
 use Rattle.ow_decide.proofs.FloorLaws.{taken_makes}
 use Rattle.ow_decide.proofs.floor_steps.take.Goals as goal

@@ -28,3 +28,7 @@ returns-in-Drain-clause-ok c = subst (λ (e : Event). MakesFor c.args.waits.now 
 pub returns-in-Collected-clause-ok : goal.returns-in-Collected-clause-ok
 returns-in-Collected-clause-ok c = subst (λ (e : Event). IfOk c.collect.result (MakesFor c.args.waits.now c.args.tenants.now c.args.tables.now.rows c.args.counts.now c.args.keeping.now c.args.now c.args.floor.now.now c.args.floor.now.now (λ S. decide S e)))
     (sym c.in-Collected.is) (if_ok_map c.collect.result _ _ (λ s h. h c.args.tenants.now c.args.tables.now.rows c.args.counts.now c.args.keeping.now) c.collect.ensures.ok)
+
+pub returns-in-Deployed-clause-ok : goal.returns-in-Deployed-clause-ok
+returns-in-Deployed-clause-ok c = subst (λ (e : Event). IfOk c.deploy.result (MakesFor c.args.waits.now c.args.tenants.now c.args.tables.now.rows c.args.counts.now c.args.keeping.now c.args.now c.args.floor.now.now c.args.floor.now.now (λ S. decide S e)))
+    (sym c.in-Deployed.is) (if_ok_map c.deploy.result _ _ (λ s h S seen waits. h c.args.counts.now S seen) c.deploy.ensures.ok)

@@ -20,8 +20,8 @@ loop-i-preserved c =
     let one = subst (λ (p : OpenPlace). IsAbandonedAt c.args.at p.place c.loop-i.lists.now c.abandon_at.new.lists.now c.loop-i.moves c.abandon_at.new.moves) c.index.ensures c.in_ok-abandon_at.ensures.made in
     record {
       made = abandons_at c.args.at c.args.lists.now.now c.loop-i.lists.now c.abandon_at.new.lists.now c.in_ok-places.places.items c.loop-i.i c.index.result.now c.args.moves.now c.loop-i.moves c.abandon_at.new.moves
-          (omega arith) c.abandon_at.ensures.good one c.loop-i.invariant.made;
-      past = c.abandon_at.ensures.past ∙ c.loop-i.invariant.past;
+          (omega arith) c.abandon_at.ensures.lists_fit one c.loop-i.invariant.made;
+      past = c.abandon_at.ensures.held ∙ c.loop-i.invariant.past;
     }
 
 pub returns-clause-made : goal.returns-clause-made

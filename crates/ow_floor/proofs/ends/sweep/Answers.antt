@@ -7,5 +7,5 @@ loop-i-preserved c =
     record {
       made = sweeps_at c.args.at c.args.lists.now.now c.loop-i.lists.now c.end_late.new.lists.now c.loop-i.i c.args.moves.now c.loop-i.moves c.end_late.new.moves
           (rw (← c.runs-count.ensures) c.loop-i-test.true) c.loop-i.invariant.made c.in_ok-end_late.ensures.made;
-      past = c.end_late.ensures.past ∙ c.loop-i.invariant.past;
+      past = c.end_late.ensures.held ∙ c.loop-i.invariant.past;
     }

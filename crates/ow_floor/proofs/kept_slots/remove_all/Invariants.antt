@@ -1,7 +1,7 @@
 use Rattle.std.proofs.Common.{◌≡◌, ℕ, drop}
 use Rattle.ow_pool.specs.Keeping.{CanAllGo, removed}
 use Rattle.ow_pool.specs.Rules.{IsWithinPool}
-use Rattle.ow_floor.specs.Kept.{past, restored}
+use Rattle.ow_floor.specs.Undoable.{past, restored}
 use Rattle.ow_floor.proofs.kept_slots.remove_all.Given as goal
 
 abbrev pub invariant-loop-i : goal.invariant-loop-i

@@ -1,5 +1,5 @@
 use Rattle.std.proofs.Common.{◌≡◌, length}
-use Rattle.ow_floor.specs.Kept.{restored}
+use Rattle.ow_floor.specs.Undoable.{restored}
 use Rattle.ow_floor.proofs.kept_slots.restore_all.Given as goal
 
 abbrev pub invariant-loop-step : goal.invariant-loop-step

@@ -1,5 +1,5 @@
 use Rattle.std.proofs.Common.{◌≡◌, ◌≤◌, ◌*◌, sum_by, take}
-use Rattle.ow_lifecycle.proofs.Owing.{owed_of}
+use Rattle.ow_slot_laws.proofs.Owing.{owed_of}
 use Rattle.ow_floor.proofs.lists.owed_in.Given as goal
 
 abbrev pub invariant-loop-i : goal.invariant-loop-i

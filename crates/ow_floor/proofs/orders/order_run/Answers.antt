@@ -18,9 +18,9 @@ same_key c =
     let h : record { key = key_of c.requires.spot.item.task } ≡ record { key = c.args.key } = cc in
     sym (ap (λ (x : Head). x.key) h)
 
-pub returns-clause-good : goal.returns-clause-good
-returns-clause-good c =
-    good_run c.args.lists.now.now c.order.new.self.now c.args.spot _ c.args.key c.requires.spot (c.requires.fits.kept c.in-Some.number c.args.at) c.requires.good
+pub returns-clause-lists_fit : goal.returns-clause-lists_fit
+returns-clause-lists_fit c =
+    good_run c.args.lists.now.now c.order.new.self.now c.args.spot _ c.args.key c.requires.spot (c.requires.fits.kept c.in-Some.number c.args.at) c.requires.lists_fit
     (sure c.order.result _ c.order.ensures.now c.if-is_err.ensures.value)
 
 pub returns-clause-made : goal.returns-clause-made

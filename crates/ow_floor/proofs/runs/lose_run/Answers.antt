@@ -12,10 +12,10 @@ lost : (c : goal.After-put_run) → IsLostSo c.args.run c.args.lists.now.now c.p
 lost c =
     let cell : IsCell run_in (is_number c.args.run) c.args.lists.now.now.runs c.in-Some.place = c.in-Some.ensures in
     let here : get_or c.args.lists.now.now.runs c.in-Some.place None ≡ Some c.in-Some-runs.berth = rw (← c.runs.ensures) c.in-Some-runs.is in
-    lost_made c.args.lists.now.now c.free_run.new.lists.now c.put_run.new.self.now c.args.run c.in-Some.place c.in-Some-runs.berth cell here c.free_run.ensures.made c.put_run.ensures.now c.requires.good
+    lost_made c.args.lists.now.now c.free_run.new.lists.now c.put_run.new.self.now c.args.run c.in-Some.place c.in-Some-runs.berth cell here c.free_run.ensures.made c.put_run.ensures.now c.requires.lists_fit
 
-pub returns-clause-good : goal.returns-clause-good
-returns-clause-good c = (lost c).1
+pub returns-clause-lists_fit : goal.returns-clause-lists_fit
+returns-clause-lists_fit c = (lost c).1
 
 pub returns-clause-made : goal.returns-clause-made
 returns-clause-made c = (lost c).0

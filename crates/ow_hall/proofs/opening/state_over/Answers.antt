@@ -8,7 +8,7 @@ use Rattle.ow_floor.specs.Trace.{Opened, Resumed}
 use Rattle.ow_tables.specs.Builtin.{builtin}
 use Rattle.ow_tables.specs.Rows.{resumed}
 use Rattle.ow_entity.specs.declared.rows.Row.{Row}
-use Rattle.ow_kept.specs.Opening.{abandoned}
+use Rattle.ow_commits.specs.Opening.{abandoned}
 use Rattle.ow_tenant.specs.Tenants.{pool_of}
 use Rattle.ow_counts.specs.View.{CountsView, StandsFor}
 use Rattle.ow_hall.proofs.Joined.{ok_of}

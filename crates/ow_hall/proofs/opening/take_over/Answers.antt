@@ -4,9 +4,9 @@ use Rattle.ow_traits.specs.Rows.{AreRows}
 use Rattle.ow_tables.specs.Builtin.{builtin}
 use Rattle.ow_tables.specs.Rows.{resumed}
 use Rattle.ow_keep.specs.Split.{parts_of}
-use Rattle.ow_kept.specs.Keeping.{FollowingView, StandsFollowing}
-use Rattle.ow_kept.specs.Opening.{opened_trace, opening_changes}
-use Rattle.ow_kept.proofs.Resuming.{may_be_resumed, not_builtin}
+use Rattle.ow_commits.specs.Keeping.{FollowingView, StandsFollowing}
+use Rattle.ow_commits.specs.Opening.{opened_trace, opening_changes}
+use Rattle.ow_commits.proofs.Resuming.{may_be_resumed, not_builtin}
 use Rattle.ow_decide.specs.Opening.{abandoned_told}
 use Rattle.ow_decide.specs.declared.events.Event.TheVariants as events
 use Rattle.ow_decide.specs.declared.events.Told.TheVariants as tells

@@ -1,5 +1,5 @@
 use Rattle.std.proofs.Common.{◌≡◌, ◌++◌, drop}
-use Rattle.ow_kept.specs.Opening.{abandoned}
+use Rattle.ow_commits.specs.Opening.{abandoned}
 use Rattle.ow_hall.proofs.opening.with_abandoned.Given as goal
 
 abbrev pub invariant-loop-activation : goal.invariant-loop-activation

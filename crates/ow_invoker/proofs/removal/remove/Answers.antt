@@ -20,6 +20,6 @@ loop-container-preserved g c =
           (removed_more g.P.Keeper.telling c.args.hall.now c.args.at c.loop-container.hall c.clear-step.new.hall c.args.shelf.now c.loop-container.shelf c.clear-step.new.shelf (take i items)
           (get_or items i none) c.loop-container.steps.items c.note.new.steps.items c.clear-step.result inv.removed c.clear-step.ensures.tells c.clear-step.ensures.shelf c.note.ensures.steps);
       idles = idles_trans inv.idles c.clear-step.ensures.runner;
-      few = let a = inv.few in let b = c.note.ensures.few in omega arith;
+      few = let a = inv.few in let b = c.note.ensures.bounded in omega arith;
       room = let a = inv.room in let b = c.note.ensures.room in omega arith;
     }

@@ -1,6 +1,6 @@
 use Rattle.ow_traits.proofs.Taking.{took_front}
 use Rattle.ow_hall.proofs.Beginnings.{keeps_each, keeps_limits, keeps_steps}
-use Rattle.ow_words.specs.Status.{err_text}
+use Rattle.ow_command_line.specs.Status.{err_text}
 use Rattle.ow_day.proofs.Legal.{legal_books}
 use Rattle.ow_office.proofs.Endings.{handed_back, took_whole}
 use Rattle.ow_office.proofs.commands.office.Goals as goal
@@ -13,6 +13,12 @@ returns-clause-limits g c = λ t B legal. keeps_limits t B
 
 pub returns-clause-steps : goal.returns-clause-steps
 returns-clause-steps g c = λ t B legal. keeps_steps t B
+
+pub returns-clause-reads : goal.returns-clause-reads
+returns-clause-reads g c = c.legal_books_isolate_reads.ensures
+
+pub returns-clause-alike : goal.returns-clause-alike
+returns-clause-alike g c = c.logs_answer_alike.ensures
 
 pub returns-clause-legal : goal.returns-clause-legal
 returns-clause-legal g c = legal_books

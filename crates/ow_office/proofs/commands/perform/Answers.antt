@@ -1,7 +1,7 @@
-use Rattle.std.proofs.Common.{ℕ, List, Err, ap, inr, map, refl, string_bytes, sym, ◌∙◌}
+use Rattle.std.proofs.Common.{Err, ap, inr, map, refl, string_bytes, sym, ◌∙◌}
 use Rattle.std.proofs.lemmas.Bool.{false≢true}
 use Rattle.ow_office.specs.declared.words.TheConstants.{HELP, VERSION}
-use Rattle.ow_office.specs.Words.{asked_by, names_table, opens_store, reads_input, writes_output}
+use Rattle.ow_office.specs.Words.{opens_store, reads_input, writes_output}
 use Rattle.ow_office.proofs.Asking.{asks_none, command_is, day_not_bad, day_not_passed, no_sink, no_source, no_store, serve_not_bad, serve_not_write, text_not_passed, unread_bad, unread_refused, unread_told, usage_not_bad, usage_not_passed, usage_not_read, usage_not_table, words_not_passed}
 use Rattle.ow_office.proofs.commands.perform.Goals as goal
 
@@ -105,6 +105,30 @@ returns-in-Ok-Drill-clause-unbegun g c = λ fault. (refl, c.do_drill.ensures.unb
 
 pub returns-in-Ok-Drill-clause-passed : goal.returns-in-Ok-Drill-clause-passed
 returns-in-Ok-Drill-clause-passed g c = λ served t is. absurd (day_not_passed c.do_drill.result.0 c.do_drill.ensures.ends served t is)
+
+pub returns-in-Ok-Deploy-clause-told : goal.returns-in-Ok-Deploy-clause-told
+returns-in-Ok-Deploy-clause-told g c = let asked = rw c.in-Ok-Deploy.field-0-is at c.in-Ok-Deploy.ensures.asked in rw asked c.do_deploy.ensures.told
+
+pub returns-in-Ok-Deploy-clause-unnamed : goal.returns-in-Ok-Deploy-clause-unnamed
+returns-in-Ok-Deploy-clause-unnamed g c = let asked = rw c.in-Ok-Deploy.field-0-is at c.in-Ok-Deploy.ensures.asked in rw asked c.do_deploy.ensures.unnamed
+
+pub returns-in-Ok-Deploy-clause-untouched : goal.returns-in-Ok-Deploy-clause-untouched
+returns-in-Ok-Deploy-clause-untouched g c = let asked = rw c.in-Ok-Deploy.field-0-is at c.in-Ok-Deploy.ensures.asked in λ not. absurd (false≢true (sym not ∙ ap opens_store asked))
+
+pub returns-in-Ok-Deploy-clause-idle : goal.returns-in-Ok-Deploy-clause-idle
+returns-in-Ok-Deploy-clause-idle g c = let asked = rw c.in-Ok-Deploy.field-0-is at c.in-Ok-Deploy.ensures.asked in λ not. absurd (false≢true (sym not ∙ ap reads_input asked))
+
+pub returns-in-Ok-Deploy-clause-silent : goal.returns-in-Ok-Deploy-clause-silent
+returns-in-Ok-Deploy-clause-silent g c = let asked = rw c.in-Ok-Deploy.field-0-is at c.in-Ok-Deploy.ensures.asked in λ not. absurd (false≢true (sym not ∙ ap writes_output asked))
+
+pub returns-in-Ok-Deploy-clause-refused : goal.returns-in-Ok-Deploy-clause-refused
+returns-in-Ok-Deploy-clause-refused g c = let asked = rw c.in-Ok-Deploy.field-0-is at c.in-Ok-Deploy.ensures.asked in λ none. absurd (asks_none _ _ asked none)
+
+pub returns-in-Ok-Deploy-clause-words : goal.returns-in-Ok-Deploy-clause-words
+returns-in-Ok-Deploy-clause-words g c = λ bad. absurd (day_not_bad c.do_deploy.result.0 c.do_deploy.ensures.ends bad)
+
+pub returns-in-Ok-Deploy-clause-passed : goal.returns-in-Ok-Deploy-clause-passed
+returns-in-Ok-Deploy-clause-passed g c = λ served t is. absurd (day_not_passed c.do_deploy.result.0 c.do_deploy.ensures.ends served t is)
 
 pub returns-in-Ok-Help-clause-told : goal.returns-in-Ok-Help-clause-told
 returns-in-Ok-Help-clause-told g c = let asked = rw c.in-Ok-Help.field-0-is at c.in-Ok-Help.ensures.asked in rw asked (c.write_text.ensures.told _ _ _)

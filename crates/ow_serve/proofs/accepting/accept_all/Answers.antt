@@ -32,7 +32,7 @@ pub loop-preserved : goal.loop-preserved
 loop-preserved g c =
     let put = c.push_reserved.ensures.items ∙ ap (λ z. z ++ c.in-Some.seat ∷ []) c.reserve.ensures.items in
     let before = c.loop.invariant in
-    let H = c.args.house.now in
+    let H = c.args.service.now in
     let T = g.C.Clock.tells H.clock.value in
     let duty = c.in-Ok.ensures.duty in
     let begun = c.in-Ok.duty in

@@ -8,9 +8,9 @@ use Rattle.ow_serve.proofs.beginning.begin_workers.Given as goal
 
 abbrev pub invariant-loop-runner : goal.invariant-loop-runner
 invariant-loop-runner g l = record {
-  notes : l.house.notes.notes ≡ l.fn.house.notes.notes;
-  clock : (l.house.clock ≡ l.fn.house.clock) × (l.house.opened ≡ l.fn.house.opened);
-  begun : Midway (λ t w. (t.work ≡ w) × (t.notes.notes ≡ no_notes) × (outset (g.C.Clock.tells t.clock.value) t.opened (view_of t.pass) ≡ fresh_outset (g.C.Clock.tells l.fn.house.clock.value) l.fn.house.opened))
+  notes : l.service.notes.notes ≡ l.fn.service.notes.notes;
+  clock : (l.service.clock ≡ l.fn.service.clock) × (l.service.opened ≡ l.fn.service.opened);
+  begun : Midway (λ t w. (t.work ≡ w) × (t.notes.notes ≡ no_notes) × (outset (g.C.Clock.tells t.clock.value) t.opened (view_of t.pass) ≡ fresh_outset (g.C.Clock.tells l.fn.service.clock.value) l.fn.service.opened))
       (into_iter_items l.initial.runner-iterator) (into_iter_items l.runner-iterator) l.fn.crew.tasks l.crew.tasks;
   left : into_iter_len l.runner-iterator ≡ length (into_iter_items l.runner-iterator);
 }

@@ -13,7 +13,7 @@ loop-preserved g c =
     let many = c.in-Ok-StillOpen.field-0-0 in
     let told = rw c.in-Ok-StillOpen.field-0-is at c.in-Ok-StillOpen.ensures.called in
     record {
-      stays = goes_on was.stays (many, subst (λ a. DrainsOnce (g.C.Clock.tells a.value) (drains.StillOpen many) c.loop.house.notes.notes c.drain_once.new.house.notes.notes) was.clock told);
+      stays = goes_on was.stays (many, subst (λ a. DrainsOnce (g.C.Clock.tells a.value) (drains.StillOpen many) c.loop.service.notes.notes c.drain_once.new.service.notes.notes) was.clock told);
       first = λ first begins. c.in-Ok-StillOpen.ensures.first first (was.first first begins);
       clock = c.in-Ok-StillOpen.ensures.clock ∙ was.clock;
     }
@@ -24,10 +24,10 @@ returns-in-Ok-Drained-clause-drained g c =
     let all = c.in-Ok-Drained.field-0-0 in
     let told = rw c.in-Ok-Drained.field-0-is at c.in-Ok-Drained.ensures.called in
     record {
-      before = c.loop.house.notes.notes;
+      before = c.loop.service.notes.notes;
       stays = was.stays;
       recorded = all;
-      drained = subst (λ a. DrainsOnce (g.C.Clock.tells a.value) (drains.Drained all) c.loop.house.notes.notes c.drain_once.new.house.notes.notes) was.clock told;
+      drained = subst (λ a. DrainsOnce (g.C.Clock.tells a.value) (drains.Drained all) c.loop.service.notes.notes c.drain_once.new.service.notes.notes) was.clock told;
     }
 
 pub returns-in-Ok-Drained-clause-first : goal.returns-in-Ok-Drained-clause-first

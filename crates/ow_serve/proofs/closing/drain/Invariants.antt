@@ -5,7 +5,7 @@ use Rattle.ow_serve.proofs.closing.drain.Given as goal
 
 abbrev pub invariant-loop : goal.invariant-loop
 invariant-loop g l = record {
-  stays : Leads (StaysOpen (g.C.Clock.tells l.fn.house.clock.value)) l.fn.house.notes.notes l.house.notes.notes;
-  first : KeepsFirst l.fn.house.notes.notes l.house.notes.notes;
-  clock : l.house.clock ≡ l.fn.house.clock;
+  stays : Leads (StaysOpen (g.C.Clock.tells l.fn.service.clock.value)) l.fn.service.notes.notes l.service.notes.notes;
+  first : KeepsFirst l.fn.service.notes.notes l.service.notes.notes;
+  clock : l.service.clock ≡ l.fn.service.clock;
 }

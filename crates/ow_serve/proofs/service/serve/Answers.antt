@@ -8,7 +8,7 @@ new-requires-clause-one g c = one_entry c.args.tenants c.in-Ok.ensures.opens.loa
 
 pub returns-in-Ok-new-clause-serves : goal.returns-in-Ok-new-clause-serves
 returns-in-Ok-new-clause-serves g c =
-    let h = c.in-Ok-new.house in
+    let h = c.in-Ok-new.service in
     let first = c.in-Ok-new.ensures.first in
     let clock = c.in-Ok-new.ensures.clock in
     opened_serves g.K.Link.left g.K.Link.taken g.R.Runner.gives g.R.Runner.tally c.args.runners.items (g.C.Clock.tells h.clock.value) (g.C.Clock.tells c.args.clock.value) h.opened c.now-opened.result h.notes.notes first.0
@@ -26,7 +26,7 @@ returns-clause-allowed g c = over_none _ c.in-Err.refusal.why _ (c.nothing-in-Er
 
 pub returns-in-Ok-new-clause-opens : goal.returns-in-Ok-new-clause-opens
 returns-in-Ok-new-clause-opens g c =
-    opens_so _ _ c.args.tenants c.in-Ok.ensures.opens.loaded c.now-opened.result _ c.in-Ok-new.house.notes.notes c.run.result.end c.run.result.book (rw c.deref.ensures at c.now-opened.ensures) (ap (λ l. l.entries) c.in-Ok.ensures.opens.ledger)
+    opens_so _ _ c.args.tenants c.in-Ok.ensures.opens.loaded c.now-opened.result _ c.in-Ok-new.service.notes.notes c.run.result.end c.run.result.book (rw c.deref.ensures at c.now-opened.ensures) (ap (λ l. l.entries) c.in-Ok.ensures.opens.ledger)
     c.in-Ok.ensures.opens.told c.in-Ok.ensures.opens.allowed c.in-Ok-new.ensures.first c.run.ensures.begins
 
 pub returns-clause-opens : goal.returns-clause-opens

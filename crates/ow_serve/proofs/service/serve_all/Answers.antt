@@ -14,7 +14,7 @@ use Rattle.ow_serve.proofs.service.serve_all.Goals as goal
 
 pub returns-in-Ok-clause-serves : goal.returns-in-Ok-clause-serves
 returns-in-Ok-clause-serves g c =
-    let H = c.args.house in
+    let H = c.args.service in
     let T = g.C.Clock.tells H.clock.value in
     let begun = c.begin_all.ensures.clock in
     let behind = c.accept_all-seats.ensures.clock in
@@ -39,7 +39,7 @@ returns-in-Ok-clause-begins g c =
 
 pub returns-in-Err-clause-begins : goal.returns-in-Err-clause-begins
 returns-in-Err-clause-begins g c =
-    begins_not c.args.house.notes.notes _ _ (⊎_elim (λ w. inl (c.nothing.ensures.end ∙ w)) (λ w. inr (c.nothing.ensures.end ∙ w.0)) c.in-Err.ensures.worker)
+    begins_not c.args.service.notes.notes _ _ (⊎_elim (λ w. inl (c.nothing.ensures.end ∙ w)) (λ w. inr (c.nothing.ensures.end ∙ w.0)) c.in-Err.ensures.worker)
 
 pub started-first-requires-send-T : goal.started-first-requires-send-T
 started-first-requires-send-T g c κs within = search (sendable, duty_send, c.type_bounds)

@@ -13,7 +13,7 @@ loop-preserved g c =
     record {
       pass = c.reap.ensures.pass.0;
       ran = c.reap.ensures.runner.ran ∙ was.ran;
-      reaps = goes_on was.reaps (reaps_so (g.C.Clock.tells c.args.clock.now) c.args.opened c.loop.notes.notes c.reap.new.notes.notes (view_of c.loop.pass) (view_of c.reap.new.pass) (size c.args.place.now.board) c.reap.result c.reap.ensures.ok c.reap.ensures.err);
+      reaps = goes_on was.reaps (reaps_so (g.C.Clock.tells c.args.clock.now) c.args.opened c.loop.notes.notes c.reap.new.notes.notes (view_of c.loop.pass) (view_of c.reap.new.pass) (size c.args.shared.now.board) c.reap.result c.reap.ensures.ok c.reap.ensures.err);
     }
 
 pub returns-then-is_over-clause-reapings : goal.returns-then-is_over-clause-reapings

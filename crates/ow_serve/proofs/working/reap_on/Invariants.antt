@@ -5,7 +5,7 @@ use Rattle.ow_serve.proofs.working.reap_on.Given as goal
 
 abbrev pub invariant-loop : goal.invariant-loop
 invariant-loop g l = record {
-  pass : IsPassOf l.place.board l.pass;
+  pass : IsPassOf l.shared.board l.pass;
   ran : RanNone (g.R.Runner.tally l.fn.runner) (g.R.Runner.tally l.runner);
   reaps : Leads (ReapsOnce (g.C.Clock.tells l.fn.clock) l.fn.opened) (l.fn.notes.notes, view_of l.fn.pass) (l.notes.notes, view_of l.pass);
 }

@@ -25,6 +25,6 @@ returns-clause-recorded c =
 
 pub invariant_of-self-2 : goal.invariant_of-self-2
 invariant_of-self-2 c = (
-  rw c.in_ok-reopen.ensures.now (good_reopened c.abandon.new.lists.now c.args.at c.abandon.ensures.good),
-  past_good c.self.inside.lists.past c.reopen.new.self.past (c.reopen.ensures.past ∙ c.abandon.ensures.past) c.self.invariant.1,
+  rw c.in_ok-reopen.ensures.now (good_reopened c.abandon.new.lists.now c.args.at c.abandon.ensures.lists_fit),
+  past_good c.self.inside.lists.past c.reopen.new.self.past (c.reopen.ensures.held ∙ c.abandon.ensures.held) c.self.invariant.1,
 )

@@ -9,8 +9,8 @@ use Rattle.ow_floor.proofs.floor.Floor.accept_into.Goals as goal
 
 pub invariant_of-self-2 : goal.invariant_of-self-2
 invariant_of-self-2 c = (
-  rw c.in_ok-accept.ensures.now (good_accepted c.frame_accepted.new.self.now c.in_ok-task.task (c.frame_accepted.ensures.good c.self.invariant.0)),
-  past_good c.self.inside.lists.past c.accept.new.self.past (c.accept.ensures.past ∙ c.frame_accepted.ensures.past) c.self.invariant.1,
+  rw c.in_ok-accept.ensures.now (good_accepted c.frame_accepted.new.self.now c.in_ok-task.task (c.frame_accepted.ensures.lists_fit c.self.invariant.0)),
+  past_good c.self.inside.lists.past c.accept.new.self.past (c.accept.ensures.held ∙ c.frame_accepted.ensures.held) c.self.invariant.1,
 )
 
 pub returns-clause-ok : goal.returns-clause-ok

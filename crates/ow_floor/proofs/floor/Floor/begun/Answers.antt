@@ -1,5 +1,5 @@
 use Rattle.std.proofs.Common.{refl, subst}
-use Rattle.ow_lifecycle.specs.Life as lives
+use Rattle.ow_slot_laws.specs.Life as lives
 use Rattle.ow_floor.specs.View.{FloorView}
 use Rattle.ow_floor.specs.Laws.{Grows}
 use Rattle.ow_floor.specs.Calls.{begun_items}
@@ -7,8 +7,8 @@ use Rattle.ow_floor.specs.Store.{show}
 use Rattle.ow_floor.proofs.Growing.{begun_done, good_done}
 use Rattle.ow_floor.proofs.floor.Floor.begun.Goals as goal
 
-pub begin_run-requires-clause-good : goal.begin_run-requires-clause-good
-begin_run-requires-clause-good c =
+pub begin_run-requires-clause-lists_fit : goal.begin_run-requires-clause-lists_fit
+begin_run-requires-clause-lists_fit c =
     good_done c.self.inside.lists.now c.begin.new.self.now c.args.at (lives.Begun c.args.run c.args.at) c.begin.result refl c.begin.ensures.now c.if-is_err.ensures.value c.self.invariant.0
 
 pub returns-clause-grows : goal.returns-clause-grows

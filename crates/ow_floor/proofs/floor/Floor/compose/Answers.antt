@@ -10,7 +10,7 @@ use Rattle.ow_floor.proofs.Results.{on_more}
 use Rattle.ow_floor.proofs.floor.Floor.compose.Goals as goal
 
 pub invariant_of-self : goal.invariant_of-self
-invariant_of-self c = (c.end_composite.ensures.good, past_good c.self.inside.lists.past c.end_composite.new.lists.past c.end_composite.ensures.past c.self.invariant.1)
+invariant_of-self c = (c.end_composite.ensures.lists_fit, past_good c.self.inside.lists.past c.end_composite.new.lists.past c.end_composite.ensures.held c.self.invariant.1)
 
 pub returns-clause-ok : goal.returns-clause-ok
 returns-clause-ok c =

@@ -11,7 +11,7 @@ use Rattle.ow_floor.proofs.floor.Floor.draw.Goals as goal
 pub invariant_of-self-2 : goal.invariant_of-self-2
 invariant_of-self-2 c = (
   rw c.in_ok-draw.ensures.now (good_drawn c.self.inside.lists.now c.args.at c.args.id c.self.invariant.0),
-  past_good c.self.inside.lists.past c.draw.new.self.past c.draw.ensures.past c.self.invariant.1,
+  past_good c.self.inside.lists.past c.draw.new.self.past c.draw.ensures.held c.self.invariant.1,
 )
 
 pub returns-clause-ok : goal.returns-clause-ok

@@ -12,7 +12,7 @@ use Rattle.ow_floor.proofs.floor.Floor.fire.Goals as goal
 pub invariant_of-self-2 : goal.invariant_of-self-2
 invariant_of-self-2 c = (
   rw (c.in_ok-fire.ensures.now, c.in_ok-ready.ensures) (good_fired c.self.inside.lists.now c.args.fired c.self.invariant.0),
-  past_good c.self.inside.lists.past c.fire.new.self.past c.fire.ensures.past c.self.invariant.1,
+  past_good c.self.inside.lists.past c.fire.new.self.past c.fire.ensures.held c.self.invariant.1,
 )
 
 pub returns-clause-ok : goal.returns-clause-ok

@@ -1,5 +1,5 @@
 use Rattle.std.proofs.Common.{refl, subst}
-use Rattle.ow_lifecycle.specs.Life as lives
+use Rattle.ow_slot_laws.specs.Life as lives
 use Rattle.ow_floor.specs.View.{FloorView}
 use Rattle.ow_floor.specs.Laws.{Grows}
 use Rattle.ow_floor.specs.Calls.{gone_items}
@@ -10,7 +10,7 @@ use Rattle.ow_floor.proofs.floor.Floor.gone.Goals as goal
 pub invariant_of-self-2 : goal.invariant_of-self-2
 invariant_of-self-2 c = (
   good_done c.self.inside.lists.now c.go.new.self.now c.args.at (lives.Gone c.args.slot c.args.generation) c.go.result refl c.go.ensures.now c.if-is_err.ensures.value c.self.invariant.0,
-  rw c.go.ensures.past tt,
+  rw c.go.ensures.held tt,
 )
 
 pub returns-clause-grows : goal.returns-clause-grows

@@ -1,5 +1,5 @@
 use Rattle.std.proofs.Common.{refl, subst}
-use Rattle.ow_lifecycle.specs.Life as lives
+use Rattle.ow_slot_laws.specs.Life as lives
 use Rattle.ow_floor.specs.View.{FloorView}
 use Rattle.ow_floor.specs.Laws.{Grows}
 use Rattle.ow_floor.specs.Calls.{lost_items}
@@ -7,8 +7,8 @@ use Rattle.ow_floor.specs.Store.{show}
 use Rattle.ow_floor.proofs.Growing.{lost_done, good_done}
 use Rattle.ow_floor.proofs.floor.Floor.lost.Goals as goal
 
-pub lose_run-requires-clause-good : goal.lose_run-requires-clause-good
-lose_run-requires-clause-good c =
+pub lose_run-requires-clause-lists_fit : goal.lose_run-requires-clause-lists_fit
+lose_run-requires-clause-lists_fit c =
     good_done c.self.inside.lists.now c.lose.new.self.now c.args.at (lives.Lost c.args.run) c.lose.result refl c.lose.ensures.now c.if-is_err.ensures.value c.self.invariant.0
 
 pub returns-clause-grows : goal.returns-clause-grows

@@ -11,7 +11,7 @@ use Rattle.ow_floor.proofs.Wanting.{wanted_told}
 use Rattle.ow_floor.proofs.floor.Floor.next.Goals as goal
 
 pub invariant_of-self : goal.invariant_of-self
-invariant_of-self c = (c.next_order.ensures.good, past_good c.self.inside.lists.past c.next_order.new.lists.past c.next_order.ensures.past c.self.invariant.1)
+invariant_of-self c = (c.next_order.ensures.lists_fit, past_good c.self.inside.lists.past c.next_order.new.lists.past c.next_order.ensures.held c.self.invariant.1)
 
 pub returns-clause-told : goal.returns-clause-told
 returns-clause-told c =

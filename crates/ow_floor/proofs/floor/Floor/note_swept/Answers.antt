@@ -10,7 +10,7 @@ use Rattle.ow_floor.proofs.floor.Floor.note_swept.Goals as goal
 pub invariant_of-self : goal.invariant_of-self
 invariant_of-self c = (
   rw c.note_moment.ensures.now (good_marked c.self.inside.lists.now c.args.at c.self.invariant.0).0,
-  past_good c.self.inside.lists.past c.note_moment.new.self.past c.note_moment.ensures.past c.self.invariant.1,
+  past_good c.self.inside.lists.past c.note_moment.new.self.past c.note_moment.ensures.held c.self.invariant.1,
 )
 
 pub returns-clause-ok : goal.returns-clause-ok

@@ -10,7 +10,7 @@ use Rattle.ow_floor.proofs.Results.{if_more, if_on}
 use Rattle.ow_floor.proofs.floor.Floor.overrun.Goals as goal
 
 pub invariant_of-self : goal.invariant_of-self
-invariant_of-self c = (c.end_first_late.ensures.good, past_good c.self.inside.lists.past c.end_first_late.new.lists.past c.end_first_late.ensures.past c.self.invariant.1)
+invariant_of-self c = (c.end_first_late.ensures.lists_fit, past_good c.self.inside.lists.past c.end_first_late.new.lists.past c.end_first_late.ensures.held c.self.invariant.1)
 
 pub returns-clause-late : goal.returns-clause-late
 returns-clause-late c =

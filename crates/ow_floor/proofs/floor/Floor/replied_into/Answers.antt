@@ -15,7 +15,7 @@ invariant_of-self-2 c =
     let makes = made_replied c.self.inside.lists.now c.end_run.new.lists.now c.answer.new.self.now c.args.at c.args.run c.in-Some-run_place.place c.args.reply.now c.args.moves.now c.end_run.new.moves slot.0
     c.in-Some-runs.berth cell slot.1 here c.in_ok-end_run.ensures.made
     (subst (λ b. c.answer.new.self.now ≡ answered_in c.args.at c.args.run b c.in-Some-run_place.place c.end_run.new.lists.now) c.leaves_alive.ensures c.in_ok-answer.ensures.now) in
-    (makes.0.1, past_good c.self.inside.lists.past c.answer.new.self.past (c.answer.ensures.past ∙ c.end_run.ensures.past) c.self.invariant.1)
+    (makes.0.1, past_good c.self.inside.lists.past c.answer.new.self.past (c.answer.ensures.held ∙ c.end_run.ensures.held) c.self.invariant.1)
 
 pub returns-clause-told : goal.returns-clause-told
 returns-clause-told c =

@@ -1,6 +1,6 @@
 use Rattle.std.proofs.Common.{◌≡◌, subst}
 use Rattle.std.specs.Prelude.{OnErr}
-use Rattle.ow_floor.specs.Kept.{SlotsView}
+use Rattle.ow_floor.specs.Undoable.{SlotsView}
 use Rattle.ow_floor.proofs.Refusing.{kept_gone}
 use Rattle.ow_floor.proofs.kept_slots.KeptSlots.gone.Goals as goal
 

@@ -1,7 +1,7 @@
 use Rattle.std.proofs.Common.{◌≡◌, subst}
 use Rattle.std.specs.Prelude.{OnErr}
 use Rattle.ow_slots.specs.State.{holds, lost_state, recorded_of, with_state}
-use Rattle.ow_floor.specs.Kept.{SlotsView}
+use Rattle.ow_floor.specs.Undoable.{SlotsView}
 use Rattle.ow_floor.proofs.Refusing.{kept_first}
 use Rattle.ow_floor.proofs.kept_slots.KeptSlots.lost.Goals as goal
 

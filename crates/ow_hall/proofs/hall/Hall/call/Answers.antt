@@ -16,7 +16,7 @@ use Rattle.ow_hall.specs.History.{counted, seen, sight}
 use Rattle.ow_hall.proofs.KeepLaws.{stays_same}
 use Rattle.ow_hall.proofs.hall.Hall.call.Goals as goal
 
--- a call is told as one
+-- the answer to a call of the office is a `Called`
 call_told : (S : Sight) (p : Result Plan Reason) → (x : Called) × ((called_decision S p).told ≡ told.Called x)
 call_told S (Ok plan) = (called.Happened (happened (plan_items S plan)), refl)
 call_told S (Err reason) = (called.Refused reason, refl)

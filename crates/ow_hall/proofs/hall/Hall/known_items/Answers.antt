@@ -1,7 +1,7 @@
 use Rattle.std.proofs.Common.{subst}
 use Rattle.std.specs.List.{AllByRecursion}
 use Rattle.ow_keep.specs.Known.{IsItem}
-use Rattle.ow_kept.specs.Kept.{kept_items}
+use Rattle.ow_commits.specs.Kept.{kept_items}
 use Rattle.ow_hall.specs.Comes.{HallView}
 use Rattle.ow_hall.specs.History.{seen}
 use Rattle.ow_hall.proofs.hall.Hall.known_items.Goals as goal

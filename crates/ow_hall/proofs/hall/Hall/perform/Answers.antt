@@ -1,7 +1,7 @@
 use Rattle.std.proofs.Common.{◌≡◌, ◌∙◌, ◌++◌, ◌≤◌, ℕ, Bool, refl, sym, ap, subst}
 use Rattle.ow_counts.specs.View.{CountsView, HasRoomForMoves, StandsFor, notes_of}
 use Rattle.ow_decide.specs.Decision.{all_changed, commits}
-use Rattle.ow_kept.specs.Keeping.{KeepingView}
+use Rattle.ow_commits.specs.Keeping.{KeepingView}
 use Rattle.ow_floor.specs.Owed.{owed}
 use Rattle.ow_floor.specs.View.{FloorView}
 use Rattle.ow_decide.specs.declared.step.Now.{Now}
@@ -56,12 +56,12 @@ invariant_of-self-2 g c =
     let floor = ap (λ (f : FloorView). f.now) (c.follow.ensures.floor ∙ c.note_moves.ensures.floor) ∙ made in
     let rows = c.follow.ensures.rest.0 ∙ (c.note_moves.ensures.rest.0 ∙ (c.apply.ensures.rows ∙ ap (all_changed (changes_of step.change)) (c.settle-2.ensures.rest.0 ∙ c.in-Ok.ensures.rest.0))) in
     let waits = c.follow.ensures.rest.1 ∙ (c.note_moves.ensures.rest.1 ∙ (c.apply.ensures.waits ∙ ap (waits_after step.waits) (c.settle-2.ensures.rest.1 ∙ c.in-Ok.ensures.rest.1))) in
-    let noted_so = noted t L old mid put c.note_moves.new.self now event step c.self.invariant.0 c.requires.later late done c.in-Ok.ensures.counts
+    let noted_so = noted t L old mid put c.note_moves.new.self now event step c.self.invariant.0 c.requires.unopened late done c.in-Ok.ensures.counts
     (c.apply.ensures.counts ∙ c.settle-2.ensures.counts) c.note_moves.ensures.counts in
     let counts = subst (λ (v : CountsView). StandsFor v (notes_of T)) (sym c.follow.ensures.counts) noted_so in
     let kept : new.keeping ≡ kept_with step.commit old.keeping = c.follow.ensures.keeping
     ∙ ap (λ (v : KeepingView). kept_with step.commit v) (c.note_moves.ensures.keeping ∙ (c.apply.ensures.keeping ∙ (c.settle-2.ensures.keeping ∙ c.in-Ok.ensures.keeping))) in
-    let both = answers t L old new mid.floor.now at event step c.self.invariant.0 late most c.requires.later free done floor rows waits counts kept in
+    let both = answers t L old new mid.floor.now at event step c.self.invariant.0 late most c.requires.unopened c.requires.given free done floor rows waits counts kept in
     let post = c.post.ensures.ledger ∙ (ap (λ (l : Ledger). posted l at event c.in-Ok-prepare.copied) c.in-Ok-prepare.ensures.ledger
     ∙ ap (posted L at event) c.in-Ok-prepare.ensures.told) in
     let used = used_for L c.prepare.new.book.ledger c.prepare.new.book.room c.post.new.self.room step.told c.in-Ok-prepare.copied
@@ -71,7 +71,7 @@ invariant_of-self-2 g c =
     let S = sight t (seen t L.entries) (counted L.entries) at in
     let store = committed g.P.Keeper.telling (changes_in step.commit) (commits (decision t L.entries at event)) c.self.inside.store c.commit.new.store
     (step_commits step.commit (decision t L.entries at event) S done.0.commit) c.in_default-commit.ensures in
-    let holds = held_posted (g.P.Keeper.telling c.self.inside.store).rows (g.P.Keeper.telling c.commit.new.store).rows t L old at event step.told c.requires.later c.self.invariant.0
+    let holds = held_posted (g.P.Keeper.telling c.self.inside.store).rows (g.P.Keeper.telling c.commit.new.store).rows t L old at event step.told c.requires.unopened c.self.invariant.0
     both.2 both.0 (held g.P.Keeper.telling (commits (decision t L.entries at event)) c.self.inside.store c.commit.new.store store) c.self.invariant.2 in (
       subst (λ (l : Ledger). Keeps new t l) (sym post) both.1,
       subst (λ (l : Ledger). HasRoom (seen t l.entries).trace l c.post.new.self.room) (sym post) room,

@@ -3,8 +3,8 @@ use Rattle.std.specs.List.{AllByRecursion}
 use Rattle.ow_floor.specs.Laws.{Stands}
 use Rattle.ow_floor.specs.Trace.{Trace}
 use Rattle.ow_keep.specs.Known.{IsItem, IsKnownEntity}
-use Rattle.ow_kept.specs.Kept.{kept_items}
-use Rattle.ow_kept.proofs.Knowing.{kept_known}
+use Rattle.ow_commits.specs.Kept.{kept_items}
+use Rattle.ow_commits.proofs.Knowing.{kept_known}
 use Rattle.ow_hall.specs.State.{StateView}
 use Rattle.ow_hall.proofs.state.HallState.known_items.Goals as goal
 

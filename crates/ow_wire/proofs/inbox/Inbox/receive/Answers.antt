@@ -50,5 +50,5 @@ loop-preserved g c =
       now.2 ∙ ap (λ z. z ++ now.0) (c.in-Err-CutShort.ensures.0 ∙ before.2) ∙ append_assoc c.args.self.now before.0 now.0,
       needs_piece _ _ before.0 now.0 before.2 cut now.3,
       c.in-More.ensures.taken ∙ before.4,
-      (let later = c.in-More.ensures.later in let first = before.5 in omega (arith, later, first)),
+      (let later = c.in-More.ensures.faults_grow in let first = before.5 in omega (arith, later, first)),
     )

@@ -1,0 +1,22 @@
+#![tactic(auto)]
+
+//! What of a floor and of rows is kept, and what each change of them commits.
+mod acceptance;
+mod ends;
+mod following;
+mod gathered;
+mod keeping;
+mod laws;
+mod open_bytes;
+mod openings;
+mod row_changes;
+mod table_rows;
+
+pub use following::Following;
+pub use keeping::Keeping;
+pub use laws::{
+    changes_of_rows_are_kept, items_without_moves_are_kept, kept_rows_may_be_resumed,
+    moves_are_kept, openings_are_kept, rows_of_activations_are_shallow, what_is_kept_is_allowed,
+};
+pub use open_bytes::OpenBytes;
+pub use row_changes::RowChanges;

@@ -1,0 +1,4 @@
+pub mod ValueLaws
+pub mod DraftLaws
+pub mod ManifestLaws
+pub mod EntryLaws

@@ -1,0 +1,5 @@
+pub mod Refusal
+pub mod Values
+pub mod Entries
+pub mod EntryView
+pub mod Manifest

@@ -1,6 +1,0 @@
-pub mod Sorted
-pub mod Bytes
-pub mod Lists
-pub mod Item
-pub mod Laws
-pub mod Tokens

@@ -1,5 +1,0 @@
-use Rattle.ow_kept.proofs.Quiet.{quiet_stands}
-use Rattle.ow_kept.proofs.laws.items_without_moves_are_kept.Goals as goal
-
-pub returns : goal.returns
-returns c = quiet_stands

@@ -1,5 +1,0 @@
-use Rattle.ow_kept.proofs.Opening.{openings_kept}
-use Rattle.ow_kept.proofs.laws.openings_are_kept.Goals as goal
-
-pub returns : goal.returns
-returns c = openings_kept

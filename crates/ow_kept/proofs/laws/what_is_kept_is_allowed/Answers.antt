@@ -1,5 +1,0 @@
-use Rattle.ow_kept.proofs.Allowing.{kept_allowed}
-use Rattle.ow_kept.proofs.laws.what_is_kept_is_allowed.Goals as goal
-
-pub returns : goal.returns
-returns c = kept_allowed

@@ -1,5 +1,0 @@
-use Rattle.ow_reopen.proofs.BookLaws.{books_allowed}
-use Rattle.ow_reopen.proofs.laws.kept_books_are_allowed.Goals as goal
-
-pub returns : goal.returns
-returns c = books_allowed

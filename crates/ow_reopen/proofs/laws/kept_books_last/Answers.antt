@@ -1,5 +1,0 @@
-use Rattle.ow_reopen.proofs.BookLaws.{books_last}
-use Rattle.ow_reopen.proofs.laws.kept_books_last.Goals as goal
-
-pub returns : goal.returns
-returns c = books_last

@@ -1,5 +1,0 @@
-use Rattle.ow_tenant.proofs.HomeLaws.{homes_named}
-use Rattle.ow_reopen.proofs.laws.tables_have_homes.Goals as goal
-
-pub returns : goal.returns
-returns c = homes_named

@@ -1,4 +1,0 @@
-pub mod Lasting
-pub mod RowsKept
-pub mod Bodies
-pub mod Laws

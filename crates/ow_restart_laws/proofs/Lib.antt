@@ -1,0 +1,17 @@
+pub mod Each
+pub mod Writable
+pub mod Bodies
+pub mod Names
+pub mod RowsLaws
+pub mod Callees
+pub mod Fires
+pub mod Composing
+pub mod Framing
+pub mod KeptLaws
+pub mod Children
+pub mod TraceLaws
+pub mod BookLaws
+pub mod FinishLaws
+pub mod DeploymentLaws
+pub mod DeploymentCalls
+pub mod UnchangedLaws

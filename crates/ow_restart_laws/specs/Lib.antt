@@ -1,0 +1,5 @@
+pub mod Lasting
+pub mod RowsKept
+pub mod Bodies
+pub mod Laws
+pub mod Deployments

@@ -1,0 +1,11 @@
+pub mod Cron
+pub mod Due
+pub mod Fields
+pub mod Grammar
+pub mod Laws
+pub mod Next
+pub mod Reading
+pub mod Refusal
+pub mod Skips
+pub mod Steps
+pub mod Window

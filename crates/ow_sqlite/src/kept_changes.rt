@@ -1,0 +1,50 @@
+// Changes of rows, as one transaction of a database.
+ghost use Rattle.std.specs.Prelude.{◌≡◌, IsTrue, Ok, IfOk, OnOk};
+ghost use Rattle.sqlite.specs.State.{Executes, HasCleanDisk, KeepsCommit, Survives};
+ghost use Rattle.sqlite.specs.Held.{state};
+ghost use Rattle.ow_sqlite.specs.Commit.{EndsCommit, SurvivesCommit};
+ghost use Rattle.ow_sqlite.specs.Statements.{params_of, sql_of};
+
+use ow_traits::{Change, Changes};
+use sqlite::{Alter, Connection, Error, ErrorCode, Transaction, params};
+
+const UPSERT: &str =
+    "INSERT INTO kept (key, text) VALUES (?1, ?2) ON CONFLICT (key) DO UPDATE SET text = excluded.text";
+
+const DELETE: &str = "DELETE FROM kept WHERE key = ?1";
+
+// A transaction that is open already isn't ours.
+const OPEN_ALREADY: Error = Error::SqliteFailure(ErrorCode::TransactionState);
+
+fn make<S: Alter>(tx: &mut Transaction<'_, S>, change: &Change) -> Result<usize, Error>
+    ensures made { HasCleanDisk (state S.Store tx.new.conn.now) → IsTrue (state S.Store tx.old.conn.now).in_transaction
+        → IfOk result (λ n. Executes (sql_of change.now) (params_of change.now) (state S.Store tx.old.conn.now) (state S.Store tx.new.conn.now) (Ok n)) }
+    ensures inside { HasCleanDisk (state S.Store tx.new.conn.now) → IsTrue (state S.Store tx.old.conn.now).in_transaction
+        → OnOk result (IsTrue (state S.Store tx.new.conn.now).in_transaction) }
+    ensures same_reference { tx.new.conn.ghost_name ≡ tx.old.conn.ghost_name }
+    ensures kept { HasCleanDisk (state S.Store tx.new.conn.now) → KeepsCommit (state S.Store tx.old.conn.now) (state S.Store tx.new.conn.now) }
+    ensures survives { Survives (state S.Store tx.old.conn.now) (state S.Store tx.new.conn.now) (λ _. ⊥) }
+{
+    match change {
+        Change::Put(key, text) => tx.execute(UPSERT, params![key.as_str(), text.as_str()]),
+        Change::Drop(key) => tx.execute(DELETE, params![key.as_str()]),
+    }
+}
+
+// All the changes in their order, or none.
+pub(crate) fn commit_changes<S: Alter>(
+    conn: &mut Connection<S>,
+    changes: &Changes,
+) -> Result<(), Error>
+    ensures end { EndsCommit S.Store changes.now result conn.old conn.new }
+    ensures stop { SurvivesCommit S.Store changes.now conn.old conn.new }
+{
+    if !conn.is_autocommit() {
+        return Err(OPEN_ALREADY);
+    }
+    let mut tx = conn.transaction();
+    for change in changes.as_slice() {
+        make(&mut tx, change)?;
+    }
+    tx.commit()
+}

@@ -1,5 +1,0 @@
-//! The tests of ow_store, in a crate of their own, so that it is proved once.
-#![tactic(auto)]
-
-#[cfg(test)]
-mod of_keepers;

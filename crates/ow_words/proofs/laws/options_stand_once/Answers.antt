@@ -1,5 +1,0 @@
-use Rattle.ow_words.proofs.Worked.{refuses_again}
-use Rattle.ow_words.proofs.laws.options_stand_once.Goals as goal
-
-pub returns : goal.returns
-returns c = λ f g e d. refuses_again f g e d

@@ -1,8 +1,0 @@
-use Rattle.ow_words.proofs.Worked.{refuses_words, takes_words}
-use Rattle.ow_words.proofs.laws.words_are_commands.Goals as goal
-
-pub returns-clause-taken : goal.returns-clause-taken
-returns-clause-taken c = takes_words
-
-pub returns-clause-refused : goal.returns-clause-refused
-returns-clause-refused c = refuses_words
