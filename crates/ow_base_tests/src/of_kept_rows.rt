@@ -1,6 +1,6 @@
 // Kept rows that are read as items, and items that are written as rows.
 use crate::held::held;
-use ow_keep::{KeepRefusal, kept_items};
+use ow_keep::{KeepRefusal, kept_items, kept_rows};
 use ow_row_text::{Item, row_text};
 use ow_traits::Rows;
 use ow_value::{NoMemory, Str};
@@ -8,6 +8,23 @@ use std::alloc::{AllocError, Global};
 use std::test::Fail;
 
 const VERSION: (&str, &str) = ("version", "1");
+
+const SECOND_VERSION: (&str, &str) = ("version", "2");
+
+const NOTHING_ARCHIVED: (&str, &str) = ("archived", r#"{"last":0,"number":0}"#);
+
+// The last record that was archived ended at moment 7.
+const ARCHIVED: (&str, &str) = ("archived", r#"{"last":7,"number":2}"#);
+
+// At the greatest moment, with the greatest number.
+const ALL_ARCHIVED: (&str, &str) = (
+    "archived",
+    r#"{"last":253402300799999,"number":9223372036854775807}"#,
+);
+
+const NOTE: (&str, &str) = ("note/k", "9");
+
+const LAST_NOTE: (&str, &str) = ("note/alarm/guest/t", "253402300799999");
 
 const COUNT: (&str, &str) = ("count/0000000000000001", "2");
 
@@ -176,12 +193,13 @@ const NO_CAUSE: (&str, &str) = (
 );
 
 // Rows, and the key of the first bad one, or none.
-const CASES: [(&[(&str, &str)], &str); 32] = [
+const CASES: [(&[(&str, &str)], &str); 54] = [
     (&[], ""),
     (&[VERSION], ""),
     (&[COUNT, DONE, OPEN, ACTION, PACKAGE, VERSION], ""),
     (&[COUNT], "version"),
     (&[("version", "2")], "version"),
+    (&[("version", "9")], "version"),
     (&[("version", "01")], "version"),
     (
         &[("count/0000000000000001", "0"), VERSION],
@@ -243,6 +261,70 @@ const CASES: [(&[(&str, &str)], &str); 32] = [
         &[COUNT, NO_CAUSE, VERSION],
         "open/00000000000000010000000000000001",
     ),
+    (&[NOTHING_ARCHIVED, SECOND_VERSION], ""),
+    (&[ALL_ARCHIVED, LAST_NOTE, SECOND_VERSION], ""),
+    (
+        &[
+            ARCHIVED,
+            COUNT,
+            DONE,
+            LAST_NOTE,
+            NOTE,
+            OPEN,
+            ACTION,
+            PACKAGE,
+            SECOND_VERSION,
+        ],
+        "",
+    ),
+    (&[ARCHIVED, ("version", "9")], "version"),
+    (&[ARCHIVED], "version"),
+    (&[ARCHIVED, VERSION], "version"),
+    (&[NOTE, VERSION], "version"),
+    (&[NOTE, SECOND_VERSION], "version"),
+    (&[COUNT, DONE, SECOND_VERSION], "version"),
+    (
+        &[NOTHING_ARCHIVED, SPACED, VERSION],
+        "row/package/guest/tools",
+    ),
+    (
+        &[("archived", r#"{"last":7,"number":0}"#), SECOND_VERSION],
+        "archived",
+    ),
+    (
+        &[
+            ("archived", r#"{"last":253402300800000,"number":1}"#),
+            SECOND_VERSION,
+        ],
+        "archived",
+    ),
+    (
+        &[
+            ("archived", r#"{"last":7,"number":9223372036854775808}"#),
+            SECOND_VERSION,
+        ],
+        "archived",
+    ),
+    (
+        &[("archived", r#"{"number":1,"last":0}"#), SECOND_VERSION],
+        "archived",
+    ),
+    (&[("archived", r#"{"last":0}"#), SECOND_VERSION], "archived"),
+    (
+        &[("archived", r#"{"last":-1,"number":1}"#), SECOND_VERSION],
+        "archived",
+    ),
+    (
+        &[("archives", r#"{"last":0,"number":0}"#), VERSION],
+        "archives",
+    ),
+    (&[ARCHIVED, ("note/", "9"), SECOND_VERSION], "note/"),
+    (&[ARCHIVED, ("note/k", "09"), SECOND_VERSION], "note/k"),
+    (
+        &[ARCHIVED, ("note/k", "253402300800000"), SECOND_VERSION],
+        "note/k",
+    ),
+    (&[ARCHIVED, ("notes/k", "9"), SECOND_VERSION], "notes/k"),
 ];
 
 fn put(alloc: Global, rows: &mut Rows, key: &str, text: &str) -> Result<(), NoMemory> {
@@ -341,6 +423,50 @@ fn a_kept_sequence_has_fifty_components_at_most(rt: HostRuntime) -> Result<(), F
         let text = sequence_of(alloc, *count)?;
         let pairs = [("row/action/guest/tools/both", text.as_str()), VERSION];
         assert!(rt; is_told(alloc, &pairs, bad)?);
+    }
+    Ok(())
+}
+
+// How many bytes the key of a note has, and whether its row is bad.
+const NOTE_KEYS: [(usize, bool); 3] = [(1, false), (1024, false), (1025, true)];
+
+#[test]
+fn the_key_of_a_kept_note_has_1024_bytes_at_most(rt: HostRuntime) -> Result<(), Fail> {
+    let alloc = rt.alloc();
+    for (count, is_bad) in NOTE_KEYS.iter() {
+        let letters = "k".repeat(alloc, *count)?;
+        let key = format!(in alloc; "note/{letters}")?;
+        let pairs = [ARCHIVED, (key.as_str(), "9"), SECOND_VERSION];
+        let bad = if *is_bad { key.as_str() } else { "" };
+        assert!(rt; is_told(alloc, &pairs, bad)?);
+    }
+    Ok(())
+}
+
+fn greatest_moment(alloc: Global, pairs: &[(&str, &str)]) -> Result<u64, Fail> {
+    let rows = rows_of(alloc, pairs)?;
+    match kept_rows(alloc, &rows) {
+        Ok(kept) => Ok(kept.greatest_moment()),
+        Err(_) => Err("refused")?,
+    }
+}
+
+// Rows, and the greatest moment in them.
+const MOMENTS: [(&[(&str, &str)], u64); 5] = [
+    (&[COUNT, FIRED, VERSION], 5),
+    (&[NOTHING_ARCHIVED, COUNT, FIRED, SECOND_VERSION], 5),
+    (&[ARCHIVED, COUNT, FIRED, SECOND_VERSION], 7),
+    (&[ARCHIVED, COUNT, FIRED, NOTE, SECOND_VERSION], 9),
+    (
+        &[ARCHIVED, LAST_NOTE, NOTE, SECOND_VERSION],
+        253_402_300_799_999,
+    ),
+];
+
+#[test]
+fn moments_of_notes_and_of_the_archive_count(rt: HostRuntime) -> Result<(), Fail> {
+    for (pairs, moment) in MOMENTS.iter() {
+        assert_eq!(rt; greatest_moment(rt.alloc(), pairs)?, *moment);
     }
     Ok(())
 }

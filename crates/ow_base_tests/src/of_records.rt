@@ -463,8 +463,12 @@ fn add(alloc: Global, records: &mut Records, namespace: &str, count: u64) -> Res
         count,
     };
     let kept = kept_of(alloc, ONE_MB, namespace, id, End::Overran)?;
+    put(alloc, records, &kept)
+}
+
+fn put(alloc: Global, records: &mut Records, kept: &Record) -> Result<(), Fail> {
     records.reserve()?;
-    let ready = ready(alloc, &kept)?;
+    let ready = ready(alloc, kept)?;
     records.add(ready);
     Ok(())
 }
@@ -534,4 +538,63 @@ fn records_by_their_ids(rt: HostRuntime) -> Result<(), Fail> {
     assert_eq!(rt; records.len(), 3);
     assert_eq!(rt; refusal(&records, FIRST_OF_GUEST), Some(14));
     equals(listed(alloc, &records, 0, 30)?, SECOND_OF_GUEST)
+}
+
+// The id of an activation of guest.
+fn of_guest(count: u64) -> Id {
+    Id {
+        namespace: 5,
+        count,
+    }
+}
+
+// Adds the record of an activation of guest with this count, which ended at `at`.
+fn add_ended(alloc: Global, records: &mut Records, count: u64, at: u64) -> Result<(), Fail> {
+    let task = task(alloc, "hello", ONE_MB, "guest", of_guest(count))?;
+    let kept = record(alloc, &task, End::Overran, None, at)?;
+    put(alloc, records, &kept)
+}
+
+// The counts of activations of guest and the moments of their ends, in the order in which the records are added.
+const ENDED: [(u64, u64); 4] = [(3, 9), (2, 7), (4, 8), (1, 7)];
+
+fn ended(alloc: Global) -> Result<Box<Records>, Fail> {
+    let mut records = held(alloc, Records::new(alloc))?;
+    for (count, at) in ENDED.iter() {
+        add_ended(alloc, &mut records, *count, *at)?;
+    }
+    Ok(records)
+}
+
+// Fails where the records whose ends are at most `until` aren't those of guest with these counts.
+fn are_due(alloc: Global, records: &Records, until: u64, counts: &[u64]) -> Result<(), Fail> {
+    let due = boxed(alloc, records.due(until))?;
+    holds(due.len() == counts.len(), "how many are due")?;
+    for (kept, count) in due.iter().zip(counts) {
+        holds(kept.id == of_guest(*count), "which are due")?;
+    }
+    Ok(())
+}
+
+const THIRD_OF_GUEST: &str =
+    r#"[{"activationId":"00000000000000050000000000000003","duration":4,"end":9,"name":"hello","namespace":"guest","start":5,"statusCode":2,"version":"0.0.1"}]"#;
+
+#[test]
+fn records_that_are_due(rt: HostRuntime) -> Result<(), Fail> {
+    let alloc = rt.alloc();
+    let mut records = ended(alloc)?;
+    are_due(alloc, &records, 6, &[])?;
+    are_due(alloc, &records, 7, &[1, 2])?;
+    are_due(alloc, &records, 8, &[1, 2, 4])?;
+    records.retire(6);
+    assert_eq!(rt; records.len(), 4);
+    records.retire(8);
+    assert_eq!(rt; records.len(), 1);
+    are_due(alloc, &records, 8, &[])?;
+    are_due(alloc, &records, 9, &[3])?;
+    assert_eq!(rt; refusal(&records, of_guest(1)), Some(14));
+    assert!(rt; is_found(&records, of_guest(3)));
+    equals(listed(alloc, &records, 0, 30)?, THIRD_OF_GUEST)?;
+    add_ended(alloc, &mut records, 5, 8)?;
+    are_due(alloc, &records, 8, &[5])
 }

@@ -156,6 +156,12 @@ fn drop_of(alloc: Global, key: &str) -> Result<Change, NoMemory> {
     Ok(Change::Drop(Str::of(alloc, key)?))
 }
 
+fn retire(alloc: Global, key: &str, text: &str) -> Result<Change, NoMemory> {
+    let key = Str::of(alloc, key)?;
+    let text = Str::of(alloc, text)?;
+    Ok(Change::Retire(key, text))
+}
+
 const PUTS: [(&str, &str); 4] = [("b", "1"), ("a", "2"), ("b", "3"), ("c", "4")];
 
 fn sample(alloc: Global) -> Result<Changes, NoMemory> {
@@ -165,6 +171,8 @@ fn sample(alloc: Global) -> Result<Changes, NoMemory> {
     }
     changes.push(drop_of(alloc, "c")?)?;
     changes.push(drop_of(alloc, "d")?)?;
+    changes.push(retire(alloc, "a", "5")?)?;
+    changes.push(retire(alloc, "e", "6")?)?;
     Changes::from_vec(changes)
 }
 
@@ -197,23 +205,24 @@ fn loads(alloc: Global, keeper: &mut MemoryKeeper, count: usize) -> bool {
     }
 }
 
-// What a commit gives, how many faults there are then, and the rows.
-const COMMITS: [(Result<(), KeeperError>, u64, &str); 3] = [
-    (Err(KeeperError::Failed), 1, ""),
-    (Ok(()), 1, "a2b3"),
-    (Ok(()), 1, "a2b3"),
+// What a commit gives, how many faults there are then, the rows, and the old rows.
+const COMMITS: [(Result<(), KeeperError>, u64, &str, &str); 3] = [
+    (Err(KeeperError::Failed), 1, "", ""),
+    (Ok(()), 1, "b3", "a5e6"),
+    (Ok(()), 1, "b3", "a5e6"),
 ];
 
 #[test]
 fn a_keeper_makes_all_changes_or_none(rt: HostRuntime) -> Result<(), Fail> {
     let alloc = rt.alloc();
     let mut keeper = keeper(alloc)?;
-    for (committed, faults, rows) in COMMITS.iter() {
+    for (committed, faults, rows, old_rows) in COMMITS.iter() {
         let done = commit(alloc, &mut keeper)?;
         assert_eq!(rt; (done, keeper.faults()), (*committed, *faults));
         equals(shown(alloc, keeper.rows())?, rows)?;
+        equals(shown(alloc, keeper.old_rows())?, old_rows)?;
     }
-    assert!(rt; loads(alloc, &mut keeper, 2));
+    assert!(rt; loads(alloc, &mut keeper, 1));
     Ok(())
 }
 
@@ -226,7 +235,8 @@ fn changes_are_copied_and_told_apart(rt: HostRuntime) -> Result<(), Fail> {
 
 fn sample_rows(alloc: Global) -> Result<Rows, NoMemory> {
     let mut rows = Rows::new(alloc);
-    rows.apply(alloc, &sample(alloc)?)?;
+    let mut old_rows = Rows::new(alloc);
+    rows.apply(&mut old_rows, alloc, &sample(alloc)?)?;
     Ok(rows)
 }
 

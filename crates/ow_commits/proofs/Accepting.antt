@@ -5,7 +5,7 @@ use Rattle.ow_entity.specs.declared.rows.Row.{Row}
 use Rattle.ow_floor.specs.declared.activations.Open.{Open}
 use Rattle.ow_floor.specs.declared.activations.State.TheVariants.{Waiting}
 use Rattle.ow_floor.specs.Laws.{IsSound, times}
-use Rattle.ow_floor.specs.Trace.{Accepted, Trace, all_records, drawn, last, open_items, shown}
+use Rattle.ow_floor.specs.Trace.{Accepted, Trace, shown_records, drawn, last, open_items, shown}
 use Rattle.ow_floor.specs.View.{Shown, ids_of, last_of, put_id}
 use Rattle.ow_floor.specs.Growth.{grow}
 use Rattle.ow_floor.proofs.Drawn.{drawn_last}
@@ -64,25 +64,25 @@ module _ (rs : List Row) (T : Trace) (a : Activation) (sound : IsSound T) (ids :
   counts = put_id a.id (drawn T)
 
   abbrev E0 : Entries
-  E0 = sections (drawn T) F (unrecorded T) (all_records T)
+  E0 = sections (drawn T) F (unrecorded T) (shown_records T)
 
   abbrev E1 : Entries
-  E1 = sections counts F (unrecorded T) (all_records T)
+  E1 = sections counts F (unrecorded T) (shown_records T)
 
   abbrev E2 : Entries
-  E2 = sections counts F (unrecorded T ++ u ∷ []) (all_records T)
+  E2 = sections counts F (unrecorded T ++ u ∷ []) (shown_records T)
 
   count_step : Makes (put_of (count_item a.id) ∷ []) E0 E1
-  count_step = count_put a.id (drawn T) counts F (unrecorded T) (all_records T) (counted a.id (drawn T) is ids.drawn)
+  count_step = count_put a.id (drawn T) counts F (unrecorded T) (shown_records T) (counted a.id (drawn T) is ids.drawn)
 
   lacks : Lacks open_of (open_key a.id) (unrecorded T)
   lacks = lacks_open a.id (unrecorded T) is ids.opened (lacks_new a T next sound)
 
   open_step : Makes (put_of (items.Open u) ∷ []) E1 E2
-  open_step = open_put u counts F (unrecorded T) (unrecorded T ++ u ∷ []) (all_records T) (put_end open_of u (unrecorded T) lacks)
+  open_step = open_put u counts F (unrecorded T) (unrecorded T ++ u ∷ []) (shown_records T) (put_end open_of u (unrecorded T) lacks)
 
   abbrev After : List Unrecorded → Entries
-  After us = sections counts F us (all_records T)
+  After us = sections counts F us (shown_records T)
 
   pub accept_made : Makes (accept_changes u) (entries rs T) (entries rs (Accepted a ∷ T))
   accept_made =
@@ -92,12 +92,12 @@ module _ (rs : List Row) (T : Trace) (a : Activation) (sound : IsSound T) (ids :
 
   last_weighs : weight_at (count_key a.id.namespace) E0 ≡ last_bytes a.id.namespace (last T a.id.namespace)
   last_weighs =
-      ap (weight (count_key a.id.namespace)) (count_text (drawn T) F (unrecorded T) (all_records T) a.id.namespace)
+      ap (weight (count_key a.id.namespace)) (count_text (drawn T) F (unrecorded T) (shown_records T) a.id.namespace)
       ∙ count_weighs a.id.namespace (drawn T) is.namespace ids.drawn
       ∙ ap (last_bytes a.id.namespace) (drawn_last T a.id.namespace)
 
   open_weighs_none : weight_at (open_key a.id) E1 ≡ 0
-  open_weighs_none = ap (weight (open_key a.id)) (open_text counts F (unrecorded T) (all_records T) a.id ∙ absent open_of (open_key a.id) (unrecorded T) lacks)
+  open_weighs_none = ap (weight (open_key a.id)) (open_text counts F (unrecorded T) (shown_records T) a.id ∙ absent open_of (open_key a.id) (unrecorded T) lacks)
 
   -- how many bytes the kept rows have after the acceptance
   pub accept_weighs : bytes_of (kept rs (Accepted a ∷ T)) + last_bytes a.id.namespace (last T a.id.namespace) ≡ bytes_of (kept rs T) + (row_bytes (count_item a.id) + row_bytes (items.Open u))

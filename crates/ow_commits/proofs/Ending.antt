@@ -1,15 +1,16 @@
 -- What is committed of ends makes what is kept after them.
-use Rattle.std.proofs.Common.{◌≡◌, ◌+◌, ◌≤◌, ℕ, Bool, true, false, cond, List, [], ◌∷◌, filter, find, map, Some, refl, sym, ap, ◌∙◌, subst, arith, append_assoc}
+use Rattle.std.proofs.Common.{◌≡◌, ◌+◌, ◌≤◌, ℕ, Bool, true, false, cond, List, [], ◌∷◌, filter, find, map, Some, refl, sym, ap, ◌∙◌, subst, arith}
 use Rattle.std.specs.List.{AllByRecursion}
 use Rattle.ow_entity.specs.declared.rows.Row.{Row}
 use Rattle.ow_traits.specs.declared.change_list.Change.{Change}
 use Rattle.ow_traits.specs.declared.change_list.Change.TheVariants.{Drop as Dropped}
 use Rattle.ow_floor.specs.declared.activations.Open.{Open}
 use Rattle.ow_floor.specs.Laws.{IsSound, times}
-use Rattle.ow_floor.specs.Trace.{End, Trace, Ended, accepted_ids, all_records, drawn, open_items, record_of, recorded, records, resumed}
+use Rattle.ow_floor.specs.Trace.{End, Trace, Ended, accepted_ids, shown_records, drawn, open_items, record_of, recorded, records, resumed}
 use Rattle.ow_floor.specs.View.{ids_of, is_of, remove_first}
 use Rattle.ow_floor.proofs.Alters.{same_id_refl}
 use Rattle.ow_floor.proofs.Apart.{turned}
+use Rattle.ow_floor.proofs.Archives.{all_shown}
 use Rattle.ow_floor.proofs.Fires.{accepted_once, known_once}
 use Rattle.ow_floor.proofs.Tallies.{eq_of, times-removed}
 use Rattle.ow_floor.proofs.Firsts.{find_passes}
@@ -130,31 +131,30 @@ module _ (rs : List Row) (T : Trace) (e : End) (o : Open) (found : find (is_of e
   abbrev F : List Row
   F = filter is_kept rs
 
-  drop_made : Makes (Dropped (open_key this) ∷ []) (sections (drawn T) F (unrecorded T) (all_records T)) (sections (drawn T) F left (all_records T))
-  drop_made = open_dropped this (drawn T) F (unrecorded T) left (all_records T) (gone this (open_items T) is_id ids.opened (stood this o T found sound).once)
+  drop_made : Makes (Dropped (open_key this) ∷ []) (sections (drawn T) F (unrecorded T) (shown_records T)) (sections (drawn T) F left (shown_records T))
+  drop_made = open_dropped this (drawn T) F (unrecorded T) left (shown_records T) (gone this (open_items T) is_id ids.opened (stood this o T found sound).once)
 
-  no_record : AllByRecursion (λ r. same_id this r.id ≡ false) (all_records T)
-  no_record = all_both _ (resumed T) (records T) (no_resumed this T sound (stood this o T found sound).accepted) (nowhere (λ (r : Record). r.id) this (records T) (stood this o T found sound).unrecorded)
+  no_record : AllByRecursion (λ r. same_id this r.id ≡ false) (shown_records T)
+  no_record = all_shown _ T sound (all_both _ (resumed T) (records T) (no_resumed this T sound (stood this o T found sound).accepted) (nowhere (λ (r : Record). r.id) this (records T) (stood this o T found sound).unrecorded))
 
-  put_made : Makes (put_of (items.Done (record_of e)) ∷ []) (sections (drawn T) F left (all_records T)) (sections (drawn T) F left (all_records (Ended e ∷ T)))
-  put_made = done_put (record_of e) (drawn T) F left (all_records T) (all_records (Ended e ∷ T))
-      (subst (λ (ds : List Record). Makes (put_of (items.Done (record_of e)) ∷ []) (map done_of (all_records T)) (map done_of ds)) (append_assoc (resumed T) (records T) (record_of e ∷ []))
-      (put_end done_of (record_of e) (all_records T) (lacks_done this (all_records T) is_id ids.ended no_record)))
+  put_made : Makes (put_of (items.Done (record_of e)) ∷ []) (sections (drawn T) F left (shown_records T)) (sections (drawn T) F left (shown_records (Ended e ∷ T)))
+  put_made = done_put (record_of e) (drawn T) F left (shown_records T) (shown_records (Ended e ∷ T))
+      (put_end done_of (record_of e) (shown_records T) (lacks_done this (shown_records T) is_id ids.ended no_record))
 
   abbrev E0 : Entries
-  E0 = sections (drawn T) F (unrecorded T) (all_records T)
+  E0 = sections (drawn T) F (unrecorded T) (shown_records T)
 
   abbrev E1 : Entries
-  E1 = sections (drawn T) F left (all_records T)
+  E1 = sections (drawn T) F left (shown_records T)
 
   abbrev E2 : Entries
-  E2 = sections (drawn T) F left (all_records (Ended e ∷ T))
+  E2 = sections (drawn T) F left (shown_records (Ended e ∷ T))
 
   open_there : weight_at (open_key this) E0 ≡ bytes_at this (map open_bytes (unrecorded T))
-  open_there = ap (weight (open_key this)) (open_text (drawn T) F (unrecorded T) (all_records T) this) ∙ open_weighs this (unrecorded T) is_id ids.opened
+  open_there = ap (weight (open_key this)) (open_text (drawn T) F (unrecorded T) (shown_records T) this) ∙ open_weighs this (unrecorded T) is_id ids.opened
 
   done_there : weight_at (done_key this) E1 ≡ 0
-  done_there = ap (weight (done_key this)) (done_text (drawn T) F left (all_records T) this ∙ absent done_of (done_key this) (all_records T) (lacks_done this (all_records T) is_id ids.ended no_record))
+  done_there = ap (weight (done_key this)) (done_text (drawn T) F left (shown_records T) this ∙ absent done_of (done_key this) (shown_records T) (lacks_done this (shown_records T) is_id ids.ended no_record))
 
   end_weighs : bytes_of (kept rs (Ended e ∷ T)) + bytes_at this (map open_bytes (unrecorded T)) ≡ bytes_of (kept rs T) + row_bytes (items.Done (record_of e))
   unfolding kept
@@ -163,18 +163,18 @@ module _ (rs : List Row) (T : Trace) (e : End) (o : Open) (found : find (is_of e
       let two = put_bytes (done_key this) (item_text (items.Done (record_of e))) E1 E2 put_made in
       let before : bytes_of (rows_of (entries rs T)) ≡ bytes_of (rows_of E0) = ap (λ es. bytes_of (rows_of es)) (entries_are rs T) in
       let after : bytes_of (rows_of (entries rs (Ended e ∷ T))) ≡ bytes_of (rows_of E2)
-      = ap (λ es. bytes_of (rows_of es)) (entries_are rs (Ended e ∷ T)) ∙ ap (λ us. bytes_of (rows_of (sections (drawn T) F us (all_records (Ended e ∷ T))))) is_open in
+      = ap (λ es. bytes_of (rows_of es)) (entries_are rs (Ended e ∷ T)) ∙ ap (λ us. bytes_of (rows_of (sections (drawn T) F us (shown_records (Ended e ∷ T))))) is_open in
       omega (arith, one, two, before, after, open_there, done_there)
 
   pub end_goes : Goes rs (end_changes (record_of e)) (bytes_at this (map open_bytes (unrecorded T))) (row_bytes (items.Done (record_of e))) T (Ended e ∷ T)
   end_goes = record {
     bytes = end_weighs;
     makes = made_so (end_changes (record_of e)) rs rs T (Ended e ∷ T)
-        (subst (λ (us : List Unrecorded). Makes (end_changes (record_of e)) (sections (drawn T) F (unrecorded T) (all_records T)) (sections (drawn T) F us (all_records (Ended e ∷ T)))) (sym is_open)
+        (subst (λ (us : List Unrecorded). Makes (end_changes (record_of e)) (sections (drawn T) F (unrecorded T) (shown_records T)) (sections (drawn T) F us (shown_records (Ended e ∷ T)))) (sym is_open)
         (makes_then (Dropped (open_key this) ∷ []) (put_of (items.Done (record_of e)) ∷ []) _ _ _ drop_made put_made));
     ids = record {
       drawn = ids.drawn;
       opened = subst (λ (us : List Unrecorded). AllByRecursion (λ u. IsId u.id) us) (sym is_open) (all_left (λ u. IsId u.id) (is_of this) (open_items T) ids.opened);
-      ended = subst (λ (ds : List Record). AllByRecursion (λ r. IsId r.id) ds) (append_assoc (resumed T) (records T) (record_of e ∷ [])) (all_both _ (all_records T) (record_of e ∷ []) ids.ended (is_id, tt));
+      ended = all_both _ (shown_records T) (record_of e ∷ []) ids.ended (is_id, tt);
     };
   }

@@ -2,7 +2,7 @@
 use Rattle.std.proofs.Common.{Bool, true, false, cond, List, [], ◌∷◌, filter, map}
 use Rattle.std.specs.List.{AllByRecursion}
 use Rattle.ow_entity.specs.declared.rows.Row.{Row}
-use Rattle.ow_floor.specs.Trace.{Trace, all_records, drawn, open_items}
+use Rattle.ow_floor.specs.Trace.{Trace, shown_records, drawn, open_items}
 use Rattle.ow_floor.specs.declared.activations.Open.{Open}
 use Rattle.ow_row_text.specs.declared.item.Item.TheVariants as items
 use Rattle.ow_keep.specs.Known.{IsItem, IsKnownEntity}
@@ -25,14 +25,14 @@ picked P p (x ∷ xs) h = picked_by P p x xs (p x) h.0 (picked P p xs h.1)
 
 -- of rows, last ids, activations that have not ended, and records
 pub kept_known : (rs : List Row) (T : Trace) → AllByRecursion IsKnownEntity rs → AllByRecursion IsId (drawn T)
-    → AllByRecursion (λ (o : Open). IsKnownUnrecorded (unrecorded_of o.task)) (open_items T) → AllByRecursion IsKnown (all_records T)
+    → AllByRecursion (λ (o : Open). IsKnownUnrecorded (unrecorded_of o.task)) (open_items T) → AllByRecursion IsKnown (shown_records T)
     → AllByRecursion IsItem (kept_items rs T)
 kept_known rs T rows ids unended records = (
   tt,
   all_both IsItem (map count_item (drawn T)) _ (mapped IsId IsItem count_item (λ id h. (h.namespace, h.count)) (drawn T) ids)
       (all_both IsItem (map items.Row (filter is_kept rs)) _ (mapped IsKnownEntity IsItem items.Row (λ r h. h) (filter is_kept rs) (picked IsKnownEntity is_kept rs rows))
-      (all_both IsItem (map items.Open (unrecorded T)) (map items.Done (all_records T))
+      (all_both IsItem (map items.Open (unrecorded T)) (map items.Done (shown_records T))
       (mapped IsKnownUnrecorded IsItem items.Open (λ u h. h) (unrecorded T)
       (mapped (λ (o : Open). IsKnownUnrecorded (unrecorded_of o.task)) IsKnownUnrecorded (λ o. unrecorded_of o.task) (λ o h. h) (open_items T) unended))
-      (mapped IsKnown IsItem items.Done (λ r h. h) (all_records T) records))),
+      (mapped IsKnown IsItem items.Done (λ r h. h) (shown_records T) records))),
 )

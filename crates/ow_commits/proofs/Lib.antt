@@ -7,6 +7,9 @@ pub mod TableRows
 pub mod RowLaws
 pub mod Ids
 pub mod Weights
+pub mod Whole
+pub mod Untouched
+pub mod Retiring
 pub mod Accepting
 pub mod Ending
 pub mod Stays
@@ -20,4 +23,5 @@ pub mod Standing
 pub mod Moving
 pub mod Quiet
 pub mod Loops
+pub mod Archived
 pub mod Removing

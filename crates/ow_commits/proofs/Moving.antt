@@ -10,8 +10,9 @@ use Rattle.ow_floor.specs.declared.moves.Moved.TheVariants as moves
 use Rattle.ow_floor.specs.Calls.{moved, moved_by}
 use Rattle.ow_floor.specs.Growth.{AreRight, IsRight, grown, open_after}
 use Rattle.ow_floor.specs.Laws.{IsFiringApart, IsSound, times}
-use Rattle.ow_floor.specs.Trace.{Item, Trace, Opened, Resumed, Accepted, Ordered, Prewarming, Removed, Begun, Answered, Lost, Gone, Ended, Drawn, Fired, Swept, Drained, Reopened, accepted, all_records, drawn, fired, firing, last, live, open_items, record_of, recorded, records, resumed, shown}
+use Rattle.ow_floor.specs.Trace.{Item, Trace, Opened, Resumed, Accepted, Ordered, Prewarming, Removed, Begun, Answered, Lost, Gone, Ended, Drawn, Fired, Swept, Drained, Reopened, Archived, accepted, shown_records, drawn, fired, firing, last, live, open_items, record_of, recorded, records, resumed, shown}
 use Rattle.ow_floor.specs.View.{Shown, is_number, put_id, remove_first, waits}
+use Rattle.ow_floor.proofs.Archives.{all_shown}
 use Rattle.ow_floor.proofs.Drawn.{drawn_last}
 use Rattle.ow_floor.proofs.Fires.{apart_activations, strange_records, times-append}
 use Rattle.ow_floor.proofs.Firsts.{all_more}
@@ -25,7 +26,7 @@ use Rattle.ow_row_text.proofs.Extent.{changes_kept}
 use Rattle.ow_row_text.proofs.Lists.{absent, makes_then, put_end}
 use Rattle.ow_commits.specs.Commits.{changes_of, put_of}
 use Rattle.ow_commits.specs.Keeping.{AreIds, AreOwn, Follows, FollowingView, FollowsOne, IsKnownMove, IsOwn, KeepingView, StandsFollowing, StandsForKept, is_of as kept_of, last_bytes, less_of, more_of, open_bytes, row_bytes}
-use Rattle.ow_commits.specs.Kept.{count_item, entries, is_kept, kept, unrecorded}
+use Rattle.ow_commits.specs.Kept.{OthersView, count_item, entries, is_kept, kept, others_bytes, unrecorded}
 use Rattle.ow_commits.specs.Laws.{MovesAreKept}
 use Rattle.ow_commits.specs.declared.open_bytes.OpenBytes.{OpenBytes}
 use Rattle.ow_commits.proofs.Accepting.{accept_ids, accept_made, accept_weighs, accepted_open, opens_append}
@@ -50,20 +51,20 @@ module _ (rs : List Row) (T : Trace) (id : Id) (at : ℕ) (sound : IsSound T) (i
   FD = filter is_kept rs
 
   abbrev DrawnBefore : Entries
-  DrawnBefore = sections (drawn T) FD (unrecorded T) (all_records T)
+  DrawnBefore = sections (drawn T) FD (unrecorded T) (shown_records T)
 
   abbrev DrawnAfter : Entries
-  DrawnAfter = sections (put_id id (drawn T)) FD (unrecorded T) (all_records T)
+  DrawnAfter = sections (put_id id (drawn T)) FD (unrecorded T) (shown_records T)
 
   draw_step : Makes (put_of (count_item id) ∷ []) DrawnBefore DrawnAfter
-  draw_step = count_put id (drawn T) (put_id id (drawn T)) FD (unrecorded T) (all_records T) (counted id (drawn T) is ids.drawn)
+  draw_step = count_put id (drawn T) (put_id id (drawn T)) FD (unrecorded T) (shown_records T) (counted id (drawn T) is ids.drawn)
 
   draw_made : Makes (put_of (count_item id) ∷ []) (entries rs T) (entries rs (Drawn id at ∷ T))
   draw_made = made_so (put_of (count_item id) ∷ []) rs rs T (Drawn id at ∷ T) draw_step
 
   draw_last : weight_at (count_key id.namespace) DrawnBefore ≡ last_bytes id.namespace (last T id.namespace)
   draw_last =
-      ap (weight (count_key id.namespace)) (count_text (drawn T) FD (unrecorded T) (all_records T) id.namespace)
+      ap (weight (count_key id.namespace)) (count_text (drawn T) FD (unrecorded T) (shown_records T) id.namespace)
       ∙ count_weighs id.namespace (drawn T) is.namespace ids.drawn
       ∙ ap (last_bytes id.namespace) (drawn_last T id.namespace)
 
@@ -98,27 +99,26 @@ module _ (rs : List Row) (T : Trace) (r : Record) (sound : IsSound T) (ids : Are
       let two = strange_records r.id (fired T) fire_own.1.1.0 in
       omega (arith, parts, both, one, two)
 
-  fire_nowhere : AllByRecursion (λ x. same_id r.id x.id ≡ false) (all_records T)
-  fire_nowhere = all_both _ (resumed T) (records T) (all_more _ (λ (x : Record). same_id r.id x.id ≡ false) (resumed T) (λ x both. both.0) fire_own.1.1.1) (nowhere (λ (x : Record). x.id) r.id (records T) fire_times)
+  fire_nowhere : AllByRecursion (λ x. same_id r.id x.id ≡ false) (shown_records T)
+  fire_nowhere = all_shown _ T sound (all_both _ (resumed T) (records T) (all_more _ (λ (x : Record). same_id r.id x.id ≡ false) (resumed T) (λ x both. both.0) fire_own.1.1.1) (nowhere (λ (x : Record). x.id) r.id (records T) fire_times))
 
   abbrev P0 : Entries
-  P0 = sections (drawn T) FF (unrecorded T) (all_records T)
+  P0 = sections (drawn T) FF (unrecorded T) (shown_records T)
 
   abbrev P1 : Entries
-  P1 = sections (drawn T) FF (unrecorded T) (all_records (Fired r ∷ T))
+  P1 = sections (drawn T) FF (unrecorded T) (shown_records (Fired r ∷ T))
 
   fire_step : Makes (put_of (items.Done r) ∷ []) P0 P1
-  fire_step = done_put r (drawn T) FF (unrecorded T) (all_records T) (all_records (Fired r ∷ T))
-      (subst (λ (ds : List Record). Makes (put_of (items.Done r) ∷ []) (map done_of (all_records T)) (map done_of ds)) (append_assoc (resumed T) (records T) (r ∷ []))
-      (put_end done_of r (all_records T) (lacks_done r.id (all_records T) is ids.ended fire_nowhere)))
+  fire_step = done_put r (drawn T) FF (unrecorded T) (shown_records T) (shown_records (Fired r ∷ T))
+      (put_end done_of r (shown_records T) (lacks_done r.id (shown_records T) is ids.ended fire_nowhere))
 
   fire_made : Makes (put_of (items.Done r) ∷ []) (entries rs T) (entries rs (Fired r ∷ T))
   fire_made =
       made_so (put_of (items.Done r) ∷ []) rs rs T (Fired r ∷ T)
-      (subst (λ (us : List Unrecorded). Makes (put_of (items.Done r) ∷ []) P0 (sections (drawn T) FF us (all_records (Fired r ∷ T)))) (sym fire_open) fire_step)
+      (subst (λ (us : List Unrecorded). Makes (put_of (items.Done r) ∷ []) P0 (sections (drawn T) FF us (shown_records (Fired r ∷ T)))) (sym fire_open) fire_step)
 
   fire_none : weight_at (done_key r.id) P0 ≡ 0
-  fire_none = ap (weight (done_key r.id)) (done_text (drawn T) FF (unrecorded T) (all_records T) r.id ∙ absent done_of (done_key r.id) (all_records T) (lacks_done r.id (all_records T) is ids.ended fire_nowhere))
+  fire_none = ap (weight (done_key r.id)) (done_text (drawn T) FF (unrecorded T) (shown_records T) r.id ∙ absent done_of (done_key r.id) (shown_records T) (lacks_done r.id (shown_records T) is ids.ended fire_nowhere))
 
   fire_weighs : bytes_of (kept rs (Fired r ∷ T)) ≡ bytes_of (kept rs T) + row_bytes (items.Done r)
   unfolding kept
@@ -126,45 +126,45 @@ module _ (rs : List Row) (T : Trace) (r : Record) (sound : IsSound T) (ids : Are
       let one = put_bytes (done_key r.id) (item_text (items.Done r)) P0 P1 fire_step in
       let before : bytes_of (rows_of (entries rs T)) ≡ bytes_of (rows_of P0) = ap (λ es. bytes_of (rows_of es)) (entries_are rs T) in
       let after : bytes_of (rows_of (entries rs (Fired r ∷ T))) ≡ bytes_of (rows_of P1)
-      = ap (λ es. bytes_of (rows_of es)) (entries_are rs (Fired r ∷ T)) ∙ ap (λ us. bytes_of (rows_of (sections (drawn T) FF us (all_records (Fired r ∷ T))))) fire_open in
+      = ap (λ es. bytes_of (rows_of es)) (entries_are rs (Fired r ∷ T)) ∙ ap (λ us. bytes_of (rows_of (sections (drawn T) FF us (shown_records (Fired r ∷ T))))) fire_open in
       omega (arith, one, before, after, fire_none)
 
   fire_ids : AreIds (Fired r ∷ T)
   fire_ids = record {
     drawn = ids.drawn;
     opened = subst (λ (us : List Unrecorded). AllByRecursion (λ u. IsId u.id) us) (sym fire_open) ids.opened;
-    ended = subst (λ (ds : List Record). AllByRecursion (λ x. IsId x.id) ds) (append_assoc (resumed T) (records T) (r ∷ [])) (all_both _ (all_records T) (r ∷ []) ids.ended (is, tt));
+    ended = all_both _ (shown_records T) (r ∷ []) ids.ended (is, tt);
   }
 
 -- ---- one item
 
--- with these changes, and as many bytes, the kept rows are those after the items
-pub record GoesOn (rs : List Row) (cs : List Change) (bytes : ℕ) (os : List OpenBytes) (T U : Trace) : Type 0 where
+-- with these changes, and as many bytes beside others, the kept rows are those after the items
+pub record GoesOn (beside : ℕ) (rs : List Row) (cs : List Change) (bytes : ℕ) (os : List OpenBytes) (T U : Trace) : Type 0 where
   pub makes : Makes cs (entries rs T) (entries rs U)
-  pub stands : (bytes ≡ bytes_of (kept rs U)) × (os ≡ opens_of U)
+  pub stands : (bytes ≡ beside + bytes_of (kept rs U)) × (os ≡ opens_of U)
   pub ids : AreIds U
 
 one_of : (m : Moved) (bytes : ℕ) (os : List OpenBytes) (after : ℕ) (left : List OpenBytes) → Follows (m ∷ []) bytes os after left → FollowsOne m bytes os after left
 one_of m bytes os after left h =
     subst (λ (n : ℕ). FollowsOne m bytes os n left) (sym h.2.1.0) (subst (λ (us : List OpenBytes). FollowsOne m bytes os h.0 us) (sym h.2.1.1) h.2.0)
 
-abbrev Before : List Row → Trace → ℕ → List OpenBytes → Type 0
-Before rs T bytes os = (bytes ≡ bytes_of (kept rs T)) × (os ≡ opens_of T)
+abbrev Before : ℕ → List Row → Trace → ℕ → List OpenBytes → Type 0
+Before beside rs T bytes os = (bytes ≡ beside + bytes_of (kept rs T)) × (os ≡ opens_of T)
 
-still : (rs : List Row) (item : Item) (T : Trace) (bytes after : ℕ) (os left : List OpenBytes) → unrecorded (item ∷ T) ≡ unrecorded T → drawn (item ∷ T) ≡ drawn T → all_records (item ∷ T) ≡ all_records T
-    → AreIds T → Before rs T bytes os → (after ≡ bytes) × (left ≡ os) → GoesOn rs [] after left T (item ∷ T)
-still rs item T bytes after os left is_open is_drawn is_ended ids before same =
+still : (beside : ℕ) (rs : List Row) (item : Item) (T : Trace) (bytes after : ℕ) (os left : List OpenBytes) → unrecorded (item ∷ T) ≡ unrecorded T → drawn (item ∷ T) ≡ drawn T → shown_records (item ∷ T) ≡ shown_records T
+    → AreIds T → Before beside rs T bytes os → (after ≡ bytes) × (left ≡ os) → GoesOn beside rs [] after left T (item ∷ T)
+still beside rs item T bytes after os left is_open is_drawn is_ended ids before same =
     let goes = stays rs item T is_open is_drawn is_ended ids in
     let b = goes.bytes in
     let now = before.0 in
     let e = same.0 in
     record { makes = goes.makes; stands = (omega (arith, b, now, e), same.1 ∙ (before.1 ∙ ap (map open_bytes) (sym is_open))); ids = goes.ids }
 
-item_follows : (rs : List Row) (item : Item) (T : Trace) (bytes after : ℕ) (os left : List OpenBytes) → unrecorded (item ∷ T) ≡ of_open (open_after item (live T) (open_items T)) → IsRight item (shown T) → IsOwn item → IsSound T → AreIds T
-    → AllByRecursion IsKnownMove (moved_by item) → Before rs T bytes os → Follows (moved_by item) bytes os after left → GoesOn rs (flat_map changes_of (moved_by item)) after left T (item ∷ T)
-item_follows rs (Opened pool wants) T bytes after os left is_open right own sound ids known before follows = absurd right.0
-item_follows rs (Resumed counts taken) T bytes after os left is_open right own sound ids known before follows = absurd own
-item_follows rs (Accepted a) T bytes after os left is_open right own sound ids known before follows =
+item_follows : (beside : ℕ) (rs : List Row) (item : Item) (T : Trace) (bytes after : ℕ) (os left : List OpenBytes) → unrecorded (item ∷ T) ≡ of_open (open_after item (live T) (open_items T)) → IsRight item (shown T) → IsOwn item → IsSound T → AreIds T
+    → AllByRecursion IsKnownMove (moved_by item) → Before beside rs T bytes os → Follows (moved_by item) bytes os after left → GoesOn beside rs (flat_map changes_of (moved_by item)) after left T (item ∷ T)
+item_follows beside rs (Opened pool wants) T bytes after os left is_open right own sound ids known before follows = absurd right.0
+item_follows beside rs (Resumed counts taken) T bytes after os left is_open right own sound ids known before follows = absurd own
+item_follows beside rs (Accepted a) T bytes after os left is_open right own sound ids known before follows =
     let one = one_of (moves.Accepted a) bytes os after left follows in
     let next : a.id.count ≡ last T a.id.namespace + 1 = right.0 ∙ ap (λ n. n + 1) (drawn_last T a.id.namespace) in
     let weighs = accept_weighs rs T a sound ids known.0 next in
@@ -180,7 +180,7 @@ item_follows rs (Accepted a) T bytes after os left is_open right own sound ids k
       );
       ids = accept_ids T a sound ids known.0 next;
     }
-item_follows rs (Ended e) T bytes after os left is_open right own sound ids known before follows =
+item_follows beside rs (Ended e) T bytes after os left is_open right own sound ids known before follows =
     let one = one_of (moves.Ended (record_of e)) bytes os after left follows in
     let goes = end_goes rs T e right.0.0 right.0.1 is_open sound ids in
     let weighs = goes.bytes in
@@ -194,7 +194,7 @@ item_follows rs (Ended e) T bytes after os left is_open right own sound ids know
       );
       ids = goes.ids;
     }
-item_follows rs (Drawn id at) T bytes after os left is_open right own sound ids known before follows =
+item_follows beside rs (Drawn id at) T bytes after os left is_open right own sound ids known before follows =
     let one = one_of (moves.Drawn id) bytes os after left follows in
     let next : id.count ≡ last T id.namespace + 1 = right.0 ∙ ap (λ n. n + 1) (drawn_last T id.namespace) in
     let weighs = draw_weighs rs T id at sound ids known.0 next in
@@ -207,7 +207,7 @@ item_follows rs (Drawn id at) T bytes after os left is_open right own sound ids 
       stands = (omega (arith, weighs, less, sum, now), one.opens ∙ before.1);
       ids = draw_ids rs T id at sound ids known.0 next;
     }
-item_follows rs (Fired r) T bytes after os left is_open right own sound ids known before follows =
+item_follows beside rs (Fired r) T bytes after os left is_open right own sound ids known before follows =
     let one = one_of (moves.Fired r) bytes os after left follows in
     let weighs = fire_weighs rs T r sound ids known.0 right.0 in
     let sum = one.bytes in
@@ -217,16 +217,17 @@ item_follows rs (Fired r) T bytes after os left is_open right own sound ids know
       stands = (omega (arith, weighs, sum, now), one.opens ∙ (before.1 ∙ ap (map open_bytes) (sym (fire_open rs T r sound ids known.0 right.0))));
       ids = fire_ids rs T r sound ids known.0 right.0;
     }
-item_follows rs (Ordered run key) T bytes after os left is_open right own sound ids known before follows = still rs (Ordered run key) T bytes after os left (is_open ∙ same_open waits (Running run.number) (open_items T)) refl refl ids before follows
-item_follows rs (Lost run at) T bytes after os left is_open right own sound ids known before follows = still rs (Lost run at) T bytes after os left (is_open ∙ same_freed (find (is_number run) (live T)) (open_items T)) refl refl ids before follows
-item_follows rs (Prewarming order at) T bytes after os left is_open right own sound ids known before follows = still rs (Prewarming order at) T bytes after os left is_open refl refl ids before follows
-item_follows rs (Removed containers at) T bytes after os left is_open right own sound ids known before follows = still rs (Removed containers at) T bytes after os left is_open refl refl ids before follows
-item_follows rs (Begun run at) T bytes after os left is_open right own sound ids known before follows = still rs (Begun run at) T bytes after os left is_open refl refl ids before follows
-item_follows rs (Answered run alive at) T bytes after os left is_open right own sound ids known before follows = still rs (Answered run alive at) T bytes after os left is_open refl refl ids before follows
-item_follows rs (Gone slot generation at) T bytes after os left is_open right own sound ids known before follows = still rs (Gone slot generation at) T bytes after os left is_open refl refl ids before follows
-item_follows rs (Swept at) T bytes after os left is_open right own sound ids known before follows = still rs (Swept at) T bytes after os left is_open refl refl ids before follows
-item_follows rs (Drained at) T bytes after os left is_open right own sound ids known before follows = still rs (Drained at) T bytes after os left is_open refl refl ids before follows
-item_follows rs (Reopened at) T bytes after os left is_open right own sound ids known before follows = still rs (Reopened at) T bytes after os left is_open refl refl ids before follows
+item_follows beside rs (Ordered run key) T bytes after os left is_open right own sound ids known before follows = still beside rs (Ordered run key) T bytes after os left (is_open ∙ same_open waits (Running run.number) (open_items T)) refl refl ids before follows
+item_follows beside rs (Lost run at) T bytes after os left is_open right own sound ids known before follows = still beside rs (Lost run at) T bytes after os left (is_open ∙ same_freed (find (is_number run) (live T)) (open_items T)) refl refl ids before follows
+item_follows beside rs (Prewarming order at) T bytes after os left is_open right own sound ids known before follows = still beside rs (Prewarming order at) T bytes after os left is_open refl refl ids before follows
+item_follows beside rs (Removed containers at) T bytes after os left is_open right own sound ids known before follows = still beside rs (Removed containers at) T bytes after os left is_open refl refl ids before follows
+item_follows beside rs (Begun run at) T bytes after os left is_open right own sound ids known before follows = still beside rs (Begun run at) T bytes after os left is_open refl refl ids before follows
+item_follows beside rs (Answered run alive at) T bytes after os left is_open right own sound ids known before follows = still beside rs (Answered run alive at) T bytes after os left is_open refl refl ids before follows
+item_follows beside rs (Gone slot generation at) T bytes after os left is_open right own sound ids known before follows = still beside rs (Gone slot generation at) T bytes after os left is_open refl refl ids before follows
+item_follows beside rs (Swept at) T bytes after os left is_open right own sound ids known before follows = still beside rs (Swept at) T bytes after os left is_open refl refl ids before follows
+item_follows beside rs (Drained at) T bytes after os left is_open right own sound ids known before follows = still beside rs (Drained at) T bytes after os left is_open refl refl ids before follows
+item_follows beside rs (Reopened at) T bytes after os left is_open right own sound ids known before follows = still beside rs (Reopened at) T bytes after os left is_open refl refl ids before follows
+item_follows beside rs (Archived until at) T bytes after os left is_open right own sound ids known before follows = absurd own
 
 -- ---- items
 
@@ -245,19 +246,19 @@ changes_append : (xs ys : List Moved) → flat_map changes_of (xs ++ ys) ≡ fla
 changes_append [] ys = refl
 changes_append (m ∷ xs) ys = ap (λ cs. changes_of m ++ cs) (changes_append xs ys) ∙ sym (append_assoc (changes_of m) (flat_map changes_of xs) (flat_map changes_of ys))
 
-pub moves_go : (rs : List Row) (items T : Trace) (bytes after : ℕ) (os left : List OpenBytes) → AreRight items (shown T) → AreOwn items → IsSound T → AreIds T → AllByRecursion IsKnownMove (moved items) → Before rs T bytes os
-    → Follows (moved items) bytes os after left → GoesOn rs (flat_map changes_of (moved items)) after left T (items ++ T)
-moves_go rs [] T bytes after os left right own sound ids known before follows =
+pub moves_go : (beside : ℕ) (rs : List Row) (items T : Trace) (bytes after : ℕ) (os left : List OpenBytes) → AreRight items (shown T) → AreOwn items → IsSound T → AreIds T → AllByRecursion IsKnownMove (moved items) → Before beside rs T bytes os
+    → Follows (moved items) bytes os after left → GoesOn beside rs (flat_map changes_of (moved items)) after left T (items ++ T)
+moves_go beside rs [] T bytes after os left right own sound ids known before follows =
     record { makes = record { each = λ q. refl }; stands = (follows.0 ∙ before.0, follows.1 ∙ before.1); ids = ids }
-moves_go rs (item ∷ items) T bytes after os left right own sound ids known before follows =
+moves_go beside rs (item ∷ items) T bytes after os left right own sound ids known before follows =
     let U : Trace = items ++ T in
     let split = follows_split (moved items) (moved_by item) bytes os after left follows in
     let parts = known_split (moved items) (moved_by item) known in
-    let so_far = moves_go rs items T bytes split.0 os split.1 right.1 own.1 sound ids parts.0 before split.2.0 in
+    let so_far = moves_go beside rs items T bytes split.0 os split.1 right.1 own.1 sound ids parts.0 before split.2.0 in
     let past = sound_items items T right.1 sound in
     let here : AreRight (item ∷ []) (shown U) = one_right item U (grown items (shown T)) past.1 right.0 in
     let is_open : unrecorded (item ∷ U) ≡ of_open (open_after item (live U) (open_items U)) = ap (λ (v : Shown). of_open v.open_items) (sound_items (item ∷ []) U here past.0).1 in
-    let one = item_follows rs item U split.0 after split.1 left is_open here.0 own.0 past.0 so_far.ids parts.1 so_far.stands split.2.1 in
+    let one = item_follows beside rs item U split.0 after split.1 left is_open here.0 own.0 past.0 so_far.ids parts.1 so_far.stands split.2.1 in
     record {
       makes = subst (λ (cs : List Change). Makes cs (entries rs T) (entries rs (item ∷ U))) (sym (changes_append (moved items) (moved_by item)))
           (makes_then (flat_map changes_of (moved items)) (flat_map changes_of (moved_by item)) (entries rs T) (entries rs U) (entries rs (item ∷ U)) so_far.makes one.makes);
@@ -287,6 +288,7 @@ item_makes rs (Gone slot generation at) T is_open right own sound ids known = le
 item_makes rs (Swept at) T is_open right own sound ids known = let goes = stays rs (Swept at) T is_open refl refl ids in (goes.makes, goes.ids)
 item_makes rs (Drained at) T is_open right own sound ids known = let goes = stays rs (Drained at) T is_open refl refl ids in (goes.makes, goes.ids)
 item_makes rs (Reopened at) T is_open right own sound ids known = let goes = stays rs (Reopened at) T is_open refl refl ids in (goes.makes, goes.ids)
+item_makes rs (Archived until at) T is_open right own sound ids known = absurd own
 
 makes_only : (rs : List Row) (items T : Trace) → AreRight items (shown T) → AreOwn items → IsSound T → AreIds T → AllByRecursion IsKnownMove (moved items)
     → Makes (flat_map changes_of (moved items)) (entries rs T) (entries rs (items ++ T)) × AreIds (items ++ T)
@@ -354,26 +356,26 @@ changes_last ms i cs all past so_far =
 
 pub record IsFollowing (v : KeepingView) (ms : List Moved) (c : FollowingView) : Type 0 where
   pub changes : c.changes ≡ flat_map changes_of ms
-  pub bytes : (rs : List Row) (T items : Trace) → StandsForKept v rs T → IsSound T → AreRight items (shown T) → AreOwn items → ms ≡ moved items → c.bytes ≡ bytes_of (changed c.changes (kept rs T))
-  pub stands : (rs : List Row) (T items : Trace) → StandsForKept v rs T → IsSound T → AreRight items (shown T) → AreOwn items → ms ≡ moved items → StandsFollowing c rs (items ++ T)
+  pub bytes : (o : OthersView) (rs : List Row) (T items : Trace) → StandsForKept v o rs T → IsSound T → AreRight items (shown T) → AreOwn items → ms ≡ moved items → c.bytes ≡ others_bytes o + bytes_of (changed c.changes (kept rs T))
+  pub stands : (o : OthersView) (rs : List Row) (T items : Trace) → StandsForKept v o rs T → IsSound T → AreRight items (shown T) → AreOwn items → ms ≡ moved items → StandsFollowing c o rs (items ++ T)
 
 pub following_done : (v : KeepingView) (ms : List Moved) (c : FollowingView) (cs0 cs1 : List Change) (n0 n1 : ℕ) (os left : List OpenBytes) → n0 ≡ v.bytes → cs0 ≡ [] → cs1 ≡ cs0 ++ flat_map changes_of ms → os ≡ v.opens
     → Follows ms n0 os n1 left → AllByRecursion IsKnownMove ms → c ≡ record { changes = cs1; bytes = n1; opens = left } → IsFollowing v ms c
 unfolding kept
 following_done v ms c cs0 cs1 n0 n1 os left start empty gathered copied follows known is =
     let changes : c.changes ≡ flat_map changes_of ms = ap (λ (x : FollowingView). x.changes) is ∙ (gathered ∙ ap (λ cs. cs ++ flat_map changes_of ms) empty) in
-    let goes : (rs : List Row) (T items : Trace) → StandsForKept v rs T → IsSound T → AreRight items (shown T) → AreOwn items → ms ≡ moved items → GoesOn rs (flat_map changes_of (moved items)) n1 left T (items ++ T)
-    = λ rs T items stands sound right own same.
-    moves_go rs items T n0 n1 os left right own sound stands.ids (subst (λ (xs : List Moved). AllByRecursion IsKnownMove xs) same known) (start ∙ stands.bytes, copied ∙ stands.opens)
+    let goes : (o : OthersView) (rs : List Row) (T items : Trace) → StandsForKept v o rs T → IsSound T → AreRight items (shown T) → AreOwn items → ms ≡ moved items → GoesOn (others_bytes o) rs (flat_map changes_of (moved items)) n1 left T (items ++ T)
+    = λ o rs T items stands sound right own same.
+    moves_go (others_bytes o) rs items T n0 n1 os left right own sound stands.ids (subst (λ (xs : List Moved). AllByRecursion IsKnownMove xs) same known) (start ∙ stands.bytes, copied ∙ stands.opens)
     (subst (λ (xs : List Moved). Follows xs n0 os n1 left) same follows) in
     record {
       changes = changes;
-      bytes = λ rs T items stands sound right own same.
-          let g = goes rs T items stands sound right own same in
+      bytes = λ o rs T items stands sound right own same.
+          let g = goes o rs T items stands sound right own same in
           ap (λ (x : FollowingView). x.bytes) is ∙ (g.stands.0
-          ∙ (ap bytes_of (sym (changes_kept (flat_map changes_of (moved items)) (entries rs T) (entries rs (items ++ T)) g.makes))
-          ∙ (ap (λ (xs : List Moved). bytes_of (changed (flat_map changes_of xs) (kept rs T))) (sym same) ∙ ap (λ (cs : List Change). bytes_of (changed cs (kept rs T))) (sym changes))));
-      stands = λ rs T items stands sound right own same.
-          let g = goes rs T items stands sound right own same in
+          ∙ (ap (λ es. others_bytes o + bytes_of es) (sym (changes_kept (flat_map changes_of (moved items)) (entries rs T) (entries rs (items ++ T)) g.makes))
+          ∙ (ap (λ (xs : List Moved). others_bytes o + bytes_of (changed (flat_map changes_of xs) (kept rs T))) (sym same) ∙ ap (λ (cs : List Change). others_bytes o + bytes_of (changed cs (kept rs T))) (sym changes))));
+      stands = λ o rs T items stands sound right own same.
+          let g = goes o rs T items stands sound right own same in
           record { bytes = ap (λ (x : FollowingView). x.bytes) is ∙ g.stands.0; opens = ap (λ (x : FollowingView). x.opens) is ∙ g.stands.1; ids = g.ids };
     }

@@ -8,7 +8,7 @@ use Rattle.ow_traits.specs.Rows.{AreRows, text_of}
 use Rattle.ow_row_text.specs.Item.{item_key, item_row, item_text}
 use Rattle.ow_row_text.specs.Lists.{Lacks}
 use Rattle.ow_row_text.specs.declared.item.Item.{Item}
-use Rattle.ow_row_text.specs.declared.item.Item.TheVariants.{Version, Count, Row, Open, Done}
+use Rattle.ow_row_text.specs.declared.item.Item.TheVariants.{Version, Archive, Count, Note, Row, Open, Done}
 use Rattle.ow_row_text.proofs.Extent.{above_none}
 use Rattle.ow_keep.specs.Split.{split}
 use Rattle.ow_records.specs.declared.ids.Id.{Id}
@@ -83,7 +83,9 @@ pick_row i = None
 pub counts_picked : (is : List Item) → (split is).counts ≡ picked pick_count is
 counts_picked [] = refl
 counts_picked (Count n c ∷ is) = ap (λ xs. record { namespace = n; count = c } ∷ xs) (counts_picked is)
-counts_picked (Version ∷ is) = counts_picked is
+counts_picked (Version v ∷ is) = counts_picked is
+counts_picked (Archive a ∷ is) = counts_picked is
+counts_picked (Note n ∷ is) = counts_picked is
 counts_picked (Row r ∷ is) = counts_picked is
 counts_picked (Open u ∷ is) = counts_picked is
 counts_picked (Done r ∷ is) = counts_picked is
@@ -91,7 +93,9 @@ counts_picked (Done r ∷ is) = counts_picked is
 pub opens_picked : (is : List Item) → (split is).unrecorded ≡ picked pick_open is
 opens_picked [] = refl
 opens_picked (Open u ∷ is) = ap (λ xs. u ∷ xs) (opens_picked is)
-opens_picked (Version ∷ is) = opens_picked is
+opens_picked (Version v ∷ is) = opens_picked is
+opens_picked (Archive a ∷ is) = opens_picked is
+opens_picked (Note n ∷ is) = opens_picked is
 opens_picked (Count n c ∷ is) = opens_picked is
 opens_picked (Row r ∷ is) = opens_picked is
 opens_picked (Done r ∷ is) = opens_picked is
@@ -99,7 +103,9 @@ opens_picked (Done r ∷ is) = opens_picked is
 pub dones_picked : (is : List Item) → (split is).records ≡ picked pick_done is
 dones_picked [] = refl
 dones_picked (Done r ∷ is) = ap (λ xs. r ∷ xs) (dones_picked is)
-dones_picked (Version ∷ is) = dones_picked is
+dones_picked (Version v ∷ is) = dones_picked is
+dones_picked (Archive a ∷ is) = dones_picked is
+dones_picked (Note n ∷ is) = dones_picked is
 dones_picked (Count n c ∷ is) = dones_picked is
 dones_picked (Row r ∷ is) = dones_picked is
 dones_picked (Open u ∷ is) = dones_picked is
@@ -107,35 +113,45 @@ dones_picked (Open u ∷ is) = dones_picked is
 pub rows_picked : (is : List Item) → (split is).entities ≡ picked pick_row is
 rows_picked [] = refl
 rows_picked (Row r ∷ is) = ap (λ xs. r ∷ xs) (rows_picked is)
-rows_picked (Version ∷ is) = rows_picked is
+rows_picked (Version v ∷ is) = rows_picked is
+rows_picked (Archive a ∷ is) = rows_picked is
+rows_picked (Note n ∷ is) = rows_picked is
 rows_picked (Count n c ∷ is) = rows_picked is
 rows_picked (Open u ∷ is) = rows_picked is
 rows_picked (Done r ∷ is) = rows_picked is
 
 pub is_count : (i : Item) (x : Id) → pick_count i ≡ Some x → item_row (Count x.namespace x.count) ≡ item_row i
 is_count (Count n c) x e = let is : ◌≡◌ {A = Id} (record { namespace = n; count = c }) x = cc in ap (λ (y : Id). item_row (Count y.namespace y.count)) (sym is)
-is_count Version x e = cc
+is_count (Version v) x e = cc
+is_count (Archive a) x e = cc
+is_count (Note n) x e = cc
 is_count (Row r) x e = cc
 is_count (Open u) x e = cc
 is_count (Done r) x e = cc
 
 pub is_open : (i : Item) (x : Unrecorded) → pick_open i ≡ Some x → item_row (Open x) ≡ item_row i
 is_open (Open u) x e = let is : u ≡ x = cc in ap (λ y. item_row (Open y)) (sym is)
-is_open Version x e = cc
+is_open (Version v) x e = cc
+is_open (Archive a) x e = cc
+is_open (Note n) x e = cc
 is_open (Count n c) x e = cc
 is_open (Row r) x e = cc
 is_open (Done r) x e = cc
 
 pub is_done : (i : Item) (x : Record) → pick_done i ≡ Some x → item_row (Done x) ≡ item_row i
 is_done (Done r) x e = let is : r ≡ x = cc in ap (λ y. item_row (Done y)) (sym is)
-is_done Version x e = cc
+is_done (Version v) x e = cc
+is_done (Archive a) x e = cc
+is_done (Note n) x e = cc
 is_done (Count n c) x e = cc
 is_done (Row r) x e = cc
 is_done (Open u) x e = cc
 
 pub is_entity : (i : Item) (x : EntityRow) → pick_row i ≡ Some x → item_row (Row x) ≡ item_row i
 is_entity (Row r) x e = let is : r ≡ x = cc in ap (λ y. item_row (Row y)) (sym is)
-is_entity Version x e = cc
+is_entity (Version v) x e = cc
+is_entity (Archive a) x e = cc
+is_entity (Note n) x e = cc
 is_entity (Count n c) x e = cc
 is_entity (Open u) x e = cc
 is_entity (Done r) x e = cc

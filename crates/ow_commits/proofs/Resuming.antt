@@ -13,15 +13,17 @@ use Rattle.ow_floor.proofs.Tallies.{eq_of}
 use Rattle.ow_row_text.specs.Item.{count_key, done_key, item_row, item_text, open_key}
 use Rattle.ow_row_text.specs.Lists.{Lacks}
 use Rattle.ow_row_text.specs.Sorted.{Entries}
+use Rattle.ow_row_text.specs.declared.item.Archive.{Archive as KeptArchive}
 use Rattle.ow_row_text.specs.declared.item.Item.{Item}
-use Rattle.ow_row_text.specs.declared.item.Item.TheVariants.{Version, Count, Row, Open, Done}
+use Rattle.ow_row_text.specs.declared.item.Item.TheVariants.{Version, Archive, Count, Note, Row, Open, Done}
+use Rattle.ow_row_text.specs.declared.item.RowsVersion.{RowsVersion}
 use Rattle.ow_row_text.proofs.Extent.{text_of-rows_of}
 use Rattle.ow_row_text.proofs.Lists.{absent_kind}
 use Rattle.ow_row_text.proofs.Parts.{or_text, text_of-append}
 use Rattle.ow_keep.specs.Allowed.{has_record, is_counted, is_drawn}
 use Rattle.ow_keep.specs.Kept.{AreKept, MayStand}
 use Rattle.ow_keep.specs.Known.{IsItem}
-use Rattle.ow_keep.specs.Split.{HoldsItems, Parts, entries as entries_of, split, version_entries}
+use Rattle.ow_keep.specs.Split.{HoldsItems, Parts, archive_entries, entries as entries_of, main_entries, note_row, split, version_entries}
 use Rattle.ow_keep.proofs.BuiltinLaws.{not_builtin_held}
 use Rattle.ow_keep.proofs.Splits.{split_kept}
 use Rattle.ow_commits.specs.Keeping.{AreIds, IsDrawn}
@@ -102,7 +104,9 @@ drawn_of : (all : Entries) (i : Item) (id : Id) → pick_count i ≡ Some id →
 drawn_of all (Count n k) id e h =
     let is : ◌≡◌ {A = Id} (record { namespace = n; count = k }) id = cc in
     subst (λ (x : Id). IsDrawn x) is (record { is = record { namespace = h.1.0; count = h.1.1 }; drawn = at_least k _ h.0.allowed })
-drawn_of all Version id e h = cc
+drawn_of all (Version v) id e h = cc
+drawn_of all (Archive a) id e h = cc
+drawn_of all (Note n) id e h = cc
 drawn_of all (Row r) id e h = cc
 drawn_of all (Open u) id e h = cc
 drawn_of all (Done r) id e h = cc
@@ -132,14 +136,22 @@ pub last_read : (n : ℕ) (ids : List Id) → n < 2 ^ 64 → AllByRecursion IsDr
 last_read n [] small all = refl
 last_read n (x ∷ ids) small all = read_by n x ids (x.namespace == n) refl small all.0 (last_read n ids small all.1)
 
-no_version : (n : ℕ) (b : Bool) → text_of (count_key n) (version_entries b) ≡ None
-no_version n true = refl
-no_version n false = refl
+no_version : (n : ℕ) (o : Option RowsVersion) → text_of (count_key n) (version_entries o) ≡ None
+no_version n None = refl
+no_version n (Some v) = refl
+
+no_archive_row : (n : ℕ) (o : Option KeptArchive) → text_of (count_key n) (archive_entries o) ≡ None
+no_archive_row n None = refl
+no_archive_row n (Some a) = refl
 
 count_there : (p : Parts) (n : ℕ) → text_of (count_key n) (entries_of p) ≡ text_of (count_key n) (map count_of p.counts)
 count_there p n =
-    text_of-append (count_key n) (version_entries p.versioned) (map count_of p.counts ++ (map open_of p.unrecorded ++ (map done_of p.records ++ map row_of p.entities)))
-    ∙ ap (λ o. or_text o (text_of (count_key n) (map count_of p.counts ++ (map open_of p.unrecorded ++ (map done_of p.records ++ map row_of p.entities))))) (no_version n p.versioned)
+    text_of-append (count_key n) (archive_entries p.archive) (map note_row p.notes ++ main_entries p)
+    ∙ ap (λ o. or_text o (text_of (count_key n) (map note_row p.notes ++ main_entries p))) (no_archive_row n p.archive)
+    ∙ text_of-append (count_key n) (map note_row p.notes) (main_entries p)
+    ∙ ap (λ o. or_text o (text_of (count_key n) (main_entries p))) (absent_kind note_row (count_key n) p.notes (λ x. refl))
+    ∙ text_of-append (count_key n) (version_entries p.version) (map count_of p.counts ++ (map open_of p.unrecorded ++ (map done_of p.records ++ map row_of p.entities)))
+    ∙ ap (λ o. or_text o (text_of (count_key n) (map count_of p.counts ++ (map open_of p.unrecorded ++ (map done_of p.records ++ map row_of p.entities))))) (no_version n p.version)
     ∙ text_of-append (count_key n) (map count_of p.counts) (map open_of p.unrecorded ++ (map done_of p.records ++ map row_of p.entities))
     ∙ or_none (text_of (count_key n) (map count_of p.counts)) (text_of (count_key n) (map open_of p.unrecorded ++ (map done_of p.records ++ map row_of p.entities)))
     (both (count_key n) (map open_of p.unrecorded) (map done_of p.records ++ map row_of p.entities) (absent_kind open_of (count_key n) p.unrecorded (λ x. refl))
@@ -172,7 +184,9 @@ module _ (is : List Item) (sorted : AreRows (map item_row is)) (drawn : AllByRec
   open_within (Open v) u e h =
       let same : v ≡ u = cc in
       subst (λ (x : Unrecorded). Within x.id) same (id_within is v.id sorted drawn h.1.id (and_parts (is_drawn (map item_row is) v.id) _ (and_parts (is_drawn (map item_row is) v.id && not (has_record (map item_row is) v.id)) _ h.0.allowed).0).0)
-  open_within Version u e h = cc
+  open_within (Version v) u e h = cc
+  open_within (Archive a) u e h = cc
+  open_within (Note n) u e h = cc
   open_within (Count n c) u e h = cc
   open_within (Row r) u e h = cc
   open_within (Done r) u e h = cc
@@ -181,7 +195,9 @@ module _ (is : List Item) (sorted : AreRows (map item_row is)) (drawn : AllByRec
   done_within (Done d) r e h =
       let same : d ≡ r = cc in
       subst (λ (x : Record). Within x.id) same (id_within is d.id sorted drawn h.1.id (and_parts (is_drawn (map item_row is) d.id) _ h.0.allowed).0)
-  done_within Version r e h = cc
+  done_within (Version v) r e h = cc
+  done_within (Archive a) r e h = cc
+  done_within (Note n) r e h = cc
   done_within (Count n c) r e h = cc
   done_within (Row x) r e h = cc
   done_within (Open u) r e h = cc
@@ -221,14 +237,18 @@ may_be_resumed all p at sorted holds = resumed_of holds.items all p at holds.kep
 
 open_id : (i : Item) (u : Unrecorded) → pick_open i ≡ Some u → IsItem i → IsId u.id
 open_id (Open v) u e h = let same : v ≡ u = cc in subst (λ (x : Unrecorded). IsId x.id) same h.id
-open_id Version u e h = cc
+open_id (Version v) u e h = cc
+open_id (Archive a) u e h = cc
+open_id (Note n) u e h = cc
 open_id (Count n c) u e h = cc
 open_id (Row r) u e h = cc
 open_id (Done r) u e h = cc
 
 done_id : (i : Item) (r : Record) → pick_done i ≡ Some r → IsItem i → IsId r.id
 done_id (Done d) r e h = let same : d ≡ r = cc in subst (λ (x : Record). IsId x.id) same h.id
-done_id Version r e h = cc
+done_id (Version v) r e h = cc
+done_id (Archive a) r e h = cc
+done_id (Note n) r e h = cc
 done_id (Count n c) r e h = cc
 done_id (Row x) r e h = cc
 done_id (Open u) r e h = cc

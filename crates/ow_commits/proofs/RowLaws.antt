@@ -4,7 +4,7 @@ use Rattle.ow_entity.specs.declared.rows.Row.{Row}
 use Rattle.ow_entity.specs.Row.{kind_of, name_of}
 use Rattle.ow_traits.specs.declared.change_list.Change.{Change}
 use Rattle.ow_traits.specs.declared.change_list.Change.TheVariants.{Drop as Dropped}
-use Rattle.ow_floor.specs.Trace.{Trace, all_records, drawn}
+use Rattle.ow_floor.specs.Trace.{Trace, shown_records, drawn}
 use Rattle.ow_row_text.specs.declared.item.Item.TheVariants as items
 use Rattle.ow_row_text.specs.Item.{entity_key}
 use Rattle.ow_row_text.specs.Sorted.{Entries, Makes}
@@ -22,10 +22,10 @@ use Rattle.ow_tables.specs.Contents.{Change as TableChange}
 use Rattle.ow_tables.specs.Rows.{changed as rows_changed, with_row, without}
 
 pub made_so : (cs : List Change) (rs new : List Row) (T U : Trace)
-    → Makes cs (sections (drawn T) (filter is_kept rs) (unrecorded T) (all_records T)) (sections (drawn U) (filter is_kept new) (unrecorded U) (all_records U)) → Makes cs (entries rs T) (entries new U)
+    → Makes cs (sections (drawn T) (filter is_kept rs) (unrecorded T) (shown_records T)) (sections (drawn U) (filter is_kept new) (unrecorded U) (shown_records U)) → Makes cs (entries rs T) (entries new U)
 made_so cs rs new T U h =
     subst (λ (a : Entries). Makes cs a (entries new U)) (sym (entries_are rs T))
-    (subst (λ (b : Entries). Makes cs (sections (drawn T) (filter is_kept rs) (unrecorded T) (all_records T)) b) (sym (entries_are new U)) h)
+    (subst (λ (b : Entries). Makes cs (sections (drawn T) (filter is_kept rs) (unrecorded T) (shown_records T)) b) (sym (entries_are new U)) h)
 
 module _ (ids : List Id) (us : List Unrecorded) (ds : List Record) where
   abbrev Sections : List Row → Entries
@@ -42,7 +42,7 @@ module _ (ids : List Id) (us : List Unrecorded) (ds : List Record) where
   made_by r rs false false e = row_put r ids (filter is_kept rs) (filter is_kept (with_row r rs)) us ds (row_kept r rs (ap not e))
 
 pub row_made : (c : TableChange) (rs : List Row) (T : Trace) → Makes (row_changes c) (entries rs T) (entries (rows_changed c rs) T)
-row_made c rs T = made_so (row_changes c) rs (rows_changed c rs) T T (made_by (drawn T) (unrecorded T) (all_records T) c.row rs c.removes (is_builtin c.row) refl)
+row_made c rs T = made_so (row_changes c) rs (rows_changed c rs) T T (made_by (drawn T) (unrecorded T) (shown_records T) c.row rs c.removes (is_builtin c.row) refl)
 
 pub rows_kept : ChangesOfRowsAreKept
 unfolding kept

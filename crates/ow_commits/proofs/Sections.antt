@@ -3,9 +3,10 @@ use Rattle.std.proofs.Common.{◌≡◌, ℕ, List, [], ◌∷◌, ◌++◌, map
 use Rattle.ow_entity.specs.declared.rows.Row.{Row}
 use Rattle.ow_traits.specs.Rows.{text_of}
 use Rattle.ow_traits.specs.declared.change_list.Change.TheVariants.{Drop as Dropped}
-use Rattle.ow_floor.specs.Trace.{Trace, all_records, drawn}
+use Rattle.ow_floor.specs.Trace.{Trace, shown_records, drawn}
 use Rattle.ow_row_text.specs.declared.item.Item.{Item}
 use Rattle.ow_row_text.specs.declared.item.Item.TheVariants as items
+use Rattle.ow_row_text.specs.declared.item.RowsVersion.TheVariants as versions
 use Rattle.ow_row_text.specs.Item.{done_key, item_key, item_row, open_key}
 use Rattle.ow_row_text.specs.Sorted.{Entries, Makes}
 use Rattle.ow_row_text.proofs.Lists.{absent_kind, drop_after, drop_before, put_after, put_before}
@@ -29,13 +30,13 @@ abbrev pub done_of : Record → List ℕ × List ℕ
 done_of r = item_row (items.Done r)
 
 abbrev pub version : Entries
-version = item_row items.Version ∷ []
+version = item_row (items.Version versions.Second) ∷ []
 
 -- the rows of all kinds, one kind after another
 abbrev pub sections : List Id → List Row → List Unrecorded → List Record → Entries
 sections ids rs us ds = version ++ (map count_of ids ++ (map row_of rs ++ (map open_of us ++ map done_of ds)))
 
-mapped : {X : Type 0} (f : X → Item) (xs : List X) (rest : List Item) → map item_row (map f xs ++ rest) ≡ map (λ x. item_row (f x)) xs ++ map item_row rest
+pub mapped : {X : Type 0} (f : X → Item) (xs : List X) (rest : List Item) → map item_row (map f xs ++ rest) ≡ map (λ x. item_row (f x)) xs ++ map item_row rest
 mapped f [] rest = refl
 mapped f (x ∷ xs) rest = ap (λ es. item_row (f x) ∷ es) (mapped f xs rest)
 
@@ -51,8 +52,8 @@ in_sections ids rs us ds =
     ∙ ap (λ es. map row_of rs ++ es) (mapped items.Open us (map items.Done ds)
     ∙ ap (λ es. map open_of us ++ es) (mapped_end items.Done ds)))
 
-pub entries_are : (rs : List Row) (T : Trace) → entries rs T ≡ sections (drawn T) (filter is_kept rs) (unrecorded T) (all_records T)
-entries_are rs T = ap (λ es. version ++ es) (in_sections (drawn T) (filter is_kept rs) (unrecorded T) (all_records T))
+pub entries_are : (rs : List Row) (T : Trace) → entries rs T ≡ sections (drawn T) (filter is_kept rs) (unrecorded T) (shown_records T)
+entries_are rs T = ap (λ es. version ++ es) (in_sections (drawn T) (filter is_kept rs) (unrecorded T) (shown_records T))
 
 -- ---- keys of other kinds
 

@@ -7,7 +7,7 @@ use Rattle.ow_floor.specs.declared.activations.State.{State}
 use Rattle.ow_floor.specs.declared.activations.State.TheVariants.{Waiting}
 use Rattle.ow_floor.specs.declared.runs.Run.{Run}
 use Rattle.ow_floor.specs.Growth.{AreRight, IsRight, freed}
-use Rattle.ow_floor.specs.Trace.{Item, Trace, all_records, drawn, shown}
+use Rattle.ow_floor.specs.Trace.{Item, Trace, shown_records, drawn, shown}
 use Rattle.ow_slots.specs.Slots.{change_first}
 use Rattle.ow_floor.specs.View.{Shown, is_of, remove_first, with_state}
 use Rattle.ow_row_text.specs.Bytes.{bytes_of}
@@ -39,15 +39,15 @@ pub same_freed : (r : Option Run) (os : List Open) → of_open (freed r os) ≡ 
 same_freed None os = refl
 same_freed (Some r) os = same_open (is_of r.id) Waiting os
 
-kept_same : (rs : List Row) (item : Item) (T : Trace) → unrecorded (item ∷ T) ≡ unrecorded T → drawn (item ∷ T) ≡ drawn T → all_records (item ∷ T) ≡ all_records T → entries rs (item ∷ T) ≡ entries rs T
+kept_same : (rs : List Row) (item : Item) (T : Trace) → unrecorded (item ∷ T) ≡ unrecorded T → drawn (item ∷ T) ≡ drawn T → shown_records (item ∷ T) ≡ shown_records T → entries rs (item ∷ T) ≡ entries rs T
 kept_same rs item T is_open is_drawn is_ended =
     entries_are rs (item ∷ T)
-    ∙ (ap (λ us. sections (drawn (item ∷ T)) (filter is_kept rs) us (all_records (item ∷ T))) is_open
-    ∙ (ap (λ xs. sections xs (filter is_kept rs) (unrecorded T) (all_records (item ∷ T))) is_drawn
+    ∙ (ap (λ us. sections (drawn (item ∷ T)) (filter is_kept rs) us (shown_records (item ∷ T))) is_open
+    ∙ (ap (λ xs. sections xs (filter is_kept rs) (unrecorded T) (shown_records (item ∷ T))) is_drawn
     ∙ (ap (λ ds. sections (drawn T) (filter is_kept rs) (unrecorded T) ds) is_ended
     ∙ sym (entries_are rs T))))
 
-pub stays : (rs : List Row) (item : Item) (T : Trace) → unrecorded (item ∷ T) ≡ unrecorded T → drawn (item ∷ T) ≡ drawn T → all_records (item ∷ T) ≡ all_records T → AreIds T → Goes rs [] 0 0 T (item ∷ T)
+pub stays : (rs : List Row) (item : Item) (T : Trace) → unrecorded (item ∷ T) ≡ unrecorded T → drawn (item ∷ T) ≡ drawn T → shown_records (item ∷ T) ≡ shown_records T → AreIds T → Goes rs [] 0 0 T (item ∷ T)
 unfolding kept
 stays rs item T is_open is_drawn is_ended ids = record {
   makes = subst (λ (es : Entries). Makes [] (entries rs T) es) (sym (kept_same rs item T is_open is_drawn is_ended)) (record { each = λ q. refl });

@@ -3,7 +3,7 @@
 use Rattle.std.specs.Prelude.{◌≡◌, ◌==◌, ◌≤◌, ◌+◌, ◌-◌, ◌++◌, ◌∷◌, [], ℕ, Bool, List, length, map, if◌then◌else◌, Option, Some, None}
 use Rattle.std.specs.List.{AllByRecursion}
 use Rattle.ow_entity.specs.declared.rows.Row.{Row}
-use Rattle.ow_floor.specs.Trace.{Item as FloorItem, Resumed, Trace, all_records, drawn}
+use Rattle.ow_floor.specs.Trace.{Item as FloorItem, Archived, Resumed, Trace, shown_records, drawn}
 use Rattle.ow_floor.specs.declared.moves.Moved.{Moved}
 use Rattle.ow_floor.specs.declared.moves.Moved.TheVariants as moves
 use Rattle.ow_floor.specs.View.{remove_first}
@@ -12,7 +12,7 @@ use Rattle.ow_row_text.specs.declared.item.Item.TheVariants as items
 use Rattle.ow_row_text.specs.Bytes.{bytes_of}
 use Rattle.ow_row_text.specs.Item.{item_key, item_text}
 use Rattle.ow_commits.specs.declared.open_bytes.OpenBytes.{OpenBytes}
-use Rattle.ow_commits.specs.Kept.{kept, unrecorded}
+use Rattle.ow_commits.specs.Kept.{OthersView, kept, others_bytes, unrecorded}
 use Rattle.ow_records.specs.declared.ids.Id.{Id}
 use Rattle.ow_records.specs.declared.record.Record.{Record}
 use Rattle.ow_records.specs.declared.unrecorded.Unrecorded.{Unrecorded}
@@ -81,17 +81,17 @@ pub record IsDrawn (id : Id) : Type 0 where
 pub record AreIds (T : Trace) : Type 0 where
   pub drawn : AllByRecursion IsDrawn (drawn T)
   pub opened : AllByRecursion (λ u. IsId u.id) (unrecorded T)
-  pub ended : AllByRecursion (λ r. IsId r.id) (all_records T)
+  pub ended : AllByRecursion (λ r. IsId r.id) (shown_records T)
 
--- what is known of the kept rows is true of what is kept of these rows and this trace
-pub record StandsForKept (v : KeepingView) (rs : List Row) (T : Trace) : Type 0 where
-  pub bytes : v.bytes ≡ bytes_of (kept rs T)
+-- what is known of the kept rows is true of what is kept of the archive and the notes, of these rows and this trace
+pub record StandsForKept (v : KeepingView) (o : OthersView) (rs : List Row) (T : Trace) : Type 0 where
+  pub bytes : v.bytes ≡ others_bytes o + bytes_of (kept rs T)
   pub opens : v.opens ≡ map open_bytes (unrecorded T)
   pub ids : AreIds T
 
--- once what follows is kept, what it says of the kept rows is true of what is kept of these rows and this trace
-abbrev pub StandsFollowing : FollowingView → List Row → Trace → Type 0
-StandsFollowing c rs T = StandsForKept (record { bytes = c.bytes; opens = c.opens }) rs T
+-- once what follows is kept, what it says of the kept rows is true of what is kept of these
+abbrev pub StandsFollowing : FollowingView → OthersView → List Row → Trace → Type 0
+StandsFollowing c o rs T = StandsForKept (record { bytes = c.bytes; opens = c.opens }) o rs T
 
 -- ---- what follows from moves
 
@@ -135,6 +135,7 @@ IsKnownMove (moves.Fired r) = IsId r.id
 -- the item takes over nothing of an earlier run
 abbrev pub IsOwn : FloorItem → Type 0
 IsOwn (Resumed counts rs) = ⊥
+IsOwn (Archived until at) = ⊥
 IsOwn item = Unit {0}
 
 abbrev pub AreOwn : Trace → Type 0

@@ -1,5 +1,6 @@
 pub mod Kept
 pub mod Commits
+pub mod Archiving
 pub mod Keeping
 pub mod Opening
 pub mod Fit

@@ -47,6 +47,18 @@ impl Gathered {
         self.changes.push(Change::Drop(key))?;
         Ok(())
     }
+
+    /// Takes out a row, and puts it among the old rows.
+    pub(crate) fn retire(&mut self, row: (Str, Str)) -> Result<(), NoMemory>
+        ensures changes { OnOk result (self.new.changes.items ≡ self.old.changes.items ++ changes.Retire row.0 row.1 ∷ []) }
+        ensures bytes { OnOk result (self.new.bytes + (length row.0 + length row.1) ≡ self.old.bytes) }
+    {
+        let size = row_bytes(&row)?;
+        self.bytes = changed_bytes(self.bytes, size, 0)?;
+        let (key, text) = row;
+        self.changes.push(Change::Retire(key, text))?;
+        Ok(())
+    }
 }
 
 /// How many bytes the key and the text have.

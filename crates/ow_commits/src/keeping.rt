@@ -1,5 +1,5 @@
 // What is known of the kept rows.
-ghost use Rattle.std.specs.Prelude.{◌≡◌, ◌++◌, ℕ, List, [], IfOk};
+ghost use Rattle.std.specs.Prelude.{◌≡◌, ◌+◌, ◌++◌, ℕ, List, [], IfOk};
 ghost use Rattle.std.specs.List.{flat_map};
 ghost use Rattle.std.specs.Option.{option_copied};
 ghost use Rattle.ow_entity.specs.declared.rows.Row.{Row};
@@ -13,8 +13,8 @@ ghost use Rattle.ow_traits.specs.Changes.{changed};
 ghost use Rattle.ow_floor.specs.Calls.{moved};
 ghost use Rattle.ow_commits.specs.Commits.{changes_of, row_changes};
 ghost use Rattle.ow_commits.specs.Keeping.{AreOwn, StandsFollowing, StandsForKept};
-ghost use Rattle.ow_commits.specs.Kept.{kept};
-ghost use Rattle.ow_commits.specs.Opening.{AreNotBuiltin, opened_trace, opening_changes};
+ghost use Rattle.ow_commits.specs.Kept.{OthersView, kept, others_bytes};
+ghost use Rattle.ow_commits.specs.Opening.{AreNotBuiltin, opened_trace, opening_changes, others_of};
 ghost use Rattle.ow_keep.specs.Split.{HoldsItems, parts_of};
 ghost use Rattle.ow_tables.specs.Builtin.{builtin};
 ghost use Rattle.ow_traits.specs.declared.prewarms.Prewarm.{Prewarm};
@@ -22,11 +22,12 @@ ghost use Rattle.ow_traits.specs.declared.prewarms.Prewarm.{Prewarm};
 use crate::following::{Following, follow_all};
 use crate::gathered::Gathered;
 use crate::open_bytes::OpenBytes;
-use crate::openings::{abandon_all, bytes_of, put_version};
+use crate::openings::{abandon_all, bytes_of, put_archive, put_version};
 use crate::table_rows::change;
 use ow_entity::Row;
 use ow_floor::Moved;
 use ow_keep::Kept;
+use ow_row_text::Archive;
 use ow_tables::Ready;
 use ow_traits::Rows;
 use ow_value::NoMemory;
@@ -66,13 +67,14 @@ impl Keeping {
 
     /// What an opening commits at this moment, in milliseconds, over the rows and what they hold.
     pub fn opening(alloc: Global, at: u64, rows: &Rows, kept: &Kept) -> Result<Following, NoMemory>
-        ensures changes { IfOk result (λ c. c.changes ≡ opening_changes at (parts_of kept.now).unrecorded) }
+        ensures changes { IfOk result (λ c. c.changes ≡ opening_changes at (parts_of kept.now)) }
         ensures stands { IfOk result (λ c. (pool : ℕ) (wants : List Prewarm) → HoldsItems rows.now (parts_of kept.now)
-            → AreNotBuiltin (parts_of kept.now).entities → StandsFollowing c (resumed (parts_of kept.now).entities builtin) (opened_trace at (parts_of kept.now) pool wants)) }
+            → AreNotBuiltin (parts_of kept.now).entities → StandsFollowing c (others_of (parts_of kept.now)) (resumed (parts_of kept.now).entities builtin) (opened_trace at (parts_of kept.now) pool wants)) }
     {
         let bytes = bytes_of(rows.as_slice())?;
         let mut gathered = Gathered::new(alloc, bytes);
         put_version(alloc, &mut gathered, rows)?;
+        put_archive(alloc, &mut gathered, rows, archive_of(kept))?;
         abandon_all(alloc, &mut gathered, at, &kept.unrecorded)?;
         let following = gathered.following(Vec::new(alloc))?;
         Ok(following)
@@ -88,10 +90,10 @@ impl Keeping {
     /// What is committed of all that moved, in its order, whatever else happened that isn't kept.
     pub fn following(&self, alloc: Global, moves: &[Moved]) -> Result<Following, NoMemory>
         ensures changes { IfOk result (λ c. c.changes ≡ flat_map changes_of moves.now) }
-        ensures bytes { IfOk result (λ c. (rs : List Row) (T items : Trace) → StandsForKept self.now rs T → IsSound T → AreRight items (shown T)
-            → AreOwn items → moves.now ≡ moved items → c.bytes ≡ bytes_of (changed c.changes (kept rs T))) }
-        ensures stands { IfOk result (λ c. (rs : List Row) (T items : Trace) → StandsForKept self.now rs T → IsSound T → AreRight items (shown T)
-            → AreOwn items → moves.now ≡ moved items → StandsFollowing c rs (items ++ T)) }
+        ensures bytes { IfOk result (λ c. (o : OthersView) (rs : List Row) (T items : Trace) → StandsForKept self.now o rs T → IsSound T → AreRight items (shown T)
+            → AreOwn items → moves.now ≡ moved items → c.bytes ≡ others_bytes o + bytes_of (changed c.changes (kept rs T))) }
+        ensures stands { IfOk result (λ c. (o : OthersView) (rs : List Row) (T items : Trace) → StandsForKept self.now o rs T → IsSound T → AreRight items (shown T)
+            → AreOwn items → moves.now ≡ moved items → StandsFollowing c o rs (items ++ T)) }
     {
         let mut gathered = Gathered::new(alloc, self.bytes());
         let mut opens = copied(alloc, self.opens())?;
@@ -108,10 +110,10 @@ impl Keeping {
         ready: &Ready,
     ) -> Result<Following, NoMemory>
         ensures changes { IfOk result (λ c. c.changes ≡ row_changes ready.now) }
-        ensures bytes { IfOk result (λ c. (rs : List Row) (T : Trace) → StandsForKept self.now rs T
-            → option_copied old.entry ≡ found (kind_of ready.now.row) (name_of ready.now.row) rs → c.bytes ≡ bytes_of (changed c.changes (kept rs T))) }
-        ensures stands { IfOk result (λ c. (rs : List Row) (T : Trace) → StandsForKept self.now rs T
-            → option_copied old.entry ≡ found (kind_of ready.now.row) (name_of ready.now.row) rs → StandsFollowing c (rows_changed ready.now rs) T) }
+        ensures bytes { IfOk result (λ c. (o : OthersView) (rs : List Row) (T : Trace) → StandsForKept self.now o rs T
+            → option_copied old.entry ≡ found (kind_of ready.now.row) (name_of ready.now.row) rs → c.bytes ≡ others_bytes o + bytes_of (changed c.changes (kept rs T))) }
+        ensures stands { IfOk result (λ c. (o : OthersView) (rs : List Row) (T : Trace) → StandsForKept self.now o rs T
+            → option_copied old.entry ≡ found (kind_of ready.now.row) (name_of ready.now.row) rs → StandsFollowing c o (rows_changed ready.now rs) T) }
     {
         let mut gathered = Gathered::new(alloc, self.bytes());
         let opens = copied(alloc, self.opens())?;
@@ -124,7 +126,7 @@ impl Keeping {
     pub fn follow(&mut self, following: Following)
         ensures bytes { self.new.bytes ≡ following.bytes }
         ensures opens { self.new.opens ≡ following.opens }
-        ensures stands { (rs : List Row) (T : Trace) → StandsFollowing following rs T → StandsForKept self.new rs T }
+        ensures stands { (o : OthersView) (rs : List Row) (T : Trace) → StandsFollowing following o rs T → StandsForKept self.new o rs T }
     {
         let Following { bytes, opens, .. } = following;
         self.bytes = bytes;
@@ -152,4 +154,14 @@ fn copied(alloc: Global, opens: &[OpenBytes]) -> Result<Vec<OpenBytes>, NoMemory
     let mut copy = Vec::new(alloc);
     copy.extend_from_slice(opens)?;
     Ok(copy)
+}
+
+/// What was archived, of what rows hold: nothing, where they are of the first version.
+pub fn archive_of(kept: &Kept) -> Archive
+    ensures { result ≡ (others_of (parts_of kept.now)).archive }
+{
+    match kept.archive {
+        Some(archive) => archive,
+        None => Archive { last: 0, number: 0 },
+    }
 }

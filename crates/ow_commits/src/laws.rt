@@ -1,6 +1,6 @@
 // What is true of what is kept. The functions do nothing: their contracts are the laws.
 ghost use Rattle.ow_commits.specs.Fit.{KeptIsAllowed};
-ghost use Rattle.ow_commits.specs.Laws.{ChangesOfRowsAreKept, ItemsWithoutMovesAreKept, MovesAreKept};
+ghost use Rattle.ow_commits.specs.Laws.{ArchivesAreKept, BytesBesideOthers, ChangesOfRowsAreKept, ItemsWithoutMovesAreKept, MovesAreKept, OthersStay};
 ghost use Rattle.ow_commits.specs.Opening.{HeldRowsAreNotBuiltin, MayBeResumed, OpeningsAreKept, ResumedIdsAreKnown};
 ghost use Rattle.ow_commits.specs.Shallow.{AbandonedAreShallow, EndsAreShallow, FiresAreShallow, OpensAreShallow};
 
@@ -46,4 +46,18 @@ pub fn rows_of_activations_are_shallow()
 /// What is kept is allowed at the next opening, and read as the items that it was made of, where each item by itself is fit to be kept.
 pub fn what_is_kept_is_allowed()
     ensures { KeptIsAllowed }
+{}
+
+/// What is committed of changes of the rows and of moves leaves the archive and the notes as they are, and their bytes are counted beside
+/// those of the rest.
+pub fn others_stay_kept()
+    ensures kept { OthersStay }
+    ensures bytes { BytesBesideOthers }
+{}
+
+/// What is committed of an archive turns what was kept into what is kept after it: the due records are no longer among the rows, and the
+/// row of the archive counts them.
+#[tactic(auto, using(crate::proofs::Retiring::archives_kept))]
+pub fn archives_are_kept()
+    ensures { ArchivesAreKept }
 {}

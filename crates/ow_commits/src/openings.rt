@@ -4,6 +4,7 @@ ghost use Rattle.std.specs.List.{flat_map};
 ghost use Rattle.ow_row_text.specs.Bytes.{bytes_of, weight_at};
 ghost use Rattle.ow_row_text.specs.Item.{open_key};
 ghost use Rattle.ow_row_text.specs.declared.item.Item.TheVariants as items;
+ghost use Rattle.ow_row_text.specs.declared.item.RowsVersion.TheVariants as versions;
 ghost use Rattle.ow_commits.specs.Commits.{end_changes, put_of};
 ghost use Rattle.ow_commits.specs.Keeping.{done_bytes, row_bytes};
 ghost use Rattle.ow_commits.specs.Opening.{abandoned, opens_bytes};
@@ -12,7 +13,7 @@ ghost use Rattle.ow_traits.specs.declared.change_list.Change.TheVariants as chan
 
 use crate::gathered::{Gathered, row_bytes};
 use ow_records::{Unrecorded, abandoned};
-use ow_row_text::{done_row, open_row, version_row};
+use ow_row_text::{Archive, RowsVersion, archive_row, done_row, open_row, version_row};
 use ow_traits::Rows;
 use ow_value::{NoMemory, Str};
 use std::alloc::Global;
@@ -37,23 +38,39 @@ pub(crate) fn put_version(
     gathered: &mut Gathered,
     rows: &Rows,
 ) -> Result<(), NoMemory>
-    ensures changes { OnOk result (gathered.new.changes.items ≡ gathered.old.changes.items ++ put_of items.Version ∷ []) }
-    ensures bytes { OnOk result (gathered.new.bytes + weight_at (codes "version") rows.now ≡ gathered.old.bytes + row_bytes items.Version) }
+    ensures changes { OnOk result (gathered.new.changes.items ≡ gathered.old.changes.items ++ put_of (items.Version versions.Second) ∷ []) }
+    ensures bytes { OnOk result (gathered.new.bytes + weight_at (codes "version") rows.now ≡ gathered.old.bytes + row_bytes (items.Version versions.Second)) }
 {
-    let less = version_bytes(rows)?;
-    let version = version_row(alloc)?;
+    let less = bytes_at(rows, "version")?;
+    let version = version_row(alloc, RowsVersion::Second)?;
     gathered.put(version, less)?;
     Ok(())
 }
 
-// How many bytes the stored row of the version has, or 0 where there is none.
-fn version_bytes(rows: &Rows) -> Result<u64, NoMemory>
-    ensures { IfOk result (λ n. n ≡ weight_at (codes "version") rows.now) }
+/// Puts the row of the archive, in place of a stored one.
+pub(crate) fn put_archive(
+    alloc: Global,
+    gathered: &mut Gathered,
+    rows: &Rows,
+    archive: Archive,
+) -> Result<(), NoMemory>
+    ensures changes { OnOk result (gathered.new.changes.items ≡ gathered.old.changes.items ++ put_of (items.Archive archive) ∷ []) }
+    ensures bytes { OnOk result (gathered.new.bytes + weight_at (codes "archived") rows.now ≡ gathered.old.bytes + row_bytes (items.Archive archive)) }
 {
-    let Some(text) = rows.find("version") else {
+    let less = bytes_at(rows, "archived")?;
+    let archived = archive_row(alloc, archive)?;
+    gathered.put(archived, less)?;
+    Ok(())
+}
+
+// How many bytes the stored row at this key has, or 0 where there is none.
+fn bytes_at(rows: &Rows, key: &str) -> Result<u64, NoMemory>
+    ensures { IfOk result (λ n. n ≡ weight_at key.now rows.now) }
+{
+    let Some(text) = rows.find(key) else {
         return Ok(0);
     };
-    match (text.len() as u64).checked_add(7) {
+    match (text.len() as u64).checked_add(key.len() as u64) {
         Some(bytes) => Ok(bytes),
         None => Err(NoMemory),
     }

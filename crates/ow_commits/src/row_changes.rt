@@ -6,6 +6,7 @@ ghost use Rattle.ow_entity.specs.declared.rows.Row.{Row};
 ghost use Rattle.ow_floor.specs.Trace.{Trace};
 ghost use Rattle.ow_commits.specs.Commits.{row_changes};
 ghost use Rattle.ow_commits.specs.Keeping.{StandsFollowing};
+ghost use Rattle.ow_commits.specs.Kept.{OthersView};
 ghost use Rattle.ow_tables.specs.Rows.{changed as rows_changed, found};
 
 use crate::following::Following;
@@ -55,8 +56,8 @@ impl RowChanges {
     /// Adds a change. The old row is that of its kind and name, where there is one, after the changes that were added before.
     pub fn add(&mut self, alloc: Global, old: Option<&Row>, ready: &Ready) -> Result<(), NoMemory>
         ensures changes { OnOk result (self.new.changes ≡ self.old.changes ++ row_changes ready.now) }
-        ensures stands { OnOk result ((rs : List Row) (T : Trace) → StandsFollowing self.old rs T
-            → option_copied old.entry ≡ found (kind_of ready.now.row) (name_of ready.now.row) rs → StandsFollowing self.new (rows_changed ready.now rs) T) }
+        ensures stands { OnOk result ((o : OthersView) (rs : List Row) (T : Trace) → StandsFollowing self.old o rs T
+            → option_copied old.entry ≡ found (kind_of ready.now.row) (name_of ready.now.row) rs → StandsFollowing self.new o (rows_changed ready.now rs) T) }
     {
         change(alloc, &mut self.gathered, old, ready)
     }

@@ -8,7 +8,7 @@ use Rattle.ow_records.specs.declared.activations.Activation.{Activation}
 use Rattle.ow_floor.specs.declared.runs.Run.{Run}
 use Rattle.ow_records.specs.Id.{same_id}
 use Rattle.ow_records.specs.Records.{is_of_id}
-use Rattle.ow_floor.specs.Trace.{Trace, Item, End, Opened, Resumed, Accepted, Ordered, Prewarming, Removed, Begun, Answered, Lost, Gone, Ended, Drawn, Fired, Swept, Drained, Reopened, accepted, accepted_after, carrier, end_of, ends, ends_after, fired_after, record_of, recorded, records, records_after, standing_by}
+use Rattle.ow_floor.specs.Trace.{Trace, Item, End, Opened, Resumed, Accepted, Ordered, Prewarming, Removed, Begun, Answered, Lost, Gone, Ended, Drawn, Fired, Swept, Drained, Reopened, Archived, accepted, accepted_after, carrier, end_of, ends, ends_after, fired_after, record_of, recorded, records, records_after, standing_by}
 use Rattle.ow_floor.specs.Trace as trace
 use Rattle.ow_floor.specs.Laws.{IsSound, times}
 use Rattle.ow_floor.proofs.Alters.{same_id_refl}
@@ -52,6 +52,7 @@ by_items P start accepts ends_one fires other (Drawn id at ∷ T) = other (Drawn
 by_items P start accepts ends_one fires other (Swept at ∷ T) = other (Swept at) T (record { accepted = λ xs. refl; ends = λ es. refl; fired = λ xs. refl; records = λ xs. refl; notes = λ ns. refl }) (by_items P start accepts ends_one fires other T)
 by_items P start accepts ends_one fires other (Drained at ∷ T) = other (Drained at) T (record { accepted = λ xs. refl; ends = λ es. refl; fired = λ xs. refl; records = λ xs. refl; notes = λ ns. refl }) (by_items P start accepts ends_one fires other T)
 by_items P start accepts ends_one fires other (Reopened at ∷ T) = other (Reopened at) T (record { accepted = λ xs. refl; ends = λ es. refl; fired = λ xs. refl; records = λ xs. refl; notes = λ ns. refl }) (by_items P start accepts ends_one fires other T)
+by_items P start accepts ends_one fires other (Archived until at ∷ T) = other (Archived until at) T (record { accepted = λ xs. refl; ends = λ es. refl; fired = λ xs. refl; records = λ xs. refl; notes = λ ns. refl }) (by_items P start accepts ends_one fires other T)
 
 -- ---- what is noted
 

@@ -81,13 +81,13 @@ module _ {P : Type 0} (telling : P → Telling) where
   -- over a store that doesn't report its rows
   bare_holds : (changes : List Change) (old new : P) → Holds telling changes old new → Holds {P = ℕ} counts_faults changes (telling old).faults (telling new).faults
   bare_holds [] old new same = ap (λ s. (telling s).faults) same
-  bare_holds (c ∷ cs) old new holds = record { rows = refl; commits = refl; later = holds.later }
+  bare_holds (c ∷ cs) old new holds = record { rows = refl; old_rows = refl; commits = refl; later = holds.later }
 
   bare : (old : Session P) (hall : HallView P) (event : Event) (o : Outcome) → (o ≡ Wants → ⊥) → Comes telling old.hall hall old.given event o
       → Comes {P = ℕ} counts_faults (hall_of (machine_of old) (telling old.hall.store).faults) (hall_of (machine_of (over old hall)) (telling hall.store).faults) old.given event o
   bare old hall event (Answers t) some (told, ledger, tenants, holds) = (told, ledger, tenants, bare_holds (commits (decided old.hall old.given event)) old.hall.store hall.store holds)
   bare old hall event Wants some comes = absurd (some refl)
-  bare old hall event Fails some (changes, ledger, tenants, refuses, rose) = (changes, ledger, tenants, record { rows = refl; commits = refl; later = refuses.later }, rose)
+  bare old hall event Fails some (changes, ledger, tenants, refuses, rose) = (changes, ledger, tenants, record { rows = refl; old_rows = refl; commits = refl; later = refuses.later }, rose)
 
   -- ---- one event
 

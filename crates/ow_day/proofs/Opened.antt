@@ -20,7 +20,7 @@ use Rattle.ow_day.proofs.Runs.{begins}
 
 -- nothing was written, and the store is as it was
 pub untouched : (store : Telling) (taken : Option (List ℕ)) → IsUnopened store store taken taken
-untouched store taken = record { unwritten = refl; rows_stay = refl; later = omega arith }
+untouched store taken = record { unwritten = refl; rows_stay = refl; old_rows_stay = refl; later = omega arith }
 
 -- ---- statuses
 

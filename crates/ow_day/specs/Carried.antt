@@ -31,10 +31,11 @@ pub record LeavesStore (before after : Telling) (failed : ℕ) (last : Machine) 
   pub legal : IsLegal last.tenants last.ledger.entries
   pub holds : HoldsBook after.rows last.tenants last.ledger
 
--- nothing is written, and the store's rows stay
+-- nothing is written, and the store's rows and old rows stay
 pub record IsUnopened (before after : Telling) (old new : Option (List ℕ)) : Type 0 where
   pub unwritten : new ≡ old
   pub rows_stay : after.rows ≡ before.rows
+  pub old_rows_stay : after.old_rows ≡ before.old_rows
   pub later : before.faults ≤ after.faults
 
 -- the first bad one of the kept rows has this key

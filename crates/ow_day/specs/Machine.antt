@@ -54,7 +54,7 @@ IsBehind M N = (N.tenants ≡ M.tenants) × ((later : List Entry) × (N.ledger.e
 
 -- a store that reports its count of faults alone
 abbrev pub counts_faults : ℕ → Telling
-counts_faults faults = record { rows = None; faults = faults; commits = None }
+counts_faults faults = record { rows = None; old_rows = None; faults = faults; commits = None }
 
 -- the machine's hall, over a store that doesn't report its rows and has met this many faults
 abbrev pub hall_of : Machine → ℕ → HallView ℕ

@@ -76,4 +76,5 @@ pub record Begins {P : Type 0} (telling : P → Telling) (store : P) (t : Table)
 pub record IsHandedBack {P : Type 0} (telling : P → Telling) (store : P) (u : Unopened P) : Type 0 where
   pub cause : HasStartCause telling store u.store u.why
   pub rows_stay : (telling u.store).rows ≡ (telling store).rows
+  pub old_rows_stay : (telling u.store).old_rows ≡ (telling store).old_rows
   pub later : (telling store).faults ≤ (telling u.store).faults

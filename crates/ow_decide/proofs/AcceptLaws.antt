@@ -5,6 +5,7 @@ use Rattle.ow_names.specs.declared.full.FullName.{FullName}
 use Rattle.ow_floor.specs.Trace.{Trace}
 use Rattle.ow_floor.specs.declared.activations.Plan.{Plan}
 use Rattle.ow_commits.specs.Commits.{row_changes}
+use Rattle.ow_commits.specs.Keeping.{AreOwn}
 use Rattle.ow_entity.specs.declared.rules.Rule.{Rule}
 use Rattle.ow_entity.specs.declared.triggers.Trigger.{Trigger}
 use Rattle.ow_records.specs.declared.fires.Fire.{Fire}
@@ -44,7 +45,7 @@ use Rattle.ow_decide.specs.WebCalling.{web_extension, web_given, web_name, web_p
 use Rattle.ow_reads.specs.Acts.{grant_for, granted_call}
 use Rattle.ow_decide.proofs.CalleeLaws.{IsAdmitted, IsCalled, IsPlanned, admitted_so, callee_so, limit_ok}
 use Rattle.ow_decide.proofs.DrivenLaws.{fit_steps, plan_fit}
-use Rattle.ow_decide.proofs.MadeLaws.{plan_owed, plan_right, shot_owed}
+use Rattle.ow_decide.proofs.MadeLaws.{plan_owed, plan_own, plan_right, shot_owed, shot_own}
 use Rattle.ow_decide.proofs.Results.{then_from, then_ok}
 use Rattle.ow_decide.proofs.ShotLaws.{IsReady, IsThere, plan_ready, shot_steps, trigger_there}
 
@@ -65,14 +66,15 @@ pub called_admitted : (S : Sight) (name : FullName) (params : Pairs) → IfOk (c
 called_admitted S name params =
     then_from (IsPlanned S) (IsAdmitted S) (call_plan S name params) (admitted_plan S) (call_planned S name params) (λ plan is. admitted_so S plan (IsAdmitted S) is (λ ok. ok))
 
--- they are a chain, and each child and each end of a composite is owed
+-- they are a chain, each child and each end of a composite is owed, and nothing is taken over or archived
 pub record IsChain (S : Sight) (items : Trace) : Type 0 where
   pub steps : AreSteps S items
   pub owed : AreOwed (standing S.rows) S.moment items S.trace
+  pub own : AreOwn items
 
 -- the items of a plan that is admitted are
 pub plan_chain : (S : Sight) (plan : Plan) → IsAdmitted S plan → IsChain S (plan_items S plan)
-plan_chain S plan ok = record { steps = fit_steps S (plan_items S plan) (plan_fit S plan S.trace ok) (plan_right S plan ok.next); owed = plan_owed S plan ok.uncaused }
+plan_chain S plan ok = record { steps = fit_steps S (plan_items S plan) (plan_fit S plan S.trace ok) (plan_right S plan ok.next); owed = plan_owed S plan ok.uncaused; own = plan_own S plan }
 
 abbrev pub IsAdmittedDone : Sight → Done → Type 0
 IsAdmittedDone S (Invoked items plan shows) = IsChain S items
@@ -91,7 +93,7 @@ shot_admitted : (S : Sight) (f : Fire) (rs : List Rule) → IsReady S f → IfOk
 shot_admitted S f rs ready =
     let asked = fire_admitted S.trace f.namespace (limits_of f.namespace S.tenants) S.moment in
     then_ok (IsAdmittedDone S) (store_room S (items_changes (shot_items S f rs))) _ (λ room.
-    then_from (λ u. asked ≡ Ok tt) (IsAdmittedDone S) (within_fires S f.namespace) _ (limit_ok asked) (λ u allowed. record { steps = shot_steps S f rs ready.next ready.shot allowed; owed = shot_owed S f rs }))
+    then_from (λ u. asked ≡ Ok tt) (IsAdmittedDone S) (within_fires S f.namespace) _ (limit_ok asked) (λ u allowed. record { steps = shot_steps S f rs ready.next ready.shot allowed; owed = shot_owed S f rs; own = shot_own S f rs }))
 
 rules_admitted : (S : Sight) (subject : List ℕ) (name : FullName) (number : ℕ) (t : Trigger) (home : List ℕ) (parts : Parts) (c : Call) (rs : List Rule) → IsThere S name t → call_of home parts ≡ Ok c
     → IfOk (rules_done S subject name number t c.params rs) (IsAdmittedDone S)

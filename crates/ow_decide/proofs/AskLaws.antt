@@ -25,6 +25,7 @@ use Rattle.ow_reads.specs.declared.acts.Act.TheVariants.{Reads, Puts, Removes, I
 use Rattle.ow_reads.specs.declared.acts.Reading.{Reading}
 use Rattle.ow_tenant.specs.declared.entries.Holder.{Holder}
 use Rattle.ow_decide.specs.Calling.{plan_items}
+use Rattle.ow_decide.specs.Decision.{held}
 use Rattle.ow_decide.specs.Reasons.{tells_full}
 use Rattle.ow_decide.specs.Making.{Carries, CommitsDone, IsMade, IsSeen, IsTaken, Makes, change_of, commit_of, done_of, one_of}
 use Rattle.ow_decide.specs.Sight.{Sight, room_for}
@@ -46,11 +47,11 @@ use Rattle.ow_decide.specs.declared.done.Done.TheVariants as codes
 
 -- what is done at a request, where its outcome is what is decided
 pub ask_makes : (old new : FloorShown) (S : Sight) (s : Step) (d e : Result Done Reason) → Stands old S.trace
-    → Grows old new (λ T. (ask_decision d).items) → d ≡ e → Carries s (ask_decision d) S
-    → Carries s (ask_decision e) S × Stands new ((ask_decision e).items ++ S.trace)
+    → Grows old new (λ T. held (ask_decision d)) → d ≡ e → Carries s (ask_decision d) S
+    → Carries s (ask_decision e) S × Stands new (held (ask_decision e) ++ S.trace)
 ask_makes old new S s d e stands grows same carries = (
   subst (λ (x : Result Done Reason). Carries s (ask_decision x) S) same carries,
-  subst (λ (x : Result Done Reason). Stands new ((ask_decision x).items ++ S.trace)) same (grows S.trace stands),
+  subst (λ (x : Result Done Reason). Stands new (held (ask_decision x) ++ S.trace)) same (grows S.trace stands),
 )
 
 replies_if : (b : Bool) (a : Answer) → IsSome (reply_in (if b then told.Full a else at_once a))
@@ -66,14 +67,14 @@ ask_replies (Ok Quiet) = refl
 ask_replies (Ok (Fired items id)) = refl
 ask_replies (Err reason) = replies_if (tells_full reason) (refusal_of reason)
 
-done_items : (d : CodeDone) → (ask_decision (done_of d)).items ≡ []
+done_items : (d : CodeDone) → held (ask_decision (done_of d)) ≡ []
 done_items (codes.Refused reason) = refl
 done_items (codes.Shown value) = refl
 done_items (codes.Changed ready shown commit) = refl
 done_items codes.Quiet = refl
 
 -- items are added on the floor only where an activation is accepted
-pub done_grows : (v : FloorShown) (d : CodeDone) → Grows v v (λ T. (ask_decision (done_of d)).items)
+pub done_grows : (v : FloorShown) (d : CodeDone) → Grows v v (λ T. held (ask_decision (done_of d)))
 done_grows v d = λ T stands. subst (λ (items : Trace). Stands v (items ++ T)) (sym (done_items d)) stands
 
 -- ---- what is committed
@@ -81,18 +82,18 @@ done_grows v d = λ T stands. subst (λ (items : Trace). Stands v (items ++ T)) 
 -- a step with the answer to a request, its change and its commit carries what is decided
 pub done_carries : (d : CodeDone) (t : Told) (change : RowChange) (commit : Option FollowingView) (S : Sight) → t ≡ (ask_decision (done_of d)).told
     → change ≡ one_of (change_of d) → commit ≡ commit_of d → CommitsDone d S
-    → Carries (record { told = t; change = change; waits = Keep; moves = []; commit = commit }) (ask_decision (done_of d)) S
+    → Carries (record { told = t; change = change; waits = Keep; moves = []; commit = commit; archive = None }) (ask_decision (done_of d)) S
 done_carries d t change commit S told same committed commits =
-    subst (λ (x : RowChange). Carries (record { told = t; change = x; waits = Keep; moves = []; commit = commit }) (ask_decision (done_of d)) S) (sym same)
-    (subst (λ (x : Option FollowingView). Carries (record { told = t; change = one_of (change_of d); waits = Keep; moves = []; commit = x }) (ask_decision (done_of d)) S) (sym committed) (by_case d told commits))
+    subst (λ (x : RowChange). Carries (record { told = t; change = x; waits = Keep; moves = []; commit = commit; archive = None }) (ask_decision (done_of d)) S) (sym same)
+    (subst (λ (x : Option FollowingView). Carries (record { told = t; change = one_of (change_of d); waits = Keep; moves = []; commit = x; archive = None }) (ask_decision (done_of d)) S) (sym committed) (by_case d told commits))
   where
     by_case : (d : CodeDone) → t ≡ (ask_decision (done_of d)).told → CommitsDone d S
-        → Carries (record { told = t; change = one_of (change_of d); waits = Keep; moves = []; commit = commit_of d }) (ask_decision (done_of d)) S
-    by_case (codes.Refused reason) told commits = record { told = told; changes = refl; waits = refl; moves = refl; commit = (refl, (tt, refl)) }
-    by_case (codes.Shown value) told commits = record { told = told; changes = refl; waits = refl; moves = refl; commit = (refl, (tt, refl)) }
-    by_case codes.Quiet told commits = record { told = told; changes = refl; waits = refl; moves = refl; commit = (refl, (tt, refl)) }
+        → Carries (record { told = t; change = one_of (change_of d); waits = Keep; moves = []; commit = commit_of d; archive = None }) (ask_decision (done_of d)) S
+    by_case (codes.Refused reason) told commits = record { told = told; changes = refl; waits = refl; moves = refl; commit = (refl, (tt, refl)); archive = refl }
+    by_case (codes.Shown value) told commits = record { told = told; changes = refl; waits = refl; moves = refl; commit = (refl, (tt, refl)); archive = refl }
+    by_case codes.Quiet told commits = record { told = told; changes = refl; waits = refl; moves = refl; commit = (refl, (tt, refl)); archive = refl }
     by_case (codes.Changed ready shown commit) told commits =
-        record { told = told; changes = refl; waits = refl; moves = refl; commit = record { changes = commits.changes ∙ sym (one_change ready); stands = commits.stands } }
+        record { told = told; changes = refl; waits = refl; moves = refl; commit = record { changes = commits.changes ∙ sym (one_change ready); stands = commits.stands }; archive = refl }
 
 -- where no row is changed nothing is committed
 pub unchanged_commits : (d : CodeDone) (S : Sight) → change_of d ≡ None → CommitsDone d S
@@ -109,7 +110,7 @@ done_by S plan shows r = r >>= (λ (admitted : Plan). Ok (Invoked (plan_items S 
 
 -- the step that answers a request whose plan was made
 abbrev pub told_invoked : Id → Option ℕ → Shows → Made → Step
-told_invoked id until shows made = record { told = told.Asked (invoked_reply id until); change = row_changes.Nothing; waits = waits_of id shows until; moves = made.moves; commit = Some made.commit }
+told_invoked id until shows made = record { told = told.Asked (invoked_reply id until); change = row_changes.Nothing; waits = waits_of id shows until; moves = made.moves; commit = Some made.commit; archive = None }
 
 made_carries : (made : Made) (plan : Plan) (shows : Shows) (S : Sight) → IsMade made (plan_items S plan) S
     → Carries (told_invoked plan.id plan.until shows made) (ask_decision (Ok (Invoked (plan_items S plan) plan shows))) S
@@ -119,6 +120,7 @@ made_carries made plan shows S is = record {
   waits = refl;
   moves = is.moves;
   commit = record { changes = is.changes; stands = is.stands };
+  archive = refl;
 }
 
 -- the answer to a plan that was accepted says so
@@ -136,9 +138,9 @@ refused_carries reason shows s carries S plan v taken =
     subst (λ (r : Result Plan Reason). Carries s (ask_decision (done_by S plan shows r)) S) (sym taken.0) (carries S tt)
 
 -- the floor has what was done of it
-taken_stands : (taken : Result Made Reason) (plan : Plan) (shows : Shows) (S : Sight) (v : FloorShown) → IsTaken taken plan S v → Stands v ((ask_decision (plan_done S plan shows)).items ++ S.trace)
-taken_stands (Ok made) plan shows S v is = subst (λ (r : Result Plan Reason). Stands v ((ask_decision (done_by S plan shows r)).items ++ S.trace)) (sym is.0) is.1.1
-taken_stands (Err reason) plan shows S v is = subst (λ (r : Result Plan Reason). Stands v ((ask_decision (done_by S plan shows r)).items ++ S.trace)) (sym is.0) is.1
+taken_stands : (taken : Result Made Reason) (plan : Plan) (shows : Shows) (S : Sight) (v : FloorShown) → IsTaken taken plan S v → Stands v (held (ask_decision (plan_done S plan shows)) ++ S.trace)
+taken_stands (Ok made) plan shows S v is = subst (λ (r : Result Plan Reason). Stands v (held (ask_decision (done_by S plan shows r)) ++ S.trace)) (sym is.0) is.1.1
+taken_stands (Err reason) plan shows S v is = subst (λ (r : Result Plan Reason). Stands v (held (ask_decision (done_by S plan shows r)) ++ S.trace)) (sym is.0) is.1
 
 -- what is done of a plan is what is decided of it
 pub plan_makes : (t : Table) (rs : List Row) (k : CountsView) (b : KeepingView) (now : Now) (old new : FloorShown) (plan : Plan) (id : Id) (until : Option ℕ) (shows : Shows) (taken : Result Made Reason) (r : Result Step NoMemory)
@@ -156,7 +158,7 @@ pub done_makes : (t : Table) (rs same : List Row) (k : CountsView) (b : KeepingV
 done_makes t rs same k b now old new does done (Ok s) is comes makes = λ S seen.
     let both = subst (λ (xs : List Row). Makes t xs k b now old new (λ S. ask_decision (does S)) s) is makes S seen in (
       subst (λ (d : Result Done Reason). Carries s (ask_decision d) S) (comes S seen) both.0,
-      subst (λ (d : Result Done Reason). Stands new ((ask_decision d).items ++ S.trace)) (comes S seen) both.1,
+      subst (λ (d : Result Done Reason). Stands new (held (ask_decision d) ++ S.trace)) (comes S seen) both.1,
     )
 done_makes t rs same k b now old new does done (Err e) is comes makes = tt
 

@@ -17,7 +17,6 @@ use Rattle.ow_pool.specs.declared.answers.Place.TheVariants as places
 use Rattle.ow_tables.specs.Rows.{standing}
 use Rattle.ow_keep.specs.Judged.{judged}
 use Rattle.ow_keep.specs.Split.{Parts as KeptParts}
-use Rattle.ow_commits.specs.Keeping.{AreOwn, IsOwn}
 use Rattle.ow_commits.proofs.Ids.{all_both}
 use Rattle.ow_floor.specs.declared.activations.Open.{Open}
 use Rattle.ow_floor.specs.declared.activations.Plan.{Plan}
@@ -39,7 +38,7 @@ use Rattle.ow_decide.specs.declared.events.Event.TheVariants as events
 use Rattle.ow_decide.specs.Asking.{Changed, Done, Invoked, Quiet, Shown, ask_decision, request_done}
 use Rattle.ow_decide.specs.Asking as asking
 use Rattle.ow_decide.specs.Calling.{admitted_plan, call_plan, called_decision}
-use Rattle.ow_decide.specs.Chain.{AreSteps, IsDecided, IsEnd, IsOneOf}
+use Rattle.ow_decide.specs.Chain.{AreSteps, IsEnd, IsOneOf}
 use Rattle.ow_decide.specs.Decisions.{answered_all, decide, is_opening, swept_all}
 use Rattle.ow_decide.specs.Deploying.{deployed}
 use Rattle.ow_decide.specs.Opening.{opened_decision, parts_taken}
@@ -48,7 +47,7 @@ use Rattle.ow_decide.proofs.DeployLaws.{deploy_adds}
 use Rattle.ow_decide.proofs.AcceptLaws.{IsAdmittedDone, IsChain, asked_admitted, called_admitted, plan_chain}
 use Rattle.ow_decide.proofs.CalleeLaws.{IsAdmitted}
 use Rattle.ow_decide.proofs.DrivenLaws.{AreFit, IsFit, fit_steps, steps_fit}
-use Rattle.ow_decide.proofs.MadeLaws.{abandoned_right, answered_right, through_sweep, late_steps_plain, plain_live, swept_right}
+use Rattle.ow_decide.proofs.MadeLaws.{abandoned_right, answered_right, through_sweep, late_steps_plain, plain_live, sweep_adds, swept_right}
 
 -- ---- runs
 
@@ -224,26 +223,17 @@ steps_right S (item ∷ items) steps sound =
     let rest = steps_right S items steps.1 sound in
     (subst (λ (v : FloorShown). IsRight item v) (sound_items items S.trace rest sound).1 (steps.0.right sound), rest)
 
-own_step : (S : Sight) (item : Item) (T : Trace) → IsDecided S item T → IsOwn item
-own_step S (Resumed counts rs) T is = absurd is
-own_step S item T is = tt
-
--- it takes over nothing of an earlier run
-pub steps_own : (S : Sight) (items : Trace) → AreSteps S items → AreOwn items
-steps_own S [] steps = tt
-steps_own S (item ∷ items) steps = (own_step S item (items ++ S.trace) steps.0.is, steps_own S items steps.1)
-
 pub asked_chain : (S : Sight) (d : Result Done Reason) → IfOk d (IsAdmittedDone S) → IsChain S (ask_decision d).items
-asked_chain S (Ok (Shown value)) ok = record { steps = tt; owed = tt }
-asked_chain S (Ok (Changed change value)) ok = record { steps = tt; owed = tt }
+asked_chain S (Ok (Shown value)) ok = record { steps = tt; owed = tt; own = tt }
+asked_chain S (Ok (Changed change value)) ok = record { steps = tt; owed = tt; own = tt }
 asked_chain S (Ok (Invoked items plan shows)) ok = ok
-asked_chain S (Ok Quiet) ok = record { steps = tt; owed = tt }
+asked_chain S (Ok Quiet) ok = record { steps = tt; owed = tt; own = tt }
 asked_chain S (Ok (asking.Fired items id)) ok = ok
-asked_chain S (Err reason) ok = record { steps = tt; owed = tt }
+asked_chain S (Err reason) ok = record { steps = tt; owed = tt; own = tt }
 
 pub called_chain : (S : Sight) (p : Result Plan Reason) → IfOk p (IsAdmitted S) → IsChain S (called_decision S p).items
 called_chain S (Ok plan) ok = plan_chain S plan ok
-called_chain S (Err reason) ok = record { steps = tt; owed = tt }
+called_chain S (Err reason) ok = record { steps = tt; owed = tt; own = tt }
 
 -- what is decided is one
 pub decided_steps : (S : Sight) (event : Event) → is_opening event ≡ false → AreSteps S (decide S event).items
@@ -257,7 +247,7 @@ decided_steps S (events.Begun run) other = of_floor S (begun_items S.moment run 
 decided_steps S (events.Lost run) other = of_floor S (lost_items S.moment run S.trace) (of_lost S run) (λ sound. right_lost S.moment run (shown S.trace) sound.slotted.within)
 decided_steps S (events.Gone slot generation) other =
     of_floor S (gone_items S.moment slot generation S.trace) (of_gone S slot generation) (λ sound. right_gone S.moment slot generation (shown S.trace) sound.slotted.within)
-decided_steps S events.Sweep other = swept_steps S
+decided_steps S events.Sweep other = sweep_adds S (AreSteps S) (swept_steps S) (λ until. (record { at = refl; is = tt; right = λ sound. (tt, tt) }, swept_steps S))
 decided_steps S (events.Collected id) other = tt
 decided_steps S events.Drain other = of_floor S (Drained S.moment ∷ []) (of_drain S) (λ sound. ((tt, tt), tt))
 decided_steps S events.Reopened other = of_floor S (abandon_items S.moment S.trace) (of_abandon S) (abandoned_right S)

@@ -14,7 +14,7 @@ use Rattle.ow_traits.specs.declared.replies.RunReply.{RunReply}
 use Rattle.ow_pool.specs.declared.answers.Place.{Place}
 use Rattle.ow_pool.specs.declared.answers.Place.TheVariants as places
 use Rattle.ow_floor.specs.Calls.{answered_items, begins, busy_run, end_items, goes, items_if, loses, next_items, order_items, overrun_first, place_on, reply_items}
-use Rattle.ow_floor.specs.Trace.{Accepted, Begun, Drawn, Ended, Fired, Gone, Item, Lost, Reopened, Resumed, Trace, firing, firing_after, open_items, shown}
+use Rattle.ow_floor.specs.Trace.{Accepted, Archived, Begun, Drawn, Ended, Fired, Gone, Item, Lost, Reopened, Resumed, Trace, firing, firing_after, open_items, shown}
 use Rattle.ow_floor.specs.View.{Shown, head, is_of}
 use Rattle.ow_floor.specs.declared.activations.Open.{Open}
 use Rattle.ow_floor.specs.declared.activations.Plan.{Plan}
@@ -59,7 +59,7 @@ use Rattle.ow_decide.specs.declared.events.Event.TheVariants as events
 use Rattle.ow_decide.specs.declared.waits.Shows.{Shows}
 use Rattle.ow_decide.proofs.MadeLaws as made
 use Rattle.ow_decide.proofs.DeployLaws.{deploy_adds}
-use Rattle.ow_decide.proofs.MadeLaws.{following_plain, late_steps_plain, plan_plain, through_sweep}
+use Rattle.ow_decide.proofs.MadeLaws.{following_plain, late_steps_plain, plan_plain, sweep_adds, through_sweep}
 use Rattle.ow_decide.proofs.Results.{then_ok}
 
 -- ---- items that are no part of a fire
@@ -131,6 +131,9 @@ plain_answered S run reply =
 plain_swept : (rs : Standing) (at n : ℕ) (T : Trace) → ArePlain (swept_on n rs at T)
 plain_swept rs at n T =
     through_sweep rs at (λ items U. ArePlain items) (λ U. tt) (λ xs ys U first rest. all_both IsPlain xs ys first rest) (λ U. made_plain (steps_after rs at U (overrun_first at U)) (late_steps_plain rs at U)) n T
+
+sweep_plain : (S : Sight) → ArePlain (swept_all S)
+sweep_plain S = (tt, plain_swept (standing S.rows) S.moment (length (open_items S.trace)) S.trace)
 
 -- ---- requests
 
@@ -226,7 +229,7 @@ decided_closes S (events.Begun run) = plain_closes (items_if (begins run S.trace
 decided_closes S (events.Lost run) = plain_closes (items_if (loses run S.trace) (Lost run S.moment)) (plain_if (loses run S.trace) (Lost run S.moment) tt)
 decided_closes S (events.Gone slot generation) =
     plain_closes (items_if (goes slot generation S.trace) (Gone slot generation S.moment)) (plain_if (goes slot generation S.trace) (Gone slot generation S.moment) tt)
-decided_closes S events.Sweep = plain_closes (swept_all S) (tt, plain_swept (standing S.rows) S.moment (length (open_items S.trace)) S.trace)
+decided_closes S events.Sweep = sweep_adds S Closes (plain_closes (swept_all S) (sweep_plain S)) (λ until. plain_closes (Archived until S.moment ∷ swept_all S) (tt, sweep_plain S))
 decided_closes S (events.Collected id) = λ T none. none
 decided_closes S events.Drain = λ T none. none
 decided_closes S events.Reopened = λ T none. refl

@@ -23,7 +23,7 @@ use Rattle.ow_floor.proofs.Drawn.{drawn_last}
 use Rattle.ow_row_text.specs.Bytes.{bytes_of}
 use Rattle.ow_commits.specs.Commits.{changes_of}
 use Rattle.ow_commits.specs.Keeping.{AreOwn, FollowingView, KeepingView, StandsFollowing, StandsForKept}
-use Rattle.ow_commits.specs.Kept.{kept}
+use Rattle.ow_commits.specs.Kept.{OthersView, kept, others_bytes}
 use Rattle.ow_tenant.specs.Table.{Table}
 use Rattle.ow_rules.specs.Fired.{fired}
 use Rattle.ow_tables.specs.Joined.{trigger_at}
@@ -45,7 +45,7 @@ use Rattle.ow_reads.specs.declared.acts.Act.TheVariants.{Fires}
 use Rattle.ow_reads.specs.Steps.{or_else, unless}
 use Rattle.ow_decide.specs.Asking.{Done, Fired, ask_decision, at_once, change_done, rules_done, shot_done}
 use Rattle.ow_decide.specs.Calling.{fitting, plan_items}
-use Rattle.ow_decide.specs.Decision.{items_changes}
+use Rattle.ow_decide.specs.Decision.{held, items_changes}
 use Rattle.ow_decide.specs.Firing.{after_rule, after_rules, fire_of, fire_plan, rule_items, rule_line, rule_lines, rule_plan, seeing, shot_items}
 use Rattle.ow_decide.specs.Making.{Carries, CommitsDone, IsMade, IsSeen, IsUnderway, Makes, admits_made, done_of}
 use Rattle.ow_decide.specs.Reasons.{draining, store_full, too_large}
@@ -171,32 +171,32 @@ next_seen v T id stands next = next ∙ ap (λ (n : ℕ). n + 1) (ap (λ (w : Sh
 
 -- what follows from moves is what is committed of their items
 pub followed : (b : KeepingView) (ms : List Moved) (c : FollowingView) → c.changes ≡ flat_map changes_of ms
-    → ((rs : List Row) (T items : Trace) → StandsForKept b rs T → IsSound T → AreRight items (shown T) → AreOwn items → ms ≡ moved items → c.bytes ≡ bytes_of (changed c.changes (kept rs T)))
-    → ((rs : List Row) (T items : Trace) → StandsForKept b rs T → IsSound T → AreRight items (shown T) → AreOwn items → ms ≡ moved items → StandsFollowing c rs (items ++ T))
-    → (S : Sight) (items : Trace) → StandsForKept b S.rows S.trace → IsSound S.trace → AreRight items (shown S.trace) → AreOwn items → ms ≡ moved items → IsMade (record { moves = ms; commit = c }) items S
+    → ((o : OthersView) (rs : List Row) (T items : Trace) → StandsForKept b o rs T → IsSound T → AreRight items (shown T) → AreOwn items → ms ≡ moved items → c.bytes ≡ others_bytes o + bytes_of (changed c.changes (kept rs T)))
+    → ((o : OthersView) (rs : List Row) (T items : Trace) → StandsForKept b o rs T → IsSound T → AreRight items (shown T) → AreOwn items → ms ≡ moved items → StandsFollowing c o rs (items ++ T))
+    → (S : Sight) (items : Trace) → StandsForKept b S.others S.rows S.trace → IsSound S.trace → AreRight items (shown S.trace) → AreOwn items → ms ≡ moved items → IsMade (record { moves = ms; commit = c }) items S
 followed b ms c changes bytes stands S items keeps sound right own same =
     let is : c.changes ≡ items_changes items = changes ∙ (ap (flat_map changes_of) same ∙ sym (items_moved items)) in
     record {
       moves = same;
       changes = is;
-      bytes = bytes S.rows S.trace items keeps sound right own same ∙ ap (λ (cs : List Change). bytes_of (changed cs (kept S.rows S.trace))) is;
-      stands = stands S.rows S.trace items keeps sound right own same;
+      bytes = bytes S.others S.rows S.trace items keeps sound right own same ∙ ap (λ (cs : List Change). others_bytes S.others + bytes_of (changed cs (kept S.rows S.trace))) is;
+      stands = stands S.others S.rows S.trace items keeps sound right own same;
     }
 
 -- a fire is refused as its bytes and the limit of fires say
 pub shot_so : (S : Sight) (f : Fire) (rs : List Rule) (bytes : ℕ) (limit : Result (Unit {0}) LimitRefusal) (r : Result (Unit {0}) Reason)
-    → bytes ≡ bytes_of (changed (items_changes (shot_items S f rs)) (kept S.rows S.trace)) → limit ≡ fire_admitted S.trace f.namespace (limits_of f.namespace S.tenants) S.moment → r ≡ admits_made bytes limit
+    → bytes ≡ others_bytes S.others + bytes_of (changed (items_changes (shot_items S f rs)) (kept S.rows S.trace)) → limit ≡ fire_admitted S.trace f.namespace (limits_of f.namespace S.tenants) S.moment → r ≡ admits_made bytes limit
     → (r >>= (λ (u : Unit {0}). Ok (Fired (shot_items S f rs) f.id))) ≡ shot_done S f rs
 shot_so S f rs bytes limit r is allowed same =
     let done : Unit {0} → Result Done Reason = λ u. Ok (Fired (shot_items S f rs) f.id) in
     ap (λ (x : Result (Unit {0}) Reason). x >>= done) same
     ∙ (then_then (unless (is_store_full bytes) store_full) (λ (room : Unit {0}). or_limit limit) done
     ∙ (ap (λ (n : ℕ). unless (is_store_full n) store_full >>= (λ (room : Unit {0}). or_limit limit >>= done)) is
-    ∙ ap (λ (l : Result (Unit {0}) LimitRefusal). unless (is_store_full (bytes_of (changed (items_changes (shot_items S f rs)) (kept S.rows S.trace)))) store_full >>= (λ (room : Unit {0}). or_limit l >>= done)) allowed))
+    ∙ ap (λ (l : Result (Unit {0}) LimitRefusal). unless (is_store_full (others_bytes S.others + bytes_of (changed (items_changes (shot_items S f rs)) (kept S.rows S.trace)))) store_full >>= (λ (room : Unit {0}). or_limit l >>= done)) allowed))
 
 -- what is answered of a fire that is made
 abbrev pub told_fired : Id → Made → Step
-told_fired id m = record { told = at_once (accepted_answer id); change = row_changes.Nothing; waits = Keep; moves = m.moves; commit = Some m.commit }
+told_fired id m = record { told = at_once (accepted_answer id); change = row_changes.Nothing; waits = Keep; moves = m.moves; commit = Some m.commit; archive = None }
 
 fired_carries : (m : Made) (f : Fire) (rs : List Rule) (S : Sight) → IsMade m (shot_items S f rs) S → Carries (told_fired f.id m) (ask_decision (Ok (Fired (shot_items S f rs) f.id))) S
 fired_carries m f rs S made = record {
@@ -205,6 +205,7 @@ fired_carries m f rs S made = record {
   waits = refl;
   moves = made.moves;
   commit = record { changes = made.changes; stands = made.stands };
+  archive = refl;
 }
 
 -- a fire that is made is what is decided
@@ -217,7 +218,7 @@ fired_makes t rs k b now old new f rules m limit (Ok s) made stands allowed admi
     let same : Ok (Fired (shot_items S f rules) f.id) ≡ shot_done S f rules = shot_so S f rules m.commit.bytes limit (Ok tt) made_so.bytes (allowed S seen) admits in (
       subst (λ (d : Result Done Reason). Carries s (ask_decision d) S) same
           (subst (λ (x : Step). Carries x (ask_decision (Ok (Fired (shot_items S f rules) f.id))) S) (sym is) (fired_carries m f rules S made_so)),
-      subst (λ (d : Result Done Reason). Stands new ((ask_decision d).items ++ S.trace)) same (stands S seen),
+      subst (λ (d : Result Done Reason). Stands new (held (ask_decision d) ++ S.trace)) same (stands S seen),
     )
 fired_makes t rs k b now old new f rules m limit (Err e) made stands allowed admits is = tt
 
@@ -231,7 +232,7 @@ refused_makes t rs k b now old new f rules m limit reason (Ok s) made back allow
     let made_so = made S seen in
     let same : Err reason ≡ shot_done S f rules = shot_so S f rules m.commit.bytes limit (Err reason) made_so.bytes (allowed S seen) refuses in (
       subst (λ (d : Result Done Reason). Carries s (ask_decision d) S) same (carries S tt),
-      subst (λ (d : Result Done Reason). Stands new ((ask_decision d).items ++ S.trace)) same (subst (λ (v : Shown). Stands v S.trace) (sym back) seen.stands),
+      subst (λ (d : Result Done Reason). Stands new (held (ask_decision d) ++ S.trace)) same (subst (λ (v : Shown). Stands v S.trace) (sym back) seen.stands),
     )
 refused_makes t rs k b now old new f rules m limit reason (Err e) made back allowed refuses carries = tt
 

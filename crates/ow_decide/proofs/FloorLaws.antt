@@ -12,22 +12,23 @@ use Rattle.ow_floor.specs.Laws.{Grows, IsSound, Stands}
 use Rattle.ow_floor.specs.declared.answers.FloorRefusal.{FloorRefusal}
 use Rattle.ow_floor.specs.declared.answers.Order.{Order}
 use Rattle.ow_floor.specs.declared.moves.Moved.{Moved}
-use Rattle.ow_commits.specs.Keeping.{AreOwn, KeepingView, StandsForKept}
+use Rattle.ow_commits.specs.Keeping.{AreOwn, FollowingView, KeepingView, StandsForKept}
 use Rattle.ow_tables.specs.Rows.{standing}
 use Rattle.ow_tenant.specs.Table.{Table}
-use Rattle.ow_trees.specs.Steps.{late_in, steps_after, sweep_items}
+use Rattle.ow_trees.specs.Steps.{steps_after}
 use Rattle.ow_counts.specs.View.{CountsView}
-use Rattle.ow_decide.specs.Decision.{adds}
-use Rattle.ow_decide.specs.Decisions.{answered_all, answered_told, decide, reply_told, swept_all, swept_told, taken_told}
-use Rattle.ow_decide.specs.Making.{Carries, IsReplyTold, IsSeen, IsTold, Makes, changes_of, telling}
+use Rattle.ow_decide.specs.Decision.{Decision, Same, adds}
+use Rattle.ow_decide.specs.Decisions.{answered_all, answered_told, decide, reopened_decision, reply_told, taken_told}
+use Rattle.ow_decide.specs.Making.{Carries, IsArchiving, IsReplyTold, IsSeen, IsTold, Makes, changes_of, telling}
 use Rattle.ow_decide.specs.Sight.{Sight}
 use Rattle.ow_decide.specs.declared.events.Event.TheVariants as events
 use Rattle.ow_decide.specs.declared.events.Told.{Told}
 use Rattle.ow_decide.specs.declared.events.Told.TheVariants as told
 use Rattle.ow_decide.specs.declared.step.Now.{Now}
+use Rattle.ow_decide.specs.declared.step.Archiving.{Archiving}
 use Rattle.ow_decide.specs.declared.step.Step.{Step}
 use Rattle.ow_decide.specs.declared.waits.Waits.TheVariants.{Clear, Keep}
-use Rattle.ow_decide.proofs.MadeLaws.{abandoned_own, abandoned_right, answered_own, answered_right, nothing_answered, swept_own, swept_right}
+use Rattle.ow_decide.proofs.MadeLaws.{abandoned_own, abandoned_right, answered_own, answered_right, nothing_answered}
 use Rattle.ow_decide.proofs.PlanLaws.{as_seen}
 
 no_length : (n : ℕ) → true ≡ (n == 0) → n ≡ 0
@@ -38,12 +39,17 @@ pub nothing_moved : (ms : List Moved) → true ≡ (length ms == 0) → ms ≡ [
 nothing_moved [] none = refl
 nothing_moved (m ∷ ms) none = let e : length (m ∷ ms) ≡ 0 = no_length (length (m ∷ ms)) none in cc
 
+-- where nothing is to be archived
+pub not_archiving : (commit : Option FollowingView) (archive : Option Archiving) (d : Decision) (S : Sight) → archive ≡ None → d.others ≡ Same → IsArchiving commit archive d S
+not_archiving None archive d S none same = subst (λ (o : Option Archiving). IsArchiving None o d S) (sym none) same
+not_archiving (Some c) archive d S none same = subst (λ (o : Option Archiving). IsArchiving (Some c) o d S) (sym none) same
+
 -- an answer where nothing moves
 pub quiet_carried : (is are : Told) (items : Trace) (S : Sight) → is ≡ are → AreOwn items → moved items ≡ [] → Carries (telling is) (adds are items) S
-quiet_carried is are items S same own quiet = record { told = same; changes = refl; waits = refl; moves = sym quiet; commit = (refl, (own, quiet)) }
+quiet_carried is are items S same own quiet = record { told = same; changes = refl; waits = refl; moves = sym quiet; commit = (refl, (own, quiet)); archive = refl }
 
 -- an answer where these moved
-pub told_carried : (s : Step) (is are : Told) (ms : List Moved) (b : KeepingView) (S : Sight) (items : Trace) → IsTold s is Keep ms b → is ≡ are → StandsForKept b S.rows S.trace → IsSound S.trace
+pub told_carried : (s : Step) (is are : Told) (ms : List Moved) (b : KeepingView) (S : Sight) (items : Trace) → IsTold s is Keep ms b → is ≡ are → StandsForKept b S.others S.rows S.trace → IsSound S.trace
     → AreRight items (shown S.trace) → AreOwn items → ms ≡ moved items → Carries s (adds are items) S
 told_carried s is are ms b S items step same keeps sound right own moves = record {
   told = step.told ∙ same;
@@ -51,6 +57,7 @@ told_carried s is are ms b S items step same keeps sound right own moves = recor
   waits = step.waits;
   moves = step.moves ∙ moves;
   commit = step.commit S items are Keep keeps sound right own moves;
+  archive = not_archiving s.commit s.archive (adds are items) S step.archive refl;
 }
 
 -- items at the moment that is seen
@@ -112,24 +119,6 @@ pub answered_makes : (t : Table) (rs : List Row) (k : CountsView) (b : KeepingVi
 answered_makes t rs k b now old new run reply None ms ns s step is none noted grows = unknown_makes t rs k b now old new run reply s step is grows
 answered_makes t rs k b now old new run reply (Some recorded) ms ns s step is none noted grows = recorded_makes t rs k b now old new run reply recorded ms ns s step is none noted grows
 
--- a sweep
-pub swept_makes : (t : Table) (rs : List Row) (k : CountsView) (b : KeepingView) (now : Now) (old new : Shown) (late : ℕ) (ms ns : List Moved) (s : Step)
-    → IsTold s (told.Swept (record { happened = happened_of ns; late = late })) Keep ns b → ((T : Trace) → Stands old T → late ≡ late_in (sweep_items (standing rs) now.at T)) → ms ≡ []
-    → ((T : Trace) → Stands old T → ns ≡ ms ++ moved (sweep_items (standing rs) now.at T)) → Grows old new (λ T. sweep_items (standing rs) now.at T)
-    → Makes t rs k b now old new (λ S. decide S events.Sweep) s
-swept_makes t rs k b now old new late ms ns s step is none noted grows = λ S seen.
-    let moves : ns ≡ moved (swept_all S) =
-    as_seen (λ (xs : List Row) (m : ℕ). ns ≡ moved (sweep_items (standing xs) m S.trace)) S rs now.at seen.rows seen.moment
-    (noted S.trace seen.stands ∙ ap (λ (os : List Moved). os ++ moved (sweep_items (standing rs) now.at S.trace)) none) in
-    let count : late ≡ late_in (swept_all S) =
-    as_seen (λ (xs : List Row) (m : ℕ). late ≡ late_in (sweep_items (standing xs) m S.trace)) S rs now.at seen.rows seen.moment (is S.trace seen.stands) in
-    let tells : told.Swept (record { happened = happened_of ns; late = late }) ≡ told.Swept (swept_told (swept_all S)) =
-    ap (λ (xs : List Moved). told.Swept (record { happened = happened_of xs; late = late })) moves
-    ∙ ap (λ (n : ℕ). told.Swept (record { happened = happened (swept_all S); late = n })) count in (
-      told_carried s _ (told.Swept (swept_told (swept_all S))) ns b S (swept_all S) step tells seen.keeping seen.stands.sound (swept_right S seen.stands.sound) (swept_own S) moves,
-      as_seen (λ (xs : List Row) (m : ℕ). Stands new (sweep_items (standing xs) m S.trace ++ S.trace)) S rs now.at seen.rows seen.moment (grows S.trace seen.stands),
-    )
-
 -- a reopening
 pub reopened_makes : (t : Table) (rs : List Row) (k : CountsView) (b : KeepingView) (now : Now) (old new : Shown) (ms ns : List Moved) (s : Step)
     → IsTold s (told.Reopened (happened_of ns)) Clear ns b → ms ≡ [] → ((T : Trace) → Stands old T → ns ≡ ms ++ moved (abandon_items now.at T)) → Grows old new (λ T. abandon_items now.at T)
@@ -146,6 +135,7 @@ reopened_makes t rs k b now old new ms ns s step none noted grows = λ S seen.
         waits = step.waits;
         moves = step.moves ∙ moves;
         commit = step.commit S items (told.Reopened (happened (abandoned_ends S.moment S.trace))) Clear seen.keeping seen.stands.sound (abandoned_right S seen.stands.sound) (abandoned_own S) moves;
+        archive = not_archiving s.commit s.archive (reopened_decision S.moment S.trace) S step.archive refl;
       },
       at_moment old new (λ at T. abandon_items at T) t rs k b now grows S seen,
     )

@@ -36,10 +36,10 @@ changed_then (c ∷ cs) ds rs = changed_then cs ds (changed c rs)
 pub gathered_first : (b : KeepingView) (rs : List Row) (d : DeploymentView) → d.progress ≡ begun rs → d.commit ≡ record { changes = []; bytes = b.bytes; opens = b.opens } → IsGathered b rs d
 gathered_first b rs d begins commit = record {
   rows = ap (λ (p : Progress). all_changed p.changes rs) begins ∙ sym (ap (λ (p : Progress). p.rows) begins);
-  commit = λ T stands. record {
+  commit = λ o T stands. record {
     changes = ap (λ (c : _). c.changes) commit ∙ sym (ap (λ (p : Progress). flat_map row_changes p.changes) begins);
-    stands = subst (λ (ps : List Row). StandsFollowing d.commit ps T) (sym (ap (λ (p : Progress). p.rows) begins))
-        (subst (λ (c : _). StandsFollowing c rs T) (sym commit) stands);
+    stands = subst (λ (ps : List Row). StandsFollowing d.commit o ps T) (sym (ap (λ (p : Progress). p.rows) begins))
+        (subst (λ (c : _). StandsFollowing c o rs T) (sym commit) stands);
   };
 }
 
@@ -47,14 +47,14 @@ gathered_first b rs d begins commit = record {
 pub gathered_more : (old new : DeploymentView) (row : Row) → new.progress ≡ with_put row old.progress → IsAdded (put_of row) old new → StaysGathered old new
 gathered_more old new row put added = λ b rs gathered. record {
   rows = ap (λ (p : Progress). all_changed p.changes rs) put ∙ (changed_then old.progress.changes (put_of row ∷ []) rs ∙ (ap (with_row row) gathered.rows ∙ sym (ap (λ (p : Progress). p.rows) put)));
-  commit = λ T stands.
-      let before = gathered.commit T stands in
+  commit = λ o T stands.
+      let before = gathered.commit o T stands in
       record {
         changes = added.changes
             ∙ (ap (λ (cs : List StoreChange). cs ++ row_changes (put_of row)) before.changes
             ∙ (ap (λ (cs : List StoreChange). flat_map row_changes old.progress.changes ++ cs) (sym (append-nil (row_changes (put_of row))))
             ∙ (sym (flat_map-append row_changes old.progress.changes (put_of row ∷ [])) ∙ sym (ap (λ (p : Progress). flat_map row_changes p.changes) put))));
-        stands = subst (λ (ps : List Row). StandsFollowing new.commit ps T) (sym (ap (λ (p : Progress). p.rows) put)) (added.stands T before.stands);
+        stands = subst (λ (ps : List Row). StandsFollowing new.commit o ps T) (sym (ap (λ (p : Progress). p.rows) put)) (added.stands o T before.stands);
       };
 }
 
@@ -62,11 +62,11 @@ gathered_more old new row put added = λ b rs gathered. record {
 pub gathered_same : (old new : DeploymentView) → new.progress.rows ≡ old.progress.rows → new.progress.changes ≡ old.progress.changes → new.commit ≡ old.commit → StaysGathered old new
 gathered_same old new rows changes commit = λ b rs gathered. record {
   rows = ap (λ (cs : List Change). all_changed cs rs) changes ∙ (gathered.rows ∙ sym rows);
-  commit = λ T stands.
-      let before = gathered.commit T stands in
+  commit = λ o T stands.
+      let before = gathered.commit o T stands in
       record {
         changes = ap (λ (c : _). c.changes) commit ∙ (before.changes ∙ sym (ap (flat_map row_changes) changes));
-        stands = subst (λ (ps : List Row). StandsFollowing new.commit ps T) (sym rows) (subst (λ (c : _). StandsFollowing c old.progress.rows T) (sym commit) before.stands);
+        stands = subst (λ (ps : List Row). StandsFollowing new.commit o ps T) (sym rows) (subst (λ (c : _). StandsFollowing c o old.progress.rows T) (sym commit) before.stands);
       };
 }
 
@@ -96,7 +96,7 @@ gathered_taken old mid inside c puts gathers added same new rows rest commit =
     let h = subst (λ (x : Change). IsAdded x old inside) put (subst (λ (d : DeploymentView). IsAdded c old d) (sym same) added) in
     gathered_more old new c.row progress (record {
       changes = ap (λ (v : _). v.changes) commit ∙ h.changes;
-      stands = λ T before. subst (λ (v : _). StandsFollowing v (changed (put_of c.row) old.progress.rows) T) (sym commit) (h.stands T before);
+      stands = λ o T before. subst (λ (v : _). StandsFollowing v o (changed (put_of c.row) old.progress.rows) T) (sym commit) (h.stands o T before);
     })
 
 -- ---- what becomes of a row
@@ -130,3 +130,7 @@ over_other (Some old) row p is = by_test (is_unchanged old row) is
         → cond b (record p { same = p.same + 1 }) (record (with_put row p) { changed = p.changed + 1 }) ≡ counted_put false (with_put row p)
     by_test true is = cc
     by_test false is = refl
+
+-- what is added to one view is added to another one that is the same
+pub added_by : (c : Change) (mid old new : DeploymentView) → mid ≡ old → IsAdded c mid new → IsAdded c old new
+added_by c mid old new same is = subst (λ (d : DeploymentView). IsAdded c d new) same is

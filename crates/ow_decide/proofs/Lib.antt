@@ -9,6 +9,7 @@ pub mod ShotLaws
 pub mod AcceptLaws
 pub mod DeployLaws
 pub mod ChainLaws
+pub mod ArchiveLaws
 pub mod NotedLaws
 pub mod LimitLaws
 pub mod OwedLaws
@@ -25,6 +26,7 @@ mod WebLaws
 mod ViewLaws
 mod WaitLaws
 mod FloorLaws
+mod SweepLaws
 mod CallLaws
 mod PlanLaws
 mod FireLaws

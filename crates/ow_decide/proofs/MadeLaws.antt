@@ -12,6 +12,7 @@ use Rattle.ow_records.specs.declared.frames.Frame.{Frame}
 use Rattle.ow_records.specs.declared.ids.Id.{Id}
 use Rattle.ow_records.specs.declared.outcomes.Ending.{Ending}
 use Rattle.ow_records.specs.declared.outcomes.Ending.TheVariants.{Abandoned, Overran, Replied}
+use Rattle.ow_records.specs.declared.record.Record.{Record}
 use Rattle.ow_traits.specs.declared.change_list.Change.{Change as StoreChange}
 use Rattle.ow_traits.specs.declared.replies.RunReply.{RunReply}
 use Rattle.ow_slots.specs.declared.states.Slot.{Slot}
@@ -26,10 +27,10 @@ use Rattle.ow_commits.proofs.Ids.{all_both}
 use Rattle.ow_floor.specs.declared.activations.Open.{Open}
 use Rattle.ow_floor.specs.declared.activations.Plan.{Plan}
 use Rattle.ow_floor.specs.declared.runs.Run.{Run}
-use Rattle.ow_floor.specs.Calls.{IsNext, abandon_items, abandoned_items, accept_items, activation_of, answered_items, begins, begun_items, busy_run, draw_items, end_items, first_items, first_late, goes, gone_items, is_late, items_if, late_items, late_of, loses, lost_items, moved, moved_by, next_items, order_items, overrun_first, place_on, recorded_with, reply_items, reply_recorded, sorted_by_id}
+use Rattle.ow_floor.specs.Calls.{IsNext, abandon_items, abandoned_items, accept_items, activation_of, answered_items, begins, begun_items, busy_run, draw_items, due_in, end_items, first_items, first_late, goes, gone_items, is_late, items_if, late_items, late_of, loses, lost_items, moved, moved_by, next_items, order_items, overrun_first, place_on, recorded_with, reply_items, reply_recorded, sorted_by_id}
 use Rattle.ow_floor.specs.Growth.{AreRight}
 use Rattle.ow_floor.specs.Laws.{IsSound}
-use Rattle.ow_floor.specs.Trace.{Accepted, Begun, Drawn, Ended, Fired, Gone, Item, Lost, Trace, fired, firing, live, open_items, shown}
+use Rattle.ow_floor.specs.Trace.{Accepted, Archived, Begun, Drawn, Ended, Fired, Gone, Item, Lost, Swept, Trace, fired, firing, live, open_items, shown}
 use Rattle.ow_floor.specs.View.{Shown, is_of, waits}
 use Rattle.ow_floor.proofs.Apart.{open_distinct}
 use Rattle.ow_floor.proofs.Coming.{right_append, right_reopened, right_reply}
@@ -49,10 +50,11 @@ use Rattle.ow_trees.proofs.Stepping.{each_after}
 use Rattle.ow_http.specs.declared.reason.Reason.{Reason}
 use Rattle.ow_decide.specs.Calling.{callee, given_over, next_id, plan_for, plan_items}
 use Rattle.ow_decide.specs.Decision.{item_changes, items_changes}
-use Rattle.ow_decide.specs.Decisions.{answered_all, swept_all}
+use Rattle.ow_decide.specs.Decisions.{answered_all, archived_until, sweep_by, sweep_decision, sweep_with, swept_all, swept_told}
 use Rattle.ow_decide.specs.Firing.{after_rule, after_rules, rule_items, rule_plan, seeing, shot_items}
 use Rattle.ow_decide.specs.Sight.{Sight, within_limits}
 use Rattle.ow_decide.specs.declared.call_steps.Callee.{Callee}
+use Rattle.ow_decide.specs.declared.events.Told.TheVariants as told
 use Rattle.ow_decide.proofs.Results.{then_ok}
 
 -- ---- changes of moves
@@ -259,6 +261,44 @@ swept_own S = (
   through_sweep (standing S.rows) S.moment (λ (items T : Trace). AreOwn items) (λ T. tt) (λ xs ys T first second. all_both IsOwn xs ys first second)
       (λ T. plain_own (steps_after (standing S.rows) S.moment T (overrun_first S.moment T)) (late_steps_plain (standing S.rows) S.moment T)) (length (open_items S.trace)) S.trace,
 )
+
+-- each is an acceptance, an end, or says that it was swept
+abbrev pub IsOfSweep : Item → Type 0
+IsOfSweep (Accepted a) = Unit {0}
+IsOfSweep (Ended e) = Unit {0}
+IsOfSweep (Swept at) = Unit {0}
+IsOfSweep item = ⊥
+
+abbrev pub AreOfSweep : Trace → Type 0
+AreOfSweep items = AllByRecursion IsOfSweep items
+
+of_plain : (item : Item) → IsPlain item → IsOfSweep item
+of_plain (Accepted a) plain = tt
+of_plain (Ended e) plain = tt
+of_plain item plain = absurd plain
+
+all_of_plain : (items : Trace) → ArePlain items → AreOfSweep items
+all_of_plain [] plain = tt
+all_of_plain (item ∷ items) plain = (of_plain item plain.0, all_of_plain items plain.1)
+
+pub swept_so : (S : Sight) → AreOfSweep (swept_all S)
+swept_so S = (
+  tt,
+  through_sweep (standing S.rows) S.moment (λ (items T : Trace). AreOfSweep items) (λ T. tt) (λ xs ys T first second. all_both IsOfSweep xs ys first second)
+      (λ T. all_of_plain (steps_after (standing S.rows) S.moment T (overrun_first S.moment T)) (late_steps_plain (standing S.rows) S.moment T)) (length (open_items S.trace)) S.trace,
+)
+
+-- what is true of these, and of these with an archive after them, is true of what a sweep adds
+pub sweep_adds : (S : Sight) (P : Trace → Type 0) → P (swept_all S) → ((until : ℕ) → P (Archived until S.moment ∷ swept_all S)) → P (sweep_decision S).items
+sweep_adds S P alone archived = by_until (archived_until S.tenants.retain S.moment)
+  where
+    by_due : (until : ℕ) (due : List Record) → P (sweep_with S (told.Swept (swept_told (swept_all S))) (swept_all S) until due).items
+    by_due until [] = alone
+    by_due until (r ∷ rs) = archived until
+
+    by_until : (o : Option ℕ) → P (sweep_by S (told.Swept (swept_told (swept_all S))) (swept_all S) o).items
+    by_until None = alone
+    by_until (Some until) = by_due until (due_in until (swept_all S ++ S.trace))
 
 -- those of a reopening
 pub abandoned_right : (S : Sight) → IsSound S.trace → AreRight (abandon_items S.moment S.trace) (shown S.trace)

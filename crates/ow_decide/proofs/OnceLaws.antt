@@ -10,10 +10,9 @@ use Rattle.ow_records.specs.Records.{is_of_id}
 use Rattle.ow_records.specs.declared.ids.Id.{Id}
 use Rattle.ow_records.specs.declared.record.Record.{Record}
 use Rattle.ow_floor.specs.Laws.{IsSound, Stands, times}
-use Rattle.ow_floor.specs.Trace.{Trace, all_records, records, resumed}
+use Rattle.ow_floor.specs.Trace.{Trace, shown_records, records, resumed}
 use Rattle.ow_floor.specs.View.{Shown}
-use Rattle.ow_floor.proofs.Fires.{known_once}
-use Rattle.ow_floor.proofs.Soundness.{parted}
+use Rattle.ow_floor.proofs.Archives.{shown_or_archived}
 use Rattle.ow_commits.proofs.Ending.{alike}
 use Rattle.ow_reads.specs.Reading.{read_done, shown_of}
 use Rattle.ow_reads.specs.View.{AreOnce, view_over}
@@ -26,12 +25,12 @@ times_append id [] ys = omega arith
 times_append id (x ∷ xs) ys = let h = times_append id xs ys in omega (arith, h)
 
 -- an id appears at most once among the records
-recorded_once : (T : Trace) (id : Id) → IsSound T → times id (map (λ r. r.id) (all_records T)) ≤ 1
+recorded_once : (T : Trace) (id : Id) → IsSound T → times id (map (λ r. r.id) (shown_records T)) ≤ 1
 recorded_once T id sound =
-    let all = times_append id (resumed T) (records T) in
-    let parts = (parted T sound).parts id in
-    let once = known_once T id sound in
-    omega (arith, all, parts, once)
+    let both = shown_or_archived T sound in
+    let parts = both.parts id in
+    let once = both.once id in
+    omega (arith, parts, once)
 
 -- ---- how many records have the id
 
@@ -55,14 +54,14 @@ counted id (r ∷ rs) = by_test (same_id id r.id) refl (counted id rs)
     by_test false e rest = rw (turned r.id id ∙ e, e) (omega (arith, rest))
 
 -- no two records of a sound trace have one id
-pub all_once : (T : Trace) → IsSound T → AreOnce (all_records T)
-all_once T sound id = subst (λ n. n ≤ 1) (sym (counted id (all_records T))) (recorded_once T id sound)
+pub all_once : (T : Trace) → IsSound T → AreOnce (shown_records T)
+all_once T sound id = subst (λ n. n ≤ 1) (sym (counted id (shown_records T))) (recorded_once T id sound)
 
 -- ---- what a read over a floor shows
 
-pub read_of : (S : Sight) (h : Holder) (rs : List Row) (ended : List Record) (v : Shown) (reading : Reading) (p : Parts) (r s : Result Val Reason) → S.rows ≡ rs → ended ≡ v.resumed ++ v.ended → Stands v S.trace → r ≡ s
+pub read_of : (S : Sight) (h : Holder) (rs : List Row) (ended : List Record) (v : Shown) (reading : Reading) (p : Parts) (r s : Result Val Reason) → S.rows ≡ rs → ended ≡ v.records → Stands v S.trace → r ≡ s
     → (AreOnce ended → shown_of r ≡ read_done (view_over rs ended h) reading p) → shown_of s ≡ read_done (view_of S h) reading p
 read_of S h rs ended v reading p r s rows_are records_are stands same shows =
-    let is : ended ≡ all_records S.trace = records_are ∙ ap (λ (w : Shown). w.resumed ++ w.ended) stands.is in
+    let is : ended ≡ shown_records S.trace = records_are ∙ ap (λ (w : Shown). w.records) stands.is in
     let once : AreOnce ended = subst (λ (xs : List Record). AreOnce xs) (sym is) (all_once S.trace stands.sound) in
     ap shown_of (sym same) ∙ (shows once ∙ (ap (λ (xs : List Row). read_done (view_over xs ended h) reading p) (sym rows_are) ∙ ap (λ (xs : List Record). read_done (view_over S.rows xs h) reading p) is))

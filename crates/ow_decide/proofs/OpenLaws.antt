@@ -55,7 +55,7 @@ by_resumable counts rs h =
 -- ---- openings
 
 fresh_at : (item : Happened) (T : Trace) → is_first item T ≡ true → IsFresh (shown (item ∷ T))
-fresh_at (Opened pool wants) [] h = record { open_items = refl; live = refl; ended = refl; resumed = refl; drawn = refl }
+fresh_at (Opened pool wants) [] h = record { open_items = refl; live = refl; records = refl; recorded = refl; drawn = refl }
 fresh_at (Opened pool wants) (x ∷ T) h = cc
 fresh_at item T h = cc
 

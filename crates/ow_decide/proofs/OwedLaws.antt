@@ -17,13 +17,14 @@ use Rattle.ow_decide.specs.declared.events.Event.TheVariants as events
 use Rattle.ow_decide.specs.Asking.{request_done}
 use Rattle.ow_decide.specs.Calling.{admitted_plan, call_plan}
 use Rattle.ow_decide.specs.Chain.{IsEndBy}
-use Rattle.ow_decide.specs.Decisions.{decide}
+use Rattle.ow_decide.specs.Decisions.{decide, swept_all}
 use Rattle.ow_decide.specs.Deploying.{deployed}
 use Rattle.ow_decide.specs.Opening.{opened_decision, parts_taken}
 use Rattle.ow_decide.specs.Sight.{Sight}
 use Rattle.ow_decide.proofs.DeployLaws.{deploy_adds}
 use Rattle.ow_decide.proofs.AcceptLaws.{asked_admitted, called_admitted}
 use Rattle.ow_decide.proofs.ChainLaws.{AreOfFloor, IsOfCall, asked_chain, called_chain, of_abandon, of_answered, of_begun, of_drain, of_gone, of_lost, of_next}
+use Rattle.ow_decide.proofs.MadeLaws.{sweep_adds}
 
 module _ (S : Sight) where
   -- a call of the floor ends no composite by itself
@@ -49,6 +50,12 @@ module _ (S : Sight) where
   late_owed : (T : Trace) → AreOwed (standing S.rows) S.moment (overrun_first S.moment T) T
   late_owed T = each_overrun (IsOwed (standing S.rows) S.moment) S.moment T (λ r a. tt)
 
+  swept_owed : AreOwed (standing S.rows) S.moment (swept_all S) S.trace
+  swept_owed = (
+    tt,
+    each_swept (IsOwed (standing S.rows) S.moment) (length (open_items S.trace)) (standing S.rows) S.moment S.trace (step_owed (standing S.rows) S.moment) late_owed,
+  )
+
   pub decided_owed : (event : Event) → AreOwed (standing S.rows) S.moment (decide S event).items S.trace
   decided_owed (events.Opened rows) = opened_owed (parts_taken S.moment S.trace (judged rows))
   decided_owed (events.Asked r) = (asked_chain S (request_done S (parts_of r)) (asked_admitted S (parts_of r))).owed
@@ -61,10 +68,7 @@ module _ (S : Sight) where
   decided_owed (events.Begun run) = floor_owed (begun_items S.moment run S.trace) S.trace (of_begun S run)
   decided_owed (events.Lost run) = floor_owed (lost_items S.moment run S.trace) S.trace (of_lost S run)
   decided_owed (events.Gone slot generation) = floor_owed (gone_items S.moment slot generation S.trace) S.trace (of_gone S slot generation)
-  decided_owed events.Sweep = (
-    tt,
-    each_swept (IsOwed (standing S.rows) S.moment) (length (open_items S.trace)) (standing S.rows) S.moment S.trace (step_owed (standing S.rows) S.moment) late_owed,
-  )
+  decided_owed events.Sweep = sweep_adds S (λ (items : Trace). AreOwed (standing S.rows) S.moment items S.trace) swept_owed (λ until. (tt, swept_owed))
   decided_owed (events.Collected id) = tt
   decided_owed events.Drain = floor_owed (Drained S.moment ∷ []) S.trace (of_drain S)
   decided_owed events.Reopened = floor_owed (abandon_items S.moment S.trace) S.trace (of_abandon S)

@@ -9,7 +9,7 @@ use Rattle.ow_floor.specs.declared.moves.Moved.{Moved}
 use Rattle.ow_http.specs.Steps.{◌>>=◌}
 use Rattle.ow_http.specs.declared.reason.Reason.{Reason}
 use Rattle.ow_row_text.specs.Bytes.{bytes_of}
-use Rattle.ow_commits.specs.Kept.{kept}
+use Rattle.ow_commits.specs.Kept.{kept, others_bytes}
 use Rattle.ow_tables.specs.Rows.{standing}
 use Rattle.ow_tenant.specs.Tenants.{limits_of}
 use Rattle.ow_traits.specs.Changes.{changed}
@@ -54,14 +54,14 @@ planned_so S subject namespace blocking c merged plan until at count now waits n
 
 -- a plan is admitted, or refused, as the bytes of its commit and the limits say
 pub plan_so : (S : Sight) (plan : Plan) (bytes : ℕ) (limit : Result (Unit {0}) LimitRefusal) (r : Result (Unit {0}) Reason)
-    → bytes ≡ bytes_of (changed (items_changes (plan_items S plan)) (kept S.rows S.trace)) → limit ≡ admitted S.trace plan.namespace (limits_of plan.namespace S.tenants) S.moment → r ≡ admits_made bytes limit
+    → bytes ≡ others_bytes S.others + bytes_of (changed (items_changes (plan_items S plan)) (kept S.rows S.trace)) → limit ≡ admitted S.trace plan.namespace (limits_of plan.namespace S.tenants) S.moment → r ≡ admits_made bytes limit
     → (r >>= (λ (u : Unit {0}). Ok plan)) ≡ admitted_plan S plan
 plan_so S plan bytes limit r is allowed same =
     let done : Unit {0} → Result Plan Reason = λ u. Ok plan in
     ap (λ (x : Result (Unit {0}) Reason). x >>= done) same
     ∙ (then_then (unless (is_store_full bytes) store_full) (λ (room : Unit {0}). or_limit limit) done
     ∙ (ap (λ (n : ℕ). unless (is_store_full n) store_full >>= (λ (room : Unit {0}). or_limit limit >>= done)) is
-    ∙ ap (λ (l : Result (Unit {0}) LimitRefusal). unless (is_store_full (bytes_of (changed (items_changes (plan_items S plan)) (kept S.rows S.trace)))) store_full >>= (λ (room : Unit {0}). or_limit l >>= done)) allowed))
+    ∙ ap (λ (l : Result (Unit {0}) LimitRefusal). unless (is_store_full (others_bytes S.others + bytes_of (changed (items_changes (plan_items S plan)) (kept S.rows S.trace)))) store_full >>= (λ (room : Unit {0}). or_limit l >>= done)) allowed))
 
 -- all that moved is of the items of the plan
 pub plan_moved : (S : Sight) (plan : Plan) (rs : List Row) (at : ℕ) (ms ns : List Moved) → S.rows ≡ rs → S.moment ≡ at → ms ≡ [] → ns ≡ ms ++ moved (steps_after (standing rs) at S.trace (accept_items at plan))

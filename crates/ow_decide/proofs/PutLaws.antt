@@ -1,11 +1,11 @@
 -- What is put is stored where the store has room for it.
-use Rattle.std.proofs.Common.{◌≡◌, ◌∙◌, ℕ, Bool, false, List, Result, Ok, sym, ap}
+use Rattle.std.proofs.Common.{◌≡◌, ◌∙◌, ◌+◌, ℕ, Bool, false, List, Result, Ok, sym, ap}
 use Rattle.ow_entity.specs.declared.rows.Row.{Row}
 use Rattle.ow_http.specs.Steps.{◌>>=◌}
 use Rattle.ow_http.specs.declared.reason.Reason.{Reason}
 use Rattle.ow_row_text.specs.Bytes.{bytes_of}
 use Rattle.ow_commits.specs.Commits.{row_changes}
-use Rattle.ow_commits.specs.Kept.{kept}
+use Rattle.ow_commits.specs.Kept.{kept, others_bytes}
 use Rattle.ow_tables.specs.Contents.{Change}
 use Rattle.ow_tables.specs.Rows.{with_row}
 use Rattle.ow_traits.specs.Changes.{changed}
@@ -23,8 +23,8 @@ is_put : (ready : Change) → ready.removes ≡ false → ready ≡ put_of ready
 is_put ready puts = ap (λ (b : Bool). record { row = ready.row; removes = b }) puts
 
 -- the kept rows have this many bytes with it
-pub row_done_by : (S : Sight) (rs : List Row) (ready : Change) (bytes : ℕ) (b : Bool) → S.rows ≡ rs → ready.removes ≡ false → bytes ≡ bytes_of (changed (row_changes ready) (kept rs S.trace))
+pub row_done_by : (S : Sight) (rs : List Row) (ready : Change) (bytes : ℕ) (b : Bool) → S.rows ≡ rs → ready.removes ≡ false → bytes ≡ others_bytes S.others + bytes_of (changed (row_changes ready) (kept rs S.trace))
     → b ≡ is_store_full bytes → by_room S ready b ≡ row_done S ready.row
 row_done_by S rs ready bytes b rows puts is test =
-    ap (by_room S ready) (test ∙ (ap is_store_full is ∙ ap (λ (xs : List Row). is_store_full (bytes_of (changed (row_changes ready) (kept xs S.trace)))) (sym rows)))
-    ∙ ap (λ (c : Change). unless (is_store_full (bytes_of (changed (row_changes c) (kept S.rows S.trace)))) store_full >>= (λ (room : Unit {0}). Ok (Changed c (shown_row (with_row ready.row S.rows) ready.row)))) (is_put ready puts)
+    ap (by_room S ready) (test ∙ (ap is_store_full is ∙ ap (λ (xs : List Row). is_store_full (others_bytes S.others + bytes_of (changed (row_changes ready) (kept xs S.trace)))) (sym rows)))
+    ∙ ap (λ (c : Change). unless (is_store_full (others_bytes S.others + bytes_of (changed (row_changes c) (kept S.rows S.trace)))) store_full >>= (λ (room : Unit {0}). Ok (Changed c (shown_row (with_row ready.row S.rows) ready.row)))) (is_put ready puts)

@@ -1,5 +1,5 @@
 -- A deployment whose drafts were all put has the step that is decided.
-use Rattle.std.proofs.Common.{◌≡◌, ◌++◌, ◌∙◌, List, [], Result, Ok, refl, sym, ap, subst}
+use Rattle.std.proofs.Common.{◌≡◌, ◌++◌, ◌∙◌, List, [], Result, Ok, Err, refl, sym, ap, subst}
 use Rattle.ow_entity.specs.declared.rows.Draft.{Draft}
 use Rattle.ow_entity.specs.declared.rows.Row.{Row}
 use Rattle.ow_commits.specs.Keeping.{KeepingView}
@@ -14,9 +14,9 @@ use Rattle.ow_decide.specs.declared.step.Now.{Now}
 use Rattle.ow_decide.specs.declared.step.Step.{Step}
 use Rattle.ow_decide.specs.Deploying.{Progress, Refusal, all_put, at_place, begun, deploy_decision, deployed, put_drafts, stored}
 use Rattle.ow_decide.specs.Deployment.{ArePut, DeploymentView, IsGathered, IsSettled, StaysGathered}
+use Rattle.ow_decide.specs.Decision.{held}
 use Rattle.ow_decide.specs.Making.{Carries, IsSeen}
 use Rattle.ow_decide.specs.Sight.{Sight, room_for}
-use Rattle.ow_decide.proofs.DeployLaws.{deploy_adds}
 use Rattle.ow_decide.proofs.GatherLaws.{gathered_first}
 
 -- the drafts were put over the rows that are seen
@@ -28,15 +28,20 @@ put_over_seen S t rs ds slice begins after r u tenants rows same first is put =
     ∙ (ap (λ (x : List Row). put_drafts t 1 ds (begun x)) rows
     ∙ (ap (λ (x : Progress). put_drafts t 1 ds x) (sym first) ∙ (ap (λ (x : List Draft). put_drafts t 1 x begins) (sym same) ∙ there)))
 
+-- a deployment holds nothing on the floor
+deploy_holds : (P : Trace → Type 0) (r : Result Progress Refusal) → P [] → P (held (deploy_decision r))
+deploy_holds P (Ok p) none = none
+deploy_holds P (Err refusal) none = none
+
 pub deploy_makes : (S : Sight) (t : Table) (rs : List Row) (k : CountsView) (b : KeepingView) (v : Shown) (now : Now) (ds slice : List Draft) (first last : DeploymentView) (step : Step)
     (r : Result (Unit {0}) Refusal) (u w : Unit {0}) → IsSeen S t rs k b v now → room_for S 0 ≡ Ok w → slice ≡ ds → first.progress ≡ begun rs
     → first.commit ≡ record { changes = []; bytes = b.bytes; opens = b.opens } → r ≡ Ok u → ArePut r (put_drafts t 1 slice first.progress) last.progress → StaysGathered first last → IsSettled last step
-    → Carries step (deploy_decision (deployed S ds)) S × Stands v ((deploy_decision (deployed S ds)).items ++ S.trace)
+    → Carries step (deploy_decision (deployed S ds)) S × Stands v (held (deploy_decision (deployed S ds)) ++ S.trace)
 deploy_makes S t rs k b v now ds slice first last step r u w seen room same begins commit is put gathers settled =
     let all = put_over_seen S t rs ds slice first.progress last.progress r u seen.tenants seen.rows same begins is put in
     let whole : deployed S ds ≡ stored S last.progress = ap (λ (x : Result (Unit {0}) Reason). at_place 0 x >>= (λ (room : Unit {0}). all_put S ds)) room
     ∙ ap (λ (x : Result Progress Refusal). x >>= (λ (p : Progress). stored S p)) all in
     let gathered : IsGathered b S.rows last = subst (λ (x : List Row). IsGathered b x last) (sym seen.rows) (gathers b rs (gathered_first b rs first begins commit)) in (
       subst (λ (x : Result Progress Refusal). Carries step (deploy_decision x) S) (sym whole) (settled S b seen.keeping gathered),
-      deploy_adds (λ (items : Trace). Stands v (items ++ S.trace)) (deployed S ds) seen.stands,
+      deploy_holds (λ (items : Trace). Stands v (items ++ S.trace)) (deployed S ds) seen.stands,
     )

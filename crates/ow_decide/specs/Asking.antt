@@ -49,7 +49,7 @@ use Rattle.ow_reads.specs.Steps.{or_else}
 use Rattle.ow_reads.specs.Reasons.{no_route, not_found}
 use Rattle.ow_decide.specs.Reasons.{table_reason, tells_full}
 use Rattle.ow_decide.specs.Sight.{Sight, is_full, room_for, store_room, view_of}
-use Rattle.ow_decide.specs.Decision.{Decision, adds, items_changes, tells}
+use Rattle.ow_decide.specs.Decision.{Decision, Same, adds, items_changes, tells}
 use Rattle.ow_decide.specs.Firing.{fire_plan, number_for, shot_items, trigger_for, within_fires}
 use Rattle.ow_reads.specs.Reading.{good, name_in, read_answer, read_done}
 use Rattle.ow_decide.specs.Calling.{admitted_plan, callee, charged_namespace, invocation_plan, plan_items}
@@ -249,12 +249,13 @@ no_content = record { status = 204; headers = []; body = [] }
 -- what is done at a request
 abbrev pub ask_decision : Result Done Reason → Decision
 ask_decision (Ok (Shown value)) = tells (at_once (good value))
-ask_decision (Ok (Changed change value)) = record { told = at_once (good value); items = []; changes = change ∷ []; waits = Keep }
+ask_decision (Ok (Changed change value)) = record { told = at_once (good value); items = []; changes = change ∷ []; waits = Keep; others = Same }
 ask_decision (Ok (Invoked items plan shows)) = record {
   told = told.Asked (invoked_reply plan.id plan.until);
   items = items;
   changes = [];
   waits = waits_of plan.id shows plan.until;
+  others = Same;
 }
 ask_decision (Ok Quiet) = tells (at_once no_content)
 ask_decision (Ok (Fired items id)) = adds (at_once (accepted_answer id)) items

@@ -17,7 +17,7 @@ use Rattle.ow_tenant.specs.Tenants.{is_listed}
 use Rattle.ow_reads.specs.Reasons.{not_granted}
 use Rattle.ow_reads.specs.Steps.{unless}
 use Rattle.ow_decide.specs.Asking.{or_table_reason, put_of, unless_refused}
-use Rattle.ow_decide.specs.Decision.{Decision, tells}
+use Rattle.ow_decide.specs.Decision.{Decision, Same, tells}
 use Rattle.ow_decide.specs.Sight.{Sight, room_for, store_room}
 use Rattle.ow_decide.specs.declared.events.Told.TheVariants as told
 use Rattle.ow_decide.specs.declared.replies.Deployed.TheVariants as deployments
@@ -91,5 +91,5 @@ deployed S ds = do
 
 -- all that was put is stored at once; a refused deployment changes nothing
 abbrev pub deploy_decision : Result Progress Refusal → Decision
-deploy_decision (Ok p) = record { told = told.Deployed (deployments.Done p.made p.changed p.same); items = []; changes = p.changes; waits = Keep }
+deploy_decision (Ok p) = record { told = told.Deployed (deployments.Done p.made p.changed p.same); items = []; changes = p.changes; waits = Keep; others = Same }
 deploy_decision (Err refusal) = tells (told.Deployed (deployments.Refused refusal.0 refusal.1))

@@ -5,6 +5,7 @@ use Rattle.ow_entity.specs.declared.rows.Row.{Row}
 use Rattle.ow_floor.specs.Trace.{Trace}
 use Rattle.ow_commits.specs.Commits.{row_changes}
 use Rattle.ow_commits.specs.Keeping.{FollowingView, KeepingView, StandsFollowing, StandsForKept}
+use Rattle.ow_commits.specs.Kept.{OthersView}
 use Rattle.ow_http.specs.declared.reason.Reason.{Reason}
 use Rattle.ow_tables.specs.Contents.{Change}
 use Rattle.ow_tables.specs.Rows.{changed}
@@ -29,7 +30,7 @@ pub record DeploymentView : Type 0 where
 -- the changes so far make its rows of these rows, and are gathered for the commit
 pub record IsGathered (b : KeepingView) (rs : List Row) (d : DeploymentView) : Type 0 where
   pub rows : all_changed d.progress.changes rs ≡ d.progress.rows
-  pub commit : (T : Trace) → StandsForKept b rs T → IsFollowingOf d.commit (flat_map row_changes d.progress.changes) d.progress.rows T
+  pub commit : (o : OthersView) (T : Trace) → StandsForKept b o rs T → IsFollowingOf d.commit (flat_map row_changes d.progress.changes) o d.progress.rows T
 
 -- they stay gathered
 abbrev pub StaysGathered : DeploymentView → DeploymentView → Type 0
@@ -47,7 +48,7 @@ ArePut (Err refusal) put after = put ≡ Err refusal
 
 -- the step says so, where the store has room, for private clauses
 abbrev pub IsSettled : DeploymentView → Step → Type 0
-IsSettled d step = (S : Sight) (b : KeepingView) → StandsForKept b S.rows S.trace → IsGathered b S.rows d → Carries step (deploy_decision (stored S d.progress)) S
+IsSettled d step = (S : Sight) (b : KeepingView) → StandsForKept b S.others S.rows S.trace → IsGathered b S.rows d → Carries step (deploy_decision (stored S d.progress)) S
 
 -- what becomes of a row over an old one, if there is one, for private clauses
 abbrev pub over_for : Option Row → Row → Over
@@ -62,7 +63,7 @@ counted_put false p = record p { changed = p.changed + 1 }
 -- a change is added to what is to be committed, for private clauses
 pub record IsAdded (c : Change) (old new : DeploymentView) : Type 0 where
   pub changes : new.commit.changes ≡ old.commit.changes ++ row_changes c
-  pub stands : (T : Trace) → StandsFollowing old.commit old.progress.rows T → StandsFollowing new.commit (changed c old.progress.rows) T
+  pub stands : (o : OthersView) (T : Trace) → StandsFollowing old.commit o old.progress.rows T → StandsFollowing new.commit o (changed c old.progress.rows) T
 
 -- the step puts all rows and commits them, for private clauses
 pub record IsStepOf (d : DeploymentView) (step : Step) : Type 0 where
@@ -71,4 +72,5 @@ pub record IsStepOf (d : DeploymentView) (step : Step) : Type 0 where
   pub waits : step.waits ≡ Keep
   pub moves : step.moves ≡ []
   pub commit : step.commit ≡ Some d.commit
+  pub archive : step.archive ≡ None
   pub room : (n : ℕ) → (length d.progress.changes ≤ n) → HasRoom step.change n

@@ -31,7 +31,11 @@ use Rattle.ow_tenant.specs.Table.{Table}
 use Rattle.ow_floor.specs.Trace.{Trace, shown}
 use Rattle.ow_counts.specs.declared.refusal.LimitRefusal.{LimitRefusal}
 use Rattle.ow_row_text.specs.Bytes.{bytes_of}
-use Rattle.ow_commits.specs.Kept.{kept}
+use Rattle.ow_commits.specs.Archiving.{archive_with}
+use Rattle.ow_commits.specs.Kept.{OthersView, kept, others_bytes}
+use Rattle.ow_records.specs.declared.record.Record.{Record}
+use Rattle.ow_row_text.specs.declared.item.Archive.{Archive}
+use Rattle.ow_decide.specs.declared.step.Archiving.{Archiving}
 use Rattle.ow_traits.specs.Changes.{changed as store_changed}
 use Rattle.ow_counts.specs.View.{AreUpTo, CountsView, StandsFor, notes_of}
 use Rattle.ow_decide.specs.declared.waits.Wait.{Wait}
@@ -43,7 +47,7 @@ use Rattle.ow_decide.specs.Reasons.{store_full}
 use Rattle.ow_reads.specs.Steps.{unless}
 use Rattle.ow_decide.specs.Calling.{admitted_plan, plan_items}
 use Rattle.ow_decide.specs.Sight.{Sight, is_store_full, or_limit}
-use Rattle.ow_decide.specs.Decision.{Decision, all_changed, commits, items_changes}
+use Rattle.ow_decide.specs.Decision.{Archives, Decision, Same, all_changed, commits, held, items_changes, others_after}
 
 -- ---- the outcome of a request, in the code
 
@@ -100,14 +104,15 @@ HasRoom rows.Nothing room = Unit {0}
 HasRoom (rows.One change) room = HasPlace (Some change) room
 HasRoom (rows.Puts puts) room = length puts.items ≤ room
 
--- a commit makes these changes to what is kept, and what it says of the kept rows then agrees with these rows and this trace
-pub record IsFollowingOf (commit : FollowingView) (cs : List StoreChange) (rs : List Row) (T : Trace) : Type 0 where
+-- a commit makes these changes to what is kept, and what it says of the kept rows then agrees with the archive and notes, these rows and
+-- this trace
+pub record IsFollowingOf (commit : FollowingView) (cs : List StoreChange) (o : OthersView) (rs : List Row) (T : Trace) : Type 0 where
   pub changes : commit.changes ≡ cs
-  pub stands : StandsFollowing commit rs T
+  pub stands : StandsFollowing commit o rs T
 
 -- the commit of a change of the rows, for private clauses
 abbrev pub CommitsDone : Done → Sight → Type 0
-CommitsDone (codes.Changed ready shown commit) S = IsFollowingOf commit (row_changes ready) (changed ready S.rows) S.trace
+CommitsDone (codes.Changed ready shown commit) S = IsFollowingOf commit (row_changes ready) S.others (changed ready S.rows) S.trace
 CommitsDone done S = Unit {0}
 
 -- for private clauses
@@ -143,14 +148,14 @@ pub record IsSeen (S : Sight) (t : Table) (rs : List Row) (k : CountsView) (b : 
   pub tenants : S.tenants ≡ t
   pub rows : S.rows ≡ rs
   pub counts : AreCounted k now.at S.trace
-  pub keeping : StandsForKept b S.rows S.trace
+  pub keeping : StandsForKept b S.others S.rows S.trace
   pub stands : Stands v S.trace
   pub counted : S.counted ≡ now.counted
   pub moment : S.moment ≡ now.at
 
 -- a step with an answer alone: nothing else is made ready
 abbrev pub telling : Told → Step
-telling t = record { told = t; change = rows.Nothing; waits = Keep; moves = []; commit = None }
+telling t = record { told = t; change = rows.Nothing; waits = Keep; moves = []; commit = None; archive = None }
 
 -- ---- what was done on the floor
 
@@ -158,8 +163,8 @@ telling t = record { told = t; change = rows.Nothing; waits = Keep; moves = []; 
 pub record IsMade (made : Made) (items : Trace) (S : Sight) : Type 0 where
   pub moves : made.moves ≡ moved items
   pub changes : made.commit.changes ≡ items_changes items
-  pub bytes : made.commit.bytes ≡ bytes_of (store_changed (items_changes items) (kept S.rows S.trace))
-  pub stands : StandsFollowing made.commit S.rows (items ++ S.trace)
+  pub bytes : made.commit.bytes ≡ others_bytes S.others + bytes_of (store_changed (items_changes items) (kept S.rows S.trace))
+  pub stands : StandsFollowing made.commit S.others S.rows (items ++ S.trace)
 
 -- that many bytes may be kept, and this is what the limit says of one more, for private clauses
 abbrev pub admits_made : ℕ → Result (Unit {0}) LimitRefusal → Result (Unit {0}) Reason
@@ -175,7 +180,13 @@ IsTaken (Err reason) plan S v = (admitted_plan S plan ≡ Err reason) × Stands 
 -- what is to be committed of what is decided. Where there is no commit, no row is changed, and nothing moved
 abbrev pub IsCommit : Option FollowingView → Decision → Sight → Type 0
 IsCommit None d S = (d.changes ≡ []) × (AreOwn d.items × (moved d.items ≡ []))
-IsCommit (Some commit) d S = IsFollowingOf commit (commits d) (all_changed d.changes S.rows) (d.items ++ S.trace)
+IsCommit (Some commit) d S = IsFollowingOf commit (commits d) (others_after d.others S.others) (all_changed d.changes S.rows) (d.items ++ S.trace)
+
+-- what is to be archived of what is decided: nothing; or, where there is a commit, the due records up to a moment, with the archive after it
+abbrev pub IsArchiving : Option FollowingView → Option Archiving → Decision → Sight → Type 0
+IsArchiving commit None d S = d.others ≡ Same
+IsArchiving None (Some a) d S = ⊥
+IsArchiving (Some commit) (Some a) d S = (due : List Record) × (d.others ≡ Archives a.until S.others.archive due) × (a.archive ≡ archive_with S.others.archive due)
 
 -- a step has what was decided of what is seen, and commits it
 pub record Carries (step : Step) (d : Decision) (S : Sight) : Type 0 where
@@ -184,6 +195,7 @@ pub record Carries (step : Step) (d : Decision) (S : Sight) : Type 0 where
   pub waits : step.waits ≡ d.waits
   pub moves : step.moves ≡ moved d.items
   pub commit : IsCommit step.commit d S
+  pub archive : IsArchiving step.commit step.archive d S
 
 -- the step has this answer, and these moves over what is kept. Whichever items they are of, all is committed, for private clauses
 pub record IsTold (step : Step) (t : Told) (w : Waits) (ms : List Moved) (b : KeepingView) : Type 0 where
@@ -191,18 +203,19 @@ pub record IsTold (step : Step) (t : Told) (w : Waits) (ms : List Moved) (b : Ke
   pub change : step.change ≡ rows.Nothing
   pub waits : step.waits ≡ w
   pub moves : step.moves ≡ ms
-  pub commit : (S : Sight) (items : Trace) (u : Told) (x : Waits) → StandsForKept b S.rows S.trace → IsSound S.trace → AreRight items (shown S.trace) → AreOwn items → ms ≡ moved items
-      → IsCommit step.commit (record { told = u; items = items; changes = []; waits = x }) S
+  pub archive : step.archive ≡ None
+  pub commit : (S : Sight) (items : Trace) (u : Told) (x : Waits) → StandsForKept b S.others S.rows S.trace → IsSound S.trace → AreRight items (shown S.trace) → AreOwn items → ms ≡ moved items
+      → IsCommit step.commit (record { told = u; items = items; changes = []; waits = x; others = Same }) S
 
 -- the answer to a reply to a live run says what moved; any other reply is handed back, for private clauses
 abbrev pub IsReplyTold : Step → ℕ → RunReply → Option (Option ℕ) → List Moved → KeepingView → Type 0
 IsReplyTold step run reply None ms b = step ≡ telling (told.NoRun run reply)
 IsReplyTold step run reply (Some recorded) ms b = IsTold step (told.Answered (answered_by run recorded (happened_of ms))) Keep ms b
 
--- over a floor and rows: a step has what is decided of what is seen, and the floor has its items
+-- over a floor and rows: a step has what is decided of what is seen, and the floor has its items, all but an archive
 abbrev pub Makes : Table → List Row → CountsView → KeepingView → Now → Shown → Shown → (Sight → Decision) → Step → Type 0
-Makes t rs k b now old new decided step = (S : Sight) → IsSeen S t rs k b old now → Carries step (decided S) S × Stands new ((decided S).items ++ S.trace)
+Makes t rs k b now old new decided step = (S : Sight) → IsSeen S t rs k b old now → Carries step (decided S) S × Stands new (held (decided S) ++ S.trace)
 
--- the same with the requests that wait
-abbrev pub MakesFor : List Wait → Table → List Row → CountsView → KeepingView → Now → Shown → Shown → (Sight → Decision) → Step → Type 0
-MakesFor ws t rs k b now old new decided step = (S : Sight) → IsSeen S t rs k b old now → S.waits ≡ ws → Carries step (decided S) S × Stands new ((decided S).items ++ S.trace)
+-- the same with the requests that wait and with what was archived
+abbrev pub MakesFor : List Wait → Archive → Table → List Row → CountsView → KeepingView → Now → Shown → Shown → (Sight → Decision) → Step → Type 0
+MakesFor ws a t rs k b now old new decided step = (S : Sight) → IsSeen S t rs k b old now → S.waits ≡ ws → S.others.archive ≡ a → Carries step (decided S) S × Stands new (held (decided S) ++ S.trace)

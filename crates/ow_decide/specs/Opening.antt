@@ -7,14 +7,14 @@ use Rattle.ow_floor.specs.declared.answers.Happening.{Happening}
 use Rattle.ow_floor.specs.declared.answers.Happening.TheVariants.{Recorded}
 use Rattle.ow_row_text.specs.declared.item.Item.{Item}
 use Rattle.ow_keep.specs.Split.{Parts, split}
-use Rattle.ow_commits.specs.Opening.{resumed_records}
+use Rattle.ow_commits.specs.Opening.{others_of, resumed_records}
 use Rattle.ow_records.specs.Outcome.{outcome}
 use Rattle.ow_records.specs.declared.ids.Id.{Id}
 use Rattle.ow_records.specs.declared.outcomes.Ending.TheVariants.{Abandoned}
 use Rattle.ow_records.specs.declared.record.Record.{Record}
 use Rattle.ow_records.specs.declared.unrecorded.Unrecorded.{Unrecorded}
 use Rattle.ow_decide.specs.Asking.{put_of}
-use Rattle.ow_decide.specs.Decision.{Decision, tells}
+use Rattle.ow_decide.specs.Decision.{Decision, TakesOver, tells}
 use Rattle.ow_decide.specs.declared.events.Told.TheVariants as told
 use Rattle.ow_decide.specs.declared.waits.Waits.TheVariants.{Keep}
 
@@ -57,7 +57,7 @@ parts_taken at T (Err key) = None
 abbrev pub abandoned_told : List Unrecorded → List Happening
 abandoned_told us = map (λ u. Recorded u.id (outcome Abandoned u.limits).code) us
 
--- what kept rows hold is taken over: the last counts, the records, and the rows of entities. What had not ended is recorded as abandoned,
+-- what kept rows hold is taken over: the last counts, the records, the rows of entities, the archive and the notes. What had not ended is recorded as abandoned,
 -- by id
 abbrev pub taken_over : ℕ → Parts → Decision
 taken_over at parts = record {
@@ -65,6 +65,7 @@ taken_over at parts = record {
   items = resume_items parts.counts (resumed_records at parts.unrecorded parts.records);
   changes = map put_of parts.entities;
   waits = Keep;
+  others = TakesOver (others_of parts);
 }
 
 -- what is done at an opening, over what is taken over. Where that is nothing, nothing is done

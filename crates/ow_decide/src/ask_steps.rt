@@ -235,8 +235,8 @@ fn changed(
 ) -> Result<Done, NoMemory>
     requires invokes { act ≢ Act.Invokes }
     requires fires { act ≢ Act.Fires }
-    ensures done { IfOk result (λ d. (S : Sight) (h : Holder) → S.rows ≡ tables.old.rows → StandsForKept keeping.now S.rows S.trace → done_of d ≡ change_done S h act call) }
-    ensures commit { IfOk result (λ d. (S : Sight) → S.rows ≡ tables.old.rows → StandsForKept keeping.now S.rows S.trace → CommitsDone d S) }
+    ensures done { IfOk result (λ d. (S : Sight) (h : Holder) → S.rows ≡ tables.old.rows → StandsForKept keeping.now S.others S.rows S.trace → done_of d ≡ change_done S h act call) }
+    ensures commit { IfOk result (λ d. (S : Sight) → S.rows ≡ tables.old.rows → StandsForKept keeping.now S.others S.rows S.trace → CommitsDone d S) }
     ensures rows { tables.new.rows ≡ tables.old.rows }
     ensures place { IfOk result (λ d. HasPlace (change_of d) tables.new.room) }
 {
@@ -300,8 +300,8 @@ fn invoked(
 }
 
 fn put(alloc: Global, keeping: &Keeping, tables: &mut Tables, call: Call) -> Result<Done, NoMemory>
-    ensures done { IfOk result (λ d. (S : Sight) (h : Holder) → S.rows ≡ tables.old.rows → StandsForKept keeping.now S.rows S.trace → done_of d ≡ change_done S h Act.Puts call) }
-    ensures commit { IfOk result (λ d. (S : Sight) → S.rows ≡ tables.old.rows → StandsForKept keeping.now S.rows S.trace → CommitsDone d S) }
+    ensures done { IfOk result (λ d. (S : Sight) (h : Holder) → S.rows ≡ tables.old.rows → StandsForKept keeping.now S.others S.rows S.trace → done_of d ≡ change_done S h Act.Puts call) }
+    ensures commit { IfOk result (λ d. (S : Sight) → S.rows ≡ tables.old.rows → StandsForKept keeping.now S.others S.rows S.trace → CommitsDone d S) }
     ensures rows { tables.new.rows ≡ tables.old.rows }
     ensures place { IfOk result (λ d. HasPlace (change_of d) tables.new.room) }
 {
@@ -323,8 +323,8 @@ fn put_draft(
     draft: Draft,
     overwrite: bool,
 ) -> Result<Done, NoMemory>
-    ensures done { IfOk result (λ d. (S : Sight) → S.rows ≡ tables.old.rows → StandsForKept keeping.now S.rows S.trace → done_of d ≡ put_done S draft overwrite) }
-    ensures commit { IfOk result (λ d. (S : Sight) → S.rows ≡ tables.old.rows → StandsForKept keeping.now S.rows S.trace → CommitsDone d S) }
+    ensures done { IfOk result (λ d. (S : Sight) → S.rows ≡ tables.old.rows → StandsForKept keeping.now S.others S.rows S.trace → done_of d ≡ put_done S draft overwrite) }
+    ensures commit { IfOk result (λ d. (S : Sight) → S.rows ≡ tables.old.rows → StandsForKept keeping.now S.others S.rows S.trace → CommitsDone d S) }
     ensures rows { tables.new.rows ≡ tables.old.rows }
     ensures place { IfOk result (λ d. HasPlace (change_of d) tables.new.room) }
 {
@@ -343,8 +343,8 @@ fn put_ready(
     ready: Ready,
 ) -> Result<Done, NoMemory>
     requires puts { ready.removes ≡ false }
-    ensures done { IfOk result (λ d. (S : Sight) → S.rows ≡ tables.now.rows → StandsForKept keeping.now S.rows S.trace → done_of d ≡ row_done S ready.row) }
-    ensures commit { IfOk result (λ d. (S : Sight) → S.rows ≡ tables.now.rows → StandsForKept keeping.now S.rows S.trace → CommitsDone d S) }
+    ensures done { IfOk result (λ d. (S : Sight) → S.rows ≡ tables.now.rows → StandsForKept keeping.now S.others S.rows S.trace → done_of d ≡ row_done S ready.row) }
+    ensures commit { IfOk result (λ d. (S : Sight) → S.rows ≡ tables.now.rows → StandsForKept keeping.now S.others S.rows S.trace → CommitsDone d S) }
     ensures change { IfOk result (λ d. IfSome (change_of d) (λ c. c ≡ ready)) }
 {
     let Ok(commit) = changing(alloc, keeping, tables, &ready) else {
@@ -367,7 +367,7 @@ fn put_shown(
 ) -> Result<Done, NoMemory>
     ensures done { IfOk result (λ d. done_of d ≡ Ok (asking.Changed ready (shown_row (with_row ready.row tables.now.rows) ready.row))) }
     ensures change { IfOk result (λ d. change_of d ≡ Some ready) }
-    ensures commit { IfOk result (λ d. (S : Sight) → IsFollowingOf commit (row_changes ready) (rows_changed ready S.rows) S.trace → CommitsDone d S) }
+    ensures commit { IfOk result (λ d. (S : Sight) → IsFollowingOf commit (row_changes ready) S.others (rows_changed ready S.rows) S.trace → CommitsDone d S) }
 {
     match shown_once_put(alloc, tables, ready.row()) {
         Ok(shown) => Ok(Done::Changed {
@@ -390,7 +390,7 @@ fn removed(
     call: &Call,
 ) -> Result<Done, NoMemory>
     ensures done { IfOk result (λ d. (S : Sight) (h : Holder) → S.rows ≡ tables.old.rows → done_of d ≡ change_done S h (Act.Removes kind) call.now) }
-    ensures commit { IfOk result (λ d. (S : Sight) → S.rows ≡ tables.old.rows → StandsForKept keeping.now S.rows S.trace → CommitsDone d S) }
+    ensures commit { IfOk result (λ d. (S : Sight) → S.rows ≡ tables.old.rows → StandsForKept keeping.now S.others S.rows S.trace → CommitsDone d S) }
     ensures rows { tables.new.rows ≡ tables.old.rows }
     ensures place { IfOk result (λ d. HasPlace (change_of d) tables.new.room) }
 {
@@ -412,7 +412,7 @@ fn removal_ready(
     ready: Ready,
 ) -> Result<Done, NoMemory>
     ensures done { IfOk result (λ d. done_of d ≡ Ok (asking.Changed ready (shown_row tables.now.rows ready.row))) }
-    ensures commit { IfOk result (λ d. (S : Sight) → S.rows ≡ tables.now.rows → StandsForKept keeping.now S.rows S.trace → CommitsDone d S) }
+    ensures commit { IfOk result (λ d. (S : Sight) → S.rows ≡ tables.now.rows → StandsForKept keeping.now S.others S.rows S.trace → CommitsDone d S) }
     ensures change { IfOk result (λ d. change_of d ≡ Some ready) }
 {
     let Ok(commit) = changing(alloc, keeping, tables, &ready) else {
@@ -431,7 +431,7 @@ fn removal_shown(
 ) -> Result<Done, NoMemory>
     ensures done { IfOk result (λ d. done_of d ≡ Ok (asking.Changed ready (shown_row tables.now.rows ready.row))) }
     ensures change { IfOk result (λ d. change_of d ≡ Some ready) }
-    ensures commit { IfOk result (λ d. (S : Sight) → IsFollowingOf commit (row_changes ready) (rows_changed ready S.rows) S.trace → CommitsDone d S) }
+    ensures commit { IfOk result (λ d. (S : Sight) → IsFollowingOf commit (row_changes ready) S.others (rows_changed ready S.rows) S.trace → CommitsDone d S) }
 {
     match shown_row(alloc, tables, ready.row()) {
         Ok(shown) => Ok(Done::Changed {
@@ -449,7 +449,7 @@ fn removal_shown(
 // The outcome of setting a status. A rule that has the status already stays as it is.
 fn set(alloc: Global, keeping: &Keeping, tables: &mut Tables, call: &Call) -> Result<Done, NoMemory>
     ensures done { IfOk result (λ d. (S : Sight) (h : Holder) → S.rows ≡ tables.old.rows → done_of d ≡ change_done S h Act.Sets call.now) }
-    ensures commit { IfOk result (λ d. (S : Sight) → S.rows ≡ tables.old.rows → StandsForKept keeping.now S.rows S.trace → CommitsDone d S) }
+    ensures commit { IfOk result (λ d. (S : Sight) → S.rows ≡ tables.old.rows → StandsForKept keeping.now S.others S.rows S.trace → CommitsDone d S) }
     ensures rows { tables.new.rows ≡ tables.old.rows }
     ensures place { IfOk result (λ d. HasPlace (change_of d) tables.new.room) }
 {
@@ -470,7 +470,7 @@ fn set_named(
     active: bool,
 ) -> Result<Done, NoMemory>
     ensures done { IfOk result (λ d. (S : Sight) → S.rows ≡ tables.old.rows → done_of d ≡ named_set S name.now active) }
-    ensures commit { IfOk result (λ d. (S : Sight) → S.rows ≡ tables.old.rows → StandsForKept keeping.now S.rows S.trace → CommitsDone d S) }
+    ensures commit { IfOk result (λ d. (S : Sight) → S.rows ≡ tables.old.rows → StandsForKept keeping.now S.others S.rows S.trace → CommitsDone d S) }
     ensures rows { tables.new.rows ≡ tables.old.rows }
     ensures place { IfOk result (λ d. HasPlace (change_of d) tables.new.room) }
 {
@@ -490,7 +490,7 @@ fn status_ready(
     ready: Ready,
 ) -> Result<Done, NoMemory>
     ensures done { IfOk result (λ d. done_of d ≡ Ok (asking.Changed ready (shown_row (with_row ready.row tables.now.rows) ready.row))) }
-    ensures commit { IfOk result (λ d. (S : Sight) → S.rows ≡ tables.now.rows → StandsForKept keeping.now S.rows S.trace → CommitsDone d S) }
+    ensures commit { IfOk result (λ d. (S : Sight) → S.rows ≡ tables.now.rows → StandsForKept keeping.now S.others S.rows S.trace → CommitsDone d S) }
     ensures change { IfOk result (λ d. change_of d ≡ Some ready) }
 {
     let Ok(commit) = changing(alloc, keeping, tables, &ready) else {

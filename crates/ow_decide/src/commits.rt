@@ -1,5 +1,5 @@
 // What was done on the floor, what is to be committed of it, and whether the store has room for that.
-ghost use Rattle.std.specs.Prelude.{◌≡◌, IfOk};
+ghost use Rattle.std.specs.Prelude.{◌≡◌, ◌+◌, IfOk};
 ghost use Rattle.ow_floor.specs.Calls.{moved};
 ghost use Rattle.ow_floor.specs.Growth.{AreRight};
 ghost use Rattle.ow_floor.specs.Laws.{IsSound};
@@ -7,7 +7,7 @@ ghost use Rattle.ow_floor.specs.Trace.{Trace, shown};
 ghost use Rattle.ow_row_text.specs.Bytes.{bytes_of};
 ghost use Rattle.ow_commits.specs.Commits.{row_changes};
 ghost use Rattle.ow_commits.specs.Keeping.{AreOwn, StandsForKept};
-ghost use Rattle.ow_commits.specs.Kept.{kept};
+ghost use Rattle.ow_commits.specs.Kept.{OthersView, kept, others_bytes};
 ghost use Rattle.ow_tables.specs.Rows.{changed as rows_changed};
 ghost use Rattle.ow_traits.specs.Changes.{changed};
 ghost use Rattle.ow_decide.specs.Making.{IsFollowingOf, IsMade, admits_made};
@@ -36,7 +36,7 @@ pub(crate) struct Made {
 /// These moves, with what is to be committed of them.
 pub(crate) fn made_of(alloc: Global, keeping: &Keeping, moves: Moves) -> Result<Made, NoMemory>
     ensures same { IfOk result (λ m. m.moves ≡ moves) }
-    ensures made { IfOk result (λ m. (S : Sight) (items : Trace) → StandsForKept keeping.now S.rows S.trace → IsSound S.trace → AreRight items (shown S.trace) → AreOwn items
+    ensures made { IfOk result (λ m. (S : Sight) (items : Trace) → StandsForKept keeping.now S.others S.rows S.trace → IsSound S.trace → AreRight items (shown S.trace) → AreOwn items
         → moves ≡ moved items → IsMade m items S) }
 {
     let Ok(commit) = keeping.following(alloc, moves.items()) else {
@@ -66,10 +66,10 @@ pub(crate) fn changing(
     tables: &Tables,
     ready: &Ready,
 ) -> Result<Following, NoMemory>
-    ensures commit { IfOk result (λ c. (T : Trace) → StandsForKept keeping.now tables.now.rows T
-        → IsFollowingOf c (row_changes ready.now) (rows_changed ready.now tables.now.rows) T) }
-    ensures bytes { IfOk result (λ c. (T : Trace) → StandsForKept keeping.now tables.now.rows T
-        → c.bytes ≡ bytes_of (changed (row_changes ready.now) (kept tables.now.rows T))) }
+    ensures commit { IfOk result (λ c. (o : OthersView) (T : Trace) → StandsForKept keeping.now o tables.now.rows T
+        → IsFollowingOf c (row_changes ready.now) o (rows_changed ready.now tables.now.rows) T) }
+    ensures bytes { IfOk result (λ c. (o : OthersView) (T : Trace) → StandsForKept keeping.now o tables.now.rows T
+        → c.bytes ≡ others_bytes o + bytes_of (changed (row_changes ready.now) (kept tables.now.rows T))) }
 {
     let row = ready.row();
     keeping.following_change(alloc, tables.row(row.kind(), row.name()), ready)

@@ -233,7 +233,7 @@ fn within_fires(
 
 // What is answered of a fire, which is made.
 fn fired_step(alloc: Global, id: Id, made: Made) -> Result<Step, NoMemory>
-    ensures { IfOk result (λ s. s ≡ record { told = at_once (accepted_answer id); change = RowChange.Nothing; waits = Waits.Keep; moves = made.moves; commit = Some made.commit }) }
+    ensures { IfOk result (λ s. s ≡ record { told = at_once (accepted_answer id); change = RowChange.Nothing; waits = Waits.Keep; moves = made.moves; commit = Some made.commit; archive = None }) }
 {
     let Ok(answer) = accepted_answer(alloc, id) else {
         drop(made);
@@ -246,6 +246,7 @@ fn fired_step(alloc: Global, id: Id, made: Made) -> Result<Step, NoMemory>
         waits: Waits::Keep,
         moves,
         commit: Some(commit),
+        archive: None,
     })
 }
 

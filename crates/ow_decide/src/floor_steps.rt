@@ -1,24 +1,36 @@
 // The steps for what runners request and report, for sweeps, for the drain and for a reopening.
-ghost use Rattle.std.specs.Prelude.{◌≡◌, None, List, false, IfOk};
+ghost use Rattle.std.specs.Prelude.{◌≡◌, ◌≢◌, ◌++◌, ℕ, None, List, [], false, IfOk};
 ghost use Rattle.ow_entity.specs.declared.rows.Row.{Row};
 ghost use Rattle.ow_tenant.specs.Table.{Table};
 ghost use Rattle.ow_counts.specs.View.{CountsView};
-ghost use Rattle.ow_floor.specs.Calls.{answered_by, happened_of};
-ghost use Rattle.ow_commits.specs.Keeping.{KeepingView};
-ghost use Rattle.ow_decide.specs.Decisions.{decide, taken_told, wants_memory};
-ghost use Rattle.ow_decide.specs.Making.{IsReplyTold, IsTold, Makes, telling};
+ghost use Rattle.ow_floor.specs.Calls.{answered_by, archive_items, due_in, happened_of};
+ghost use Rattle.ow_floor.specs.Growth.{AreRight};
+ghost use Rattle.ow_floor.specs.Laws.{IsSound, Stands};
+ghost use Rattle.ow_floor.specs.Trace.{Trace, shown};
+ghost use Rattle.ow_commits.specs.Archiving.{archive_changes, archive_with, others_with};
+ghost use Rattle.ow_commits.specs.Keeping.{AreOwn, KeepingView, StandsForKept};
+ghost use Rattle.ow_decide.specs.Decision.{adds, held, items_changes};
+ghost use Rattle.ow_decide.specs.Decisions.{archived_until, decide, sweep_decision, sweep_with, taken_told, wants_memory};
+ghost use Rattle.ow_decide.specs.Making.{Carries, IsCommit, IsFollowingOf, IsReplyTold, IsSeen, IsTold, Makes, telling};
+ghost use Rattle.ow_decide.specs.Sight.{Sight};
 ghost use Rattle.ow_decide.specs.declared.events.Told.TheVariants as told;
 
 use crate::commits::{Made, made_of};
 use crate::events::{Event, Told};
-use crate::step::{Now, RowChange, Step};
+use crate::step::{Archiving, Now, RowChange, Step};
 use crate::waits::Waits;
-use ow_commits::Keeping;
+use ow_commits::{Following, Keeping, archive_with};
 use ow_floor::{Answered, Floor, FloorRefusal, Happened, Moves, Swept};
+use ow_records::Record;
+use ow_row_text::Archive;
 use ow_tables::Tables;
+use ow_tenant::Tenants;
 use ow_traits::RunReply;
-use ow_value::{NoMemory, PlainData};
+use ow_value::{NoMemory, PlainData, kept_beside};
 use std::alloc::Global;
+
+// How many milliseconds a day has.
+const DAY: u64 = 86_400_000;
 
 /// Runs what has waited longest, if anything waits.
 pub(crate) fn next(alloc: Global, floor: &mut Floor, now: Now) -> Result<Step, NoMemory>
@@ -128,6 +140,7 @@ fn told_step(
             waits,
             moves,
             commit: None,
+            archive: None,
         });
     }
     let Ok(Made { moves, commit }) = made_of(alloc, keeping, moves) else {
@@ -140,18 +153,23 @@ fn told_step(
         waits,
         moves,
         commit: Some(commit),
+        archive: None,
     })
 }
 
-/// Ends what late runs carry, with the steps that the ends make.
+/// Ends what late runs carry, with the steps that the ends make. The records that are due then are to be archived, over what was archived
+/// before.
 pub(crate) fn sweep(
     alloc: Global,
+    tenants: &Tenants,
     keeping: &Keeping,
     floor: &mut Floor,
     tables: &Tables,
+    archive: Archive,
     now: Now,
 ) -> Result<Step, NoMemory>
-    ensures ok { IfOk result (λ s. (t : Table) (k : CountsView) → Makes t tables.now.rows k keeping.now now floor.old.now floor.new.now (λ S. decide S Event.Sweep) s) }
+    ensures ok { IfOk result (λ s. (S : Sight) (k : CountsView) → IsSeen S tenants.now tables.now.rows k keeping.now floor.old.now now → S.others.archive ≡ archive
+        → Carries s (sweep_decision S) S × Stands floor.new.now (held (sweep_decision S) ++ S.trace)) }
     ensures change { IfOk result (λ s. s.change ≡ RowChange.Nothing) }
     ensures before { floor.new.before ≡ floor.old.before }
 {
@@ -160,7 +178,139 @@ pub(crate) fn sweep(
         drop(moves);
         return Err(NoMemory);
     };
-    swept_step(alloc, keeping, late, moves)
+    let step = swept_step(alloc, keeping, late, moves)?;
+    match archived_until(tenants.retain(), now.at) {
+        Some(until) => with_due(alloc, keeping, floor, archive, until, step),
+        None => Ok(step),
+    }
+}
+
+// Up to which moment records are archived at this one.
+#[tactic(auto, unfolding(crate::specs::Decisions::archived_until))]
+fn archived_until(retain: Option<u32>, at: u64) -> Option<u64>
+    ensures { result ≡ archived_until retain at }
+{
+    let Some(days) = retain else {
+        return None;
+    };
+    at.checked_sub(days as u64 * DAY)
+}
+
+// The step of a sweep, with an archive of the records that are due up to this moment, if there is any.
+fn with_due(
+    alloc: Global,
+    keeping: &Keeping,
+    floor: &Floor,
+    archive: Archive,
+    until: u64,
+    step: Step,
+) -> Result<Step, NoMemory>
+    ensures ok { IfOk result (λ s. (S : Sight) (t : Told) (items : Trace) → Carries step (adds t items) S → StandsForKept keeping.now S.others S.rows S.trace
+        → IsSound S.trace → AreRight items (shown S.trace) → AreOwn items → Stands floor.now.now (items ++ S.trace) → S.others.archive ≡ archive
+        → Carries s (sweep_with S t items until (due_in until (items ++ S.trace))) S) }
+    ensures change { IfOk result (λ s. s.change ≡ step.change) }
+{
+    match floor.due(until) {
+        Ok(due) => archiving(alloc, keeping, archive, until, &due, step),
+        Err(e) => {
+            drop(step);
+            Err(e)
+        }
+    }
+}
+
+// The step of a sweep, with an archive of these records after it, if there are any.
+fn archiving(
+    alloc: Global,
+    keeping: &Keeping,
+    archive: Archive,
+    until: u64,
+    due: &[Record],
+    step: Step,
+) -> Result<Step, NoMemory>
+    ensures ok { IfOk result (λ s. (S : Sight) (t : Told) (items : Trace) → Carries step (adds t items) S → StandsForKept keeping.now S.others S.rows S.trace
+        → IsSound S.trace → AreRight items (shown S.trace) → AreOwn items → due.now ≡ due_in until (items ++ S.trace) → S.others.archive ≡ archive
+        → Carries s (sweep_with S t items until (due_in until (items ++ S.trace))) S) }
+    ensures change { IfOk result (λ s. s.change ≡ step.change) }
+{
+    if due.is_empty() {
+        return Ok(step);
+    }
+    archiving_step(alloc, keeping, archive, until, due, step)
+}
+
+// The step of a sweep, with an archive of these records after it.
+fn archiving_step(
+    alloc: Global,
+    keeping: &Keeping,
+    archive: Archive,
+    until: u64,
+    due: &[Record],
+    step: Step,
+) -> Result<Step, NoMemory>
+    ensures ok { IfOk result (λ s. (S : Sight) (t : Told) (items : Trace) → Carries step (adds t items) S → StandsForKept keeping.now S.others S.rows S.trace
+        → IsSound S.trace → AreRight items (shown S.trace) → AreOwn items → due.now ≡ due_in until (items ++ S.trace) → S.others.archive ≡ archive
+        → due.now ≢ [] → Carries s (sweep_with S t items until due.now) S) }
+    ensures change { IfOk result (λ s. s.change ≡ step.change) }
+{
+    let Step {
+        told,
+        change,
+        waits,
+        moves,
+        commit,
+        ..
+    } = step;
+    let archived = archived_after(alloc, keeping, archive, due, commit);
+    let ((told, change, moves), (commit, archive)) = kept_beside((told, change, moves), archived)?;
+    Ok(Step {
+        told,
+        change,
+        waits,
+        moves,
+        commit: Some(commit),
+        archive: Some(Archiving { until, archive }),
+    })
+}
+
+// What is committed with an archive of these records after it, and what was archived then.
+fn archived_after(
+    alloc: Global,
+    keeping: &Keeping,
+    archive: Archive,
+    due: &[Record],
+    commit: Option<Following>,
+) -> Result<(Following, Archive), NoMemory>
+    ensures archive { IfOk result (λ r. r.1 ≡ archive_with archive due.now) }
+    ensures commit { IfOk result (λ r. (S : Sight) (t : Told) (items : Trace) (until : ℕ) → IsCommit commit (adds t items) S → StandsForKept keeping.now S.others S.rows S.trace
+        → IsSound S.trace → AreRight items (shown S.trace) → AreOwn items → due.now ≡ due_in until (items ++ S.trace) → S.others.archive ≡ archive
+        → IsFollowingOf r.0 (items_changes items ++ archive_changes archive due.now) (others_with S.others due.now) S.rows (archive_items until (items ++ S.trace) ++ (items ++ S.trace))) }
+{
+    let after = match archive_with(archive, due) {
+        Ok(after) => after,
+        Err(e) => {
+            drop(commit);
+            return Err(e);
+        }
+    };
+    let base = following_of(alloc, keeping, commit)?;
+    let whole = base.archiving(alloc, archive, due)?;
+    Ok((whole, after))
+}
+
+// What is committed without an archive: where there is no commit, nothing.
+fn following_of(
+    alloc: Global,
+    keeping: &Keeping,
+    commit: Option<Following>,
+) -> Result<Following, NoMemory>
+    ensures { IfOk result (λ c. (S : Sight) (t : Told) (items : Trace) → IsCommit commit (adds t items) S → StandsForKept keeping.now S.others S.rows S.trace
+        → IsSound S.trace → AreRight items (shown S.trace) → AreOwn items → IsFollowingOf c (items_changes items) S.others S.rows (items ++ S.trace)) }
+{
+    match commit {
+        Some(following) => Ok(following),
+        None => keeping.following(alloc, &[]),
+    }
 }
 
 // The step that answers a sweep that found this many late runs, after these moves.

@@ -4,7 +4,7 @@ ghost use Rattle.ow_floor.specs.Calls.{moved};
 ghost use Rattle.ow_floor.specs.Growth.{AreRight};
 ghost use Rattle.ow_floor.specs.Laws.{IsSound};
 ghost use Rattle.ow_floor.specs.Trace.{shown};
-ghost use Rattle.ow_commits.specs.Kept.{kept};
+ghost use Rattle.ow_commits.specs.Kept.{kept_whole};
 ghost use Rattle.ow_commits.specs.Keeping.{AreIds, AreOwn};
 ghost use Rattle.ow_tables.specs.Rows.{standing};
 ghost use Rattle.ow_traits.specs.Changes.{changed};
@@ -14,7 +14,7 @@ ghost use Rattle.ow_counts.specs.View.{AreNotedAt, AreUpTo};
 ghost use Rattle.ow_counts.specs.Within.{AreWithin};
 ghost use Rattle.ow_decide.specs.Asking.{IsOfView, ReadsChangeNothing};
 ghost use Rattle.ow_decide.specs.Chain.{AreSteps};
-ghost use Rattle.ow_decide.specs.Decision.{all_changed, commits};
+ghost use Rattle.ow_decide.specs.Decision.{all_changed, commits, held, others_after};
 ghost use Rattle.ow_decide.specs.Decisions.{decide, is_opening, wants_memory};
 ghost use Rattle.ow_decide.specs.Sight.{Sight};
 ghost use Rattle.ow_decide.specs.declared.events.Event.{Event};
@@ -40,12 +40,12 @@ pub fn decisions_keep_traces_sound()
     ensures { (S : Sight) (event : Event) → IsSound S.trace → IsSound ((decide S event).items ++ S.trace) }
 {}
 
-/// The items that are decided at any event except an opening may happen. They accept and fire at the moment, and take over nothing of an
-/// earlier run. At an event that takes no memory nothing moves. Nothing is accepted or fired after the moment.
+/// The items that are decided at any event except an opening may happen. They accept and fire at the moment. All of them but an archive
+/// take over nothing of an earlier run. At an event that takes no memory nothing moves. Nothing is accepted or fired after the moment.
 pub fn decisions_are_right_items()
     ensures right { (S : Sight) (event : Event) → is_opening event ≡ false → IsSound S.trace → AreRight (decide S event).items (shown S.trace) }
     ensures noted { (S : Sight) (event : Event) → is_opening event ≡ false → AreNotedAt S.moment (decide S event).items }
-    ensures own { (S : Sight) (event : Event) → is_opening event ≡ false → AreOwn (decide S event).items }
+    ensures own { (S : Sight) (event : Event) → is_opening event ≡ false → AreOwn (held (decide S event)) }
     ensures quiet { (S : Sight) (event : Event) → wants_memory event ≡ false → moved (decide S event).items ≡ [] }
     ensures up_to { (S : Sight) (event : Event) → AreUpTo S.moment S.trace → AreUpTo S.moment ((decide S event).items ++ S.trace) }
 {}
@@ -61,8 +61,9 @@ pub fn decisions_keep_limits()
     ensures { (S : Sight) (event : Event) → AreWithin (λ n. limits_of n S.tenants) S.trace → AreWithin (λ n. limits_of n S.tenants) ((decide S event).items ++ S.trace) }
 {}
 
-/// The commit of a decision turns what was kept into what is kept after it. An opening commits otherwise.
+/// The commit of a decision turns all that was kept into all that is kept after it. An opening commits otherwise.
 pub fn decisions_commit_what_is_kept()
     ensures { (S : Sight) (event : Event) → is_opening event ≡ false → IsSound S.trace → AreIds S.trace → AreIds ((decide S event).items ++ S.trace)
-        → changed (commits (decide S event)) (kept S.rows S.trace) ≡ kept (all_changed (decide S event).changes S.rows) ((decide S event).items ++ S.trace) }
+        → changed (commits (decide S event)) (kept_whole S.others S.rows S.trace)
+        ≡ kept_whole (others_after (decide S event).others S.others) (all_changed (decide S event).changes S.rows) ((decide S event).items ++ S.trace) }
 {}

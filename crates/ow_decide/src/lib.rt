@@ -30,5 +30,5 @@ pub use laws::{
 pub use reasons::tells_full;
 pub use replies::{Called, Deployed, HallCollected, Reply};
 pub use room::is_full;
-pub use step::{Now, RowChange, Step, step_for};
+pub use step::{Archiving, Now, RowChange, Step, step_for};
 pub use waits::{Shows, Wait, Waits};

@@ -14,13 +14,14 @@ use ow_commits::{Following, Keeping};
 use ow_counts::Counts;
 use ow_entity::Row;
 use ow_floor::{Floor, Moves};
+use ow_row_text::Archive;
 use ow_tables::{Ready, Tables};
 use ow_tenant::Tenants;
 use ow_value::NoMemory;
 use std::alloc::Global;
 
 /// What was done: the answer, the change of the rows that was made ready, what becomes of the requests that wait, all that moved on the
-/// floor, and what is to be committed of it. Where nothing is to be committed there may be no commit.
+/// floor, what is to be committed of it, and what is to be archived then. Where nothing is to be committed there may be no commit.
 #[derive(Drop)]
 pub struct Step {
     pub told: Told,
@@ -28,6 +29,16 @@ pub struct Step {
     pub waits: Waits,
     pub moves: Moves,
     pub commit: Option<Following>,
+    pub archive: Option<Archiving>,
+}
+
+/// An archive that is made after a commit.
+#[derive(Clone, Copy, Debug, PartialEq, Eq)]
+pub struct Archiving {
+    /// The records whose end is at most this moment, in milliseconds, are archived.
+    pub until: u64,
+    /// What was archived then, with what was archived before.
+    pub archive: Archive,
 }
 
 /// What becomes of the rows of entities.
@@ -59,6 +70,7 @@ impl Step {
             waits: Waits::Keep,
             moves: Moves::new(alloc),
             commit: None,
+            archive: None,
         }
     }
 }
@@ -73,13 +85,14 @@ pub fn step_for(
     floor: &mut Floor,
     tables: &mut Tables,
     waits: &[Wait],
+    archive: Archive,
     now: Now,
     event: &Event,
 ) -> Result<Step, NoMemory>
     requires event { wants_memory event.now ≡ true }
     requires opened { is_opening event.now ≡ false }
     requires held { floor.old.before ≡ Some floor.old.now }
-    ensures ok { IfOk result (MakesFor waits.now tenants.now tables.old.rows counts.now keeping.now now floor.old.now floor.new.now (λ S. decide S event.now)) }
+    ensures ok { IfOk result (MakesFor waits.now archive tenants.now tables.old.rows counts.now keeping.now now floor.old.now floor.new.now (λ S. decide S event.now)) }
     ensures before { floor.new.before ≡ floor.old.before }
     ensures rows { tables.new.rows ≡ tables.old.rows }
     ensures place { IfOk result (λ s. HasRoom s.change tables.new.room) }
@@ -105,7 +118,7 @@ pub fn step_for(
         Event::Answered { run, reply } => {
             answered(alloc, keeping, floor, tables, now, *run, reply)
         }
-        Event::Sweep => sweep(alloc, keeping, floor, tables, now),
+        Event::Sweep => sweep(alloc, tenants, keeping, floor, tables, archive, now),
         Event::Begun { .. } | Event::Lost { .. } | Event::Gone { .. } | Event::Opened(_) => {
             unreachable!()
         }

@@ -235,6 +235,7 @@ item_still (trace.Fired r) v n right = refl
 item_still (Swept at) v n right = refl
 item_still (Drained at) v n right = refl
 item_still (trace.Reopened at) v n right = refl
+item_still (trace.Archived until at) v n right = refl
 
 pool_still : (items : Trace) (T : Trace) → AreRight items (shown T) → pool_of (items ++ T) ≡ pool_of T
 pool_still [] T right = refl

@@ -32,7 +32,7 @@ module _ {P : Type 0} (telling : P → Telling) (t : Table) (n seed : ℕ) (stor
   unopened_told old u h = go u.why h.cause
     where
       none_written : IsUnopened (telling store) (telling u.store) old old
-      none_written = record { unwritten = refl; rows_stay = h.rows_stay; later = h.later }
+      none_written = record { unwritten = refl; rows_stay = h.rows_stay; old_rows_stay = h.old_rows_stay; later = h.later }
 
       go : (why : StartFault) → HasStartCause telling store u.store why → TellsDrill t n seed (telling store) (telling u.store) old old (not_opened why)
       go (starts.BadKept key) cause = (none_written, cause)

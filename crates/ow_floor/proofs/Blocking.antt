@@ -1,20 +1,16 @@
 -- For whose end a request waits.
-use Rattle.std.proofs.Common.{◌≡◌, ◌<◌, ◌++◌, ℕ, zero, suc, Bool, true, false, cond, List, [], ◌∷◌, Option, Some, None, length, drop, drop-cons, get_or, refl, ap, ◌∙◌, subst}
+use Rattle.std.proofs.Common.{◌≡◌, ◌<◌, ◌++◌, ℕ, zero, suc, Bool, true, false, cond, List, [], ◌∷◌, Option, Some, None, length, drop, drop-cons, get_or, refl, ap, ◌∙◌}
 use Rattle.std.specs.List.{find}
 use Rattle.ow_records.specs.declared.ids.Id.{Id}
 use Rattle.ow_records.specs.Id.{same_id}
-use Rattle.ow_records.specs.declared.activations.Activation.{Activation}
 use Rattle.ow_records.specs.declared.record.Record.{Record}
 use Rattle.ow_floor.specs.declared.lists.Blocking.{Blocking}
 use Rattle.ow_floor.specs.Collecting.{collected, collected_by}
-use Rattle.ow_floor.specs.Laws.{IsAmong, IsSound, Stands}
+use Rattle.ow_floor.specs.Laws.{Stands}
 use Rattle.ow_records.specs.Records.{is_of_id}
 use Rattle.std.specs.Option.{option_or}
 use Rattle.ow_floor.specs.View.{Shown, wait_in}
-use Rattle.ow_floor.specs.Trace.{Trace, Item, Opened, Resumed, Accepted, Ordered, Prewarming, Removed, Begun, Answered, Lost, Gone, Ended, Drawn, Fired, Swept, Drained, Reopened, accepted, blocked_by, blocking, end_of, records, resumed, wait_of}
-use Rattle.ow_floor.proofs.Among.{all_among, among_last, among_push}
-use Rattle.ow_floor.proofs.Firsts.{all_more, find_none, none_tail}
-use Rattle.ow_floor.proofs.Tallies.{eq_of}
+use Rattle.ow_floor.specs.Trace.{Trace, Item, Opened, Resumed, Accepted, Ordered, Prewarming, Removed, Begun, Answered, Lost, Gone, Ended, Drawn, Fired, Swept, Drained, Reopened, Archived, blocked_by, blocking, wait_of}
 
 newest_more : {X : Type 0} (a b c : Option X) → option_or (option_or a b) c ≡ option_or a (option_or b c)
 newest_more None b c = refl
@@ -60,6 +56,7 @@ wait_told (item ∷ T) id = of_item item T id (wait_told T id)
     of_item (Swept at) T id e = e
     of_item (Drained at) T id e = e
     of_item (Reopened at) T id e = refl
+    of_item (Archived until at) T id e = e
 
 -- ---- from the newest backwards
 
@@ -80,60 +77,8 @@ wait_back id bs i d b lt is none = ap (wait_in id) (drop-cons bs i d lt) ∙ rw 
 
 -- ---- the answers
 
--- what a request waits for was accepted
-abbrev WasAccepted : Id → Trace → Type 0
-WasAccepted id T = (a : Activation) × IsAmong a (accepted T) × (same_id a.id id ≡ true)
-
-accepted_so : (a : Activation) (T : Trace) (id : Id) (until : ℕ) (b : Bool) (o : Option ℕ) → same_id a.id id ≡ b → option_or (cond b o None) (wait_of T id) ≡ Some until
-    → (wait_of T id ≡ Some until → WasAccepted id T) → WasAccepted id (Accepted a ∷ T)
-accepted_so a T id until true None e found rest = let old = rest found in (old.0, among_push old.0 a (accepted T) old.1, old.2)
-accepted_so a T id until true (Some n) e found rest = (a, among_last a (accepted T), e)
-accepted_so a T id until false o e found rest = let old = rest found in (old.0, among_push old.0 a (accepted T) old.1, old.2)
-
-wait_accepted_so : (T : Trace) (id : Id) (until : ℕ) → wait_of T id ≡ Some until → WasAccepted id T
-wait_accepted_so [] id until found = cc
-wait_accepted_so (item ∷ T) id until found = of_item item found (wait_accepted_so T id until)
-  where
-    of_item : (item : Item) → wait_of (item ∷ T) id ≡ Some until → (wait_of T id ≡ Some until → WasAccepted id T) → WasAccepted id (item ∷ T)
-    of_item (Opened pool wants) found rest = rest found
-    of_item (Resumed counts rs) found rest = rest found
-    of_item (Accepted a) found rest = accepted_so a T id until (same_id a.id id) a.until refl found rest
-    of_item (Ordered run key) found rest = rest found
-    of_item (Prewarming order at) found rest = rest found
-    of_item (Removed containers at) found rest = rest found
-    of_item (Begun run at) found rest = rest found
-    of_item (Answered run alive at) found rest = rest found
-    of_item (Lost run at) found rest = rest found
-    of_item (Gone slot generation at) found rest = rest found
-    of_item (Ended end) found rest = rest found
-    of_item (Drawn own at) found rest = rest found
-    of_item (Fired r) found rest = rest found
-    of_item (Swept at) found rest = rest found
-    of_item (Drained at) found rest = rest found
-    of_item (Reopened at) found rest = cc
-
--- and no record that was taken over has its id
-not_resumed : (T : Trace) (id : Id) (until : ℕ) → IsSound T → wait_of T id ≡ Some until → find (is_of_id id) (resumed T) ≡ None
-not_resumed T id until sound found =
-    let was = wait_accepted_so T id until found in
-    let same : was.0.id ≡ id = eq_of was.0.id id was.2 in
-    find_none (is_of_id id) (resumed T)
-    (all_more _ _ (resumed T)
-    (λ r apart. subst (λ (x : Id). same_id r.id x ≡ false) same (all_among (λ a. (same_id r.id a.id ≡ false) × (same_id a.id r.id ≡ false)) was.0 (accepted T) was.1 apart).0)
-    sound.resumed.strange)
-
-find_behind : (p : Record → Bool) (xs ys : List Record) → find p xs ≡ None → find p (xs ++ ys) ≡ find p ys
-find_behind p [] ys none = refl
-find_behind p (x ∷ xs) ys none = let two = none_tail p x xs (p x) refl none in rw two.0 (find_behind p xs ys two.1)
-
-pub collected_told : (v : Shown) (at : ℕ) (id : Id) (wait : Option ℕ) (ended : Option Record) → wait ≡ wait_in id v.blocking → ended ≡ find (is_of_id id) (v.resumed ++ v.ended)
+pub collected_told : (v : Shown) (at : ℕ) (id : Id) (wait : Option ℕ) (ended : Option Record) → wait ≡ wait_in id v.blocking → ended ≡ find (is_of_id id) v.records
     → (T : Trace) → Stands v T → collected_by at wait ended ≡ collected at id T
 collected_told v at id wait ended waits has T st =
     let w : wait ≡ wait_of T id = waits ∙ (ap (λ (u : Shown). wait_in id u.blocking) st.is ∙ wait_told T id) in
-    ap (λ o. collected_by at o ended) w ∙ by_wait (wait_of T id) refl
-  where
-    by_wait : (o : Option ℕ) → wait_of T id ≡ o → collected_by at o ended ≡ collected_by at o (end_of T id)
-    by_wait None e = refl
-    by_wait (Some until) e =
-        ap (collected_by at (Some until))
-        (has ∙ (ap (λ (u : Shown). find (is_of_id id) (u.resumed ++ u.ended)) st.is ∙ find_behind (is_of_id id) (resumed T) (records T) (not_resumed T id until st.sound e)))
+    ap (λ o. collected_by at o ended) w ∙ ap (collected_by at (wait_of T id)) (has ∙ ap (λ (u : Shown). find (is_of_id id) u.records) st.is)

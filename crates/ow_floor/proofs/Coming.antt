@@ -27,7 +27,7 @@ use Rattle.ow_floor.specs.Growth.{grow, grown, IsEventRight, IsLive, IsRight, Ar
 use Rattle.ow_records.specs.Response.{ResponseView}
 use Rattle.ow_floor.specs.Frames.{children_of, is_frame}
 use Rattle.ow_floor.specs.Laws.{IsSound, bearers}
-use Rattle.ow_floor.specs.Calls.{KeepSound, abandon_items, abandoned_items, accept_items, answered_items, compose_items, composed_items, draw_items, end_items, ended_by, fire_items, first_items, first_late, goes_by, head_by, is_late, items_if, items_on, late_items, late_of, leaves_alive, next_items, note_swept_items, order_items, overrun_first, overrun_items, place_on, reply_items, resume_items, run_by, sorted_by_id, swept_items}
+use Rattle.ow_floor.specs.Calls.{KeepSound, abandon_items, abandoned_items, accept_items, archive_items, answered_items, compose_items, composed_items, draw_items, end_items, ended_by, fire_items, first_items, first_late, goes_by, head_by, is_late, items_if, items_on, late_items, late_of, leaves_alive, next_items, note_swept_items, order_items, overrun_first, overrun_items, place_on, reply_items, resume_items, run_by, sorted_by_id, swept_items}
 use Rattle.ow_floor.proofs.Alters.{same_id_refl}
 use Rattle.ow_floor.proofs.Apart.{AreFound, all_sorted, distinct_sorted, each_by_id, found_left, length_sorted, open_distinct}
 use Rattle.ow_floor.proofs.Drawn.{drawn_last}
@@ -281,4 +281,5 @@ calls_keep_sound = record {
   compose = λ at id r T sound. (sound_items (compose_items at id r T) T (right_composed at id r (shown T)) sound).0;
   drain = λ at T sound. (sound_items (Drained at ∷ []) T ((tt, tt), tt) sound).0;
   abandon = λ at T sound. (sound_items (abandon_items at T) T (right_reopened at (shown T) sound.slotted.within (open_distinct T sound)) sound).0;
+  archive = λ until T sound. (sound_items (archive_items until T) T ((tt, tt), tt) sound).0;
 }

@@ -5,7 +5,7 @@ use Rattle.std.proofs.lemmas.Bool.Decides.{nat_tests}
 use Rattle.ow_records.specs.declared.ids.Id.{Id}
 use Rattle.ow_slots.specs.Slots.{change_first}
 use Rattle.ow_floor.specs.View.{count_or_zero, is_in, last_of, put_id, same_namespace}
-use Rattle.ow_floor.specs.Trace.{Trace, Item, Opened, Resumed, Accepted, Ordered, Prewarming, Removed, Begun, Answered, Lost, Gone, Ended, Drawn, Fired, Swept, Drained, Reopened, drawn, last}
+use Rattle.ow_floor.specs.Trace.{Trace, Item, Opened, Resumed, Accepted, Ordered, Prewarming, Removed, Begun, Answered, Lost, Gone, Ended, Drawn, Fired, Swept, Drained, Reopened, Archived, drawn, last}
 
 last_here : (id x : Id) (n before after : ℕ) (b c : Bool) → (x.namespace == id.namespace) ≡ false → (x.namespace == n) ≡ b → (id.namespace == n) ≡ c
     → after ≡ cond c id.count before → cond b x.count after ≡ cond c id.count (cond b x.count before)
@@ -87,6 +87,7 @@ drawn_last (item ∷ T) n = of_item item T n (drawn_last T n)
     of_item (Swept at) T n e = e
     of_item (Drained at) T n e = e
     of_item (Reopened at) T n e = e
+    of_item (Archived until at) T n e = e
 
 -- ---- each namespace once
 

@@ -23,11 +23,11 @@ use Rattle.ow_floor.specs.declared.lists.Berth.{Berth}
 use Rattle.ow_floor.specs.declared.runs.Run.{Run}
 use Rattle.ow_floor.specs.View.{Shown, is_number, is_of, last_of, recorded_in, same_open}
 use Rattle.ow_floor.specs.Places.{recorded_there}
-use Rattle.ow_floor.specs.Trace.{Trace, Accepted, Answered as replied, Begun, Drained, Gone, Lost, Reopened, Swept, last, live, open_items, records, shown}
+use Rattle.ow_floor.specs.Trace.{Trace, Accepted, Archived, Answered as replied, Begun, Drained, Gone, Lost, Reopened, Swept, last, live, open_items, shown, shown_records}
 use Rattle.ow_floor.specs.Growth.{AreResumable, IsFresh, grow, grown}
 use Rattle.ow_floor.specs.Laws.{Grows, Stands}
-use Rattle.ow_floor.specs.Calls.{abandon_items, abandoned_ends, abandoned_items, accept_items, activation_of, answer_by, answer_of, answer_to, answered_by, answered_items, begun_items, busy_run, compose_items, composed_items, first_late, has_items, note_swept_items, overrun_first, drain_answer, drain_by, end_items, goes_by, gone_items, happened, happened_of, is_late, items_if, items_on, late_items, late_of, leaves_alive, lost_items, moved, next_items, next_order, order_on, overrun_items, record_abandoned, recorded_with, reply_items, reply_recorded, resume_items, run_by, sorted_by_id, swept_ends, swept_items, unrecorded_by, unrecorded_in, draw_items, fire_items}
-use Rattle.ow_floor.specs.Store.{IsCell, IsGood, IsGoodPast, Store, answered_in, at_moment, drained_in, event_in, opens, reopened_in, resumed_in, run_in, run_put, show, show_past, taken_back, drawn_in, fired_in}
+use Rattle.ow_floor.specs.Calls.{abandon_items, abandoned_ends, abandoned_items, accept_items, archive_items, activation_of, answer_by, answer_of, answer_to, answered_by, answered_items, begun_items, busy_run, compose_items, composed_items, first_late, has_items, note_swept_items, overrun_first, drain_answer, drain_by, end_items, goes_by, gone_items, happened, happened_of, is_late, items_if, items_on, late_items, late_of, leaves_alive, lost_items, moved, next_items, next_order, order_on, overrun_items, record_abandoned, recorded_with, reply_items, reply_recorded, resume_items, run_by, sorted_by_id, swept_ends, swept_items, unrecorded_by, unrecorded_in, draw_items, fire_items}
+use Rattle.ow_floor.specs.Store.{IsCell, IsGood, IsGoodPast, Store, answered_in, archived_in, at_moment, drained_in, event_in, opens, reopened_in, resumed_in, run_in, run_put, show, show_past, taken_back, drawn_in, fired_in}
 use Rattle.ow_records.specs.Response.{ResponseView}
 use Rattle.ow_floor.specs.Frames.{children_of, is_frame}
 use Rattle.ow_floor.specs.Ends.{AreAbandoned, IsEndedRun, IsFirstSwept, IsMade, IsRunBegun, IsRunLost, sweeps}
@@ -37,7 +37,7 @@ use Rattle.ow_floor.proofs.Making.{moved_append}
 use Rattle.ow_floor.proofs.Numbers.{number_is}
 use Rattle.ow_floor.proofs.Results.{sure}
 use Rattle.ow_floor.proofs.Serving.{is_order, within_kept}
-use Rattle.ow_floor.proofs.Showing.{good_event, good_marked, good_put, show_answered, show_reopened, show_resumed, show_drawn, show_fired}
+use Rattle.ow_floor.proofs.Showing.{good_event, good_marked, good_put, show_answered, show_archived, show_reopened, show_resumed, show_drawn, show_fired}
 use Rattle.ow_floor.proofs.Soundness.{grows}
 use Rattle.ow_floor.proofs.Apart.{open_distinct}
 
@@ -181,16 +181,16 @@ abandon_moved R S at before after made T st =
     unmoved before after (abandoned_ends at T)
     ((made (shown_distinct (show R) T st)).noted ∙ ap (λ (v : Shown). before ++ moved (abandoned_items at (sorted_by_id v.open_items))) st.is)
 
-abandoned_records : (at : ℕ) (os : List Open) (T : Trace) → records (abandoned_items at os ++ T) ≡ records T ++ map (record_abandoned at) os
-abandoned_records at [] T = sym (append-nil (records T))
-abandoned_records at (o ∷ os) T =
+abandoned_shown : (at : ℕ) (os : List Open) (T : Trace) → shown_records (abandoned_items at os ++ T) ≡ shown_records T ++ map (record_abandoned at) os
+abandoned_shown at [] T = sym (append-nil (shown_records T))
+abandoned_shown at (o ∷ os) T =
     let last = end_items at Abandoned None (Some o) in
-    ap records (append_assoc (abandoned_items at os) last T)
-    ∙ (abandoned_records at os (last ++ T) ∙ append_assoc (records T) (record_abandoned at o ∷ []) (map (record_abandoned at) os))
+    ap shown_records (append_assoc (abandoned_items at os) last T)
+    ∙ (abandoned_shown at os (last ++ T) ∙ append_assoc (shown_records T) (record_abandoned at o ∷ []) (map (record_abandoned at) os))
 
 -- the records of what was abandoned come after the others
-pub abandon_recorded : (v w : Shown) (at : ℕ) → Grows v w (λ T. abandon_items at T) → (T : Trace) → Stands v T → w.ended ≡ records T ++ map (record_abandoned at) (sorted_by_id (open_items T))
-abandon_recorded v w at grows T st = ap (λ (u : Shown). u.ended) (grows T st).is ∙ abandoned_records at (sorted_by_id (open_items T)) T
+pub abandon_recorded : (v w : Shown) (at : ℕ) → Grows v w (λ T. abandon_items at T) → (T : Trace) → Stands v T → w.records ≡ shown_records T ++ map (record_abandoned at) (sorted_by_id (open_items T))
+abandon_recorded v w at grows T st = ap (λ (u : Shown). u.records) (grows T st).is ∙ abandoned_shown at (sorted_by_id (open_items T)) T
 
 -- ---- the first late run, and what is swept
 
@@ -230,6 +230,11 @@ pub grows_resume : (R : Store) (counts : List Id) (rs : List Record) → IsFresh
 grows_resume R counts rs fresh resumable =
     grows (λ v. resume_items counts rs) (show R) (show (resumed_in counts rs R))
     (λ T st. (((subst (λ (v : Shown). IsFresh v) st.is fresh, resumable), tt), tt)) (show_resumed R counts rs)
+
+-- ---- archives
+
+pub grows_archive : (R : Store) (until : ℕ) → Grows (show R) (show (archived_in until R)) (λ T. archive_items until T)
+grows_archive R until = grows (λ v. Archived until v.latest ∷ []) (show R) (show (archived_in until R)) (λ T st. ((tt, tt), tt)) (show_archived R until)
 
 -- ---- what is kept of what is open
 

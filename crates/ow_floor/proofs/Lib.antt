@@ -21,6 +21,7 @@ pub mod Slotting
 pub mod Soundness
 pub mod Apart
 pub mod Fires
+pub mod Archives
 pub mod Sorting
 pub mod Coming
 pub mod Sweeping

@@ -17,7 +17,7 @@ use Rattle.ow_floor.specs.declared.activations.Open.{Open}
 use Rattle.ow_floor.specs.declared.answers.Container.{Container}
 use Rattle.ow_floor.specs.declared.runs.Run.{Run}
 use Rattle.ow_floor.specs.View.{Shown, is_of, waits}
-use Rattle.ow_floor.specs.Trace.{Trace, Item, Opened, Resumed, Accepted, Ordered, Prewarming, Removed, Begun, Answered, Lost, Gone, Ended, Drawn, Fired, Swept, Drained, Reopened, event_of, live, overrun_of, run_count, shown, slots, slots_by}
+use Rattle.ow_floor.specs.Trace.{Trace, Item, Opened, Resumed, Accepted, Ordered, Prewarming, Removed, Begun, Answered, Lost, Gone, Ended, Drawn, Fired, Swept, Drained, Reopened, Archived, event_of, live, overrun_of, run_count, shown, slots, slots_by}
 use Rattle.ow_floor.specs.Growth.{AreRight, IsRight, grown}
 use Rattle.ow_floor.specs.Laws.{IsSound}
 use Rattle.ow_floor.specs.Calls.{RaisesLittle, abandoned_items, begins, end_items, first_items, first_late, goes, is_late, late_items, late_of, loses, overrun_items, reply_items, busy_run, order_items, place_on, sorted_by_id}
@@ -52,6 +52,7 @@ item_rises (Fired r) slots = omega arith
 item_rises (Swept at) slots = omega arith
 item_rises (Drained at) slots = omega arith
 item_rises (Reopened at) slots = raises events.Reopened slots
+item_rises (Archived until at) slots = omega arith
 
 grown_rises : (items : Trace) (v : Shown) → lives.owed (grown items v).slots ≤ lives.owed v.slots + rises items
 grown_rises [] v = omega arith
@@ -154,4 +155,5 @@ raises_little = record {
   note_swept = λ at. refl;
   compose = λ at id r T. rises_composed at _ (find (is_of id) (shown T).open_items);
   abandon = λ at T. let h = rises_abandoned at (sorted_by_id (shown T).open_items) in omega (arith, h);
+  archive = λ until T. refl;
 }

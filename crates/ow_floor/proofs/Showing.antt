@@ -1,5 +1,5 @@
 -- What changes of the kept lists show.
-use Rattle.std.proofs.Common.{◌≡◌, ◌≤◌, ◌+◌, ◌-◌, ◌++◌, ℕ, zero, suc, Bool, false, List, [], ◌∷◌, Option, Some, None, length, get_or, map, refl, sym, ap, ◌∙◌, arith, length-append, subst}
+use Rattle.std.proofs.Common.{◌≡◌, ◌≤◌, ◌+◌, ◌-◌, ◌++◌, ℕ, zero, suc, Bool, false, List, [], ◌∷◌, Option, Some, None, length, get_or, map, refl, sym, ap, ◌∙◌, arith, length-append, append-nil, subst}
 use Rattle.std.specs.List.{find}
 use Rattle.std.specs.Prelude.{slice_set}
 use Rattle.std.proofs.lemmas.List.{length-set}
@@ -20,12 +20,12 @@ use Rattle.ow_floor.specs.declared.lists.Berth.{Berth}
 use Rattle.ow_floor.specs.declared.lists.Spot.{Spot}
 use Rattle.ow_floor.specs.declared.runs.Run.{Run}
 use Rattle.ow_floor.specs.View.{begun, is_number, is_of, waits, with_state}
-use Rattle.ow_floor.specs.Trace.{End, Accepted, Answered, Drained, Drawn, Ended, Fired, Opened, Ordered, Prewarming, Removed, Reopened, Resumed, Swept, overrun_of, slot_count}
+use Rattle.ow_floor.specs.Trace.{End, Accepted, Answered, Archived, Drained, Drawn, Ended, Fired, Opened, Ordered, Prewarming, Removed, Reopened, Resumed, Swept, overrun_of, slot_count}
 use Rattle.ow_floor.specs.Growth.{grow}
 use Rattle.ow_records.specs.declared.frames.Frame.{Frame}
 use Rattle.ow_floor.specs.Ends.{IsRunBegun, IsRunLost, end_in}
 use Rattle.ow_floor.specs.Frames.{frames_accepted, part_of}
-use Rattle.ow_floor.specs.Store.{Store, IsCell, IsGood, IsSpot, accepted_in, answered_in, at_moment, counted_in, drained_in, drawn_in, ended_in, event_in, fired_in, freed_in, empty_of, opens, ordered_in, prewarmed_in, reopened_in, resumed_in, run_in, run_put, show, started_in, there, with_frames}
+use Rattle.ow_floor.specs.Store.{Store, IsCell, IsGood, IsSpot, accepted_in, answered_in, archived_in, at_moment, counted_in, drained_in, drawn_in, ended_in, event_in, fired_in, freed_in, empty_of, opens, ordered_in, prewarmed_in, reopened_in, resumed_in, run_in, run_put, show, started_in, there, with_frames}
 use Rattle.ow_floor.proofs.Firsts.{remove_none, update_none}
 use Rattle.ow_floor.proofs.Serving.{within_kept}
 use Rattle.ow_floor.proofs.Slotting.{slots_opened, vacant_held}
@@ -129,7 +129,7 @@ pub good_fired : (R : Store) (r : Record) → IsGood R → IsGood (fired_in r R)
 good_fired R r good =
     let one : length (R.spots ++ record { state = Waiting } ∷ []) ≡ length R.spots + 1 = length-append R.spots (record { state = Waiting } ∷ []) in
     let two : length (R.tasks ++ None ∷ []) ≡ length R.tasks + 1 = length-append R.tasks (None ∷ []) in
-    let three : length (R.ended ++ r ∷ []) ≡ length R.ended + 1 = length-append R.ended (r ∷ []) in
+    let three : length (R.recorded ++ r.id ∷ []) ≡ length R.recorded + 1 = length-append R.recorded (r.id ∷ []) in
     record {
       paired = two ∙ (ap (λ n. n + 1) good.paired ∙ sym one);
       opened = omega (arith, one, good.opened);
@@ -236,7 +236,7 @@ pub good_ended : (R : Store) (p : Open → Bool) (at k : ℕ) (e : Record) → I
 good_ended R p at k e spot good =
     let len : length (slice_set R.tasks k None) ≡ length R.tasks = length-set R.tasks k None in
     let less = length-removed p (opens R.spots R.tasks) spot.item spot.found in
-    let more : length (R.ended ++ e ∷ []) ≡ length R.ended + 1 = length-append R.ended (e ∷ []) in
+    let more : length (R.recorded ++ e.id ∷ []) ≡ length R.recorded + 1 = length-append R.recorded (e.id ∷ []) in
     record { paired = len ∙ good.paired; opened = good.opened; number = rw spot.removed (omega (arith, less, more, good.number)); owed = good.owed; pool = good.pool; wants = good.wants }
 
 -- ---- marks
@@ -245,10 +245,16 @@ pub show_swept : (R : Store) (at : ℕ) → show (at_moment at R) ≡ grow (Swep
 show_swept R at = refl
 
 pub show_resumed : (R : Store) (counts : List Id) (rs : List Record) → show (resumed_in counts rs R) ≡ grow (Resumed counts rs) (show R)
-show_resumed R counts rs = refl
+show_resumed R counts rs = ap (λ (xs : List Record). record (show (resumed_in counts rs R)) { records = xs }) (sym (append-nil rs))
 
 pub good_resumed : (R : Store) (counts : List Id) (rs : List Record) → IsGood R → IsGood (resumed_in counts rs R)
 good_resumed R counts rs good = record { paired = good.paired; opened = good.opened; number = good.number; owed = good.owed; pool = good.pool; wants = good.wants }
+
+pub show_archived : (R : Store) (until : ℕ) → show (archived_in until R) ≡ grow (Archived until R.marks.latest) (show R)
+show_archived R until = refl
+
+pub good_archived : (R : Store) (until : ℕ) → IsGood R → IsGood (archived_in until R)
+good_archived R until good = record { paired = good.paired; opened = good.opened; number = good.number; owed = good.owed; pool = good.pool; wants = good.wants }
 
 pub show_drained : (R : Store) (at : ℕ) → show (drained_in at R) ≡ grow (Drained at) (show R)
 show_drained R at = refl
@@ -286,7 +292,7 @@ pub good_cut : (R : Store) (at k : ℕ) (a : Activation) (e : Record) → get_or
 good_cut R at k a e here good =
     let len : length (slice_set R.tasks k None) ≡ length R.tasks = length-set R.tasks k None in
     let less = cut_length R.spots R.tasks k a good.paired here in
-    let more : length (R.ended ++ e ∷ []) ≡ length R.ended + 1 = length-append R.ended (e ∷ []) in
+    let more : length (R.recorded ++ e.id ∷ []) ≡ length R.recorded + 1 = length-append R.recorded (e.id ∷ []) in
     record { paired = len ∙ good.paired; opened = good.opened; number = omega (arith, less, more, good.number); owed = good.owed; pool = good.pool; wants = good.wants }
 
 -- ---- at first
@@ -299,8 +305,8 @@ opened_store pool wants = record {
   runs = [];
   frames = [];
   slots = replicate (slot_count pool) vacant_slot;
-  ended = [];
-  resumed = [];
+  records = [];
+  recorded = [];
   drawn = [];
   blocking = [];
   marks = record { latest = 0; opened = 0; owed = 0; draining = false; firing = None };

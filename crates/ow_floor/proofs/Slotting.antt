@@ -19,7 +19,7 @@ use Rattle.ow_slot_laws.proofs.Standing.{runs_stand}
 use Rattle.ow_floor.specs.declared.answers.Container.{Container}
 use Rattle.ow_floor.specs.declared.runs.Run.{Run}
 use Rattle.ow_floor.specs.View.{begun, is_number, remove_first}
-use Rattle.ow_floor.specs.Trace.{Item, Trace, Opened, Resumed, Accepted, Ordered, Prewarming, Removed, Begun, Answered, Lost, Gone, Ended, Drawn, Fired, Swept, Drained, Reopened, event_of, life, life_by, live, live_run, overrun_of, pool_of, run_count, shown, slot_count, slots, slots_by}
+use Rattle.ow_floor.specs.Trace.{Item, Trace, Opened, Resumed, Accepted, Ordered, Prewarming, Removed, Begun, Answered, Lost, Gone, Ended, Drawn, Fired, Swept, Drained, Reopened, Archived, event_of, life, life_by, live, live_run, overrun_of, pool_of, run_count, shown, slot_count, slots, slots_by}
 use Rattle.ow_floor.specs.Growth.{IsEventRight, IsRight}
 use Rattle.ow_floor.specs.Laws.{AreSlotsSound, StandInSlots, bearers, tally}
 use Rattle.ow_floor.proofs.Firsts.{find_passes, remove_none, tally_none, tally_push, tally_removed, tally_some, tally_updated}
@@ -58,6 +58,7 @@ counted (item ∷ T) = of_item item (counted T)
     of_item (Swept at) e = e
     of_item (Drained at) e = e
     of_item (Reopened at) e = e
+    of_item (Archived until at) e = e
 
 fit_in_life : (e : Event) (T : Trace) → IsFit e (slots T) (run_count T) → IsFit e (slots T) (lives.run_count (life T))
 fit_in_life e T fit = subst (λ n. IsFit e (slots T) n) (sym (counted T)) fit
@@ -203,6 +204,7 @@ slotted_item (Swept at) T right sound = slotted_of None T (Swept at ∷ T) refl 
 slotted_item (Drained at) T right sound = slotted_of None T (Drained at ∷ T) refl refl tt sound sound.busy
 slotted_item (Reopened at) T right sound =
     slotted_of (event_of (Reopened at)) T (Reopened at ∷ T) refl refl right.1 sound (λ m. sym (busies_emptied m (slots T)))
+slotted_item (Archived until at) T right sound = slotted_of None T (Archived until at ∷ T) refl refl tt sound sound.busy
 
 -- the slots after an item
 pub slots_item : (item : Item) (T : Trace) → IsRight item (shown T) → AreSlotsSound T → slots (item ∷ T) ≡ slots_by (event_of item) (slots T)
@@ -222,6 +224,7 @@ slots_item (Fired r) T right sound = refl
 slots_item (Swept at) T right sound = refl
 slots_item (Drained at) T right sound = refl
 slots_item (Reopened at) T right sound = slots_one (event_of (Reopened at)) T right.1 sound
+slots_item (Archived until at) T right sound = refl
 
 -- ---- at first
 

@@ -3,6 +3,7 @@ use Rattle.std.proofs.Common.{◌≡◌, ◌==◌, ◌+◌, ◌≤◌, ◌<◌, 
 use Rattle.std.specs.List.{find, AllByRecursion, IsDistinct}
 use Rattle.std.proofs.lemmas.Bool.Decides.{nat_tests}
 use Rattle.ow_traits.specs.declared.prewarms.Prewarm.{Prewarm}
+use Rattle.std.proofs.lemmas.List.{map-append}
 use Rattle.ow_records.specs.declared.ids.Id.{Id}
 use Rattle.ow_records.specs.Id.{same_id}
 use Rattle.ow_records.specs.declared.activations.Activation.{Activation}
@@ -13,7 +14,7 @@ use Rattle.ow_floor.specs.declared.answers.Drain.TheVariants as drains
 use Rattle.ow_floor.specs.declared.runs.Run.{Run}
 use Rattle.ow_records.specs.Records.{is_of_id}
 use Rattle.ow_floor.specs.View.{Shown, waits, carries, begun, ids_of, is_of, is_number, with_state, remove_first, head}
-use Rattle.ow_floor.specs.Trace.{Trace, Item, End, Opened, Resumed, Accepted, Ordered, Prewarming, Removed, Begun, Answered, Lost, Gone, Ended, Drawn, Fired, Swept, Drained, Reopened, slots, slots_after, accepted, accepted_ids, count, ends, fired, firing, records, recorded, resumed, record_of, last, drawn, standing, open_items, run_count, live, live_run, shown}
+use Rattle.ow_floor.specs.Trace.{Trace, Item, End, Opened, Resumed, Accepted, Ordered, Prewarming, Removed, Begun, Answered, Lost, Gone, Ended, Drawn, Fired, Swept, Drained, Reopened, Archived, slots, slots_after, accepted, accepted_ids, count, ends, fired, firing, records, recorded, recorded_after, resumed, shown_after, shown_records, record_of, last, drawn, standing, open_items, run_count, live, live_run, shown}
 use Rattle.ow_floor.specs.Growth.{grow, grown, open_after, IsRight, AreRight, IsFresh, AreResumable}
 use Rattle.ow_floor.specs.Laws.{AreFiresApart, AreSlotsSound, times, IsAmong, loads, bearers, tally, IsApart, AreApart, IsParted, IsSound, RunOnce, Stands, Grows}
 use Rattle.ow_floor.specs.Calls.{drain_answer, AllRecorded}
@@ -350,6 +351,9 @@ sound_swept at T slotted sound = record { apart = sound.apart; drawn = sound.dra
 sound_drained : (at : ℕ) (T : Trace) → AreSlotsSound (Drained at ∷ T) → IsSound T → IsSound (Drained at ∷ T)
 sound_drained at T slotted sound = record { apart = sound.apart; drawn = sound.drawn; ended_drawn = sound.ended_drawn; live_drawn = sound.live_drawn; once = sound.once; known = sound.known; one = sound.one; single = sound.single; numbered = sound.numbered; slotted = slotted; namespaces = sound.namespaces; resumed = sound.resumed; fires = sound.fires }
 
+sound_archived : (until at : ℕ) (T : Trace) → AreSlotsSound (Archived until at ∷ T) → IsSound T → IsSound (Archived until at ∷ T)
+sound_archived until at T slotted sound = record { apart = sound.apart; drawn = sound.drawn; ended_drawn = sound.ended_drawn; live_drawn = sound.live_drawn; once = sound.once; known = sound.known; one = sound.one; single = sound.single; numbered = sound.numbered; slotted = slotted; namespaces = sound.namespaces; resumed = sound.resumed; fires = sound.fires }
+
 sound_reopened : (at : ℕ) (T : Trace) → open_items T ≡ [] → AreSlotsSound (Reopened at ∷ T) → IsSound T → IsSound (Reopened at ∷ T)
 sound_reopened at T none slotted sound = record {
   apart = sound.apart;
@@ -379,16 +383,20 @@ none_accepted [] [] is = (refl, refl)
 none_accepted [] (r ∷ rs) is = cc
 none_accepted (a ∷ xs) rs is = cc
 
+none_recorded : (rs : List Record) → map (λ r. r.id) rs ≡ [] → rs ≡ []
+none_recorded [] none = refl
+none_recorded (r ∷ rs) none = cc
+
 sound_resumed : (counts : List Id) (rs : List Record) (T : Trace) → IsFresh (shown T) → AreResumable counts rs → AreSlotsSound (Resumed counts rs ∷ T) → IsSound T → IsSound (Resumed counts rs ∷ T)
 unfolding IsDistinct
 sound_resumed counts rs T fresh resumable slotted sound =
     let both = none_accepted (accepted T) (fired T) (none_ids (accepted_ids T)
-    (λ id. ap (λ (os : List Open). times id (ids_of os) + times id []) (sym fresh.open_items) ∙ (ap (λ (es : List Record). times id (ids_of (open_items T)) + times id (map (λ e. e.id) es)) (sym fresh.ended) ∙ sound.once id))) in
+    (λ id. ap (λ (os : List Open). times id (ids_of os) + times id []) (sym fresh.open_items) ∙ (ap (λ (ids : List Id). times id (ids_of (open_items T)) + times id ids) (sym fresh.recorded) ∙ sound.once id))) in
     let none : accepted T ≡ [] = both.0 in
     record {
       apart = sound.apart;
       drawn = rw none tt;
-      ended_drawn = rw fresh.ended tt;
+      ended_drawn = rw (none_recorded (records T) fresh.recorded) tt;
       live_drawn = rw fresh.live tt;
       once = sound.once;
       known = sound.known;
@@ -457,11 +465,24 @@ grown_item (Swept at) T right sound = (sound_swept at T (slotted_item (Swept at)
 grown_item (Drained at) T right sound = (sound_drained at T (slotted_item (Drained at) T right sound.slotted) sound, refl)
 grown_item (Reopened at) T right sound =
     (sound_reopened at T right.0 (slotted_item (Reopened at) T right sound.slotted) sound, open_reopened at T right.0 ∙ sym right.0)
+grown_item (Archived until at) T right sound = (sound_archived until at T (slotted_item (Archived until at) T right sound.slotted) sound, refl)
 
-shown_by : (item : Item) (T : Trace) → open_items (item ∷ T) ≡ open_after item (live T) (open_items T) → slots (item ∷ T) ≡ slots_after item (slots T) → shown (item ∷ T) ≡ grow item (shown T)
-shown_by item T is_open is_slots =
-    ap (λ (os : List Open). record (grow item (shown T)) { open_items = os; slots = slots (item ∷ T) }) is_open
-    ∙ ap (λ (ss : List Slot). record (grow item (shown T)) { slots = ss }) is_slots
+recorded_step : (item : Item) (T : Trace) → recorded (item ∷ T) ≡ recorded_after item (recorded T)
+recorded_step (Ended e) T = map-append (λ r. r.id) (records T) (record_of e ∷ [])
+recorded_step (Fired r) T = map-append (λ r. r.id) (records T) (r ∷ [])
+recorded_step item T = refl
+
+shown_step : (item : Item) (T : Trace) → IsRight item (shown T) → shown_records (item ∷ T) ≡ shown_after item [] (shown_records T)
+shown_step (Resumed counts rs) T right = ap (λ xs. rs ++ xs) (none_recorded (records T) right.0.0.recorded)
+shown_step item T right = refl
+
+shown_by : (item : Item) (T : Trace) → open_items (item ∷ T) ≡ open_after item (live T) (open_items T) → slots (item ∷ T) ≡ slots_after item (slots T)
+    → shown_records (item ∷ T) ≡ shown_after item [] (shown_records T) → shown (item ∷ T) ≡ grow item (shown T)
+shown_by item T is_open is_slots is_shown =
+    ap (λ (os : List Open). record (grow item (shown T)) { open_items = os; slots = slots (item ∷ T); records = shown_records (item ∷ T); recorded = recorded (item ∷ T) }) is_open
+    ∙ (ap (λ (ss : List Slot). record (grow item (shown T)) { slots = ss; records = shown_records (item ∷ T); recorded = recorded (item ∷ T) }) is_slots
+    ∙ (ap (λ (rs : List Record). record (grow item (shown T)) { records = rs; recorded = recorded (item ∷ T) }) is_shown
+    ∙ ap (λ (ids : List Id). record (grow item (shown T)) { recorded = ids }) (recorded_step item T)))
 
 -- items that may come keep a trace sound, and do to the lists what they should
 pub sound_items : (items T : Trace) → AreRight items (shown T) → IsSound T → IsSound (items ++ T) × (shown (items ++ T) ≡ grown items (shown T))
@@ -470,7 +491,7 @@ sound_items (item ∷ items) T right sound =
     let before = sound_items items T right.1 sound in
     let here = subst (λ (v : Shown). IsRight item v) (sym before.1) right.0 in
     let grown = grown_item item (items ++ T) here before.0 in
-    (grown.0, shown_by item (items ++ T) grown.1 (slots_item item (items ++ T) here before.0.slotted) ∙ ap (grow item) before.1)
+    (grown.0, shown_by item (items ++ T) grown.1 (slots_item item (items ++ T) here before.0.slotted) (shown_step item (items ++ T) here) ∙ ap (grow item) before.1)
 
 -- where the items of a call may come, a floor of whose lists they are made grows by them
 pub grows : (f : Shown → Trace) (v w : Shown) → ((T : Trace) → Stands v T → AreRight (f (shown T)) (shown T)) → w ≡ grown (f v) v → Grows v w (λ T. f (shown T))

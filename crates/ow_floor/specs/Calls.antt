@@ -1,6 +1,6 @@
 -- What the calls of a floor answer, and which items they add, the newest first.
 use Rattle.std.specs.Prelude.{◌≡◌, ◌==◌, ◌+◌, ◌-◌, ◌++◌, ◌≤◌, ℕ, Bool, true, false, List, [], ◌∷◌, Option, Some, None, length, if◌then◌else◌, is_some, is_none, map, nat_lt, ◌&&◌, slice_get, Result, Ok, Err, IsSome}
-use Rattle.std.specs.List.{find}
+use Rattle.std.specs.List.{find, filter}
 use Rattle.std.specs.Ordering.{is_lt}
 use Rattle.ow_value.specs.Value.{text_cmp}
 use Rattle.ow_traits.specs.declared.replies.RunReply.{RunReply}
@@ -11,7 +11,7 @@ use Rattle.ow_records.specs.declared.outcomes.Ending.TheVariants.{Replied, Overr
 use Rattle.ow_records.specs.declared.record.Record.{Record}
 use Rattle.ow_records.specs.declared.unrecorded.Unrecorded.{Unrecorded}
 use Rattle.ow_records.specs.Record.{record_of}
-use Rattle.ow_records.specs.Records.{id_numbers}
+use Rattle.ow_records.specs.Records.{id_key, id_numbers, is_due, sorted_by}
 use Rattle.ow_records.specs.Unrecorded.{unrecorded_of}
 use Rattle.ow_floor.specs.declared.activations.Plan.{Plan}
 use Rattle.ow_records.specs.declared.activations.Activation.{Activation}
@@ -49,7 +49,7 @@ use Rattle.ow_floor.specs.View.{Shown, head, containers_of, generation_after, ge
 use Rattle.ow_records.specs.Response.{ResponseView}
 use Rattle.ow_floor.specs.Frames.{children_of, is_frame, own_of}
 use Rattle.ow_floor.specs.Trace as trace
-use Rattle.ow_floor.specs.Trace.{Trace, Item, End, count, last, live, open_item, open_items, shown, slots}
+use Rattle.ow_floor.specs.Trace.{Trace, Item, End, count, last, latest, live, open_item, open_items, shown, shown_records, slots}
 use Rattle.ow_floor.specs.Growth.{AreResumable, IsFresh, grown}
 use Rattle.ow_floor.specs.Owed.{rises}
 use Rattle.ow_floor.specs.Laws.{AreAllRecorded, Grows, IsSound, Stands}
@@ -419,6 +419,20 @@ record_abandoned at o = record_of o.task Abandoned None None at
 abbrev pub resume_items : List Id → List Record → Trace
 resume_items counts rs = trace.Resumed counts rs ∷ []
 
+-- ---- archives
+
+-- the records whose end is at most this moment, by their ids
+abbrev pub due_by : ℕ → List Record → List Record
+due_by until rs = sorted_by id_key (filter (is_due until) rs)
+
+-- what `due` answers: of the records that are shown
+abbrev pub due_in : ℕ → Trace → List Record
+due_in until T = due_by until (shown_records T)
+
+-- what `archive` adds. It has the moment of what happened before
+abbrev pub archive_items : ℕ → Trace → Trace
+archive_items until T = trace.Archived until (latest T) ∷ []
+
 -- ---- what is kept of an activation that has not ended
 
 abbrev pub unrecorded_by : Option Open → Option Unrecorded
@@ -461,6 +475,7 @@ pub record KeepSound : Type 0 where
   pub compose : (at : ℕ) (id : Id) (r : ResponseView) (T : Trace) → IsSound T → IsSound (compose_items at id r T ++ T)
   pub drain : (at : ℕ) (T : Trace) → IsSound T → IsSound (trace.Drained at ∷ T)
   pub abandon : (at : ℕ) (T : Trace) → IsSound T → IsSound (abandon_items at T ++ T)
+  pub archive : (until : ℕ) (T : Trace) → IsSound T → IsSound (archive_items until T ++ T)
 
 -- how much the items of each call raise what is owed
 pub record RaisesLittle : Type 0 where
@@ -475,3 +490,4 @@ pub record RaisesLittle : Type 0 where
   pub note_swept : (at : ℕ) → rises (note_swept_items at) ≡ 0
   pub compose : (at : ℕ) (id : Id) (r : ResponseView) (T : Trace) → rises (compose_items at id r T) ≡ 0
   pub abandon : (at : ℕ) (T : Trace) → rises (abandon_items at T) ≡ 0
+  pub archive : (until : ℕ) (T : Trace) → rises (archive_items until T) ≡ 0

@@ -6,7 +6,7 @@ use Rattle.ow_floor.specs.declared.answers.Collected.{Collected}
 use Rattle.ow_floor.specs.declared.answers.Collected.TheVariants as answers
 use Rattle.ow_floor.specs.declared.answers.FloorRefusal.{FloorRefusal}
 use Rattle.ow_floor.specs.declared.answers.FloorRefusal.TheVariants.{NotFound, NoRun, NoSlot}
-use Rattle.ow_floor.specs.Trace.{Trace, end_of, wait_of}
+use Rattle.ow_floor.specs.Trace.{Trace, shown_of, wait_of}
 
 -- no request waits for it; its record; its request still waits; its request waits no longer
 pub data Collection : Type 0 where
@@ -15,7 +15,7 @@ pub data Collection : Type 0 where
   NotYet : Collection
   Elapsed : Collection
 
--- by the moment until which the request waits, and by the record
+-- by the moment until which the request waits, and by the record that is shown
 abbrev pub collected_by : ℕ → Option ℕ → Option Record → Collection
 collected_by at None ended = Unknown
 collected_by at (Some until) (Some r) = Recorded r
@@ -23,7 +23,7 @@ collected_by at (Some until) None = if nat_lt at until then NotYet else Elapsed
 
 -- at this moment
 abbrev pub collected : ℕ → Id → Trace → Collection
-collected at id T = collected_by at (wait_of T id) (end_of T id)
+collected at id T = collected_by at (wait_of T id) (shown_of T id)
 
 -- what an answer of `collect` says
 abbrev pub collection_of : Result Collected FloorRefusal → Collection

@@ -10,7 +10,7 @@ use Rattle.ow_slots.specs.Slots.{memory_held, change_first}
 use Rattle.ow_slot_laws.specs.Life.{Event}
 use Rattle.ow_slot_laws.specs.Fitting.{IsFit, changed}
 use Rattle.ow_floor.specs.View.{Shown, is_number, is_of, last_of, remove_first, same_namespace, same_record, waits, with_state}
-use Rattle.ow_floor.specs.Trace.{Item, Trace, Opened, Resumed, Accepted, Ordered, Answered, Lost, Ended, Drawn, Fired, Reopened, blocking_after, count_after, draining_after, drawn_after, event_of, firing_after, frames_after, live_after, moment_of, pool_after, records_after, resumed_after, run_count_after, slots_after, wants_after}
+use Rattle.ow_floor.specs.Trace.{Item, Trace, Opened, Resumed, Accepted, Ordered, Answered, Lost, Ended, Drawn, Fired, Reopened, blocking_after, count_after, draining_after, drawn_after, event_of, firing_after, frames_after, live_after, moment_of, pool_after, recorded_after, run_count_after, shown_after, slots_after, wants_after}
 
 -- what a lost run carries waits again
 abbrev pub freed : Option Run → List Open → List Open
@@ -25,15 +25,15 @@ open_after (Lost run at) rs os = freed (find (is_number run) rs) os
 open_after (Ended e) rs os = remove_first (is_of e.task.id) os
 open_after item rs os = os
 
--- the lists, with one more item
+-- the lists, with one more item. Nothing is recorded before records are taken over
 abbrev pub grow : Item → Shown → Shown
 grow item v = record {
   open_items = open_after item v.live v.open_items;
   live = live_after item v.live;
   frames = frames_after item v.frames;
   slots = slots_after item v.slots;
-  ended = records_after item v.ended;
-  resumed = resumed_after item v.resumed;
+  records = shown_after item [] v.records;
+  recorded = recorded_after item v.recorded;
   drawn = drawn_after item v.drawn;
   runs = run_count_after item v.runs;
   count = count_after item v.count;
@@ -61,8 +61,8 @@ IsLive (Some r) rs = find (is_number r.number) rs ≡ Some r
 pub record IsFresh (v : Shown) : Type 0 where
   pub open_items : v.open_items ≡ []
   pub live : v.live ≡ []
-  pub ended : v.ended ≡ []
-  pub resumed : v.resumed ≡ []
+  pub records : v.records ≡ []
+  pub recorded : v.recorded ≡ []
   pub drawn : v.drawn ≡ []
 
 -- what may be taken over: last ids of different namespaces, and records of different activations whose ids were drawn

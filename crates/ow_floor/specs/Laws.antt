@@ -1,6 +1,6 @@
 -- What is true of every trace that the calls of a floor make, and when a floor has the state of a trace.
-use Rattle.std.specs.Prelude.{◌≡◌, ◌⊎◌, ◌+◌, ◌++◌, ◌≤◌, ℕ, Bool, false, List, [], ◌∷◌, Option, Some, None, if◌then◌else◌, is_some}
-use Rattle.std.specs.List.{AllByRecursion, IsDistinct}
+use Rattle.std.specs.Prelude.{◌≡◌, ◌⊎◌, ◌+◌, ◌++◌, ◌≤◌, ℕ, Bool, false, List, [], ◌∷◌, Option, Some, None, if◌then◌else◌, is_some, map, not}
+use Rattle.std.specs.List.{AllByRecursion, IsDistinct, filter, list_any}
 use Rattle.ow_records.specs.declared.ids.Id.{Id}
 use Rattle.ow_records.specs.Id.{same_id}
 use Rattle.ow_records.specs.declared.activations.Activation.{Activation}
@@ -10,7 +10,7 @@ use Rattle.ow_slots.specs.Slots.{first_with, has, memory_held}
 use Rattle.ow_slots.specs.State.{runs as is_busy_with}
 use Rattle.ow_slot_laws.specs.Fitting.{AreFit}
 use Rattle.ow_floor.specs.View.{Shown, carries, ids_of, is_number, recorded_of, running_of, same_namespace, same_record, waiting_of}
-use Rattle.ow_floor.specs.Trace.{Trace, accepted, accepted_ids, ends, last, life, live, live_run, open_items, pool_of, records, recorded, run_count, running, shown, slot_count, slots, waiting}
+use Rattle.ow_floor.specs.Trace.{Trace, accepted, accepted_ids, all_records, archived, ends, last, life, live, live_run, open_items, pool_of, records, recorded, run_count, running, shown, shown_records, slot_count, slots, waiting}
 use Rattle.ow_floor.specs.Trace as trace
 
 -- how often an id occurs in a list
@@ -44,6 +44,20 @@ AreAllRecorded T = (id : Id) → (times id (recorded T) ≡ times id (accepted_i
 abbrev pub IsAmong : Activation → List Activation → Type 0
 IsAmong a [] = ⊥
 IsAmong a (x ∷ xs) = (a ≡ x) ⊎ IsAmong a xs
+
+-- the ids of records
+abbrev pub record_ids : List Record → List Id
+record_ids rs = map (λ r. r.id) rs
+
+-- whether a record was archived
+abbrev pub was_archived : Trace → Record → Bool
+was_archived T r = list_any (same_id r.id) (archived T)
+
+-- no id has two records; each record is shown or archived, once; and the shown ones are those that weren't archived, in their order
+pub record AreShownOrArchived (T : Trace) : Type 0 where
+  pub once : (id : Id) → times id (record_ids (all_records T)) ≤ 1
+  pub parts : (id : Id) → times id (record_ids (shown_records T)) + times id (archived T) ≡ times id (record_ids (all_records T))
+  pub shown : shown_records T ≡ filter (λ r. not (was_archived T r)) (all_records T)
 
 -- what has ended was accepted, as it was planned
 abbrev pub EndedWereAccepted : Trace → Type 0

@@ -1,10 +1,11 @@
 -- For private clauses: the lists of a floor as they are kept. What was taken out leaves its place empty, so places stay.
 use Rattle.std.specs.Prelude.{◌≡◌, ◌+◌, ◌-◌, ◌++◌, ◌<◌, ◌≤◌, ℕ, Bool, List, [], ◌∷◌, Option, Some, None, true, false, length, slice_set, slice_index_or}
 use Rattle.std.proofs.Common.{zero, suc}
-use Rattle.std.specs.List.{find, cons_option}
+use Rattle.std.specs.List.{find, filter, cons_option}
 use Rattle.ow_records.specs.declared.ids.Id.{Id}
 use Rattle.ow_records.specs.declared.activations.Activation.{Activation}
 use Rattle.ow_records.specs.declared.record.Record.{Record}
+use Rattle.ow_records.specs.Records.{is_retained}
 use Rattle.ow_floor.specs.declared.activations.Open.{Open}
 use Rattle.ow_floor.specs.declared.activations.State.TheVariants.{Waiting, Running}
 use Rattle.ow_traits.specs.declared.prewarms.Prewarm.{Prewarm}
@@ -34,8 +35,8 @@ pub record Store : Type 0 where
   pub runs : List (Option Berth)
   pub frames : List Frame
   pub slots : List Slot
-  pub ended : List Record
-  pub resumed : List Record
+  pub records : List Record
+  pub recorded : List Id
   pub drawn : List Id
   pub blocking : List Blocking
   pub marks : Marks
@@ -47,11 +48,11 @@ pub record StoreView : Type 0 where
   pub now : Store
   pub past : Option Store
 
--- all the parts as they were, where they are held. The pool, what is wanted ahead, and what was taken over don't change in a hold
-abbrev pub past_of : ℕ → List Prewarm → List Record → Option (List Spot) → Option (List (Option Activation)) → Option (List (Option Berth)) → Option (List Frame) → Option (List Slot) → Option (List Record) → Option (List Id) → Option (List Blocking) → Option Marks → Option Store
-past_of pool wants resumed (Some spots) (Some tasks) (Some runs) (Some frames) (Some slots) (Some ended) (Some drawn) (Some blocking) (Some marks) =
-    Some (record { spots = spots; tasks = tasks; runs = runs; frames = frames; slots = slots; ended = ended; resumed = resumed; drawn = drawn; blocking = blocking; marks = marks; pool = pool; wants = wants })
-past_of pool wants resumed spots tasks runs frames slots ended drawn blocking marks = None
+-- all the parts as they were, where they are held. The pool and what is wanted ahead don't change in a hold
+abbrev pub past_of : ℕ → List Prewarm → Option (List Spot) → Option (List (Option Activation)) → Option (List (Option Berth)) → Option (List Frame) → Option (List Slot) → Option (List Record) → Option (List Id) → Option (List Id) → Option (List Blocking) → Option Marks → Option Store
+past_of pool wants (Some spots) (Some tasks) (Some runs) (Some frames) (Some slots) (Some records) (Some recorded) (Some drawn) (Some blocking) (Some marks) =
+    Some (record { spots = spots; tasks = tasks; runs = runs; frames = frames; slots = slots; records = records; recorded = recorded; drawn = drawn; blocking = blocking; marks = marks; pool = pool; wants = wants })
+past_of pool wants spots tasks runs frames slots records recorded drawn blocking marks = None
 
 -- what was before, where they are held
 abbrev pub taken_back : Option Store → Store → Store
@@ -85,8 +86,8 @@ show R = record {
   live = there run_in R.runs;
   frames = R.frames;
   slots = R.slots;
-  ended = R.ended;
-  resumed = R.resumed;
+  records = R.records;
+  recorded = R.recorded;
   drawn = R.drawn;
   runs = length R.runs;
   count = length R.spots - R.marks.opened;
@@ -144,7 +145,7 @@ AreGone (suc k) (x ∷ xs) = (x ≡ None) × AreGone k xs
 pub record IsGood (R : Store) : Type 0 where
   pub paired : length R.tasks ≡ length R.spots
   pub opened : R.marks.opened ≤ length R.spots
-  pub number : length (opens R.spots R.tasks) + length R.ended ≡ length R.spots
+  pub number : length (opens R.spots R.tasks) + length R.recorded ≡ length R.spots
   pub owed : R.marks.owed ≡ owed R.slots
   pub pool : IsWithinPool R.slots R.pool
   pub wants : AreWantsSized R.wants
@@ -180,8 +181,8 @@ accepted_in a R = record {
   runs = R.runs;
   frames = R.frames;
   slots = R.slots;
-  ended = R.ended;
-  resumed = R.resumed;
+  records = R.records;
+  recorded = R.recorded;
   drawn = put_id a.id R.drawn;
   blocking = blocked_by a.id a.until R.blocking;
   marks = with_latest a.at R.marks;
@@ -201,8 +202,8 @@ fired_in r R = record {
   runs = R.runs;
   frames = R.frames;
   slots = R.slots;
-  ended = R.ended ++ r ∷ [];
-  resumed = R.resumed;
+  records = R.records ++ r ∷ [];
+  recorded = R.recorded ++ r.id ∷ [];
   drawn = R.drawn;
   blocking = R.blocking;
   marks = with_firing r.span.start None R.marks;
@@ -253,8 +254,8 @@ ended_in at place e R = record {
   runs = R.runs;
   frames = R.frames;
   slots = R.slots;
-  ended = R.ended ++ e ∷ [];
-  resumed = R.resumed;
+  records = R.records ++ e ∷ [];
+  recorded = R.recorded ++ e.id ∷ [];
   drawn = R.drawn;
   blocking = R.blocking;
   marks = with_latest at R.marks;
@@ -264,7 +265,11 @@ ended_in at place e R = record {
 
 -- these last ids and records are taken over
 abbrev pub resumed_in : List Id → List Record → Store → Store
-resumed_in counts rs R = record R { resumed = rs; drawn = counts; marks = with_firing 0 None R.marks }
+resumed_in counts rs R = record R { records = rs; drawn = counts; marks = with_firing 0 None R.marks }
+
+-- the records whose end is at most this moment are archived
+abbrev pub archived_in : ℕ → Store → Store
+archived_in until R = record R { records = filter (is_retained until) R.records }
 
 abbrev pub drained_in : ℕ → Store → Store
 drained_in at R = record R { marks = record { latest = at; opened = R.marks.opened; owed = R.marks.owed; draining = true; firing = R.marks.firing } }

@@ -23,7 +23,7 @@ use Rattle.ow_slots.specs.declared.states.Slot.{Slot}
 use Rattle.ow_slot_laws.specs.Life as lives
 use Rattle.ow_slot_laws.specs.Life.{Event, Life, slots_of}
 use Rattle.ow_slot_laws.specs.Fitting.{changed}
-use Rattle.ow_records.specs.Records.{is_of_id}
+use Rattle.ow_records.specs.Records.{is_due, is_of_id, is_retained}
 use Rattle.ow_slots.specs.Slots.{change_first}
 use Rattle.std.specs.Option.{option_or}
 use Rattle.ow_records.specs.declared.frames.Frame.{Frame}
@@ -39,7 +39,8 @@ pub record End : Type 0 where
 
 -- one thing that happened on a floor; first of all it was opened, with a pool, in MB, and containers that are wanted ahead. Then it may
 -- take over the last ids and the records of an earlier run. A reply says whether the container can be used again. A fire of a trigger is
--- two items: its id is drawn, and it is recorded. The activations that it makes come between these two
+-- two items: its id is drawn, and it is recorded. The activations that it makes come between these two. An archive takes out the records
+-- whose end is at most a moment
 pub data Item : Type 0 where
   Opened : (pool : ℕ) (wants : List Prewarm) → Item
   Resumed : (counts : List Id) (records : List Record) → Item
@@ -57,6 +58,7 @@ pub data Item : Type 0 where
   Swept : (at : ℕ) → Item
   Drained : (at : ℕ) → Item
   Reopened : (at : ℕ) → Item
+  Archived : (until at : ℕ) → Item
 
 -- the newest first
 abbrev pub Trace : Type 0
@@ -180,6 +182,33 @@ resumed (item ∷ T) = resumed_after item (resumed T)
 abbrev pub all_records : Trace → List Record
 all_records T = resumed T ++ records T
 
+-- what is shown with one more item, where these were recorded since
+abbrev pub shown_after : Item → List Record → List Record → List Record
+shown_after (Resumed counts rs) since xs = rs ++ since
+shown_after (Ended end) since xs = xs ++ record_of end ∷ []
+shown_after (Fired r) since xs = xs ++ r ∷ []
+shown_after (Archived until at) since xs = filter (is_retained until) xs
+shown_after item since xs = xs
+
+-- the records that no archive has taken out: those of an earlier run, and those since, by their order
+abbrev pub shown_records : Trace → List Record
+shown_records [] = []
+shown_records (item ∷ T) = shown_after item (records T) (shown_records T)
+
+abbrev pub archived_after : Item → List Record → List Record → List Record
+archived_after (Resumed counts rs) shown xs = []
+archived_after (Archived until at) shown xs = xs ++ filter (is_due until) shown
+archived_after item shown xs = xs
+
+-- the records that an archive has taken out, by the archives
+abbrev pub archived_records : Trace → List Record
+archived_records [] = []
+archived_records (item ∷ T) = archived_after item (shown_records T) (archived_records T)
+
+-- their ids
+abbrev pub archived : Trace → List Id
+archived T = map (λ r. r.id) (archived_records T)
+
 abbrev pub drawn_after : Item → List Id → List Id
 drawn_after (Resumed counts rs) ids = counts
 drawn_after (Accepted a) ids = put_id a.id ids
@@ -288,6 +317,7 @@ moment_of (Fired r) = r.span.start
 moment_of (Swept at) = at
 moment_of (Drained at) = at
 moment_of (Reopened at) = at
+moment_of (Archived until at) = at
 
 -- the moment of the newest thing, 0 at first
 abbrev pub latest : Trace → ℕ
@@ -335,6 +365,10 @@ slots T = slots_of (life T) (slot_count (pool_of T))
 -- the record of what has ended
 abbrev pub end_of : Trace → Id → Option Record
 end_of T id = find (is_of_id id) (records T)
+
+-- the record of what has ended, where no archive has taken it out
+abbrev pub shown_of : Trace → Id → Option Record
+shown_of T id = find (is_of_id id) (shown_records T)
 
 -- the live run of this number
 abbrev pub live_run : Trace → ℕ → Option Run
@@ -390,6 +424,12 @@ running T = ids_of (filter runs_now (open_items T))
 abbrev pub recorded : Trace → List Id
 recorded T = map (λ e. e.id) (records T)
 
+-- what an item adds to them
+abbrev pub recorded_after : Item → List Id → List Id
+recorded_after (Ended end) ids = ids ++ end.task.id ∷ []
+recorded_after (Fired r) ids = ids ++ r.id ∷ []
+recorded_after item ids = ids
+
 -- the view of a floor that has the state of the trace
 abbrev pub shown : Trace → Shown
 shown T = record {
@@ -397,8 +437,8 @@ shown T = record {
   live = live T;
   frames = frames T;
   slots = slots T;
-  ended = records T;
-  resumed = resumed T;
+  records = shown_records T;
+  recorded = recorded T;
   drawn = drawn T;
   runs = run_count T;
   count = count T;

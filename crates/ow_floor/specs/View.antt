@@ -7,6 +7,7 @@ use Rattle.ow_entity.specs.Exec.{exec_code}
 use Rattle.ow_records.specs.declared.ids.Id.{Id}
 use Rattle.ow_records.specs.Form.{is_composite}
 use Rattle.ow_records.specs.Id.{same_id}
+use Rattle.ow_records.specs.Records.{is_retained}
 use Rattle.ow_records.specs.declared.activations.Activation.{Activation}
 use Rattle.ow_records.specs.declared.frames.Frame.{Frame}
 use Rattle.ow_floor.specs.declared.activations.Open.{Open}
@@ -29,17 +30,18 @@ use Rattle.ow_slots.specs.declared.keys.Start.{Start}
 use Rattle.ow_traits.specs.declared.prewarms.Prewarm.{Prewarm}
 
 -- the activations that have not ended, by acceptance; the live runs, by their orders; what is kept of open composites, by acceptance; the
--- slots, by number; the records of the activations that have ended and of fires, by their order; the records that were taken over from an
--- earlier run; the last id of each namespace; how many runs were ordered, those of containers ahead among them; how many were accepted
--- since the last opening; which of these a request waits for; the id of a fire that isn't recorded yet; the moment of the newest thing;
--- whether it drains; the memory of the pool, in MB, and which containers are wanted ahead
+-- slots, by number; the records that are shown: those that were taken over from an earlier run, and those of the activations that have
+-- ended and of fires, by their order, without those that were archived; the ids of the activations that have ended and of fires, by their
+-- order; the last id of each namespace; how many runs were ordered, those of containers ahead among them; how many were accepted since the
+-- last opening; which of these a request waits for; the id of a fire that isn't recorded yet; the moment of the newest thing; whether it
+-- drains; the memory of the pool, in MB, and which containers are wanted ahead
 pub record Shown : Type 0 where
   pub open_items : List Open
   pub live : List Run
   pub frames : List Frame
   pub slots : List Slot
-  pub ended : List Record
-  pub resumed : List Record
+  pub records : List Record
+  pub recorded : List Id
   pub drawn : List Id
   pub runs : ℕ
   pub count : ℕ
@@ -117,7 +119,7 @@ running_of v = ids_of (filter runs_now v.open_items)
 
 -- the ids that are recorded on a floor
 abbrev pub recorded_of : Shown → List Id
-recorded_of v = map (λ e. e.id) v.ended
+recorded_of v = v.recorded
 
 abbrev pub count_or_zero : Option Id → ℕ
 count_or_zero None = 0
@@ -138,6 +140,10 @@ put_id id [] = id ∷ []
 put_id id (x ∷ xs) = if is_in id.namespace x then id ∷ xs else x ∷ put_id id xs
 
 -- ---- changes
+
+-- without the records whose end is at most this moment. All else stays
+abbrev pub archived_on : ℕ → Shown → Shown
+archived_on until v = record v { records = filter (is_retained until) v.records }
 
 -- an open activation in this state
 abbrev pub with_state : State → Open → Open

@@ -3,15 +3,15 @@ ghost use Rattle.std.specs.Prelude.{◌≡◌, ◌+◌, ◌-◌, ◌<◌, ◌≤
 ghost use Rattle.std.specs.List.{AllByRecursion};
 ghost use Rattle.ow_records.specs.Known.{IsId, IsKnown, IsKnownUnrecorded};
 ghost use Rattle.ow_records.specs.Unrecorded.{unrecorded_of};
-ghost use Rattle.ow_floor.specs.View.{is_of, last_of};
+ghost use Rattle.ow_floor.specs.View.{archived_on, is_of, last_of};
 ghost use Rattle.ow_floor.specs.Frames.{is_frame, own_of};
-ghost use Rattle.ow_floor.specs.Trace.{Drained, Opened, Trace, all_records, drawn, frames, is_draining, last, latest, open_items, open_task, records, shown, task_by};
+ghost use Rattle.ow_floor.specs.Trace.{Drained, Opened, Trace, drawn, frames, is_draining, last, latest, open_items, open_task, shown, shown_records, task_by};
 ghost use Rattle.ow_floor.specs.Growth.{AreResumable, IsFresh};
 ghost use Rattle.ow_floor.specs.Laws.{Grows, Stands};
 ghost use Rattle.ow_traits.specs.Prewarms.{AreWantsSized};
 ghost use Rattle.ow_floor.specs.Collecting.{collected, collected_by, collection_of};
 ghost use Rattle.ow_floor.specs.Owed.{owed, owed_of};
-ghost use Rattle.ow_floor.specs.Calls.{AllRecorded, HasWork, abandon_items, accept_items, activation_of, answered_items, begun_answer, begun_items, busy_run, compose_items, drain_answer, drain_by, draw_items, fire_items, gone_answer, gone_items, leaves_alive, lost_answer, lost_items, moved, next_items, next_order, note_swept_items, overrun_first, has_items, record_abandoned, reply_recorded, resume_items, sorted_by_id, swept_ends, swept_items, unrecorded_by, unrecorded_in};
+ghost use Rattle.ow_floor.specs.Calls.{AllRecorded, HasWork, abandon_items, accept_items, activation_of, answered_items, archive_items, begun_answer, begun_items, busy_run, compose_items, drain_answer, drain_by, draw_items, due_by, due_in, fire_items, gone_answer, gone_items, leaves_alive, lost_answer, lost_items, moved, next_items, next_order, note_swept_items, overrun_first, has_items, record_abandoned, reply_recorded, resume_items, sorted_by_id, swept_ends, swept_items, unrecorded_by, unrecorded_in};
 
 use crate::activations::part_of;
 use crate::ends::{abandon, end_composite, end_first_late, end_run, sweep};
@@ -34,8 +34,8 @@ use std::marker::Model;
 
 /// What was accepted: the activations that have not ended, by acceptance, the live runs, and the records. First come the records that were
 /// taken over from an earlier run, and then the records of the activations that have ended, by their ends. Of an ended activation the floor
-/// holds its record alone, and the moment until which its request waits, where one waits and the activation was accepted since the last
-/// opening.
+/// holds its id, its record until it is archived, and the moment until which its request waits, where one waits and the activation was
+/// accepted since the last opening.
 #[derive(Drop)]
 pub struct Floor {
     lists: Lists,
@@ -113,9 +113,10 @@ impl Floor {
         self.lists.marks().owed
     }
 
-    /// The records that were taken over, and after them the records of the activations that have ended, by their ends.
+    /// The records that were taken over, and after them the records of the activations that have ended, by their ends. Records that were
+    /// archived aren't among them.
     pub fn records(&self) -> &Records
-        ensures { result.now.items ≡ self.now.now.resumed ++ self.now.now.ended }
+        ensures { result.now.items ≡ self.now.now.records }
     {
         self.lists.records()
     }
@@ -125,14 +126,22 @@ impl Floor {
     pub fn known_parts(&self)
         ensures unended { (T : Trace) → Stands self.now.now T → AllByRecursion (λ o. IsKnownUnrecorded (unrecorded_of o.task)) (open_items T) }
         ensures drawn { (T : Trace) → Stands self.now.now T → AllByRecursion IsId (drawn T) }
-        ensures records { (T : Trace) → Stands self.now.now T → AllByRecursion IsKnown (all_records T) }
+        ensures records { (T : Trace) → Stands self.now.now T → AllByRecursion IsKnown (shown_records T) }
     {
         known_tasks(self.lists.tasks());
         known_ids(self.lists.drawn());
         known_records(self.lists.records().items());
     }
 
-    /// The end of an activation for which a request waits: its record, where it has ended. It takes no memory.
+    /// Copies of the records whose end is at most `until`, in milliseconds, by their ids: those that `archive` takes out.
+    pub fn due(&self, until: u64) -> Result<Vec<Record>, NoMemory>
+        ensures value { IfOk result (λ rs. rs.items ≡ due_by until self.now.now.records) }
+        ensures trace { IfOk result (λ rs. (T : Trace) → Stands self.now.now T → rs.items ≡ due_in until T) }
+    {
+        self.lists.records().due(until)
+    }
+
+    /// The end of an activation for which a request waits: its record, where it has ended and wasn't archived. It takes no memory.
     pub fn collect(&self, at: u64, id: &Id) -> Result<Collected<'_>, FloorRefusal>
         ensures told { (T : Trace) → Stands self.now.now T → collection_of result ≡ collected at id.now T }
         ensures unknown { IfErr result (λ refusal. refusal ≡ FloorRefusal.NotFound) }
@@ -376,6 +385,17 @@ impl Floor {
         self.lists.note_moment(at);
     }
 
+    /// Archives the records whose end is at most `until`, in milliseconds: they are no longer among the records. Their ids stay recorded.
+    /// Nothing is held, and it takes no memory.
+    pub fn archive(&mut self, until: u64)
+        requires { self.old.before ≡ None }
+        ensures now { self.new.now ≡ archived_on until self.old.now }
+        ensures grows { Grows self.old.now self.new.now (λ T. archive_items until T) }
+        ensures before { self.new.before ≡ None }
+    {
+        self.lists.archive(until);
+    }
+
     /// What is kept of the composite while it is open. It takes no memory.
     pub fn framed(&self, id: &Id) -> Option<&Frame>
         ensures value { option_copied result ≡ find (is_frame id.now) self.now.now.frames }
@@ -418,7 +438,7 @@ impl Floor {
     ) -> Result<(), NoMemory>
         ensures moved { OnOk result ((T : Trace) → Stands self.old.now T → moves.new ≡ moves.old ++ moved (abandon_items at T)) }
         ensures ok { OnOk result (Grows self.old.now self.new.now (λ T. abandon_items at T)) }
-        ensures recorded { OnOk result ((T : Trace) → Stands self.old.now T → self.new.now.ended ≡ records T ++ map (record_abandoned at) (sorted_by_id (open_items T))) }
+        ensures recorded { OnOk result ((T : Trace) → Stands self.old.now T → self.new.now.records ≡ shown_records T ++ map (record_abandoned at) (sorted_by_id (open_items T))) }
         ensures before { self.new.before ≡ self.old.before }
     {
         abandon(alloc, &mut self.lists, &mut self.scratch, at, moves)?;

@@ -5,7 +5,7 @@ ghost use Rattle.ow_traits.specs.declared.replies.RunReply.{RunReply};
 ghost use Rattle.ow_floor.specs.declared.answers.Answered.TheVariants.{Late};
 ghost use Rattle.ow_floor.specs.Trace.{Begun, Gone, Lost, Trace, life, live_run, pool_of, shown, slots};
 ghost use Rattle.ow_floor.specs.Growth.{AreRight};
-ghost use Rattle.ow_floor.specs.Laws.{EndedWereAccepted, IsParted, IsSound, RunOnce, Shows, StandInSlots, Stands};
+ghost use Rattle.ow_floor.specs.Laws.{AreShownOrArchived, EndedWereAccepted, IsParted, IsSound, RunOnce, Shows, StandInSlots, Stands};
 ghost use Rattle.ow_floor.specs.Owed.{owed, rises};
 ghost use Rattle.ow_slots.specs.Slots.{memory_held};
 ghost use Rattle.ow_slot_laws.specs.Life.{overran_at};
@@ -35,6 +35,11 @@ pub fn activations_run_once()
 /// In a sound trace what has ended was accepted, as it was planned.
 pub fn ended_were_accepted()
     ensures { (T : Trace) → IsSound T → EndedWereAccepted T }
+{}
+
+/// In a sound trace no id has two records. Each record is shown or archived, and those that are shown are the ones that weren't archived.
+pub fn records_are_shown_or_archived()
+    ensures { (T : Trace) → IsSound T → AreShownOrArchived T }
 {}
 
 /// Where a drain answers that all have ended, each accepted id is recorded, once. The number that it answers is how many were accepted

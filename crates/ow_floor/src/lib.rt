@@ -27,8 +27,9 @@ pub use answers::{
 pub use floor::Floor;
 pub use laws::{
     activations_run_once, calls_keep_traces_sound, ended_were_accepted, entries_are_owed,
-    live_runs_stand_in_slots, replies_after_a_sweep_are_late, right_items_keep_traces_sound,
-    slots_are_within_the_pool, sound_traces_are_parted, when_drained_all_are_recorded,
+    live_runs_stand_in_slots, records_are_shown_or_archived, replies_after_a_sweep_are_late,
+    right_items_keep_traces_sound, slots_are_within_the_pool, sound_traces_are_parted,
+    when_drained_all_are_recorded,
 };
 pub use moves::{Moved, Moves};
 pub use runs::Run;

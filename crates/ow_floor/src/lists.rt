@@ -14,7 +14,7 @@ ghost use Rattle.ow_slot_laws.specs.Life.{Event, Removed};
 ghost use Rattle.ow_slot_laws.specs.Owed.{may_begin, owed, owed_by};
 ghost use Rattle.ow_slots.specs.declared.states.State.TheVariants.{Busy};
 ghost use Rattle.ow_floor.specs.Trace.{slot_count};
-ghost use Rattle.ow_floor.specs.Store.{AreGone, CellOf, IsGood, SpotOf, Store, accepted_in, answered_in, at_moment, drained_in, drawn_in, empty_of, ended_in, event_in, fired_in, freed_in, ordered_in, prewarmed_in, reopened_in, resumed_in, run_in, run_put, taken_back, with_frames, with_owed};
+ghost use Rattle.ow_floor.specs.Store.{AreGone, CellOf, IsGood, SpotOf, Store, accepted_in, answered_in, archived_in, at_moment, drained_in, drawn_in, empty_of, ended_in, event_in, fired_in, freed_in, ordered_in, prewarmed_in, reopened_in, resumed_in, run_in, run_put, taken_back, with_frames, with_owed};
 ghost use Rattle.ow_floor.specs.Frames.{frames_accepted, frames_ended, is_frame};
 
 use crate::activations::Part;
@@ -74,8 +74,8 @@ pub(crate) struct Lists {
     records: Records,
     // How many records there were at the hold.
     records_held: usize,
-    // How many of them were taken over. These come first.
-    resumed: usize,
+    // The ids of what has ended and of fires, by their order. They stay when records are archived.
+    recorded: Undoable<Id>,
     // The last id of each namespace.
     drawn: Undoable<Id>,
     // The activations accepted since the last opening for whose end a request waits.
@@ -93,7 +93,7 @@ pub(crate) struct Lists {
 }
 
 impl Model for Lists {
-    ghost use Rattle.std.specs.Prelude.{drop, take};
+    ghost use Rattle.std.specs.Prelude.{take};
     ghost use Rattle.std.specs.Coded.{codes};
     ghost use Rattle.ow_value.specs.Code.{value_code};
     ghost use Rattle.ow_floor.specs.Undoable.{past};
@@ -110,22 +110,22 @@ impl Model for Lists {
         runs = l.runs.now;
         frames = l.frames.now;
         slots = l.slots.now;
-        ended = drop l.resumed l.records.items;
-        resumed = take l.resumed l.records.items;
+        records = l.records.items;
+        recorded = l.recorded.now;
         drawn = l.drawn.now;
         blocking = l.blocking.now;
         marks = l.marks;
         pool = l.pool;
         wants = l.wants;
       };
-      past = past_of l.pool l.wants (take l.resumed l.records.items) (past l.held l.spots.before) (past l.held l.tasks.before) (past l.held l.runs.before) (past l.held l.frames.before) (past l.held l.slots.before)
-          (past l.held (drop l.resumed (take l.records_held l.records.items))) (past l.held l.drawn.before) (past l.held l.blocking.before) (past l.held l.before);
+      past = past_of l.pool l.wants (past l.held l.spots.before) (past l.held l.tasks.before) (past l.held l.runs.before) (past l.held l.frames.before) (past l.held l.slots.before)
+          (past l.held (take l.records_held l.records.items)) (past l.held l.recorded.before) (past l.held l.drawn.before) (past l.held l.blocking.before) (past l.held l.before);
     } };
 
     ghost use Rattle.std.specs.Prelude.{◌≤◌, length};
     ghost use Rattle.ow_floor.specs.Store.{AreGone};
 
-    ghost invariant = { λ l. AreGone l.tasks_gone l.tasks.now × AreGone l.runs_gone l.runs.now × (l.resumed ≤ l.records_held) × (l.records_held ≤ length l.records.items) };
+    ghost invariant = { λ l. AreGone l.tasks_gone l.tasks.now × AreGone l.runs_gone l.runs.now × (l.records_held ≤ length l.records.items) };
 }
 
 const NO_MARKS: Marks = Marks {
@@ -139,7 +139,7 @@ const NO_MARKS: Marks = Marks {
 impl Lists {
     /// Empty lists, which aren't held. All slots of the pool are vacant.
     pub(crate) fn new(alloc: Global, pool: u32, wants: Prewarms) -> Result<Lists, NoMemory>
-        ensures now { IfOk result (λ l. l.now ≡ record { spots = []; tasks = []; runs = []; frames = []; slots = replicate (slot_count pool) vacant_slot; ended = []; resumed = []; drawn = []; blocking = []; marks = record { latest = 0; opened = 0; owed = 0; draining = false; firing = None }; pool = pool; wants = wants }) }
+        ensures now { IfOk result (λ l. l.now ≡ record { spots = []; tasks = []; runs = []; frames = []; slots = replicate (slot_count pool) vacant_slot; records = []; recorded = []; drawn = []; blocking = []; marks = record { latest = 0; opened = 0; owed = 0; draining = false; firing = None }; pool = pool; wants = wants }) }
         ensures held { IfOk result (λ l. l.past ≡ None) }
     {
         let slots = KeptSlots::new(alloc, pool / LEAST_MEMORY)?;
@@ -151,7 +151,7 @@ impl Lists {
             slots,
             records: Records::new(alloc),
             records_held: 0,
-            resumed: 0,
+            recorded: Undoable::new(alloc),
             drawn: Undoable::new(alloc),
             blocking: Undoable::new(alloc),
             marks: NO_MARKS,
@@ -221,23 +221,23 @@ impl Lists {
         place(self.slots.slots(), head, self.wants.as_slice(), self.pool)
     }
 
-    /// All records. The ones that were taken over come first.
+    /// The records that are shown. The ones that were taken over come first.
     pub(crate) fn records(&self) -> &Records
-        ensures { result.now.items ≡ self.now.now.resumed ++ self.now.now.ended }
+        ensures { result.now.items ≡ self.now.now.records }
     {
         &self.records
     }
 
     /// How many activations have ended.
     pub(crate) fn ended(&self) -> usize
-        ensures { result ≡ length self.now.now.ended }
+        ensures { result ≡ length self.now.now.recorded }
     {
-        self.records.len() - self.resumed
+        self.recorded.items().len()
     }
 
-    /// The record of an activation that has ended.
+    /// The record of an activation that has ended, where it is shown.
     pub(crate) fn record_of(&self, id: Id) -> Option<&Record>
-        ensures { option_copied result ≡ find (is_of_id id) (self.now.now.resumed ++ self.now.now.ended) }
+        ensures { option_copied result ≡ find (is_of_id id) self.now.now.records }
     {
         match self.records.get(&id) {
             Ok(ended) => Some(ended),
@@ -281,6 +281,7 @@ impl Lists {
         self.frames.hold();
         self.slots.hold();
         self.records_held = self.records.len();
+        self.recorded.hold();
         self.drawn.hold();
         self.blocking.hold();
         self.before = self.marks;
@@ -306,6 +307,7 @@ impl Lists {
             self.frames.take_back();
             self.slots.take_back();
             self.records.cut(self.records_held);
+            self.recorded.take_back();
             self.drawn.take_back();
             self.blocking.take_back();
             self.marks = self.before;
@@ -545,6 +547,7 @@ impl Lists {
         if self.records.reserve().is_err()
             || make_room(&mut self.tasks, held).is_err()
             || make_room(&mut self.spots, held).is_err()
+            || make_room(&mut self.recorded, held).is_err()
         {
             drop(ended);
             return Err(NoMemory);
@@ -554,9 +557,11 @@ impl Lists {
         };
         self.marks.latest = ended.record().span.start();
         self.marks.firing = None;
+        let id = ended.record().id;
         self.records.add(ended);
         self.tasks.push(held, None);
         self.spots.push(held, spot);
+        self.recorded.push(held, id);
         Ok(())
     }
 
@@ -729,30 +734,43 @@ impl Lists {
         ensures held { self.new.past ≡ self.old.past }
     {
         let held = self.held;
-        if self.records.reserve().is_err() || self.tasks.reserve_step(held).is_err() {
+        if self.records.reserve().is_err()
+            || make_room(&mut self.recorded, held).is_err()
+            || self.tasks.reserve_step(held).is_err()
+        {
             drop(ended);
             return Err(NoMemory);
         }
         self.marks.latest = at;
+        let id = ended.record().id;
         self.records.add(ended);
+        self.recorded.push(held, id);
         self.tasks.set(held, place, None);
         self.tasks_gone = further(self.tasks.items(), self.tasks_gone);
         Ok(())
     }
 
-    /// These last ids and records are taken over. Nothing has ended, and nothing is held.
+    /// These last ids and records are taken over. Nothing is held.
     pub(crate) fn resume(&mut self, counts: Vec<Id>, records: Records)
-        requires free { self.old.past ≡ None }
-        requires none { self.old.now.ended ≡ [] }
+        requires { self.old.past ≡ None }
         ensures now { self.new.now ≡ resumed_in counts.items records.items self.old.now }
         ensures held { self.new.past ≡ None }
     {
         self.drawn.replace(self.held, counts);
-        self.resumed = records.len();
         self.records_held = records.len();
         self.records = records;
         self.marks.latest = 0;
         self.marks.firing = None;
+    }
+
+    /// The records whose end is at most `until` are dropped. Their ids stay. Nothing is held, and it takes no memory.
+    pub(crate) fn archive(&mut self, until: u64)
+        requires { self.old.past ≡ None }
+        ensures now { self.new.now ≡ archived_in until self.old.now }
+        ensures held { self.new.past ≡ None }
+    {
+        self.records.retire(until);
+        self.records_held = self.records.len();
     }
 
     /// The moment of the newest thing is this one.

@@ -1,7 +1,7 @@
 // The calls of a floor that return what happened instead of noting what moved.
 ghost use Rattle.std.specs.Prelude.{◌≡◌, ◌+◌, ◌++◌, length, map, IfOk, IfErr, OnOk, OnErr, IsSome, false};
 ghost use Rattle.ow_floor.specs.View.{last_of};
-ghost use Rattle.ow_floor.specs.Trace.{Trace, open_items, records, shown};
+ghost use Rattle.ow_floor.specs.Trace.{Trace, open_items, shown, shown_records};
 ghost use Rattle.ow_floor.specs.Laws.{Grows, Stands};
 ghost use Rattle.ow_floor.specs.Calls.{AnswersSo, GrowsBy, HandsBack, abandon_items, abandoned_ends, accept_items, answer_to, answered_by, answered_items, busy_run, happened, happened_accepted, is_store_fault, record_abandoned, sorted_by_id, swept_ends, swept_items};
 
@@ -81,7 +81,7 @@ impl Floor {
     pub fn abandon(&mut self, alloc: Global, at: u64) -> Result<Happened, NoMemory>
         ensures told { IfOk result (λ h. (T : Trace) → Stands self.old.now T → h ≡ happened (abandoned_ends at T)) }
         ensures ok { OnOk result (Grows self.old.now self.new.now (λ T. abandon_items at T)) }
-        ensures recorded { OnOk result ((T : Trace) → Stands self.old.now T → self.new.now.ended ≡ records T ++ map (record_abandoned at) (sorted_by_id (open_items T))) }
+        ensures recorded { OnOk result ((T : Trace) → Stands self.old.now T → self.new.now.records ≡ shown_records T ++ map (record_abandoned at) (sorted_by_id (open_items T))) }
         ensures before { self.new.before ≡ self.old.before }
     {
         let mut moves = Moves::new(alloc);

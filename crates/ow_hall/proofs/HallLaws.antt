@@ -6,12 +6,14 @@ use Rattle.ow_pool.specs.declared.answers.Place.{Place}
 use Rattle.ow_pool.specs.declared.answers.Place.TheVariants as places
 use Rattle.ow_floor.specs.View.{Shown, generation_in, head}
 use Rattle.ow_floor.specs.Trace.{Begun, Gone, Item, Lost, Trace, shown, slots}
-use Rattle.ow_floor.specs.Calls.{answer_of, begins, goes, happened, items_if, loses, order_by, order_items, place_on, refused_unless, reply_recorded}
+use Rattle.ow_floor.specs.Calls.{answer_of, begins, due_in, goes, happened, items_if, loses, order_by, order_items, place_on, refused_unless, reply_recorded}
 use Rattle.ow_floor.specs.Laws.{Stands}
 use Rattle.ow_floor.specs.declared.activations.Open.{Open}
 use Rattle.ow_floor.specs.declared.activations.Plan.{Plan}
 use Rattle.ow_floor.specs.declared.answers.FloorRefusal.{FloorRefusal}
 use Rattle.ow_floor.specs.declared.answers.FloorRefusal.TheVariants as refusals
+use Rattle.ow_floor.specs.declared.answers.Swept.{Swept}
+use Rattle.ow_records.specs.declared.record.Record.{Record}
 use Rattle.ow_floor.specs.declared.runs.Run.{Run}
 use Rattle.ow_http.specs.Request.{parts_of}
 use Rattle.ow_http.specs.declared.reason.Reason.{Reason}
@@ -31,12 +33,12 @@ use Rattle.ow_counts.specs.View.{CountsView, StandsFor, notes_of}
 use Rattle.ow_decide.specs.declared.waits.Waits.{Waits}
 use Rattle.ow_decide.specs.declared.waits.Waits.TheVariants.{Keep}
 use Rattle.ow_decide.specs.Sight.{Sight}
-use Rattle.ow_decide.specs.Decision.{Decision, adds, all_changed, tells}
+use Rattle.ow_decide.specs.Decision.{Decision, OtherChange, Same, adds, all_changed, held, others_after, tells}
 use Rattle.ow_decide.specs.Asking.{Done, Shown as ShownDone, Changed, Fired, Invoked, Quiet as QuietDone, ask_decision, refusal_told, request_done}
 use Rattle.ow_decide.specs.Calling.{admitted_plan, call_plan, called_decision}
 use Rattle.ow_decide.specs.Deploying.{Progress, Refusal, deploy_decision, deployed}
 use Rattle.ow_http.specs.Steps.{◌>>=◌}
-use Rattle.ow_decide.specs.Decisions.{answered_all, decide, is_opening, reply_told, taken_told, wants_memory}
+use Rattle.ow_decide.specs.Decisions.{answered_all, archived_until, decide, is_opening, reply_told, sweep_by, sweep_with, swept_all, swept_told, taken_told, wants_memory}
 use Rattle.ow_decide.specs.Opening.{opened_decision, parts_taken}
 use Rattle.ow_decide.specs.Waiting.{collected_told, shows_for}
 use Rattle.ow_floor.specs.Collecting.{collected}
@@ -48,20 +50,22 @@ use Rattle.ow_decide.specs.Making.{Carries, IsSeen, changes_of, telling}
 use Rattle.ow_keep.specs.Judged.{judged}
 use Rattle.ow_keep.specs.Split.{Parts}
 use Rattle.ow_commits.specs.Keeping.{AreIds, KeepingView, StandsForKept}
-use Rattle.ow_hall.specs.State.{IsAt, Keeps, KeepsNotes, Makes, NotesMoves, StateView, kept_with}
+use Rattle.ow_hall.specs.State.{IsAt, Keeps, KeepsNotes, Makes, NotesMoves, StateView, floor_kept, kept_with, others_kept}
 use Rattle.ow_traits.specs.Changes.{changed}
 use Rattle.ow_decide.specs.Decision.{commits}
 use Rattle.ow_decide.proofs.KeptLaws.{decided_kept}
 use Rattle.ow_hall.specs.Comes.{HoldsBook, HoldsRows, KeptRows, kept_after, kept_of}
 use Rattle.ow_decide.proofs.MadeLaws.{nothing_answered}
 use Rattle.ow_decide.proofs.SoundLaws.{decided_right}
+use Rattle.ow_hall.proofs.Archiving.{archived_others, archived_stands}
+use Rattle.ow_decide.proofs.ArchiveLaws.{decided_archives}
 use Rattle.ow_hall.proofs.KeepLaws.{leaves_commits, step_keeps}
 use Rattle.ow_hall.proofs.NoteLaws.{counted_at, noted_at, seen_up_to, unmoved_at}
 
 -- ---- what isn't booked changes nothing
 
 abbrev Leaves : Decision → Type 0
-Leaves d = (d.items ≡ []) × (d.changes ≡ []) × (d.waits ≡ Keep)
+Leaves d = (d.items ≡ []) × (d.changes ≡ []) × (d.waits ≡ Keep) × (d.others ≡ Same)
 
 abbrev Unless : Posting → Type 0 → Type 0
 Unless Booked X = Unit {0}
@@ -77,7 +81,7 @@ unless_any Denied X x = x
 unless_any Unbooked X x = x
 
 tells_so : (idle : Bool) (t : Told) → Unbooks idle (tells t)
-tells_so idle t = unless_any (posting_by idle t) (Leaves (tells t)) (refl, refl, refl)
+tells_so idle t = unless_any (posting_by idle t) (Leaves (tells t)) (refl, refl, refl, refl)
 
 ask_so : (idle : Bool) (d : Result Done Reason) → Unbooks idle (ask_decision d)
 ask_so idle (Ok (ShownDone value)) = tt
@@ -104,12 +108,21 @@ order_so idle at v (places.Nothing reason) o = tells_so idle (told.Next (order_b
 
 reply_so : (idle : Bool) (S : Sight) (run : ℕ) (reply : RunReply) (o : Option (Option ℕ)) → reply_recorded run S.trace ≡ o
     → Unbooks idle (adds (reply_told run reply (answer_of run o (happened (answered_all S run reply)))) (answered_all S run reply))
-reply_so idle S run reply None is = (nothing_answered S run reply is, refl, refl)
+reply_so idle S run reply None is = (nothing_answered S run reply is, refl, refl, refl)
 reply_so idle S run reply (Some recorded) is = tt
 
 taken_so : (idle b : Bool) (refusal : FloorRefusal) (item : Item) → Unbooks idle (adds (taken_told (refused_unless b refusal)) (items_if b item))
 taken_so idle true refusal item = tt
-taken_so idle false refusal item = (refl, refl, refl)
+taken_so idle false refusal item = (refl, refl, refl, refl)
+
+-- a sweep is booked, with or without an archive
+swept_with : (idle : Bool) (S : Sight) (swept : Swept) (items : Trace) (until : ℕ) (due : List Record) → Unbooks idle (sweep_with S (told.Swept swept) items until due)
+swept_with idle S swept items until [] = tt
+swept_with idle S swept items until (r ∷ rs) = tt
+
+swept_so : (idle : Bool) (S : Sight) (swept : Swept) (items : Trace) (until : Option ℕ) → Unbooks idle (sweep_by S (told.Swept swept) items until)
+swept_so idle S swept items None = tt
+swept_so idle S swept items (Some until) = swept_with idle S swept items until (due_in until (items ++ S.trace))
 
 opened_so : (idle : Bool) (at : ℕ) (parts : Option Parts) → Unbooks idle (opened_decision at parts)
 opened_so idle at None = tt
@@ -124,7 +137,7 @@ unbooked idle S events.Next = order_so idle S.moment (shown S.trace) (place_on (
 unbooked idle S (events.Begun run) = taken_so idle (begins run S.trace) (refusals.NoRun run) (Begun run S.moment)
 unbooked idle S (events.Lost run) = taken_so idle (loses run S.trace) (refusals.NoRun run) (Lost run S.moment)
 unbooked idle S (events.Gone slot generation) = taken_so idle (goes slot generation S.trace) (refusals.NoSlot slot (generation_in slot (slots S.trace))) (Gone slot generation S.moment)
-unbooked idle S events.Sweep = tt
+unbooked idle S events.Sweep = swept_so idle S (swept_told (swept_all S)) (swept_all S) (archived_until S.tenants.retain S.moment)
 unbooked idle S (events.Answered run reply) = reply_so idle S run reply (reply_recorded run S.trace) refl
 unbooked idle S (events.Collected id) = tells_so idle (told.Collected (collected_told id (shows_for S.waits id) (collected S.moment id S.trace)))
 unbooked idle S events.Drain = tt
@@ -218,8 +231,11 @@ left : (t : Table) (L : Ledger) (new : StateView) (at : ℕ) (event : Event) →
 left t L new at event stands leaves =
     let s = seen t L.entries in
     record {
-      keeping = subst (λ (cs : List Change). StandsForKept new.keeping (all_changed cs s.rows) s.trace) leaves.1
-          (subst (λ (T : Trace). StandsForKept new.keeping (all_changed (decision t L.entries at event).changes s.rows) (T ++ s.trace)) leaves.0 stands.keeping);
+      keeping = subst (λ (o : OtherChange). StandsForKept new.keeping (others_after o s.others) s.rows s.trace) leaves.3
+          (subst (λ (cs : List Change). StandsForKept new.keeping (others_after (decision t L.entries at event).others s.others) (all_changed cs s.rows) s.trace) leaves.1
+          (subst (λ (T : Trace). StandsForKept new.keeping (others_after (decision t L.entries at event).others s.others) (all_changed (decision t L.entries at event).changes s.rows) (T ++ s.trace)) leaves.0
+          stands.keeping));
+      others = subst (λ (o : OtherChange). new.others ≡ others_after o s.others) leaves.3 stands.others;
       counts = subst (λ (T : Trace). StandsFor new.counts (notes_of (T ++ s.trace))) leaves.0 stands.counts;
       stands = subst (λ (T : Trace). Stands new.floor.now (T ++ s.trace)) leaves.0 stands.stands;
       rows = subst (λ (cs : List Change). new.rows ≡ all_changed cs s.rows) leaves.1 stands.rows;
@@ -234,11 +250,11 @@ stands_by Quiet t L new at event told_is stands leaves = left t L new at event s
 stands_by Denied t L new at event told_is stands leaves = left t L new at event stands leaves
 stands_by Unbooked t L new at event told_is stands leaves = left t L new at event stands leaves
 
--- what a step has that was done, with all that is committed of it, and what the floor has then
+-- what a step has that was done, with all that is committed of it, and what the floor has then: all but an archive
 abbrev pub HasDone : Table → History → ℕ → Event → Shown → Step → Type 0
 HasDone t B at event mid step =
     let d = decision t B at event in
-    Carries step d (sight t (seen t B) (counted B) at) × Stands mid (d.items ++ (seen t B).trace)
+    Carries step d (sight t (seen t B) (counted B) at) × Stands mid (held d ++ (seen t B).trace)
 
 pub is_seen : (t : Table) (B : History) (old : StateView) (now : Now) → AreAnswered t B → last_moment B ≤ now.at → IsAt old (seen t B) → now.counted ≡ counted B
     → IsSeen (sight t (seen t B) (counted B) now.at) t old.rows old.counts old.keeping old.floor.now now
@@ -255,25 +271,26 @@ is_seen t B old now answered late stands count = record {
 pub step_at : (t : Table) (B : History) (old : StateView) (mid : Shown) (now : Now) (event : Event) (step : Step) → AreAnswered t B → last_moment B ≤ now.at → IsAt old (seen t B)
     → now.counted ≡ counted B → Makes old mid t now (λ S. decide S event) step → HasDone t B now.at event mid step
 step_at t B old mid now event step answered late stands count does =
-    does (sight t (seen t B) (counted B) now.at) (is_seen t B old now answered late stands count) (sym stands.waits)
+    does (sight t (seen t B) (counted B) now.at) (is_seen t B old now answered late stands count) (sym stands.waits) (sym stands.others)
 
 -- the counts agree with what happened then, where it is noted
 abbrev pub CountsAfter : Table → History → ℕ → Event → StateView → Type 0
 CountsAfter t B at event new = StandsFor new.counts (notes_of ((decision t B at event).items ++ (seen t B).trace))
 
--- floor, rows, waits and counts agree with what is seen once the step's change is made and its commit is kept
+-- floor, rows, waits and counts agree with what is seen once the step's change is made, its commit is kept, and what is due is archived
 at_after : (t : Table) (B : History) (old new : StateView) (mid : Shown) (at : ℕ) (event : Event) (step : Step) → IsAt old (seen t B)
-    → HasDone t B at event mid step
-    → new.floor.now ≡ mid → new.rows ≡ all_changed (changes_of step.change) old.rows → new.waits ≡ waits_after step.waits old.waits → CountsAfter t B at event new
-    → new.keeping ≡ kept_with step.commit old.keeping → IsAt new (after (decision t B at event) (seen t B))
-at_after t B old new mid at event step stands done floor rows waits counts kept =
+    → is_opening event ≡ false → HasDone t B at event mid step
+    → new.floor.now ≡ floor_kept step.archive mid → new.rows ≡ all_changed (changes_of step.change) old.rows → new.waits ≡ waits_after step.waits old.waits → CountsAfter t B at event new
+    → new.keeping ≡ kept_with step.commit old.keeping → new.others ≡ others_kept step.archive old.others → IsAt new (after (decision t B at event) (seen t B))
+at_after t B old new mid at event step stands later done floor rows waits counts kept others =
     let s = seen t B in
     let S = sight t s (counted B) at in
     let d = decide S event in
     record {
-      keeping = subst (λ (v : KeepingView). StandsForKept v (all_changed d.changes s.rows) (d.items ++ s.trace)) (sym kept)
-          (step_keeps step.commit d old.keeping S stands.stands.sound stands.keeping (decided_right S event stands.stands.sound) done.0.commit);
-      stands = rw floor done.1;
+      keeping = subst (λ (v : KeepingView). StandsForKept v (others_after d.others s.others) (all_changed d.changes s.rows) (d.items ++ s.trace)) (sym kept)
+          (step_keeps step.commit step.archive d old.keeping S stands.stands.sound stands.keeping (decided_right S event stands.stands.sound) done.0.commit done.0.archive);
+      stands = rw floor (archived_stands step.archive step.commit d S mid done.0.archive (decided_archives S event later) done.1);
+      others = others ∙ (ap (others_kept step.archive) stands.others ∙ archived_others step.archive step.commit d S done.0.archive);
       rows = rows ∙ (ap (λ (rs : _). all_changed (changes_of step.change) rs) stands.rows ∙ ap (λ (cs : List Change). all_changed cs s.rows) done.0.changes);
       waits = waits ∙ (ap (waits_after step.waits) stands.waits ∙ ap (λ (w : Waits). waits_after w s.waits) done.0.waits);
       counts = counts;
@@ -287,10 +304,11 @@ AreIdsAfter t L at event = AreIds ((decision t L.entries at event).items ++ (see
 pub answers : (t : Table) (L : Ledger) (old new : StateView) (mid : Shown) (at : ℕ) (event : Event) (step : Step) → Keeps old t L
     → last_moment L.entries ≤ at → at ≤ GREATEST_MOMENT → is_opening event ≡ false → IsGivenEvent event → new.floor.before ≡ None
     → HasDone t L.entries at event mid step
-    → new.floor.now ≡ mid → new.rows ≡ all_changed (changes_of step.change) old.rows → new.waits ≡ waits_after step.waits old.waits → CountsAfter t L.entries at event new
-    → new.keeping ≡ kept_with step.commit old.keeping → (step.told ≡ answer t L.entries at event) × Keeps new t (posted L at event step.told) × AreIdsAfter t L at event
-answers t L old new mid at event step keeps late most later given free done floor rows waits counts kept =
-    let stands = at_after t L.entries old new mid at event step keeps.stands done floor rows waits counts kept in
+    → new.floor.now ≡ floor_kept step.archive mid → new.rows ≡ all_changed (changes_of step.change) old.rows → new.waits ≡ waits_after step.waits old.waits → CountsAfter t L.entries at event new
+    → new.keeping ≡ kept_with step.commit old.keeping → new.others ≡ others_kept step.archive old.others
+    → (step.told ≡ answer t L.entries at event) × Keeps new t (posted L at event step.told) × AreIdsAfter t L at event
+answers t L old new mid at event step keeps late most later given free done floor rows waits counts kept others =
+    let stands = at_after t L.entries old new mid at event step keeps.stands later done floor rows waits counts kept others in
     let un = unbooked (is_idle L.entries) (sight t (seen t L.entries) (counted L.entries) at) event in
     let un' = subst (λ (x : Told). Unless (posting_by (is_idle L.entries) x) (Leaves (decision t L.entries at event))) (sym done.0.told) un in (
       done.0.told,
@@ -315,26 +333,27 @@ noted t L old mid put new now event step keeps later late done kept counts notes
 -- a beginning, a loss or a going that is posted
 pub takes : (t : Table) (L : Ledger) (old new : StateView) (now : Now) (event : Event) (taken : Result (Unit {0}) FloorRefusal) (at : ℕ) → Keeps old t L → now.counted ≡ counted L.entries
     → now.at ≡ moment L.entries at → wants_memory event ≡ false → new.floor.before ≡ None → Makes old new.floor.now t now (λ S. decide S event) (telling (taken_told taken))
-    → (new.rows ≡ old.rows) × (new.waits ≡ old.waits) → new.counts ≡ old.counts → new.keeping ≡ old.keeping
+    → (new.rows ≡ old.rows) × (new.waits ≡ old.waits) → new.counts ≡ old.counts → new.keeping ≡ old.keeping → new.others ≡ old.others
     → (taken_told taken ≡ answer t L.entries now.at event) × Keeps new t (posted L now.at event (taken_told taken)) × AreIdsAfter t L now.at event
-takes t L old new now event taken at keeps count same free before makes rest counts keeping =
+takes t L old new now event taken at keeps count same free before makes rest counts keeping others =
     let late = subst (λ (m : ℕ). last_moment L.entries ≤ m) (sym same) (not_before L.entries at) in
     let most = subst (λ (m : ℕ). m ≤ GREATEST_MOMENT) (sym same) (not_after t L.entries at keeps.legal) in
     let step = telling (taken_told taken) in
     let done = step_at t L.entries old new.floor.now now event step keeps.legal.answered late keeps.stands count makes in
     let quiet = unmoved_at (decision t L.entries now.at event).items (seen t L.entries).trace old.counts new.counts done.0.moves counts keeps.stands.counts in
-    answers t L old new new.floor.now now.at event step keeps late most (later_free event free) (free_given event free) before done refl rest.0 rest.1 quiet keeping
+    answers t L old new new.floor.now now.at event step keeps late most (later_free event free) (free_given event free) before done refl rest.0 rest.1 quiet keeping others
 
 -- what was taken back is as before
 pub stays : (old new : StateView) (t : Table) (L : Ledger) → new.floor.now ≡ old.floor.now → new.floor.before ≡ None → new.rows ≡ old.rows → new.waits ≡ old.waits
-    → KeepsNotes old.counts new.counts → new.keeping ≡ old.keeping → Keeps old t L → Keeps new t L
-stays old new t L floor free rows waits counts kept keeps = record {
+    → KeepsNotes old.counts new.counts → new.keeping ≡ old.keeping → new.others ≡ old.others → Keeps old t L → Keeps new t L
+stays old new t L floor free rows waits counts kept others keeps = record {
   stands = record {
     stands = rw floor keeps.stands.stands;
     rows = rows ∙ keeps.stands.rows;
     waits = waits ∙ keeps.stands.waits;
     counts = counts (notes_of (seen t L.entries).trace) keeps.stands.counts;
-    keeping = subst (λ (v : KeepingView). StandsForKept v (seen t L.entries).rows (seen t L.entries).trace) (sym kept) keeps.stands.keeping;
+    keeping = subst (λ (v : KeepingView). StandsForKept v (seen t L.entries).others (seen t L.entries).rows (seen t L.entries).trace) (sym kept) keeps.stands.keeping;
+    others = others ∙ keeps.stands.others;
   };
   legal = keeps.legal;
   free = free;
@@ -352,7 +371,7 @@ booked_holds (Some rows) t L old at event later keeps ids holds =
 
 unbooked_holds : (told : KeptRows) (t : Table) (L : Ledger) (d : Decision) → Leaves d → HoldsBook told t L → HoldsBook (kept_after (commits d) told) t L
 unbooked_holds None t L d leaves holds = tt
-unbooked_holds (Some rows) t L d leaves holds = ap (λ cs. changed cs rows) (leaves_commits d leaves.0 leaves.1) ∙ holds
+unbooked_holds (Some rows) t L d leaves holds = ap (λ cs. changed cs rows) (leaves_commits d leaves.0 leaves.1 leaves.3) ∙ holds
 
 held_by : (p : Posting) (old_rows : KeptRows) (t : Table) (L : Ledger) (old : StateView) (at : ℕ) (event : Event) (told_is : Told) → is_opening event ≡ false → Keeps old t L → AreIdsAfter t L at event
     → Unless p (Leaves (decision t L.entries at event)) → HoldsBook old_rows t L

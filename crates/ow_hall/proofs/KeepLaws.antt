@@ -2,7 +2,7 @@
 use Rattle.std.proofs.Common.{◌≡◌, ◌≢◌, ◌∙◌, ◌++◌, ℕ, Bool, true, false, List, [], ◌∷◌, Option, Some, None, refl, sym, ap, subst, inr, inl, Result, Ok, Err}
 use Rattle.std.specs.List.{flat_map}
 use Rattle.ow_traits.specs.Telling.{Telling, with_attempt}
-use Rattle.ow_traits.specs.Keeper.{Commits, KeepsCause, attempt_of}
+use Rattle.ow_traits.specs.Keeper.{Commits, KeepsCause, Retires, attempt_of}
 use Rattle.ow_traits.specs.declared.keepers.KeeperError.{KeeperError}
 use Rattle.ow_traits.specs.declared.change_list.Change.{Change as StoreChange}
 use Rattle.ow_pool.specs.declared.answers.Place.{Place}
@@ -21,13 +21,14 @@ use Rattle.ow_commits.specs.Keeping.{FollowingView, KeepingView, StandsForKept}
 use Rattle.ow_commits.proofs.Quiet.{quiet_stands}
 use Rattle.ow_decide.specs.declared.events.Event.{Event}
 use Rattle.ow_decide.specs.declared.events.Event.TheVariants as events
-use Rattle.ow_decide.specs.Decision.{Decision, all_changed, commits, items_changes}
+use Rattle.ow_decide.specs.Decision.{Decision, OtherChange, Same, all_changed, commits, items_changes, others_after, with_others}
 use Rattle.ow_decide.specs.Decisions.{decide, wants_memory}
-use Rattle.ow_decide.specs.Making.{IsCommit}
+use Rattle.ow_decide.specs.Making.{IsArchiving, IsCommit}
 use Rattle.ow_decide.specs.Sight.{Sight}
+use Rattle.ow_decide.specs.declared.step.Archiving.{Archiving}
 use Rattle.ow_decide.proofs.MadeLaws.{changes_of_moves}
 use Rattle.ow_tenant.specs.Table.{Table}
-use Rattle.ow_hall.specs.Comes.{Holds, KeptRows, Refuses, Stays, kept_after}
+use Rattle.ow_hall.specs.Comes.{Holds, KeptRows, Refuses, Stays, kept_after, old_kept_after}
 use Rattle.ow_hall.specs.Commits.{CommitsTo, changes_in}
 use Rattle.ow_hall.specs.History.{counted, decision, seen, sight}
 use Rattle.ow_hall.specs.Ledger.{Ledger}
@@ -36,20 +37,29 @@ use Rattle.ow_hall.specs.State.{kept_with}
 -- ---- a step commits all that changes
 
 -- where no row is changed and nothing moved, nothing is committed
-unmoved_commits : (d : Decision) → d.changes ≡ [] → moved d.items ≡ [] → commits d ≡ []
-unmoved_commits d changes unmoved =
-    ap (λ (cs : List Change). flat_map row_changes cs ++ items_changes d.items) changes ∙ (changes_of_moves d.items ∙ ap (λ (ms : List Moved). flat_map changes_of ms) unmoved)
+unmoved_commits : (d : Decision) → d.changes ≡ [] → moved d.items ≡ [] → d.others ≡ Same → commits d ≡ []
+unmoved_commits d changes unmoved same =
+    ap (λ (o : OtherChange). with_others o (flat_map row_changes d.changes ++ items_changes d.items)) same
+    ∙ (ap (λ (cs : List Change). flat_map row_changes cs ++ items_changes d.items) changes ∙ (changes_of_moves d.items ∙ ap (λ (ms : List Moved). flat_map changes_of ms) unmoved))
 
-pub step_commits : (commit : Option FollowingView) (d : Decision) (S : Sight) → IsCommit commit d S → changes_in commit ≡ commits d
-step_commits None d S is = sym (unmoved_commits d is.0 is.1.1)
-step_commits (Some c) d S is = is.changes
+-- where there is no commit, nothing is archived
+unarchived : (archive : Option Archiving) (d : Decision) (S : Sight) → IsArchiving None archive d S → d.others ≡ Same
+unarchived None d S is = is
+unarchived (Some a) d S is = absurd is
+
+pub step_commits : (commit : Option FollowingView) (archive : Option Archiving) (d : Decision) (S : Sight) → IsCommit commit d S → IsArchiving commit archive d S → changes_in commit ≡ commits d
+step_commits None archive d S is archives = sym (unmoved_commits d is.0 is.1.1 (unarchived archive d S archives))
+step_commits (Some c) archive d S is archives = is.changes
 
 -- once that is kept, its size agrees with what is kept then
-pub step_keeps : (commit : Option FollowingView) (d : Decision) (v : KeepingView) (S : Sight) → IsSound S.trace → StandsForKept v S.rows S.trace → AreRight d.items (shown S.trace)
-    → IsCommit commit d S → StandsForKept (kept_with commit v) (all_changed d.changes S.rows) (d.items ++ S.trace)
-step_keeps None d v S sound stands right is =
-    subst (λ (cs : List Change). StandsForKept v (all_changed cs S.rows) (d.items ++ S.trace)) (sym is.0) (quiet_stands v S.rows S.trace d.items stands sound right is.1.0 is.1.1)
-step_keeps (Some c) d v S sound stands right is = is.stands
+pub step_keeps : (commit : Option FollowingView) (archive : Option Archiving) (d : Decision) (v : KeepingView) (S : Sight) → IsSound S.trace → StandsForKept v S.others S.rows S.trace
+    → AreRight d.items (shown S.trace) → IsCommit commit d S → IsArchiving commit archive d S
+    → StandsForKept (kept_with commit v) (others_after d.others S.others) (all_changed d.changes S.rows) (d.items ++ S.trace)
+step_keeps None archive d v S sound stands right is archives =
+    subst (λ (o : OtherChange). StandsForKept v (others_after o S.others) (all_changed d.changes S.rows) (d.items ++ S.trace)) (sym (unarchived archive d S archives))
+    (subst (λ (cs : List Change). StandsForKept v S.others (all_changed cs S.rows) (d.items ++ S.trace)) (sym is.0)
+    (quiet_stands v S.others S.rows S.trace d.items stands sound right is.1.0 is.1.1))
+step_keeps (Some c) archive d v S sound stands right is archives = is.stands
 
 -- ---- what the store holds
 
@@ -66,15 +76,36 @@ failed_rows : (old new : KeptRows) (cs : List StoreChange) (e : KeeperError) →
 failed_rows None new cs e commits = commits
 failed_rows (Some rows) new cs e commits = commits
 
+-- and for its old rows
+pub made_old_rows : (old new : KeptRows) (cs : List StoreChange) (done : Unit {0}) → Retires old new cs (Ok done) → new ≡ old_kept_after cs old
+made_old_rows None new cs done retires = retires
+made_old_rows (Some old_rows) new cs done retires = retires
+
+failed_old_rows : (old new : KeptRows) (cs : List StoreChange) (e : KeeperError) → Retires {T = Unit {0}} old new cs (Err e) → new ≡ old
+failed_old_rows None new cs e retires = retires
+failed_old_rows (Some old_rows) new cs e retires = retires
+
 -- a commit of some changes
 pub commits_to : {P : Type 0} (telling : P → Telling) (changes : List StoreChange) (old new : P) (result : Result (Unit {0}) KeeperError) → changes ≢ []
-    → Commits (telling old).rows (telling new).rows changes result → (telling new).commits ≡ with_attempt (attempt_of changes result) (telling old).commits
+    → Commits (telling old).rows (telling new).rows changes result → Retires (telling old).old_rows (telling new).old_rows changes result → (telling new).commits ≡ with_attempt (attempt_of changes result) (telling old).commits
     → KeepsCause (telling old).faults (telling new).faults result → CommitsTo telling changes old new result
-commits_to telling [] old new result some told asked cause = absurd (some refl)
-commits_to telling (c ∷ cs) old new (Ok done) some told asked cause =
-    record { rows = made_rows (telling old).rows (telling new).rows (c ∷ cs) done told; commits = asked; later = cause.later }
-commits_to telling (c ∷ cs) old new (Err e) some told asked cause =
-    (some, record { rows = failed_rows (telling old).rows (telling new).rows (c ∷ cs) e told; commits = asked; later = cause.later }, cause)
+commits_to telling [] old new result some told retired asked cause = absurd (some refl)
+commits_to telling (c ∷ cs) old new (Ok done) some told retired asked cause = record {
+  rows = made_rows (telling old).rows (telling new).rows (c ∷ cs) done told;
+  old_rows = made_old_rows (telling old).old_rows (telling new).old_rows (c ∷ cs) done retired;
+  commits = asked;
+  later = cause.later;
+}
+commits_to telling (c ∷ cs) old new (Err e) some told retired asked cause = (
+  some,
+  record {
+    rows = failed_rows (telling old).rows (telling new).rows (c ∷ cs) e told;
+    old_rows = failed_old_rows (telling old).old_rows (telling new).old_rows (c ∷ cs) e retired;
+    commits = asked;
+    later = cause.later;
+  },
+  cause,
+)
 
 -- with the changes of a commit its rows are these
 pub held : {P : Type 0} (telling : P → Telling) (changes : List StoreChange) (old new : P) → Holds telling changes old new → (telling new).rows ≡ kept_after changes (telling old).rows
@@ -94,8 +125,10 @@ pub holds_none : {P : Type 0} (telling : P → Telling) (changes : List StoreCha
 holds_none telling changes store none = subst (λ (cs : List StoreChange). Holds telling cs store store) (sym none) refl
 
 -- where nothing happens and no row changes, nothing is committed
-pub leaves_commits : (d : Decision) → d.items ≡ [] → d.changes ≡ [] → commits d ≡ []
-leaves_commits d items changes = ap (λ (cs : List Change). flat_map row_changes cs ++ items_changes d.items) changes ∙ ap items_changes items
+pub leaves_commits : (d : Decision) → d.items ≡ [] → d.changes ≡ [] → d.others ≡ Same → commits d ≡ []
+leaves_commits d items changes same =
+    ap (λ (o : OtherChange). with_others o (flat_map row_changes d.changes ++ items_changes d.items)) same
+    ∙ (ap (λ (cs : List Change). flat_map row_changes cs ++ items_changes d.items) changes ∙ ap items_changes items)
 
 if_commits : (b : Bool) (item : Item) → items_changes (item ∷ []) ≡ [] → items_changes (items_if b item) ≡ []
 if_commits true item none = none

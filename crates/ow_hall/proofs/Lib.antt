@@ -1,3 +1,4 @@
+pub mod Archiving
 pub mod Beginnings
 pub mod Faults
 pub mod KeepLaws

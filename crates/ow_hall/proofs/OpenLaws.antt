@@ -4,7 +4,7 @@ use Rattle.std.proofs.Math.Nat.{le-max_left, max-le, min-le_right}
 use Rattle.ow_traits.specs.Telling.{Attempt, Telling, made, unmade, with_attempt}
 use Rattle.ow_entity.specs.declared.rows.Row.{Row}
 use Rattle.ow_traits.specs.Changes.{changed}
-use Rattle.ow_traits.specs.Keeper.{Commits}
+use Rattle.ow_traits.specs.Keeper.{Commits, Retires}
 use Rattle.ow_traits.specs.declared.change_list.Change.{Change}
 use Rattle.ow_traits.specs.Rows.{AreRows}
 use Rattle.ow_floor.specs.Growth.{AreResumable}
@@ -21,8 +21,8 @@ use Rattle.ow_keep.proofs.Whole.{judged-kept}
 use Rattle.ow_keep.proofs.MomentLaws.{judged_small}
 use Rattle.ow_keep.proofs.Splits.{moment_of_split}
 use Rattle.ow_commits.specs.Keeping.{KeepingView, StandsForKept}
-use Rattle.ow_commits.specs.Kept.{kept}
-use Rattle.ow_commits.specs.Opening.{opened_trace, opening_changes, resumed_records}
+use Rattle.ow_commits.specs.Kept.{kept_whole}
+use Rattle.ow_commits.specs.Opening.{opened_trace, opening_changes, others_of, resumed_records}
 use Rattle.ow_commits.proofs.Opening.{openings_kept}
 use Rattle.ow_commits.proofs.Resuming.{may_be_resumed, not_builtin}
 use Rattle.ow_counts.specs.View.{CountsView, StandsFor}
@@ -37,9 +37,9 @@ use Rattle.ow_tenant.specs.Table.{Table}
 use Rattle.ow_tenant.specs.Tenants.{pool_of}
 use Rattle.ow_hall.specs.declared.posting.Posting.{Posting}
 use Rattle.ow_hall.specs.declared.posting.Posting.TheVariants.{Booked}
-use Rattle.ow_hall.proofs.KeepLaws.{made_rows}
+use Rattle.ow_hall.proofs.KeepLaws.{made_old_rows, made_rows}
 use Rattle.ow_hall.specs.Openings.{IsAskedOnce}
-use Rattle.ow_hall.specs.Comes.{HoldsBook, KeptRows, kept_of, kept_after}
+use Rattle.ow_hall.specs.Comes.{HoldsBook, KeptRows, kept_of, kept_after, old_kept_after}
 use Rattle.ow_keep.specs.declared.allowed.TheConstants.{GREATEST_MOMENT}
 use Rattle.ow_hall.specs.History.{IsLegal, Seen, after, answer, counted, decision, least_moment, moment, moment_in, posting, seen, told_bytes}
 use Rattle.ow_hall.specs.Ledger.{BookView, HasRoom, Ledger, no_entries, opened, opening_moment, posted, posted_as}
@@ -76,17 +76,17 @@ small_opening : (rows : Rows) (at : ℕ) → opening_moment rows at ≤ GREATEST
 small_opening rows at = max-le (small_in rows (judged rows) refl) (max-le (omega arith) (min-le_right at GREATEST_MOMENT))
 
 -- it is that of what is held
-pub first_moment : (rows : Rows) (at : ℕ) (p : Parts) → HoldsItems rows p → max (parts_moment p) (moment [] at) ≡ opening_moment rows at
-first_moment rows at p holds =
+pub first_moment : (rows : Rows) (at : ℕ) (p : Parts) → AreRows rows → HoldsItems rows p → max (parts_moment p) (moment [] at) ≡ opening_moment rows at
+first_moment rows at p order holds =
     let held = judged-kept rows holds.items holds.kept holds.known in
-    ap (λ (m : ℕ). max m (moment [] at)) (ap parts_moment holds.parts ∙ (moment_of_split holds.items ∙ sym (ap (λ (r : Result (List Item) (List ℕ)). moment_in r) held)))
+    ap (λ (m : ℕ). max m (moment [] at)) (ap parts_moment holds.parts ∙ (moment_of_split holds.items (subst AreRows holds.kept.rows order) ∙ sym (ap (λ (r : Result (List Item) (List ℕ)). moment_in r) held)))
 
 late_opening : (rows : Rows) (at : ℕ) → least_moment (events.Opened rows) ≤ opening_moment rows at
 late_opening rows at = le-max_left _ _
 
 -- ---- the state after an opening
 
-opened_at : (t : Table) (at : ℕ) (p : Parts) (w v : StateView) → IsOver t at p w → IsBeside w v → StandsForKept v.keeping (resumed p.entities builtin) (opened_trace at p (pool_of t) t.wants)
+opened_at : (t : Table) (at : ℕ) (p : Parts) (w v : StateView) → IsOver t at p w → IsBeside w v → StandsForKept v.keeping (others_of p) (resumed p.entities builtin) (opened_trace at p (pool_of t) t.wants)
     → IsAt v (after (taken_over at p) (seen t []))
 opened_at t at p w v over beside keeping =
     let T = opened_trace at p (pool_of t) t.wants in
@@ -96,7 +96,8 @@ opened_at t at p w v over beside keeping =
       rows = beside.rows ∙ (over.rows ∙ sym rs);
       waits = beside.waits ∙ over.waits;
       counts = subst (λ (x : CountsView). StandsFor x []) (sym beside.counts) over.counts;
-      keeping = subst (λ (x : List Row). StandsForKept v.keeping x T) (sym rs) keeping;
+      keeping = subst (λ (x : List Row). StandsForKept v.keeping (others_of p) x T) (sym rs) keeping;
+      others = beside.others ∙ over.others;
     }
 
 -- the first entry is booked
@@ -116,7 +117,7 @@ opened_booked t rows at p order holds = ap (λ (d : Decision). posting [] d.told
 
 -- the hall is kept
 opened_keeps : (t : Table) (rows : Rows) (at : ℕ) (p : Parts) (w v : StateView) → AreRows rows → HoldsItems rows p → IsOver t (opening_moment rows at) p w → IsBeside w v
-    → StandsForKept v.keeping (resumed p.entities builtin) (opened_trace (opening_moment rows at) p (pool_of t) t.wants) → Keeps v t (opened t rows at)
+    → StandsForKept v.keeping (others_of p) (resumed p.entities builtin) (opened_trace (opening_moment rows at) p (pool_of t) t.wants) → Keeps v t (opened t rows at)
 opened_keeps t rows at p w v order holds over beside keeping =
     let m = opening_moment rows at in
     let is = taken t rows m p order holds in
@@ -146,13 +147,13 @@ opened_room t rows at room p order holds =
     record { within = omega (arith, none); fits = omega (arith, none, few) }
 
 -- and the store holds what is kept of the book
-opened_holds : (told : KeptRows) (t : Table) (rows : Rows) (at : ℕ) (p : Parts) → AreRows rows → HoldsItems rows p → IfSome told (λ kept. kept ≡ changed (opening_changes (opening_moment rows at) p.unrecorded) rows)
+opened_holds : (told : KeptRows) (t : Table) (rows : Rows) (at : ℕ) (p : Parts) → AreRows rows → HoldsItems rows p → IfSome told (λ kept. kept ≡ changed (opening_changes (opening_moment rows at) p) rows)
     → HoldsBook told t (opened t rows at)
 opened_holds None t rows at p order holds made = tt
 opened_holds (Some told) t rows at p order holds made =
     let m = opening_moment rows at in
     made ∙ (openings_kept rows p m (pool_of t) t.wants order holds (not_builtin rows p holds)
-    ∙ (ap (λ (rs : List Row). kept rs (opened_trace m p (pool_of t) t.wants)) (sym (puts_resume p.entities builtin))
+    ∙ (ap (λ (rs : List Row). kept_whole (others_of p) rs (opened_trace m p (pool_of t) t.wants)) (sym (puts_resume p.entities builtin))
     ∙ ap kept_of (sym (seen_opened t rows at p order holds))))
 
 -- the ledger of what was taken over
@@ -196,14 +197,15 @@ asked_one changes before mid after same is = inr (changes, is ∙ ap (with_attem
 
 -- the service has what was opened
 pub opening_stands : {P : Type 0} (telling : P → Telling) (old mid new : P) (t : Table) (rows : Rows) (at : ℕ) (r : Ready) (o : Opened) → IsLoaded telling old mid rows
-    → IsReadied t rows at r → Commits {T = Unit {0}} (telling mid).rows (telling new).rows r.commit.changes (Ok tt) → (telling new).commits ≡ with_attempt (made r.commit.changes) (telling mid).commits
+    → IsReadied t rows at r → Commits {T = Unit {0}} (telling mid).rows (telling new).rows r.commit.changes (Ok tt)
+    → Retires {T = Unit {0}} (telling mid).old_rows (telling new).old_rows r.commit.changes (Ok tt) → (telling new).commits ≡ with_attempt (made r.commit.changes) (telling mid).commits
     → (telling mid).faults ≤ (telling new).faults → IsKeptBy r o → IsOpenedOver telling old new t at o
-opening_stands telling old mid new t rows at r o loaded ready commits asked later keeps =
+opening_stands telling old mid new t rows at r o loaded ready commits retired asked later keeps =
     let m = opening_moment rows at in
     let p = ready.parts in
     let T = opened_trace m p (pool_of t) t.wants in
     let held = judged-kept rows ready.holds.items ready.holds.kept ready.holds.known in
-    let keeping = subst (λ (v : KeepingView). StandsForKept v (resumed p.entities builtin) T) (sym keeps.keeping) ready.stands in
+    let keeping = subst (λ (v : KeepingView). StandsForKept v (others_of p) (resumed p.entities builtin) T) (sym keeps.keeping) ready.stands in
     let ledger = ap (λ (b : BookView). b.ledger) keeps.book ∙ ready.ledger in
     let told = made_of (telling old).rows (telling mid).rows (telling new).rows rows r.commit.changes loaded.told loaded.same commits in
     let holds = opened_holds (telling new).rows t rows at p ready.order ready.holds (subst (λ (cs : List Change). IfSome (telling new).rows (λ x. x ≡ changed cs rows)) ready.changes told) in
@@ -219,6 +221,7 @@ opening_stands telling old mid new t rows at r o loaded ready commits asked late
       changes = r.commit.changes;
       makes = record {
         rows = made_rows (telling mid).rows (telling new).rows r.commit.changes tt commits ∙ ap (kept_after r.commit.changes) loaded.same;
+        old_rows = made_old_rows (telling mid).old_rows (telling new).old_rows r.commit.changes tt retired ∙ ap (old_kept_after r.commit.changes) loaded.old_rows;
         commits = asked ∙ ap (with_attempt (made r.commit.changes)) loaded.commits;
         later = omega (arith, loaded.later, later);
       };

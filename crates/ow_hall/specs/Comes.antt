@@ -1,7 +1,7 @@
 -- One call of the hall, as one relation: the hall before, the moment, the event, the outcome, and the hall after.
 use Rattle.std.specs.Prelude.{◌≡◌, ◌≢◌, ◌≤◌, ◌⊎◌, ℕ, List, [], ◌∷◌, Option, Some, None, Result, Ok, Err}
 use Rattle.ow_traits.specs.Telling.{Telling, made, unmade, with_attempt}
-use Rattle.ow_traits.specs.Changes.{changed}
+use Rattle.ow_traits.specs.Changes.{changed, old_after}
 use Rattle.ow_traits.specs.Streams.{Rose}
 use Rattle.ow_traits.specs.declared.change_list.Change.{Change}
 use Rattle.ow_value.specs.declared.memory.NoMemory.{NoMemory as Want}
@@ -31,7 +31,7 @@ use Rattle.ow_tenant.specs.Table.{Table}
 use Rattle.ow_decide.specs.Asking.{reply_in}
 use Rattle.ow_decide.specs.Decision.{commits, Decision}
 use Rattle.ow_decide.specs.Decisions.{taken_told}
-use Rattle.ow_commits.specs.Kept.{kept}
+use Rattle.ow_commits.specs.Kept.{kept_whole}
 use Rattle.ow_hall.specs.History.{Seen, answer, decision, moment, seen}
 use Rattle.ow_hall.specs.Ledger.{Ledger, faulted, posted}
 use Rattle.ow_hall.specs.declared.refusals.SweepRefusal.{SweepRefusal}
@@ -57,7 +57,7 @@ KeptRows = Option (List (List ℕ × List ℕ))
 
 -- what is kept of all that is seen
 abbrev pub kept_of : Seen → List (List ℕ × List ℕ)
-kept_of s = kept s.rows s.trace
+kept_of s = kept_whole s.others s.rows s.trace
 
 -- a store that reports its rows holds these; `HoldsBook`: it holds the rows that are kept of a book
 abbrev pub HoldsRows : KeptRows → List (List ℕ × List ℕ) → Type 0
@@ -71,15 +71,22 @@ abbrev pub kept_after : List Change → KeptRows → KeptRows
 kept_after changes None = None
 kept_after changes (Some rows) = Some (changed changes rows)
 
+-- the same of old rows: those that the changes retire are among them
+abbrev pub old_kept_after : List Change → KeptRows → KeptRows
+old_kept_after changes None = None
+old_kept_after changes (Some old_rows) = Some (old_after changes old_rows)
+
 -- a store is asked to commit once, and commits. It holds what it held, with these changes
 pub record Makes {P : Type 0} (telling : P → Telling) (changes : List Change) (old new : P) : Type 0 where
   pub rows : (telling new).rows ≡ kept_after changes (telling old).rows
+  pub old_rows : (telling new).old_rows ≡ old_kept_after changes (telling old).old_rows
   pub commits : (telling new).commits ≡ with_attempt (made changes) (telling old).commits
   pub later : (telling old).faults ≤ (telling new).faults
 
--- it is asked once, and doesn't commit. Its rows stay
+-- it is asked once, and doesn't commit. Its rows and its old rows stay
 pub record Refuses {P : Type 0} (telling : P → Telling) (changes : List Change) (old new : P) : Type 0 where
   pub rows : (telling new).rows ≡ (telling old).rows
+  pub old_rows : (telling new).old_rows ≡ (telling old).old_rows
   pub commits : (telling new).commits ≡ with_attempt (unmade changes) (telling old).commits
   pub later : (telling old).faults ≤ (telling new).faults
 

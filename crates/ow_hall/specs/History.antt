@@ -28,7 +28,8 @@ use Rattle.ow_decide.specs.Sight.{Sight}
 use Rattle.ow_row_text.specs.declared.item.Item.{Item}
 use Rattle.ow_keep.specs.Judged.{judged}
 use Rattle.ow_keep.specs.Moments.{greatest_kept_moment}
-use Rattle.ow_decide.specs.Decision.{Decision, all_changed}
+use Rattle.ow_commits.specs.Kept.{OthersView, no_others}
+use Rattle.ow_decide.specs.Decision.{Decision, all_changed, others_after}
 use Rattle.ow_decide.specs.Decisions.{decide}
 use Rattle.ow_hall.specs.Posting.{is_idle_answer, posting_by}
 
@@ -95,11 +96,12 @@ moment B at = max (last_moment B) (min at GREATEST_MOMENT)
 
 -- ---- the state after the entries
 
--- the rows, what happened on the floor, and who waits for an end
+-- the rows, what happened on the floor, who waits for an end, and the archive and the notes
 pub record Seen : Type 0 where
   pub rows : List Row
   pub trace : Trace
   pub waits : List Wait
+  pub others : OthersView
 
 abbrev pub waits_after : Waits → List Wait → List Wait
 waits_after Keep ws = ws
@@ -108,15 +110,15 @@ waits_after Clear ws = []
 
 -- what is seen once a decision is carried out, of whatever event
 abbrev pub after : Decision → Seen → Seen
-after d s = record { rows = all_changed d.changes s.rows; trace = d.items ++ s.trace; waits = waits_after d.waits s.waits }
+after d s = record { rows = all_changed d.changes s.rows; trace = d.items ++ s.trace; waits = waits_after d.waits s.waits; others = others_after d.others s.others }
 
 -- with the office table, the counted bytes and the moment
 abbrev pub sight : Table → Seen → ℕ → ℕ → Sight
-sight t s n at = record { tenants = t; rows = s.rows; trace = s.trace; waits = s.waits; counted = n; moment = at }
+sight t s n at = record { tenants = t; rows = s.rows; trace = s.trace; waits = s.waits; others = s.others; counted = n; moment = at }
 
 -- after these entries; before the first there are the built-in rows, and a floor with the table's pool and wants
 abbrev pub seen : Table → History → Seen
-seen t [] = record { rows = builtin; trace = Opened (pool_of t) t.wants ∷ []; waits = [] }
+seen t [] = record { rows = builtin; trace = Opened (pool_of t) t.wants ∷ []; waits = []; others = no_others }
 seen t (e ∷ B) = after (decide (sight t (seen t B) (counted B) e.at) e.event) (seen t B)
 
 -- what is done at an event after these entries

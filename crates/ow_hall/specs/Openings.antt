@@ -45,6 +45,7 @@ pub record IsUnopened {P : Type 0} (telling : P → Telling) (store : P) (t : Ta
   pub cause : HasStartCause telling store refusal.store refusal.why
   pub tenants : refusal.tenants ≡ t
   pub rows_stay : (telling refusal.store).rows ≡ (telling store).rows
+  pub old_rows_stay : (telling refusal.store).old_rows ≡ (telling store).old_rows
   pub later : (telling store).faults ≤ (telling refusal.store).faults
   pub commits : IsAskedOnce (telling store).commits (telling refusal.store).commits
 

@@ -12,7 +12,7 @@ use Rattle.ow_keep.specs.Judged.{judged}
 use Rattle.ow_keep.specs.Kept.{IsBadRow}
 use Rattle.ow_keep.specs.Split.{HoldsItems, Parts}
 use Rattle.ow_commits.specs.Keeping.{StandsFollowing}
-use Rattle.ow_commits.specs.Opening.{opened_trace, opening_changes}
+use Rattle.ow_commits.specs.Opening.{opened_trace, opening_changes, others_of}
 use Rattle.ow_tenant.specs.Table.{Table}
 use Rattle.ow_tenant.specs.Tenants.{pool_of}
 use Rattle.ow_counts.specs.View.{StandsFor}
@@ -33,6 +33,7 @@ pub record IsOver (t : Table) (at : ℕ) (p : Parts) (w : StateView) : Type 0 wh
   pub rows : w.rows ≡ resumed p.entities builtin
   pub waits : w.waits ≡ []
   pub counts : StandsFor w.counts []
+  pub others : w.others ≡ others_of p
 
 -- floor, rows, waits and counts are what they were
 pub record IsBeside (w v : StateView) : Type 0 where
@@ -40,6 +41,7 @@ pub record IsBeside (w v : StateView) : Type 0 where
   pub rows : v.rows ≡ w.rows
   pub waits : v.waits ≡ w.waits
   pub counts : v.counts ≡ w.counts
+  pub others : v.others ≡ w.others
 
 -- an opening over these rows is ready to be committed
 pub record IsReadied (t : Table) (rows : List (List ℕ × List ℕ)) (at : ℕ) (r : Ready) : Type 0 where
@@ -48,13 +50,14 @@ pub record IsReadied (t : Table) (rows : List (List ℕ × List ℕ)) (at : ℕ)
   pub holds : HoldsItems rows parts
   pub over : IsOver t (opening_moment rows at) parts r.opened.state
   pub ledger : r.opened.book.ledger ≡ opened t rows at
-  pub changes : r.commit.changes ≡ opening_changes (opening_moment rows at) parts.unrecorded
-  pub stands : StandsFollowing r.commit (resumed parts.entities builtin) (opened_trace (opening_moment rows at) parts (pool_of t) t.wants)
+  pub changes : r.commit.changes ≡ opening_changes (opening_moment rows at) parts
+  pub stands : StandsFollowing r.commit (others_of parts) (resumed parts.entities builtin) (opened_trace (opening_moment rows at) parts (pool_of t) t.wants)
 
 -- rows were loaded from a store, which holds them still
 pub record IsLoaded {P : Type 0} (telling : P → Telling) (old new : P) (loaded : List (List ℕ × List ℕ)) : Type 0 where
   pub told : IfSome (telling old).rows (λ kept. loaded ≡ kept)
   pub same : (telling new).rows ≡ (telling old).rows
+  pub old_rows : (telling new).old_rows ≡ (telling old).old_rows
   pub commits : (telling new).commits ≡ (telling old).commits
   pub later : (telling old).faults ≤ (telling new).faults
 
@@ -81,6 +84,7 @@ pub record IsKeptBy (r : Ready) (o : Opened) : Type 0 where
 pub record IsRefused {P : Type 0} (telling : P → Telling) (old new : P) (fault : StartFault) : Type 0 where
   pub cause : HasStartCause telling old new fault
   pub rows_stay : (telling new).rows ≡ (telling old).rows
+  pub old_rows_stay : (telling new).old_rows ≡ (telling old).old_rows
   pub later : (telling old).faults ≤ (telling new).faults
   pub commits : IsAskedOnce (telling old).commits (telling new).commits
 

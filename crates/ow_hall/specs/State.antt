@@ -2,7 +2,8 @@
 use Rattle.std.specs.Prelude.{◌≡◌, ◌++◌, ℕ, List, Option, Some, None}
 use Rattle.ow_entity.specs.declared.rows.Row.{Row}
 use Rattle.ow_floor.specs.Laws.{Stands}
-use Rattle.ow_floor.specs.View.{FloorView, Shown}
+use Rattle.ow_floor.specs.View.{FloorView, Shown, archived_on}
+use Rattle.ow_decide.specs.declared.step.Archiving.{Archiving}
 use Rattle.ow_floor.specs.declared.moves.Moved.{Moved}
 use Rattle.ow_decide.specs.declared.step.Now.{Now}
 use Rattle.ow_decide.specs.declared.step.Step.{Step}
@@ -11,7 +12,8 @@ use Rattle.ow_tenant.specs.Table.{Table}
 use Rattle.ow_counts.specs.View.{CountsView, MayAllMove, StandsFor, noted_moves, notes_of}
 use Rattle.ow_decide.specs.declared.waits.Wait.{Wait}
 use Rattle.ow_decide.specs.Sight.{Sight}
-use Rattle.ow_decide.specs.Decision.{Decision}
+use Rattle.ow_commits.specs.Kept.{OthersView}
+use Rattle.ow_decide.specs.Decision.{Decision, held}
 use Rattle.ow_commits.specs.Keeping.{FollowingView, KeepingView, StandsForKept}
 use Rattle.ow_hall.specs.History.{IsLegal, Seen, seen}
 use Rattle.ow_hall.specs.Ledger.{Ledger}
@@ -19,7 +21,7 @@ use Rattle.ow_decide.specs.Making.{Carries, IsSeen}
 
 -- ---- floor, rows, waits and counts
 
--- floor, rows, waits, counts and sizes, and for how many more rows and waits there is room
+-- floor, rows, waits, counts, sizes, and the archive and the notes; and for how many more rows and waits there is room
 pub record StateView : Type 0 where
   pub floor : FloorView
   pub rows : List Row
@@ -28,6 +30,7 @@ pub record StateView : Type 0 where
   pub wait_room : ℕ
   pub counts : CountsView
   pub keeping : KeepingView
+  pub others : OthersView
 
 -- they agree with what is seen
 pub record IsAt (v : StateView) (s : Seen) : Type 0 where
@@ -35,7 +38,8 @@ pub record IsAt (v : StateView) (s : Seen) : Type 0 where
   pub rows : v.rows ≡ s.rows
   pub waits : v.waits ≡ s.waits
   pub counts : StandsFor v.counts (notes_of s.trace)
-  pub keeping : StandsForKept v.keeping s.rows s.trace
+  pub keeping : StandsForKept v.keeping s.others s.rows s.trace
+  pub others : v.others ≡ s.others
 
 -- the book is legal; floor, rows, waits and counts agree with it; and the floor isn't held
 pub record Keeps (w : StateView) (t : Table) (L : Ledger) : Type 0 where
@@ -48,8 +52,8 @@ pub record Keeps (w : StateView) (t : Table) (L : Ledger) : Type 0 where
 -- over floor, rows and waits: what is decided of what is seen is done on the floor, and made ready beside it with all that is committed
 -- of it, for private clauses
 abbrev pub Makes : StateView → Shown → Table → Now → (Sight → Decision) → Step → Type 0
-Makes old new t now decided step = (S : Sight) → IsSeen S t old.rows old.counts old.keeping old.floor.now now → S.waits ≡ old.waits
-    → Carries step (decided S) S × Stands new ((decided S).items ++ S.trace)
+Makes old new t now decided step = (S : Sight) → IsSeen S t old.rows old.counts old.keeping old.floor.now now → S.waits ≡ old.waits → S.others ≡ old.others
+    → Carries step (decided S) S × Stands new (held (decided S) ++ S.trace)
 
 -- ---- the size of what is kept
 
@@ -57,6 +61,18 @@ Makes old new t now decided step = (S : Sight) → IsSeen S t old.rows old.count
 abbrev pub kept_with : Option FollowingView → KeepingView → KeepingView
 kept_with None v = v
 kept_with (Some c) v = record { bytes = c.bytes; opens = c.opens }
+
+-- ---- what is archived
+
+-- the archive once some of the records are archived, or as it was, for private clauses
+abbrev pub others_kept : Option Archiving → OthersView → OthersView
+others_kept None o = o
+others_kept (Some a) o = record o { archive = a.archive }
+
+-- the floor once the records whose end is at most a moment are archived, or as it was, for private clauses
+abbrev pub floor_kept : Option Archiving → Shown → Shown
+floor_kept None v = v
+floor_kept (Some a) v = archived_on a.until v
 
 -- ---- notes
 

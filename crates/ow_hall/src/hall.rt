@@ -216,8 +216,9 @@ impl<P: Keeper + Drop> Hall<P> {
         self.take(at, Event::Gone { slot, generation })
     }
 
-    /// Records the ends of what all late runs carry, by the runs' numbers, each with the steps that sequences and conductors make then. It
-    /// is booked also where no run is late.
+    /// Records the ends of what all late runs carry, by the runs' numbers, each with the steps that sequences and conductors make then.
+    /// Records that were retained for as long as the office table says are archived with it: their rows leave for the old rows of the
+    /// store. It is booked also where no run is late.
     pub fn sweep(&mut self, alloc: Global, at: u64) -> Result<Swept, SweepRefusal>
         ensures { Comes P.telling self.old self.new at events.Sweep (swept_outcome result) }
     {
@@ -361,11 +362,13 @@ impl<P: Keeper + Drop> Hall<P> {
             waits,
             moves,
             commit,
+            archive,
         } = step;
         self.state.apply(change, waits);
         self.state.note_moves(&moves);
         drop(moves);
         self.state.follow(commit);
+        self.state.archive(archive);
         self.book.post(now.at, event, copied, bytes);
         Ok((told, kept))
     }

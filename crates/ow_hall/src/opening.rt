@@ -21,7 +21,7 @@ use crate::book::Book;
 use crate::refusals::StartFault;
 use crate::state::HallState;
 use crate::store_answer::StoreAnswer;
-use ow_commits::{Following, Keeping};
+use ow_commits::{Following, Keeping, archive_of};
 use ow_counts::Counts;
 use ow_decide::{Event, Told};
 use ow_entity::Row;
@@ -173,8 +173,10 @@ fn state_over(alloc: Global, tenants: &Tenants, kept: Kept, at: u64) -> Result<H
     requires resumable { AreResumable (parts_of kept).counts (resumed_records at (parts_of kept).unrecorded (parts_of kept).records) }
     ensures over { IfOk result (λ w. IsOver tenants.now at (parts_of kept) w) }
 {
+    let archive = archive_of(&kept);
     let Kept {
         counts,
+        notes,
         unrecorded,
         records,
         entities,
@@ -182,12 +184,20 @@ fn state_over(alloc: Global, tenants: &Tenants, kept: Kept, at: u64) -> Result<H
     } = kept;
     let recorded = with_abandoned(alloc, records, &unrecorded, at);
     drop(unrecorded);
-    let ((counts, entities), records) = kept_beside((counts, entities), recorded)?;
+    let ((counts, entities, notes), records) = kept_beside((counts, entities, notes), recorded)?;
     let resumed = floor_over(alloc, tenants, counts, records);
-    let (entities, floor) = kept_beside(entities, resumed)?;
-    let (floor, tables) = kept_beside(floor, tables_over(alloc, entities))?;
-    let ((floor, tables), limits) = kept_beside((floor, tables), Counts::new(alloc))?;
-    Ok(HallState::of(alloc, floor, tables, limits, Keeping::new(alloc)))
+    let ((entities, notes), floor) = kept_beside((entities, notes), resumed)?;
+    let ((floor, notes), tables) = kept_beside((floor, notes), tables_over(alloc, entities))?;
+    let ((floor, tables, notes), limits) = kept_beside((floor, tables, notes), Counts::new(alloc))?;
+    Ok(HallState::of(
+        alloc,
+        floor,
+        tables,
+        limits,
+        Keeping::new(alloc),
+        archive,
+        notes,
+    ))
 }
 
 // A floor with the table's pool that has taken over the last ids and the records of an earlier run.

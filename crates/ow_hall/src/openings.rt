@@ -12,8 +12,9 @@ use std::alloc::Global;
 
 impl<P: Keeper + Drop> Hall<P> {
     /// Opens the service over a store and an office table, as `Tenants::read` gives one: its pool and limits stay as they are. The
-    /// service then has what the store keeps: the rows of entities, the last counts and the records. What had not ended is recorded as
-    /// abandoned. It makes one commit. A refusal hands store and table back.
+    /// service then has what the store keeps: the rows of entities, the last counts, the records, the notes, and how much was archived.
+    /// What had not ended is recorded as abandoned. It makes one commit, after which the rows are of the second version. A refusal hands
+    /// store and table back.
     pub fn start(
         alloc: Global,
         store: P,

@@ -7,26 +7,29 @@ ghost use Rattle.ow_floor.specs.Owed.{owed};
 ghost use Rattle.ow_floor.specs.Trace.{Trace};
 ghost use Rattle.ow_counts.specs.View.{HasRoomForMoves};
 ghost use Rattle.ow_keep.specs.Known.{IsItem};
-ghost use Rattle.ow_commits.specs.Kept.{kept_items};
+ghost use Rattle.ow_commits.specs.Kept.{kept_items, other_items};
 ghost use Rattle.ow_decide.specs.Decisions.{decide, is_opening, taken_told, wants_memory};
 ghost use Rattle.ow_decide.specs.Decision.{all_changed};
 ghost use Rattle.ow_hall.specs.History.{waits_after};
 ghost use Rattle.ow_decide.specs.Making.{HasRoom, changes_of, telling};
-ghost use Rattle.ow_hall.specs.State.{KeepsNotes, Makes, NotesMoves, kept_with};
+ghost use Rattle.ow_hall.specs.State.{KeepsNotes, Makes, NotesMoves, floor_kept, kept_with, others_kept};
 ghost use Rattle.ow_tenant.specs.Table.{Table};
 
+use crate::known::{known_archive, known_notes};
 use ow_commits::{Following, Keeping};
 use ow_counts::Counts;
-use ow_decide::{Event, Now, RowChange, Step, Wait, Waits, step_for, take};
+use ow_decide::{Archiving, Event, Now, RowChange, Step, Wait, Waits, step_for, take};
 use ow_floor::{Floor, FloorRefusal, Moves};
 use ow_keep::known_entities;
+use ow_row_text::{Archive, Note};
 use ow_tables::Tables;
 use ow_tenant::Tenants;
 use ow_value::NoMemory;
 use std::alloc::Global;
 use std::marker::Model;
 
-/// What waits, runs and has ended, the entities, who waits for an end, what counts against the limits, and the size of what is kept.
+/// What waits, runs and has ended, the entities, who waits for an end, what counts against the limits, the size of what is kept,
+/// what was archived so far, and the notes.
 #[derive(Drop)]
 pub(crate) struct HallState {
     floor: Floor,
@@ -34,6 +37,8 @@ pub(crate) struct HallState {
     waits: Vec<Wait>,
     counts: Counts,
     keeping: Keeping,
+    archive: Archive,
+    notes: Vec<Note>,
 }
 
 impl Model for HallState {
@@ -54,6 +59,7 @@ impl Model for HallState {
       wait_room = vec_capacity w.waits - vec_len w.waits;
       counts = w.counts;
       keeping = w.keeping;
+      others = record { archive = w.archive; notes = w.notes.items };
     } };
 }
 
@@ -65,12 +71,15 @@ impl HallState {
         tables: Tables,
         counts: Counts,
         keeping: Keeping,
+        archive: Archive,
+        notes: Vec<Note>,
     ) -> HallState
         ensures floor { result.floor ≡ floor }
         ensures rows { result.rows ≡ tables.rows }
         ensures waits { result.waits ≡ [] }
         ensures counts { result.counts ≡ counts }
         ensures keeping { result.keeping ≡ keeping }
+        ensures others { result.others ≡ record { archive = archive; notes = notes.items } }
     {
         HallState {
             floor,
@@ -78,6 +87,8 @@ impl HallState {
             waits: Vec::new(alloc),
             counts,
             keeping,
+            archive,
+            notes,
         }
     }
 
@@ -88,12 +99,15 @@ impl HallState {
         self.floor.owed()
     }
 
-    /// Makes known that each item that is kept of rows and floor is what its type says.
+    /// Makes known that each item that is kept of rows and floor, of the archive and of the notes is what its type says.
     pub(crate) fn known_items(&self)
-        ensures { (T : Trace) → Stands self.now.floor.now T → AllByRecursion IsItem (kept_items self.now.rows T) }
+        ensures kept { (T : Trace) → Stands self.now.floor.now T → AllByRecursion IsItem (kept_items self.now.rows T) }
+        ensures others { AllByRecursion IsItem (other_items self.now.others) }
     {
         known_entities(self.tables.rows());
         self.floor.known_parts();
+        known_archive(self.archive);
+        known_notes(&self.notes);
     }
 
     /// Takes a beginning, a loss or a going. This takes no memory.
@@ -105,6 +119,7 @@ impl HallState {
         ensures rest { (self.new.rows ≡ self.old.rows) × (self.new.waits ≡ self.old.waits) }
         ensures counts { self.new.counts ≡ self.old.counts }
         ensures keeping { self.new.keeping ≡ self.old.keeping }
+        ensures others { self.new.others ≡ self.old.others }
     {
         take(&mut self.floor, now, event)
     }
@@ -128,6 +143,7 @@ impl HallState {
         ensures rest { (self.new.rows ≡ self.old.rows) × (self.new.waits ≡ self.old.waits) }
         ensures counts { KeepsNotes self.old.counts self.new.counts }
         ensures keeping { self.new.keeping ≡ self.old.keeping }
+        ensures others { self.new.others ≡ self.old.others }
         ensures err { OnErr result (self.new.floor.now ≡ self.old.floor.now) }
         ensures free { OnErr result (self.old.floor.before ≡ None → self.new.floor.before ≡ None) }
     {
@@ -151,6 +167,7 @@ impl HallState {
         ensures counts { self.new.counts ≡ self.old.counts }
         ensures room { (self.new.row_room ≡ self.old.row_room) × (self.new.wait_room ≡ self.old.wait_room) }
         ensures keeping { self.new.keeping ≡ self.old.keeping }
+        ensures others { self.new.others ≡ self.old.others }
     {
         self.floor.settle(keep);
     }
@@ -164,6 +181,7 @@ impl HallState {
         ensures waits { self.new.waits ≡ waits_after waits self.old.waits }
         ensures counts { self.new.counts ≡ self.old.counts }
         ensures keeping { self.new.keeping ≡ self.old.keeping }
+        ensures others { self.new.others ≡ self.old.others }
     {
         change_rows(&mut self.tables, change);
         match waits {
@@ -180,6 +198,7 @@ impl HallState {
         ensures floor { self.new.floor ≡ self.old.floor }
         ensures rest { (self.new.rows ≡ self.old.rows) × (self.new.waits ≡ self.old.waits) }
         ensures keeping { self.new.keeping ≡ self.old.keeping }
+        ensures others { self.new.others ≡ self.old.others }
     {
         self.counts.note_moves(moves.items());
     }
@@ -187,6 +206,7 @@ impl HallState {
     /// What was committed is kept, where there was something to commit. This takes no memory.
     pub(crate) fn follow(&mut self, commit: Option<Following>)
         ensures keeping { self.new.keeping ≡ kept_with commit self.old.keeping }
+        ensures others { self.new.others ≡ self.old.others }
         ensures floor { self.new.floor ≡ self.old.floor }
         ensures rest { (self.new.rows ≡ self.old.rows) × (self.new.waits ≡ self.old.waits) }
         ensures counts { self.new.counts ≡ self.old.counts }
@@ -198,11 +218,30 @@ impl HallState {
 }
 
 impl HallState {
+    /// The records that are due are archived, where some are. This takes no memory.
+    pub(crate) fn archive(&mut self, archive: Option<Archiving>)
+        requires { self.old.floor.before ≡ None }
+        ensures floor { self.new.floor.now ≡ floor_kept archive self.old.floor.now }
+        ensures free { self.new.floor.before ≡ None }
+        ensures others { self.new.others ≡ others_kept archive self.old.others }
+        ensures rest { (self.new.rows ≡ self.old.rows) × (self.new.waits ≡ self.old.waits) }
+        ensures counts { self.new.counts ≡ self.old.counts }
+        ensures keeping { self.new.keeping ≡ self.old.keeping }
+    {
+        if let Some(Archiving { until, archive }) = archive {
+            self.floor.archive(until);
+            self.archive = archive;
+        }
+    }
+}
+
+impl HallState {
     // Makes room for one who waits.
     fn reserve(&mut self) -> Result<(), NoMemory>
         ensures same { (self.new.floor ≡ self.old.floor) × (self.new.rows ≡ self.old.rows) × (self.new.waits ≡ self.old.waits) }
         ensures counts { self.new.counts ≡ self.old.counts }
         ensures keeping { self.new.keeping ≡ self.old.keeping }
+        ensures others { self.new.others ≡ self.old.others }
         ensures room { OnOk result (1 ≤ self.new.wait_room) }
     {
         self.waits.reserve(1)?;
@@ -215,6 +254,7 @@ impl HallState {
         ensures rest { (self.new.rows ≡ self.old.rows) × (self.new.waits ≡ self.old.waits) × (self.new.wait_room ≡ self.old.wait_room) }
         ensures counts { self.new.counts ≡ self.old.counts }
         ensures keeping { self.new.keeping ≡ self.old.keeping }
+        ensures others { self.new.others ≡ self.old.others }
     {
         self.floor.hold();
     }
@@ -237,6 +277,7 @@ impl HallState {
         ensures counter { IfOk result (λ s. HasRoomForMoves s.moves self.new.counts) }
         ensures counts { KeepsNotes self.old.counts self.new.counts }
         ensures keeping { self.new.keeping ≡ self.old.keeping }
+        ensures others { self.new.others ≡ self.old.others }
     {
         let step = self.step(alloc, tenants, now, event)?;
         let Ok(()) = self.counts.reserve_moves(alloc, step.moves.items()) else {
@@ -262,6 +303,7 @@ impl HallState {
         ensures rest { (self.new.rows ≡ self.old.rows) × (self.new.waits ≡ self.old.waits) × (self.new.wait_room ≡ self.old.wait_room) }
         ensures counts { self.new.counts ≡ self.old.counts }
         ensures keeping { self.new.keeping ≡ self.old.keeping }
+        ensures others { self.new.others ≡ self.old.others }
     {
         step_for(
             alloc,
@@ -271,6 +313,7 @@ impl HallState {
             &mut self.floor,
             &mut self.tables,
             &self.waits,
+            self.archive,
             now,
             event,
         )

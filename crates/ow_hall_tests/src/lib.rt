@@ -16,6 +16,8 @@ mod of_limits;
 #[cfg(test)]
 mod of_packages;
 #[cfg(test)]
+mod of_retention;
+#[cfg(test)]
 mod of_runners;
 #[cfg(test)]
 mod of_waits;

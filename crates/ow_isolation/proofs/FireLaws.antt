@@ -186,12 +186,12 @@ IsUnseenDone h (Fired items id) = AreHidden h (records items)
 IsUnseenDone h done = Unit {0}
 
 pub unseen_by : (h : Holder) (rs : List Row) (d : Result Done Reason) → IfOk d (IsUnseenDone h) → IsUnseen h rs (ask_decision d)
-unseen_by h rs (Ok (Shown value)) good = record { changes = tt; records = tt }
+unseen_by h rs (Ok (Shown value)) good = record { changes = tt; records = tt; archived = tt }
 unseen_by h rs (Ok (Changed change value)) good = absurd good
-unseen_by h rs (Ok (Invoked items plan shows)) good = record { changes = tt; records = good }
-unseen_by h rs (Ok Quiet) good = record { changes = tt; records = tt }
-unseen_by h rs (Ok (Fired items id)) good = record { changes = tt; records = good }
-unseen_by h rs (Err reason) good = record { changes = tt; records = tt }
+unseen_by h rs (Ok (Invoked items plan shows)) good = record { changes = tt; records = good; archived = tt }
+unseen_by h rs (Ok Quiet) good = record { changes = tt; records = tt; archived = tt }
+unseen_by h rs (Ok (Fired items id)) good = record { changes = tt; records = good; archived = tt }
+unseen_by h rs (Err reason) good = record { changes = tt; records = tt; archived = tt }
 
 pub some_or : (P : FullName → Type 0) (o : Option FullName) (reason : Reason) → IfSome o P → IfOk (or_else o reason) P
 some_or P None reason h = tt

@@ -12,12 +12,13 @@ use Rattle.ow_http.specs.declared.request.Request.{Request}
 use Rattle.ow_reads.specs.View.{View}
 use Rattle.ow_reads.specs.declared.acts.Reading.{Reading}
 use Rattle.ow_tenant.specs.Table.{Table}
-use Rattle.ow_decide.specs.Asking.{IsOfView, ReadsChangeNothing, reply_in}
+use Rattle.ow_decide.specs.Asking.{IsOfView, ReadsChangeNothing, reply_in, request_done}
 use Rattle.ow_decide.specs.Sight.{Sight}
-use Rattle.ow_decide.specs.Decision.{Decision, commits, items_changes}
+use Rattle.ow_decide.specs.Decision.{Decision, OtherChange, Same, commits, items_changes, with_others}
 use Rattle.ow_decide.specs.declared.events.Event.TheVariants as events
 use Rattle.ow_decide.specs.declared.events.Told.{Told}
 use Rattle.ow_decide.specs.declared.replies.Reply.{Reply}
+use Rattle.ow_decide.proofs.ArchiveLaws.{asked_same}
 use Rattle.ow_hall.specs.Comes.{Answers, Fails, HallView, Holds, Replies, Stays, Wants, at_hall, decided}
 use Rattle.ow_hall.specs.History.{counted, posting, seen, sight}
 use Rattle.ow_hall.specs.Ledger.{Ledger, posted, posted_as}
@@ -27,15 +28,17 @@ use Rattle.ow_hall.specs.declared.posting.Posting.TheVariants.{Booked, Quiet, De
 use Rattle.ow_isolation.specs.Reads.{IsEntryOfRead, IsLeft, IsRead, LeavesHalls, RepliesOfView, finds_full, read_reply, read_told}
 use Rattle.ow_isolation.proofs.ReadLaws.{answers_of_view, leaves_all, views_by}
 
-none_committed : (d : Decision) → d.items ≡ [] → d.changes ≡ [] → commits d ≡ []
-none_committed d items changes =
-    ap (λ (cs : List Change). flat_map row_changes cs ++ items_changes d.items) changes ∙ ap (λ (is : Trace). items_changes is) items
+none_committed : (d : Decision) → d.items ≡ [] → d.changes ≡ [] → d.others ≡ Same → commits d ≡ []
+none_committed d items changes same =
+    ap (λ (change : OtherChange). with_others change (flat_map row_changes d.changes ++ items_changes d.items)) same
+    ∙ (ap (λ (cs : List Change). flat_map row_changes cs ++ items_changes d.items) changes ∙ ap (λ (is : Trace). items_changes is) items)
 
 -- nothing is committed at a read
 read_commits : {P : Type 0} → ReadsChangeNothing → (old : HallView P) (at : ℕ) (r : Request) (reading : Reading) → IsRead r reading → commits (decided old at (events.Asked r)) ≡ []
 read_commits quiet old at r reading reads =
     let leaves = quiet (sight old.tenants (seen old.tenants old.ledger.entries) (counted old.ledger.entries) (at_hall old at)) reading (parts_of r) reads in
     none_committed (decided old at (events.Asked r)) leaves.0 leaves.1
+    (asked_same (request_done (sight old.tenants (seen old.tenants old.ledger.entries) (counted old.ledger.entries) (at_hall old at)) (parts_of r)))
 
 told_reply : (full : Bool) (W : View) (reading : Reading) (r : Request) → reply_in (read_told full W reading r) ≡ Some (read_reply full W reading r)
 told_reply true W reading r = refl

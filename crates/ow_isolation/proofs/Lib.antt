@@ -2,6 +2,7 @@ pub mod ReadLaws
 pub mod HallLaws
 pub mod ListLaws
 pub mod HiddenRows
+pub mod Archived
 pub mod UnseenLaws
 pub mod CauseLaws
 pub mod StepLaws

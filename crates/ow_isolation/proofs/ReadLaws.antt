@@ -1,6 +1,6 @@
 -- A read is answered of what its key may see, and leaves all as it was.
 use Rattle.std.proofs.Common.{◌≡◌, ◌++◌, ◌∙◌, ℕ, List, [], ◌∷◌, Bool, true, false, if◌then◌else◌, Option, Some, None, Result, Ok, Err, option_map, refl, sym, ap, subst}
-use Rattle.ow_floor.specs.Trace.{Trace, all_records}
+use Rattle.ow_floor.specs.Trace.{Trace, shown_records}
 use Rattle.ow_value.specs.Value.{V}
 use Rattle.ow_http.specs.Pair.{Pair}
 use Rattle.ow_http.specs.Parts.{Parts}
@@ -26,7 +26,7 @@ use Rattle.ow_tenant.specs.Table.{Table}
 use Rattle.ow_tenant.specs.Tenants.{holder_of}
 use Rattle.ow_tenant.specs.declared.entries.Holder.{Holder}
 use Rattle.ow_decide.specs.Asking.{Done, IsOfView, ReadsChangeNothing, act_done, ask_decision, at_once, request_done, shown_done}
-use Rattle.ow_decide.specs.Decision.{Decision, all_changed}
+use Rattle.ow_decide.specs.Decision.{Decision, OtherChange, Same, all_changed, others_after}
 use Rattle.ow_decide.specs.Decisions.{decide}
 use Rattle.ow_decide.specs.Reasons.{book_full}
 use Rattle.ow_decide.specs.Sight.{Sight, is_full, room_for, view_of}
@@ -35,6 +35,7 @@ use Rattle.ow_decide.specs.declared.events.Event.TheVariants as events
 use Rattle.ow_decide.specs.declared.events.Told.TheVariants as told
 use Rattle.ow_decide.specs.declared.waits.Waits.{Waits}
 use Rattle.ow_decide.specs.declared.waits.Waits.TheVariants.{Keep}
+use Rattle.ow_decide.proofs.ArchiveLaws.{asked_same}
 use Rattle.ow_hall.specs.History.{History, Seen, after, counted, seen, sight, waits_after}
 use Rattle.ow_isolation.specs.Reads.{AnswersOfView, LeavesAll, LeavesViews, finds_full, read_told}
 
@@ -67,13 +68,13 @@ told_by viewed S h reading p true act held full = full_so S reading p act full
 told_by viewed S h reading p false act held full = viewed S h reading p act full held
 
 -- what is made of something that is there
-held_by : {X Y : Type 0} (f : X → Y) (o : Option X) (y : Y) → option_map f o ≡ Some y → (x : X) × (o ≡ Some x) × (f x ≡ y)
+pub held_by : {X Y : Type 0} (f : X → Y) (o : Option X) (y : Y) → option_map f o ≡ Some y → (x : X) × (o ≡ Some x) × (f x ≡ y)
 held_by f None y is = let none : None ≡ Some y = is in cc
 held_by f (Some x) y is = let same : Some (f x) ≡ Some y = is in (x, refl, cc)
 
 pub answers_of_view : (viewed : (S : Sight) → IsOfView S) (t : Table) (B : History) → AnswersOfView t B
 answers_of_view viewed t B at r reading W reads sees =
-    let held = held_by (view_over (seen t B).rows (all_records (seen t B).trace)) (holder_of r.key t) W sees in
+    let held = held_by (view_over (seen t B).rows (shown_records (seen t B).trace)) (holder_of r.key t) W sees in
     told_by viewed (sight t (seen t B) (counted B) at) held.0 reading (parts_of r) (finds_full B r) reads held.1 refl
     ∙ ap (λ (V : View). read_told (finds_full B r) V reading r) held.2
 
@@ -98,19 +99,20 @@ read_keeps S reading p act =
     (keeps_then (room_for S p.size) (λ (u : Unit {0}). asker S.tenants p.key >>= (λ (k : Holder). act_done S k (Reads reading) p)) (λ u.
     keeps_then (asker S.tenants p.key) (λ (k : Holder). act_done S k (Reads reading) p) (λ k. shown_keeps (read_done (view_of S k) reading p)))))
 
-abbrev made : List Change → Trace → Waits → Seen → Seen
-made cs items ws s = record { rows = all_changed cs s.rows; trace = items ++ s.trace; waits = waits_after ws s.waits }
+abbrev made : List Change → Trace → Waits → OtherChange → Seen → Seen
+made cs items ws change s = record { rows = all_changed cs s.rows; trace = items ++ s.trace; waits = waits_after ws s.waits; others = others_after change s.others }
 
 -- a decision of no change and no item leaves all
-after_nothing : (d : Decision) (s : Seen) → d.items ≡ [] → d.changes ≡ [] → d.waits ≡ Keep → after d s ≡ s
-after_nothing d s items changes waits =
-    ap (λ (cs : List Change). made cs d.items d.waits s) changes
-    ∙ (ap (λ (is : Trace). made [] is d.waits s) items ∙ ap (λ (ws : Waits). made [] [] ws s) waits)
+after_nothing : (d : Decision) (s : Seen) → d.items ≡ [] → d.changes ≡ [] → d.waits ≡ Keep → d.others ≡ Same → after d s ≡ s
+after_nothing d s items changes waits same =
+    ap (λ (cs : List Change). made cs d.items d.waits d.others s) changes
+    ∙ (ap (λ (is : Trace). made [] is d.waits d.others s) items
+    ∙ (ap (λ (ws : Waits). made [] [] ws d.others s) waits ∙ ap (λ (change : OtherChange). made [] [] Keep change s) same))
 
 read_leaves : ReadsChangeNothing → (S : Sight) (r : Request) (reading : Reading) (s : Seen) → act_of r.route r.method ≡ Some (Reads reading) → after (decide S (events.Asked r)) s ≡ s
 read_leaves quiet S r reading s reads =
     let leaves = quiet S reading (parts_of r) reads in
-    after_nothing (decide S (events.Asked r)) s leaves.0 leaves.1 (read_keeps S reading (parts_of r) reads)
+    after_nothing (decide S (events.Asked r)) s leaves.0 leaves.1 (read_keeps S reading (parts_of r) reads) (asked_same (request_done S (parts_of r)))
 
 pub leaves_all : ReadsChangeNothing → (t : Table) (B : History) → LeavesAll t B
 leaves_all quiet t B e r reading read =
@@ -119,10 +121,10 @@ leaves_all quiet t B e r reading read =
 
 -- what a key may see is made of what is seen
 pub views_by : (t u : Table) (s v : Seen) (key : Option (List ℕ)) → t ≡ u → s ≡ v
-    → option_map (view_over s.rows (all_records s.trace)) (holder_of key t) ≡ option_map (view_over v.rows (all_records v.trace)) (holder_of key u)
+    → option_map (view_over s.rows (shown_records s.trace)) (holder_of key t) ≡ option_map (view_over v.rows (shown_records v.trace)) (holder_of key u)
 views_by t u s v key tables seen =
-    ap (λ (x : Table). option_map (view_over s.rows (all_records s.trace)) (holder_of key x)) tables
-    ∙ ap (λ (x : Seen). option_map (view_over x.rows (all_records x.trace)) (holder_of key u)) seen
+    ap (λ (x : Table). option_map (view_over s.rows (shown_records s.trace)) (holder_of key x)) tables
+    ∙ ap (λ (x : Seen). option_map (view_over x.rows (shown_records x.trace)) (holder_of key u)) seen
 
 pub leaves_views : ReadsChangeNothing → (t : Table) (B : History) → LeavesViews t B
 leaves_views quiet t B e r reading key read = views_by t t (seen t (e ∷ B)) (seen t B) key refl (leaves_all quiet t B e r reading read)

@@ -64,4 +64,4 @@ pub replies_leave : (t : Table) (B : History) → RepliesLeave t B
 replies_leave t B e run reply key h is holds hidden =
     unseen_leaves t B e key h holds (ap is_opening is)
     (subst (λ (v : Event). IsUnseen h (seen t B).rows (decision t B e.at v)) (sym is)
-    (record { changes = tt; records = reply_unseen h (sight t (seen t B) (counted B) e.at) run reply (seen_sound t B) (all_caused t B) hidden }))
+    (record { changes = tt; records = reply_unseen h (sight t (seen t B) (counted B) e.at) run reply (seen_sound t B) (all_caused t B) hidden; archived = tt }))

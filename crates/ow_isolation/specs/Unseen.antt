@@ -9,13 +9,14 @@ use Rattle.ow_floor.specs.declared.runs.Run.{Run}
 use Rattle.ow_http.specs.declared.request.Request.{Request}
 use Rattle.ow_names.specs.Path.{home}
 use Rattle.ow_records.specs.declared.activations.Activation.{Activation}
+use Rattle.ow_records.specs.declared.record.Record.{Record}
 use Rattle.ow_reads.specs.Acts.{act_of}
 use Rattle.ow_reads.specs.Reading.{namespace_of}
 use Rattle.ow_reads.specs.View.{is_visible_record, may_read}
 use Rattle.ow_reads.specs.declared.acts.Act.TheVariants.{Fires, Invokes}
 use Rattle.ow_tables.specs.Contents.{Change}
 use Rattle.ow_tables.specs.Rows.{changed, is_row}
-use Rattle.ow_decide.specs.Decision.{Decision}
+use Rattle.ow_decide.specs.Decision.{Archives, Decision, OtherChange}
 use Rattle.ow_decide.specs.Decisions.{is_opening}
 use Rattle.ow_decide.specs.declared.events.Event.TheVariants as events
 use Rattle.ow_hall.specs.History.{History, decision, seen}
@@ -51,11 +52,17 @@ AreUnseenChanges h rs (c ∷ cs) = IsUnseenChange h rs c × AreUnseenChanges h (
 
 -- ---- events
 
--- over these rows a decision changes only such rules and triggers. Each record that it adds, also that of a fire, is of a namespace in
--- which the holder may not read
+-- the records that are archived
+abbrev pub archived_by : OtherChange → List Record
+archived_by (Archives until before due) = due
+archived_by change = []
+
+-- over these rows a decision changes only such rules and triggers. Each record that it adds, also that of a fire, and each that it
+-- archives is of a namespace in which the holder may not read
 pub record IsUnseen (h : Holder) (rs : List Row) (d : Decision) : Type 0 where
   pub changes : AreUnseenChanges h rs d.changes
   pub records : AllByRecursion (λ r. is_visible_record h.rights r ≡ false) (records d.items)
+  pub archived : AllByRecursion (λ r. is_visible_record h.rights r ≡ false) (archived_by d.others)
 
 -- the entry of such an event, other than an opening, leaves what the holder may see
 abbrev pub UnseenLeaves : Table → History → Type 0

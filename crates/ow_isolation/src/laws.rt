@@ -1,4 +1,5 @@
 // Isolation of reads. The contracts are the laws; the functions call the laws that they rest on.
+ghost use Rattle.ow_isolation.specs.Archived.{ArchivedAreUnseen};
 ghost use Rattle.ow_isolation.specs.Beginnings.{ReadsAreIsolated};
 ghost use Rattle.ow_isolation.specs.Causes.{AreOfCauses, RecordsAreSeenAsCauses};
 ghost use Rattle.ow_isolation.specs.Lists.{HallsAnswerAlike, LogsAnswerAlike};
@@ -58,8 +59,13 @@ pub fn legal_books_isolate_reads()
     reads_change_nothing();
 }
 
-/// An event that changes only rules and triggers of namespaces in which a key may not read, and ends only activations of such namespaces,
-/// leaves the key's view: a change of a rule's status, for one.
+/// No key's view has a record that a sweep archived, so no read shows one.
+pub fn archived_records_are_unseen()
+    ensures { (t : Table) (B : History) → ArchivedAreUnseen t B }
+{}
+
+/// An event that changes only rules and triggers of namespaces in which a key may not read, and ends and archives only activations of such
+/// namespaces, leaves the key's view: a change of a rule's status, for one.
 pub fn unseen_events_leave_views()
     ensures { (t : Table) (B : History) → UnseenLeaves t B }
 {}

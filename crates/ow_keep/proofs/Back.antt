@@ -35,20 +35,22 @@ use Rattle.ow_records.proofs.IdLaws.{digits_of-decimal, hex_number-hex_16, id_ba
 use Rattle.ow_records.proofs.PathBack.{full_back, path_back}
 use Rattle.ow_records.proofs.ReadBack.{fields_back, kind_back, limits_back, name_back, version_back}
 use Rattle.ow_tables.specs.Builtin.{is_builtin}
-use Rattle.ow_row_text.specs.Item.{item_key, item_text, open_value}
+use Rattle.ow_row_text.specs.Item.{archive_value, item_key, item_text, open_value}
 use Rattle.ow_row_text.specs.declared.item.Item.{Item}
-use Rattle.ow_row_text.specs.declared.item.Item.TheVariants.{Version, Count, Row, Open, Done}
+use Rattle.ow_row_text.specs.declared.item.Item.TheVariants.{Version, Archive, Count, Note, Row, Open, Done}
+use Rattle.ow_row_text.specs.declared.item.RowsVersion.TheVariants as versions
 use Rattle.ow_keep.specs.Allowed.{are_few, are_written, is_binding, is_entity, is_version, is_written, stands_alone}
 use Rattle.ow_keep.specs.EntityIn.{at_status, entity_from, entity_with as entity_made}
 use Rattle.std.specs.Result.{result_ok}
-use Rattle.ow_keep.specs.ItemIn.{count_with, entity_with, item_from}
+use Rattle.ow_keep.specs.ItemIn.{archive_from, count_with, entity_with, item_from, note_with}
 use Rattle.ow_keep.specs.Kept.{MayStand}
 use Rattle.ow_keep.specs.Known.{IsItem, IsKnownAction, IsKnownPackage, IsKnownRule, IsKnownTrigger}
 use Rattle.ow_keep.specs.OpenIn.{full_name_of, open_from, open_with}
 use Rattle.ow_row_text.specs.Sorted.{Entries}
 use Rattle.ow_keep.proofs.Packages.{package_back}
 use Rattle.ow_keep.proofs.Rules.{rule_back, status_back, trigger_back}
-use Rattle.ow_keep.proofs.Values.{action_is, open_is, package_is, record_is, rule_is, trigger_is}
+use Rattle.ow_keep.proofs.Utf8.{utf8_back}
+use Rattle.ow_keep.proofs.Values.{action_is, archive_is, open_is, package_is, record_is, rule_is, trigger_is}
 
 -- ---- an activation that has not ended
 
@@ -116,8 +118,11 @@ value_back v limit h d m = ap result_ok (reading-compact v limit h (leb-true (de
 
 pub item_back : (all : Entries) (i : Item) → IsItem i → MayStand all i → item_from (item_key i) (item_text i) ≡ Some i
 unfolding item_text row_value
-item_back all Version h s = refl
+item_back all (Version versions.First) h s = refl
+item_back all (Version versions.Second) h s = refl
+item_back all (Archive a) h s = ap (option_and_then archive_from) (value_back (archive_value a) 100 (archive_is a h.0 h.1) refl (omega arith))
 item_back all (Count namespace count) h s = λ i. count_with (hex_number-hex_16 namespace h.0 i) (digits_of-decimal count h.1 i)
+item_back all (Note n) h s = λ i. note_with (utf8_back n.key h.0 i) (digits_of-decimal n.value h.1 i)
 item_back all (Row (rows.Action a)) h s =
     (λ i. entity_with kinds.Action (full_name_back a.name h.name i) (value_back (action_value a) 100 (action_is a h) s.shallow (omega arith) i))
     ∙ ap (option_map Row) (action_back a h (and_parts (is_entity (rows.Action a)) (not (is_builtin (rows.Action a))) s.allowed).0)

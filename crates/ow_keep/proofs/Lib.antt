@@ -1,6 +1,7 @@
 pub mod Deep
 pub mod Goods
 pub mod Values
+pub mod Utf8
 pub mod Packages
 pub mod Rules
 pub mod Back

@@ -1,5 +1,5 @@
 -- No moment in kept rows is after the greatest.
-use Rattle.std.proofs.Common.{◌≡◌, ◌≤◌, ◌==◌, ◌&&◌, ℕ, List, [], ◌∷◌, Bool, true, false, cond, nat_le, not, drop, codes, is_some, IfSome, IfOk, Option, Some, None, option_and_then, option_map, Result, Ok, Err, refl, subst, arith}
+use Rattle.std.proofs.Common.{◌≡◌, ◌≤◌, ◌==◌, ◌&&◌, ◌||◌, ℕ, List, [], ◌∷◌, Bool, true, false, cond, length, nat_le, not, drop, codes, is_some, IfSome, IfOk, Option, Some, None, option_and_then, option_map, Result, Ok, Err, refl, subst, arith}
 use Rattle.std.specs.List.{AllByRecursion}
 use Rattle.std.proofs.Math.Nat.{max-le}
 use Rattle.std.proofs.lemmas.Bool.{and_parts}
@@ -23,22 +23,26 @@ use Rattle.ow_records.specs.declared.unrecorded.Unrecorded.{Unrecorded}
 use Rattle.ow_traits.specs.Rows.{text_of}
 use Rattle.ow_row_text.specs.Sorted.{Entries}
 use Rattle.ow_row_text.specs.declared.item.Item.{Item}
-use Rattle.ow_row_text.specs.declared.item.Item.TheVariants.{Version, Count, Row, Open, Done}
-use Rattle.ow_keep.specs.Allowed.{are_durations, confirmed, has_record, is_called, is_confirmed, is_drawn, is_formed, is_moment, item_at}
+use Rattle.ow_row_text.specs.declared.item.Archive.{Archive as KeptArchive}
+use Rattle.ow_row_text.specs.declared.item.Item.TheVariants.{Version, Archive, Count, Note, Row, Open, Done}
+use Rattle.ow_row_text.specs.declared.item.Note.{Note as KeptNote}
+use Rattle.ow_keep.specs.Allowed.{are_durations, confirmed, has_record, is_archive, is_called, is_confirmed, is_drawn, is_formed, is_moment, is_note, item_at}
 use Rattle.ow_keep.specs.EntityIn.{entity_from}
-use Rattle.ow_keep.specs.ItemIn.{count_with, deep_value_of, entity_of, entity_with, item_from, value_of}
+use Rattle.ow_keep.specs.ItemIn.{archive_from, archive_with, as_utf8, count_with, deep_value_of, entity_of, entity_with, item_from, note_with, value_of}
 use Rattle.ow_keep.specs.Judged.{gathered, judged, or_key, versioned}
 use Rattle.ow_keep.specs.Kept.{MayStand}
 use Rattle.ow_keep.specs.Known.{IsItem}
 use Rattle.ow_keep.specs.Moments.{greatest_kept_moment, item_moment}
 use Rattle.ow_keep.specs.OpenIn.{full_name_of, open_from}
-use Rattle.ow_keep.specs.declared.allowed.TheConstants.{GREATEST_MOMENT}
+use Rattle.ow_keep.specs.declared.allowed.TheConstants.{GREATEST_COUNT, GREATEST_MOMENT, LONGEST_NOTE_KEY}
 use Rattle.ow_keep.proofs.Whole.{judged-sound}
 
 -- a record ends no earlier than it starts
 abbrev IsInOrder : Item → Type 0
-IsInOrder Version = Unit {0}
+IsInOrder (Version v) = Unit {0}
+IsInOrder (Archive a) = Unit {0}
 IsInOrder (Count namespace count) = Unit {0}
+IsInOrder (Note n) = Unit {0}
 IsInOrder (Row r) = Unit {0}
 IsInOrder (Open u) = Unit {0}
 IsInOrder (Done r) = r.span.start ≤ r.span.end
@@ -46,9 +50,17 @@ IsInOrder (Done r) = r.span.start ≤ r.span.end
 small_at : (moment : ℕ) → is_moment moment ≡ true → moment ≤ GREATEST_MOMENT
 small_at moment e = grind (arith, nat_tests)
 
+archive_small : (a : KeptArchive) → is_archive a ≡ true → a.last ≤ GREATEST_MOMENT
+archive_small a e = small_at a.last (and_parts (is_moment a.last) (nat_le a.number GREATEST_COUNT && (nat_le 1 a.number || a.last == 0)) e).0
+
+note_small : (n : KeptNote) → is_note n ≡ true → n.value ≤ GREATEST_MOMENT
+note_small n e = small_at n.value (and_parts (is_moment n.value) (nat_le 1 (length n.key) && nat_le (length n.key) LONGEST_NOTE_KEY) e).0
+
 item_small : (all : Entries) (i : Item) → MayStand all i → IsInOrder i → item_moment i ≤ GREATEST_MOMENT
-item_small all Version may order = omega arith
+item_small all (Version v) may order = omega arith
+item_small all (Archive a) may order = archive_small a may.allowed
 item_small all (Count namespace count) may order = omega arith
+item_small all (Note n) may order = note_small n may.allowed
 item_small all (Row r) may order = omega arith
 item_small all (Open u) may order =
     let called = is_called u.cause u.version u.binding && is_formed u.form u.kind in
@@ -64,8 +76,10 @@ items_small all (i ∷ is) each order = max-le (item_small all i each.0 order.0)
 -- ---- of items that are known
 
 known_order : (i : Item) → IsItem i → IsInOrder i
-known_order Version known = tt
+known_order (Version v) known = tt
+known_order (Archive a) known = tt
 known_order (Count namespace count) known = tt
+known_order (Note n) known = tt
 known_order (Row r) known = tt
 known_order (Open u) known = tt
 known_order (Done r) known = known.span.order
@@ -85,6 +99,20 @@ MayOrder o = IfSome o IsInOrder
 by_test : (b : Bool) (x y : Option Item) → MayOrder x → MayOrder y → MayOrder (cond b x y)
 by_test true x y h k = h
 by_test false x y h k = k
+
+archives_order : (last number : Option ℕ) → MayOrder (archive_with last number)
+archives_order None number = tt
+archives_order (Some l) None = tt
+archives_order (Some l) (Some n) = tt
+
+archive_order : (o : Option V) → MayOrder (option_and_then archive_from o)
+archive_order None = tt
+archive_order (Some v) = archives_order (number_in (codes "last") v) (number_in (codes "number") v)
+
+notes_order : (key : Option (List ℕ)) (value : Option ℕ) → MayOrder (note_with key value)
+notes_order None value = tt
+notes_order (Some k) None = tt
+notes_order (Some k) (Some n) = tt
 
 counts_order : (namespace count : Option ℕ) → MayOrder (count_with namespace count)
 counts_order None count = tt
@@ -148,11 +176,13 @@ records_order (Some v) = fields_order
 item_order : (key s : List ℕ) → MayOrder (item_from key s)
 item_order [] s = tt
 item_order (byte ∷ key) s =
-    by_test (byte == 99) _ _ (counts_order (hex_number (drop 5 key)) (digits_of s))
+    by_test (byte == 97) _ _ (archive_order (value_of s))
+    (by_test (byte == 99) _ _ (counts_order (hex_number (drop 5 key)) (digits_of s))
     (by_test (byte == 100) _ _ (records_order (deep_value_of s))
+    (by_test (byte == 110) _ _ (notes_order (as_utf8 (drop 4 key)) (digits_of s))
     (by_test (byte == 111) _ _ (opens_order (option_and_then open_from (value_of s)))
     (by_test (byte == 114) _ _ (entity_order (drop 3 key) s)
-    (by_test (byte == 118) _ _ tt tt))))
+    (by_test (byte == 118) _ _ tt tt))))))
 
 confirmed_order : (all : Entries) (r : List ℕ × List ℕ) (o : Option Item) → MayOrder o → MayOrder (option_and_then (confirmed all r) o)
 confirmed_order all r None order = tt

@@ -48,7 +48,8 @@ use Rattle.ow_records.specs.declared.notes.Notes.{Notes}
 use Rattle.ow_records.specs.declared.record.Record.{Record}
 use Rattle.ow_records.specs.declared.unrecorded.Unrecorded.{Unrecorded}
 use Rattle.ow_records.proofs.Sorting.{is_less}
-use Rattle.ow_row_text.specs.Item.{open_members, open_value}
+use Rattle.ow_row_text.specs.Item.{archive_value, open_members, open_value}
+use Rattle.ow_row_text.specs.declared.item.Archive.{Archive}
 use Rattle.ow_keep.specs.Known.{IsKnownAction, IsKnownPackage, IsKnownRule, IsKnownTrigger}
 
 -- ---- texts that are written out
@@ -204,6 +205,11 @@ trigger_is t h = named (
     ∷ (codes "publish", boolean t.publish)
     ∷ (codes "version", text (shown_version t.version))
     ∷ []) refl (pairs_are t.notes h.notes, (IsName-utf8 t.name.name h.name.name, (shown_utf8 t.name.namespace t.name.package h.name.inside h.name.namespace, (pairs_are t.params h.params, (tt, (version_utf8 t.version h.version, tt))))))
+
+-- ---- the archive
+
+pub archive_is : (a : Archive) → a.last < 2 ^ 64 → a.number < 2 ^ 64 → IsValue (archive_value a)
+archive_is a h k = named ((codes "last", whole (pos a.last)) ∷ (codes "number", whole (pos a.number)) ∷ []) refl (h, (k, tt))
 
 -- ---- parts of records
 

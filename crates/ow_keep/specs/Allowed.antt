@@ -1,5 +1,6 @@
 -- Which items are allowed beside which rows, and the item of a row that is allowed.
-use Rattle.std.specs.Prelude.{ℕ, ◌&&◌, List, [], ◌∷◌, Bool, true, false, length, nat_le, is_some, not, if◌then◌else◌, option_and_then, Option, Some, None}
+use Rattle.std.specs.Prelude.{ℕ, ◌==◌, ◌&&◌, ◌||◌, List, [], ◌∷◌, Bool, true, false, codes, length, nat_le, nat_eq, is_some, not, if◌then◌else◌, option_and_then, Option, Some, None}
+use Rattle.std.specs.List.{starts_with}
 use Rattle.std.specs.Str.{bytes_eq}
 use Rattle.ow_value.specs.Value.{depth}
 use Rattle.ow_value.specs.Decimal.{digits_of}
@@ -24,15 +25,21 @@ use Rattle.ow_tables.specs.Builtin.{is_builtin}
 use Rattle.ow_tables.specs.declared.sequences.TheConstants.{MOST_COMPONENTS}
 use Rattle.ow_row_text.specs.Item.{count_key, done_key, item_key, item_text, open_value}
 use Rattle.ow_row_text.specs.Sorted.{Entries}
+use Rattle.ow_row_text.specs.declared.item.Archive.{Archive as KeptArchive}
 use Rattle.ow_row_text.specs.declared.item.Item.{Item}
-use Rattle.ow_row_text.specs.declared.item.Item.TheVariants.{Version, Count, Row, Open, Done}
+use Rattle.ow_row_text.specs.declared.item.Item.TheVariants.{Version, Archive, Count, Note, Row, Open, Done}
+use Rattle.ow_row_text.specs.declared.item.Note.{Note as KeptNote}
+use Rattle.ow_row_text.specs.declared.item.RowsVersion.{RowsVersion}
+use Rattle.ow_row_text.specs.declared.item.RowsVersion.TheVariants as versions
 use Rattle.ow_keep.specs.ItemIn.{item_from}
-use Rattle.ow_keep.specs.declared.allowed.TheConstants.{GREATEST_MOMENT, GREATEST_COUNT}
+use Rattle.ow_keep.specs.declared.allowed.TheConstants.{GREATEST_MOMENT, GREATEST_COUNT, LONGEST_NOTE_KEY}
 
 -- no text of the item nests deeper than texts are read
 abbrev pub is_shallow : Item → Bool
-is_shallow Version = true
+is_shallow (Version v) = true
+is_shallow (Archive a) = true
 is_shallow (Count namespace count) = true
+is_shallow (Note n) = true
 is_shallow (Row r) = nat_le (depth (row_value r)) most_nested
 is_shallow (Open u) = nat_le (depth (open_value u)) most_nested
 is_shallow (Done r) = nat_le (depth (record_value r)) most_nested_record
@@ -121,9 +128,35 @@ is_fit_open u = is_moment u.at && (is_called u.cause u.version u.binding && is_f
 abbrev pub is_fit_record : Record → Bool
 is_fit_record r = is_moment r.span.end && (is_called r.cause r.version r.notes.binding && are_durations r.notes)
 
+-- the row of the archive is there
+abbrev pub has_archive : Entries → Bool
+has_archive all = is_some (text_of (codes "archived") all)
+
+abbrev pub is_note_key : List ℕ → Bool
+is_note_key key = starts_with nat_eq key (codes "note/")
+
+-- a row of a note is there
+abbrev pub has_note : Entries → Bool
+has_note [] = false
+has_note (e ∷ es) = is_note_key e.0 || has_note es
+
+-- rows of the first version have no archive and no note, and those of the second have an archive
+abbrev pub is_version_of : Entries → RowsVersion → Bool
+is_version_of all versions.First = not (has_archive all) && not (has_note all)
+is_version_of all versions.Second = has_archive all
+
+-- where nothing was archived, no end is the greatest
+abbrev pub is_archive : KeptArchive → Bool
+is_archive a = is_moment a.last && (nat_le a.number GREATEST_COUNT && (nat_le 1 a.number || a.last == 0))
+
+abbrev pub is_note : KeptNote → Bool
+is_note n = is_moment n.value && (nat_le 1 (length n.key) && nat_le (length n.key) LONGEST_NOTE_KEY)
+
 abbrev pub is_allowed : Entries → Item → Bool
-is_allowed all Version = true
+is_allowed all (Version v) = is_version_of all v
+is_allowed all (Archive a) = is_archive a
 is_allowed all (Count namespace count) = nat_le 1 count && nat_le count GREATEST_COUNT
+is_allowed all (Note n) = is_note n
 is_allowed all (Row r) = is_entity r && not (is_builtin r)
 is_allowed all (Open u) = (is_drawn all u.id && not (has_record all u.id)) && is_fit_open u
 is_allowed all (Done r) = is_drawn all r.id && is_fit_record r

@@ -14,7 +14,7 @@ use Rattle.ow_entity.specs.declared.rows.Row.{Row as EntityRow}
 use Rattle.ow_entity.specs.declared.rows.Row.TheVariants as rows
 use Rattle.ow_records.specs.Known.{IsKnown, IsKnownUnrecorded}
 use Rattle.ow_row_text.specs.declared.item.Item.{Item}
-use Rattle.ow_row_text.specs.declared.item.Item.TheVariants.{Version, Count, Row, Open, Done}
+use Rattle.ow_row_text.specs.declared.item.Item.TheVariants.{Version, Archive, Count, Note, Row, Open, Done}
 
 pub record IsKnownAction (a : Action) : Type 0 where
   pub name : IsFullName a.name
@@ -56,8 +56,10 @@ IsKnownEntity (rows.Rule r) = IsKnownRule r
 IsKnownEntity (rows.Trigger t) = IsKnownTrigger t
 
 abbrev pub IsItem : Item → Type 0
-IsItem Version = Unit {0}
+IsItem (Version v) = Unit {0}
+IsItem (Archive a) = (a.last < 2 ^ 64) × (a.number < 2 ^ 64)
 IsItem (Count namespace count) = (namespace < 2 ^ 64) × (count < 2 ^ 64)
+IsItem (Note n) = IsUtf8 n.key × (n.value < 2 ^ 64)
 IsItem (Row r) = IsKnownEntity r
 IsItem (Open u) = IsKnownUnrecorded u
 IsItem (Done r) = IsKnown r

@@ -22,9 +22,9 @@ ItemsReadBack = (all : Entries) (i : Item) → IsItem i → MayStand all i → i
 abbrev pub SplitIsKept : Type 0
 SplitIsKept = (is : List Item) → AreRows (map item_row is) → rows_of (entries (split is)) ≡ map item_row is
 
--- the greatest moment of the items is the same where each kind is taken by itself
+-- the greatest moment of the items of rows is the same where each kind is taken by itself
 abbrev pub MomentOfSplit : Type 0
-MomentOfSplit = (is : List Item) → parts_moment (split is) ≡ greatest_kept_moment is
+MomentOfSplit = (is : List Item) → AreRows (map item_row is) → parts_moment (split is) ≡ greatest_kept_moment is
 
 -- no moment of items that are allowed among the rows is after the greatest
 abbrev pub MomentsAreSmall : Type 0

@@ -7,12 +7,15 @@ ghost use Rattle.ow_value.specs.View.{view};
 ghost use Rattle.ow_names.specs.Path.{home};
 ghost use Rattle.ow_entity.specs.declared.rows.Row.TheVariants as rows;
 ghost use Rattle.ow_row_text.specs.declared.item.Item.TheVariants as items;
-ghost use Rattle.ow_keep.specs.Allowed.{are_durations, are_written, has_record, is_allowed, is_binding, is_called, is_cause, is_confirmed, is_drawn, is_duration, is_entity, is_formed, is_moment, is_reached, is_row_of, is_written, stands_alone};
+ghost use Rattle.ow_keep.specs.Allowed.{are_durations, are_written, has_archive, has_note, has_record, is_allowed, is_archive, is_binding, is_called, is_cause, is_confirmed, is_drawn, is_duration, is_entity, is_formed, is_moment, is_note, is_note_key, is_reached, is_row_of, is_version_of, is_written, stands_alone};
 
 use ow_entity::{Action, Package, Row, Rule, Trigger, write_entity};
 use ow_names::{EntityName, FullName};
 use ow_records::{ExecKind, Form, Id, Notes, Record, Unrecorded, write_record};
-use ow_row_text::{Item, count_key, count_row, done_key, entity_key, open_row};
+use ow_row_text::{
+    Archive, Item, Note, RowsVersion, archive_row, count_key, count_row, done_key, entity_key,
+    note_row, open_row, version_row,
+};
 use ow_tables::{MOST_COMPONENTS, is_builtin};
 use ow_traits::Rows;
 use ow_value::{MOST_NESTED, MOST_NESTED_RECORD, NoMemory, Str, Val, depth, digits_of, write_val};
@@ -23,6 +26,9 @@ pub const GREATEST_MOMENT: u64 = 253_402_300_799_999;
 
 /// The greatest last count of a namespace.
 pub const GREATEST_COUNT: u64 = 9_223_372_036_854_775_807;
+
+/// How many bytes the key of a note has at most.
+pub const LONGEST_NOTE_KEY: usize = 1024;
 
 /// Whether the item is written as the row, and is allowed among all rows.
 pub(crate) fn is_confirmed(
@@ -47,12 +53,38 @@ fn is_row_of(alloc: Global, row: &(Str, Str), item: &Item) -> Result<bool, NoMem
     ensures { IfOk result (λ b. b ≡ is_row_of item.now row.now) }
 {
     match item {
-        Item::Version => Ok(row.0.as_str() == "version" && row.1.as_str() == "1"),
+        Item::Version(version) => is_version_row(alloc, row, *version),
+        Item::Archive(archive) => is_archive_row(alloc, row, *archive),
         Item::Count { namespace, count } => is_count_row(alloc, row, *namespace, *count),
+        Item::Note(note) => is_note_row(alloc, row, note),
         Item::Row(entity) => is_entity_row(alloc, row, entity),
         Item::Open(activation) => is_open_row(alloc, row, activation),
         Item::Done(ended) => is_done_row(alloc, row, ended),
     }
+}
+
+#[tactic(auto, unfolding(ow_row_text::specs::Item::item_text))]
+fn is_version_row(alloc: Global, row: &(Str, Str), version: RowsVersion) -> Result<bool, NoMemory>
+    ensures { IfOk result (λ b. b ≡ is_row_of (items.Version version) row.now) }
+{
+    let (key, text) = version_row(alloc, version)?;
+    Ok(key.as_str() == row.0.as_str() && text.as_str() == row.1.as_str())
+}
+
+#[tactic(auto, unfolding(ow_row_text::specs::Item::item_text))]
+fn is_archive_row(alloc: Global, row: &(Str, Str), archive: Archive) -> Result<bool, NoMemory>
+    ensures { IfOk result (λ b. b ≡ is_row_of (items.Archive archive) row.now) }
+{
+    let (key, text) = archive_row(alloc, archive)?;
+    Ok(key.as_str() == row.0.as_str() && text.as_str() == row.1.as_str())
+}
+
+#[tactic(auto, unfolding(ow_row_text::specs::Item::item_text))]
+fn is_note_row(alloc: Global, row: &(Str, Str), note: &Note) -> Result<bool, NoMemory>
+    ensures { IfOk result (λ b. b ≡ is_row_of (items.Note note.now) row.now) }
+{
+    let (key, text) = note_row(alloc, note)?;
+    Ok(key.as_str() == row.0.as_str() && text.as_str() == row.1.as_str())
 }
 
 #[tactic(auto, unfolding(ow_row_text::specs::Item::item_text))]
@@ -131,12 +163,64 @@ fn is_allowed(alloc: Global, all: &Rows, item: &Item) -> Result<bool, NoMemory>
     ensures { IfOk result (λ b. b ≡ is_allowed all.now item.now) }
 {
     match item {
-        Item::Version => Ok(true),
+        Item::Version(version) => Ok(is_version_of(all, *version)),
+        Item::Archive(archive) => Ok(is_archive(*archive)),
         Item::Count { count, .. } => Ok(1 <= *count && *count <= GREATEST_COUNT),
+        Item::Note(note) => Ok(is_note(note)),
         Item::Row(entity) => Ok(is_entity(entity) && !is_builtin(entity)),
         Item::Open(activation) => is_allowed_open(alloc, all, activation),
         Item::Done(ended) => is_allowed_done(alloc, all, ended),
     }
+}
+
+// Whether the rows have an archive and notes as this version has them.
+fn is_version_of(all: &Rows, version: RowsVersion) -> bool
+    ensures { result ≡ is_version_of all.now version }
+{
+    let archived = has_archive(all);
+    match version {
+        RowsVersion::First => !archived && !has_note(all),
+        RowsVersion::Second => archived,
+    }
+}
+
+fn has_archive(all: &Rows) -> bool
+    ensures { result ≡ has_archive all.now }
+{
+    all.find("archived").is_some()
+}
+
+fn has_note(all: &Rows) -> bool
+    ensures { result ≡ has_note all.now }
+{
+    let rows = all.as_slice();
+    for row in rows {
+        if is_note_key(row.0.as_str()) {
+            return true;
+        }
+    }
+    false
+}
+
+fn is_note_key(key: &str) -> bool
+    ensures { result ≡ is_note_key key.now }
+{
+    key.as_bytes().starts_with(b"note/".as_slice())
+}
+
+fn is_archive(archive: Archive) -> bool
+    ensures { result ≡ is_archive archive }
+{
+    let moment = is_moment(archive.last);
+    moment && (archive.number <= GREATEST_COUNT && (1 <= archive.number || archive.last == 0))
+}
+
+fn is_note(note: &Note) -> bool
+    ensures { result ≡ is_note note.now }
+{
+    let moment = is_moment(note.value);
+    let length = note.key.len();
+    moment && (1 <= length && length <= LONGEST_NOTE_KEY)
 }
 
 fn is_allowed_open(alloc: Global, all: &Rows, activation: &Unrecorded) -> Result<bool, NoMemory>

@@ -4,7 +4,7 @@ ghost use Rattle.ow_value.specs.View.{view};
 ghost use Rattle.ow_value.specs.Decimal.{digits_of as number_of_digits};
 ghost use Rattle.ow_records.specs.Id.{hex_number};
 ghost use Rattle.std.specs.Result.{result_ok};
-ghost use Rattle.ow_keep.specs.ItemIn.{count_with, deep_value_of, done_of, entity_of, entity_with, item_from, open_of, value_of};
+ghost use Rattle.ow_keep.specs.ItemIn.{archive_from, archive_of, as_utf8, count_with, deep_value_of, done_of, entity_of, entity_with, item_from, note_with, open_of, value_of, version_from};
 ghost use Rattle.ow_keep.specs.OpenIn.{full_name_of};
 ghost use Rattle.ow_value.specs.Read.{reading};
 ghost use Rattle.ow_value.specs.Nesting.{most_nested_record};
@@ -12,9 +12,9 @@ ghost use Rattle.ow_value.specs.Nesting.{most_nested_record};
 use crate::entity_in::entity_from;
 use crate::open_in::{full_name_of, open_from};
 use ow_entity::EntityKind;
-use ow_records::read_fields;
-use ow_row_text::Item;
-use ow_value::{NoMemory, Scratch, Val, ValueRefusal, digits_of, read_deep, read_val_in};
+use ow_records::{number_in, read_fields};
+use ow_row_text::{Archive, Item, Note, RowsVersion};
+use ow_value::{NoMemory, Scratch, Str, Val, ValueRefusal, digits_of, read_deep, read_val_in};
 use std::alloc::Global;
 
 /// The item that the row describes. The scratch is for reading texts.
@@ -30,12 +30,64 @@ pub(crate) fn item_from(
         return Ok(None);
     };
     match *byte {
+        b'a' => archive_item(alloc, scratch, text),
         b'c' => Ok(count_from(rest.get(5..).unwrap_or(&[]), text)),
         b'd' => done_from(alloc, scratch, text),
+        b'n' => note_item(alloc, rest.get(4..).unwrap_or(&[]), text),
         b'o' => open_item(alloc, scratch, text),
         b'r' => entity_item(alloc, scratch, rest.get(3..).unwrap_or(&[]), text),
-        b'v' => Ok(Some(Item::Version)),
+        b'v' => Ok(Some(Item::Version(version_from(text)))),
         _ => Ok(None),
+    }
+}
+
+fn version_from(text: &str) -> RowsVersion
+    ensures { result ≡ version_from text.now }
+{
+    if text == "1" {
+        RowsVersion::First
+    } else {
+        RowsVersion::Second
+    }
+}
+
+fn archive_item(alloc: Global, scratch: &mut Scratch, text: &str) -> Result<Option<Item>, NoMemory>
+    ensures { IfOk result (λ i. i ≡ archive_of text.now) }
+{
+    let Some(value) = value_of(alloc, scratch, text)? else {
+        return Ok(None);
+    };
+    Ok(archive_from(&value))
+}
+
+fn archive_from(value: &Val) -> Option<Item>
+    ensures { result ≡ archive_from (view value.now) }
+{
+    let Val::Object(fields) = value else {
+        return None;
+    };
+    let last = number_in(fields, "last")?;
+    let number = number_in(fields, "number")?;
+    Some(Item::Archive(Archive { last, number }))
+}
+
+// The key of the note is what follows `note/` in the key of the row.
+fn note_item(alloc: Global, key: &[u8], text: &str) -> Result<Option<Item>, NoMemory>
+    ensures { IfOk result (λ i. i ≡ note_with (as_utf8 key.now) (number_of_digits text.now)) }
+{
+    let (Some(key), Some(value)) = (as_utf8(key), digits_of(text.as_bytes())) else {
+        return Ok(None);
+    };
+    let key = Str::of(alloc, key)?;
+    Ok(Some(Item::Note(Note { key, value })))
+}
+
+fn as_utf8(bytes: &[u8]) -> Option<&str>
+    ensures { option_map (λ s. s.now) result ≡ as_utf8 bytes.now }
+{
+    match str::from_utf8(bytes) {
+        Ok(text) => Some(text),
+        Err(_) => None,
     }
 }
 

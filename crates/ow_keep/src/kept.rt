@@ -5,16 +5,20 @@ ghost use Rattle.ow_keep.specs.Split.{behind_parts, no_parts, parts_of, split};
 use crate::refusal::KeepRefusal;
 use ow_entity::Row;
 use ow_records::{Id, Record, Unrecorded};
-use ow_row_text::Item;
+use ow_row_text::{Archive, Item, Note, RowsVersion};
 use std::alloc::Global;
 
 /// What kept rows hold, each kind in the order of its keys.
 #[derive(Drop)]
 pub struct Kept {
-    /// Whether there is any row, so that of the version too.
-    pub versioned: bool,
+    /// The form of the rows, where there is any row.
+    pub version: Option<RowsVersion>,
+    /// What was archived, where the form has that.
+    pub archive: Option<Archive>,
     /// The last id of each namespace.
     pub counts: Vec<Id>,
+    /// The notes.
+    pub notes: Vec<Note>,
     /// The activations that have not ended.
     pub unrecorded: Vec<Unrecorded>,
     /// The records of the ended activations.
@@ -29,8 +33,10 @@ impl Kept {
         ensures { parts_of result ≡ no_parts }
     {
         Kept {
-            versioned: false,
+            version: None,
+            archive: None,
             counts: Vec::new(alloc),
+            notes: Vec::new(alloc),
             unrecorded: Vec::new(alloc),
             records: Vec::new(alloc),
             entities: Vec::new(alloc),
@@ -43,8 +49,10 @@ impl Kept {
         ensures err { IfErr result (λ e. e ≡ KeepRefusal.NoMemory) }
     {
         match item {
-            Item::Version => self.versioned = true,
+            Item::Version(version) => self.version = self.version.or(Some(version)),
+            Item::Archive(archive) => self.archive = self.archive.or(Some(archive)),
             Item::Count { namespace, count } => self.counts.push(Id { namespace, count })?,
+            Item::Note(note) => self.notes.push(note)?,
             Item::Row(row) => self.entities.push(row)?,
             Item::Open(activation) => self.unrecorded.push(activation)?,
             Item::Done(ended) => self.records.push(ended)?,

@@ -13,23 +13,42 @@ ghost use Rattle.ow_keep.specs.Known.{IsItem, IsKnownAction, IsKnownEntity, IsKn
 use ow_entity::{Action, EntityParams, Exec, Limits, Package, Row, Rule, Trigger};
 use ow_names::FullName;
 use ow_records::{known_record, known_unrecorded};
-use ow_row_text::Item;
+use ow_row_text::{Archive, Item, Note};
 
 /// Makes known what the types of the item's parts guarantee.
 pub fn known_item(item: &Item)
     ensures { IsItem item.now }
 {
     match item {
-        Item::Version => {}
+        Item::Version(_) => {}
+        Item::Archive(archive) => known_archive(*archive),
         Item::Count { namespace, count } => known_count(*namespace, *count),
+        Item::Note(note) => known_note(note),
         Item::Row(row) => known_entity(row),
         Item::Open(activation) => known_unrecorded(activation),
         Item::Done(ended) => known_record(ended),
     }
 }
 
+fn known_archive(archive: Archive)
+    ensures { IsItem (items.Archive archive) }
+{
+    known_count(archive.last, archive.number);
+}
+
 fn known_count(namespace: u64, count: u64)
     ensures { IsItem (items.Count namespace count) }
+{}
+
+fn known_note(note: &Note)
+    ensures { IsItem (items.Note note.now) }
+{
+    note.key.as_str();
+    known_number(note.value);
+}
+
+fn known_number(number: u64)
+    ensures { number < 2 ^ 64 }
 {}
 
 /// Makes known what the types of the entity's fields guarantee.

@@ -13,7 +13,7 @@ mod moments;
 mod open_in;
 mod refusal;
 
-pub use allowed::{GREATEST_COUNT, GREATEST_MOMENT};
+pub use allowed::{GREATEST_COUNT, GREATEST_MOMENT, LONGEST_NOTE_KEY};
 pub use keeping::{kept_items, kept_rows};
 pub use kept::Kept;
 pub use known::{known_entities, known_entity, known_item};

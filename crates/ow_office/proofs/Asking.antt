@@ -66,7 +66,7 @@ wanted_by : (help version : List ℕ) (from to : Option ℕ) (csv : Bool) (store
 wanted_by help version (Some from) (Some to) csv store s = go (nat_le from to)
   where
     go : (b : Bool) → TellsCommand help version (option_map asked_of (cond b (Some (commands.Usage from to csv store)) None)) s s statuses.NoMemory
-    go true = record { writes = (refl, tt); stays = record { rows = refl; commits = refl; later = omega arith }; others = refl }
+    go true = record { writes = (refl, tt); stays = record { rows = refl; old_rows = refl; commits = refl; later = omega arith }; others = refl }
     go false = (inr refl, refl)
 wanted_by help version from to csv store s = (inr refl, refl)
 
@@ -220,4 +220,4 @@ pub no_sink : SinkView
 no_sink = record { taken = None; faults = 0 }
 
 pub no_store : Telling
-no_store = record { rows = None; faults = 0; commits = None }
+no_store = record { rows = None; old_rows = None; faults = 0; commits = None }

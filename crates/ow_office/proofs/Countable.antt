@@ -8,7 +8,7 @@ use Rattle.ow_records.specs.Known.{IsKnown}
 use Rattle.ow_records.specs.declared.record.Record.{Record}
 use Rattle.ow_row_text.specs.Sorted.{Entries}
 use Rattle.ow_row_text.specs.declared.item.Item.{Item}
-use Rattle.ow_row_text.specs.declared.item.Item.TheVariants.{Version, Count, Row, Open, Done}
+use Rattle.ow_row_text.specs.declared.item.Item.TheVariants.{Version, Archive, Count, Note, Row, Open, Done}
 use Rattle.ow_keep.specs.Known.{IsItem}
 use Rattle.ow_keep.specs.Laws.{MomentsAreSmall}
 use Rattle.ow_keep.specs.Moments.{greatest_kept_moment, record_moment}
@@ -31,7 +31,9 @@ countable r known small = record {
 
 countable_items : (is : List Item) → AllByRecursion IsItem is → greatest_kept_moment is ≤ most → AllByRecursion IsCountable (split is).records
 countable_items [] known small = tt
-countable_items (Version ∷ is) known small = countable_items is known.1 (omega (arith, small))
+countable_items (Version v ∷ is) known small = countable_items is known.1 (omega (arith, small))
+countable_items (Archive a ∷ is) known small = countable_items is known.1 (omega (arith, small))
+countable_items (Note n ∷ is) known small = countable_items is known.1 (omega (arith, small))
 countable_items (Count namespace count ∷ is) known small = countable_items is known.1 (omega (arith, small))
 countable_items (Row r ∷ is) known small = countable_items is known.1 (omega (arith, small))
 countable_items (Open u ∷ is) known small = countable_items is known.1 (omega (arith, small))

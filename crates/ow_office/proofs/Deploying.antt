@@ -51,6 +51,13 @@ module _ {P : Type 0} (telling : P → Telling) (old new : HallView P) (drafts :
   refused_stays Wants place reason never c = absurd never
   refused_stays Fails place reason is c = c.3.rows
 
+  -- and the old rows
+  pub refused_old_stays : (outcome : Outcome) (place : ℕ) (reason : Reason) → IsDeployed (Ok (deployments.Refused place reason)) outcome → Comes telling old new 0 (events.Deployed drafts) outcome
+      → (telling new.store).old_rows ≡ (telling old.store).old_rows
+  refused_old_stays (Answers t) place reason is c = ap (λ s. (telling s).old_rows) (none_held _ (none_committed seen_before drafts place reason (told_in t place reason is c)) c.3)
+  refused_old_stays Wants place reason never c = absurd never
+  refused_old_stays Fails place reason is c = c.3.old_rows
+
   -- the number is 31 only where the store failed
   pub refused_fault : (before : ℕ) (outcome : Outcome) (place : ℕ) (reason : Reason) → before ≤ (telling old.store).faults → IsDeployed (Ok (deployments.Refused place reason)) outcome
       → Comes telling old new 0 (events.Deployed drafts) outcome → number_of reason ≡ 31 → Rose before (telling new.store).faults
@@ -66,7 +73,7 @@ module _ {P : Type 0} (telling : P → Telling) (t : Table) (store : P) (table t
   unopened_told refusal u = go refusal.why u.cause
     where
       unbegun : IsUnbegun (sides table day out (telling store)) (sides table' day out (telling refusal.store))
-      unbegun = (record { unwritten = refl; rows_stay = u.rows_stay; later = u.later }, refl, refl)
+      unbegun = (record { unwritten = refl; rows_stay = u.rows_stay; old_rows_stay = u.old_rows_stay; later = u.later }, refl, refl)
 
       go : (why : StartFault) → HasStartCause telling store refusal.store why
           → TellsDeploy t (sides table day out (telling store)) (sides table' day out (telling refusal.store)) (not_opened why)
@@ -164,6 +171,7 @@ module _ {P : Type 0} (telling : P → Telling) (t : Table) (store : P) (hall la
         refused = refused;
         deploys = deployed drafts outcome comes;
         rows_stay = refused_stays telling hall last drafts outcome place reason refused comes;
+        old_rows_stay = refused_old_stays telling hall last drafts outcome place reason refused comes;
         fault = refused_fault telling hall last drafts (telling store).faults outcome place reason opens.later refused comes;
       },
       is,

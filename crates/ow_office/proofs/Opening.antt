@@ -13,10 +13,10 @@ module _ {P : Type 0} (telling : P → Telling) where
   as_told h = record { tenants = h.tenants; ledger = h.ledger; store = telling h.store }
 
   makes_told : (changes : List Change) (old new : P) → Makes telling changes old new → Makes itself changes (telling old) (telling new)
-  makes_told changes old new m = record { rows = m.rows; commits = m.commits; later = m.later }
+  makes_told changes old new m = record { rows = m.rows; old_rows = m.old_rows; commits = m.commits; later = m.later }
 
   refuses_told : (changes : List Change) (old new : P) → Refuses telling changes old new → Refuses itself changes (telling old) (telling new)
-  refuses_told changes old new r = record { rows = r.rows; commits = r.commits; later = r.later }
+  refuses_told changes old new r = record { rows = r.rows; old_rows = r.old_rows; commits = r.commits; later = r.later }
 
   holds_told : (changes : List Change) (old new : P) → Holds telling changes old new → Holds itself changes (telling old) (telling new)
   holds_told [] old new same = ap telling same

@@ -63,8 +63,8 @@ pub record IsPut (t : Table) (made changed same : ℕ) (before after : Sides) : 
   pub gives : GivesManifest before.day after.day (Ok drafts)
   pub deploys : Deploys t drafts (Answers (told.Deployed (deployments.Done made changed same))) before.store after.store
 
--- they were refused for this reason, at the draft of this place, counted from 1, or as a whole, at 0. The rows of the opening stay, and
--- 31 comes only where the store failed
+-- they were refused for this reason, at the draft of this place, counted from 1, or as a whole, at 0. The rows and the old rows of the
+-- opening stay, and 31 comes only where the store failed
 pub record IsRefused (t : Table) (place : ℕ) (reason : Reason) (before after : Sides) : Type 0 where
   pub drafts : List Draft
   pub gives : GivesManifest before.day after.day (Ok drafts)
@@ -72,6 +72,7 @@ pub record IsRefused (t : Table) (place : ℕ) (reason : Reason) (before after :
   pub refused : IsDeployed (Ok (deployments.Refused place reason)) outcome
   pub deploys : Deploys t drafts outcome before.store after.store
   pub rows_stay : after.store.rows ≡ deploys.opened.store.rows
+  pub old_rows_stay : after.store.old_rows ≡ deploys.opened.store.old_rows
   pub fault : number_of reason ≡ 31 → Rose before.store.faults after.store.faults
 
 -- the input is no manifest, for this reason

@@ -32,9 +32,10 @@ pub record ShowsStore (from to : ℕ) (csv : Bool) (store : Telling) (text : Lis
   pub told : IfSome store.rows (λ kept. rows ≡ kept)
   pub shows : ShowsUsage from to csv rows text
 
--- the rows and the commits of a store stay; calls of it may fail
+-- the rows, the old rows and the commits of a store stay; calls of it may fail
 pub record StaysRead (before after : Telling) : Type 0 where
   pub rows : after.rows ≡ before.rows
+  pub old_rows : after.old_rows ≡ before.old_rows
   pub commits : after.commits ≡ before.commits
   pub later : before.faults ≤ after.faults
 

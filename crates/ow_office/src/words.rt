@@ -73,6 +73,8 @@ request has a known key, and only actions of whisk.system can be called.
                      so many containers of the kind plain:1 or program:1 are started ahead
   program,NAME,PATH,,,
                      a program that actions of the kind program:1 may name, which serve runs
+  retain,DAYS,,,,    a sweep archives the records of what ended so many days before, 1 to 3650: they
+                     are not shown any more. Without this row nothing is archived
 
 The store keeps entities, activations and their counts from one day or service to the next. Without a
 store they end with it. What had not ended when one begins is recorded with code 3.

@@ -1,4 +1,5 @@
 pub mod Confirmed
+pub mod DueLaws
 pub mod Filtered
 pub mod IdLaws
 pub mod LowerIds

@@ -1,5 +1,5 @@
 -- For private clauses: the records by their ids, and by their namespaces and then their ids.
-use Rattle.std.specs.Prelude.{◌≡◌, ◌≢◌, ℕ, Bool, true, false, List, [], ◌∷◌, ◌++◌, length, if◌then◌else◌, Option, Some, None}
+use Rattle.std.specs.Prelude.{◌≡◌, ◌≢◌, ◌≤◌, ℕ, Bool, true, false, List, [], ◌∷◌, ◌++◌, length, if◌then◌else◌, Option, Some, None}
 use Rattle.std.specs.List.{AllByRecursion}
 use Rattle.std.specs.List.Sorted.{IsPartitionPoint}
 use Rattle.std.specs.Ordering.{is_le}
@@ -32,6 +32,11 @@ abbrev pub first_if : (Record → Bool) → List Record → Option Record
 first_if p [] = None
 first_if p (x ∷ xs) = if p x then Some x else None
 
-pub record AreKept (by_end by_id by_namespace : List Record) : Type 0 where
+-- no end is before this moment
+abbrev pub AreFrom : ℕ → List Record → Type 0
+AreFrom least rs = AllByRecursion (λ r. least ≤ r.span.end) rs
+
+pub record AreKept (by_end by_id by_namespace : List Record) (least : ℕ) : Type 0 where
   pub ids : by_id ≡ sorted_by id_key by_end
   pub namespaces : by_namespace ≡ sorted_by namespace_key by_end
+  pub ends : AreFrom least by_end

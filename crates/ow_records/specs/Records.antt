@@ -1,5 +1,5 @@
 -- The records of the activations that have ended: what is found among them, and what a list shows.
-use Rattle.std.specs.Prelude.{ℕ, Bool, List, [], ◌∷◌, fold, filter, map, take, drop, reverse, if◌then◌else◌}
+use Rattle.std.specs.Prelude.{ℕ, Bool, List, [], ◌∷◌, fold, filter, map, take, drop, reverse, nat_le, not, if◌then◌else◌}
 use Rattle.std.specs.Ordering.{is_lt}
 use Rattle.std.specs.Str.{bytes_eq}
 use Rattle.ow_value.specs.Value.{V, text_cmp}
@@ -22,6 +22,14 @@ is_of_id id r = same_id r.id id
 -- whether the activation was charged to the namespace
 abbrev pub is_in : List ℕ → Record → Bool
 is_in namespace r = bytes_eq namespace r.namespace
+
+-- whether the activation ended at this moment or before it
+abbrev pub is_due : ℕ → Record → Bool
+is_due until r = nat_le r.span.end until
+
+-- whether it ended after this moment
+abbrev pub is_retained : ℕ → Record → Bool
+is_retained until r = not (is_due until r)
 
 -- ---- order
 

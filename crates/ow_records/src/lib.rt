@@ -25,6 +25,7 @@ mod record_in;
 mod record_refusal;
 mod records;
 mod responses;
+mod retiring;
 mod span;
 mod unrecorded;
 mod written;

@@ -1,13 +1,14 @@
 // The records of the activations that have ended.
-ghost use Rattle.std.specs.Prelude.{◌≡◌, ◌≤◌, ◌-◌, [], ◌∷◌, ◌++◌, length, take, drop, find, None, Some, IfOk, OnOk, MatchResult, List, vec_len};
+ghost use Rattle.std.specs.Prelude.{◌≡◌, ◌≤◌, ◌-◌, [], ◌∷◌, ◌++◌, length, take, drop, filter, find, None, Some, IfOk, OnOk, MatchResult, List, vec_len};
 ghost use Rattle.std.specs.Option.{option_copied};
 ghost use Rattle.std.specs.Vec.{vec_capacity};
 ghost use Rattle.ow_records.specs.declared.record.Record.{Record};
 ghost use Rattle.ow_records.specs.Order.{Rises, namespace_key};
-ghost use Rattle.ow_records.specs.Records.{id_key, is_of_id, listing, put_by};
+ghost use Rattle.ow_records.specs.Records.{id_key, is_due, is_of_id, is_retained, listing, put_by, sorted_by};
 
 use crate::listing::last_shown;
 use crate::order::{first_of, part, place_by_id, place_by_namespace};
+use crate::retiring::{due_copies, least_end, retain_later};
 use crate::{Id, ReadyRecord, Record, RecordRefusal};
 use ow_names::EntityName;
 use ow_value::{NoMemory, Shared, Vals};
@@ -22,6 +23,8 @@ pub struct Records {
     by_id: Vec<Shared<Record>>,
     // The same records, by their namespaces, and then by their ids.
     by_namespace: Vec<Shared<Record>>,
+    // No record ended before this moment, so that none is due before it, and none has to be read.
+    least_end: u64,
 }
 
 impl Model for Records {
@@ -41,7 +44,7 @@ impl Model for Records {
       room = min (min (vec_capacity a.by_end - vec_len a.by_end) (vec_capacity a.by_id - vec_len a.by_id)) (vec_capacity a.by_namespace - vec_len a.by_namespace);
     } };
 
-    ghost invariant = { λ a. AreKept a.by_end.items a.by_id.items a.by_namespace.items };
+    ghost invariant = { λ a. AreKept a.by_end.items a.by_id.items a.by_namespace.items a.least_end };
 }
 
 impl Records {
@@ -53,6 +56,7 @@ impl Records {
             by_end: Vec::new(alloc),
             by_id: Vec::new(alloc),
             by_namespace: Vec::new(alloc),
+            least_end: u64::MAX,
         }
     }
 
@@ -77,6 +81,7 @@ impl Records {
             by_id,
             by_namespace,
         } = ready;
+        self.least_end = self.least_end.min(by_end.get().span.end());
         put_by_id(&mut self.by_id, by_id);
         put_by_namespace(&mut self.by_namespace, by_namespace);
         let last = self.by_end.len();
@@ -126,6 +131,30 @@ impl Records {
         ensures { IfOk result (λ vs. vs ≡ listing namespace.now skip limit self.now.items) }
     {
         last_shown(alloc, part(&self.by_namespace, namespace), skip, limit)
+    }
+
+    /// Copies of the records whose ends are at most `until`, by their ids.
+    pub fn due(&self, until: u64) -> Result<Vec<Record>, NoMemory>
+        ensures { IfOk result (λ rs. rs.items ≡ sorted_by id_key (filter (is_due until) self.now.items)) }
+    {
+        let alloc = *self.by_id.allocator();
+        if until < self.least_end {
+            return Ok(Vec::new(alloc));
+        }
+        due_copies(alloc, &self.by_id, until)
+    }
+
+    /// Removes the records whose ends are at most `until`. This takes no memory.
+    pub fn retire(&mut self, until: u64)
+        ensures { self.new.items ≡ filter (is_retained until) self.old.items }
+    {
+        if until < self.least_end {
+            return;
+        }
+        retain_later(&mut self.by_end, until);
+        retain_later(&mut self.by_id, until);
+        retain_later(&mut self.by_namespace, until);
+        self.least_end = least_end(&self.by_end);
     }
 
     fn found(&self, id: &Id) -> Option<&Record>

@@ -6,8 +6,9 @@ use Rattle.ow_floor.specs.declared.activations.Open.{Open}
 use Rattle.ow_floor.specs.declared.activations.State.{State}
 use Rattle.ow_floor.specs.declared.runs.Run.{Run}
 use Rattle.ow_floor.specs.Laws.{IsAmong, IsSound}
-use Rattle.ow_floor.specs.Trace.{End, Item, Trace, Resumed, Accepted, Drawn, Ended, Fired, accepted, accepted_after, all_records, began, drawn, drawn_after, ends, ends_after, fired, fired_after, open_of as opened, record_of, records, records_after, resumed, resumed_after, standing, started}
+use Rattle.ow_floor.specs.Trace.{End, Item, Trace, Resumed, Accepted, Drawn, Ended, Fired, accepted, accepted_after, shown_records, began, drawn, drawn_after, ends, ends_after, fired, fired_after, open_of as opened, record_of, records, records_after, resumed, resumed_after, standing, started}
 use Rattle.ow_floor.proofs.Among.{all_among}
+use Rattle.ow_floor.proofs.Archives.{all_shown}
 use Rattle.ow_floor.proofs.Apart.{all_both as paired}
 use Rattle.ow_floor.proofs.Firsts.{all_more}
 use Rattle.ow_row_text.specs.declared.item.Item.TheVariants as items
@@ -86,7 +87,7 @@ opens_last T early = open_all (λ u. IsLasting (items.Open u)) T (accepted T) (a
 
 -- ---- what was taken over
 
-abbrev AreLasting : List Record → Type 0
+abbrev pub AreLasting : List Record → Type 0
 AreLasting rs = AllByRecursion (λ r. IsLasting (items.Done r)) rs
 
 taken : (item : Item) (rs : List Record) → IsEarly item → AreLasting rs → AreLasting (resumed_after item rs)
@@ -184,6 +185,10 @@ records_last T sound early =
     (λ e h. end_lasts e (all_among IsTimely e.task (accepted T) h.0 (all_timely T early)) h.1)
     (paired (λ e. IsAmong e.task (accepted T)) IsEarlyEnd (ends T) sound.known (all_ended T early))) (all_fired T early)
 
+-- so are the records that are shown
+pub shown_last : (T : Trace) → IsSound T → AreEarly T → AreLasting (shown_records T)
+shown_last T sound early = all_shown (λ r. IsLasting (items.Done r)) T sound (all_both (λ r. IsLasting (items.Done r)) (resumed T) (records T) (all_taken T early) (records_last T sound early))
+
 -- ---- all of it
 
 pub kept_lasts : KeptLasts
@@ -191,6 +196,6 @@ kept_lasts rs T sound writable early = (
   record { shallow = refl; fit = refl },
   all_both IsLasting (map count_item (drawn T)) _ (to_mapped IsLasting count_item (drawn T) (all_more (λ (id : Id). 1 ≤ id.count) (λ id. IsLasting (count_item id)) (drawn T) count_lasts (all_counted T early)))
       (all_both IsLasting (map items.Row (filter is_kept rs)) _ (to_mapped IsLasting items.Row (filter is_kept rs) (picked (λ r. IsLasting (items.Row r)) is_kept rs (all_more IsLastingRow (λ r. IsLasting (items.Row r)) rs (λ r h. h.lasts) writable)))
-      (all_both IsLasting (map items.Open (unrecorded T)) (map items.Done (all_records T)) (to_mapped IsLasting items.Open (unrecorded T) (opens_last T early))
-      (to_mapped IsLasting items.Done (all_records T) (all_both (λ r. IsLasting (items.Done r)) (resumed T) (records T) (all_taken T early) (records_last T sound early))))),
+      (all_both IsLasting (map items.Open (unrecorded T)) (map items.Done (shown_records T)) (to_mapped IsLasting items.Open (unrecorded T) (opens_last T early))
+      (to_mapped IsLasting items.Done (shown_records T) (shown_last T sound early)))),
 )

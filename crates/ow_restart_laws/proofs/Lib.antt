@@ -10,6 +10,7 @@ pub mod Framing
 pub mod KeptLaws
 pub mod Children
 pub mod TraceLaws
+pub mod OthersLaws
 pub mod BookLaws
 pub mod FinishLaws
 pub mod DeploymentLaws

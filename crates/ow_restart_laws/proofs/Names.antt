@@ -1,5 +1,5 @@
 -- Names that are read are names by their parts, and the row of a body has the name that it is read under.
-use Rattle.std.proofs.Common.{◌≡◌, ◌==◌, ℕ, List, [], ◌∷◌, Bool, true, false, cond, codes, drop, is_some, IfSome, IfOk, Option, Some, None, option_map, Result, Ok, Err, refl, sym, ◌∙◌, subst}
+use Rattle.std.proofs.Common.{◌≡◌, ◌==◌, ℕ, List, [], ◌∷◌, Bool, true, false, cond, codes, drop, is_some, IfSome, IfOk, Option, Some, None, option_and_then, option_map, Result, Ok, Err, refl, sym, ◌∙◌, subst}
 use Rattle.std.specs.List.{AllByRecursion}
 use Rattle.std.specs.Str.{bytes_eq}
 use Rattle.ow_value.specs.Value.{V, null, boolean, whole, text, list, object}
@@ -27,11 +27,11 @@ use Rattle.ow_row_text.specs.declared.item.Item.{Item}
 use Rattle.ow_row_text.specs.declared.item.Item.TheVariants as items
 use Rattle.ow_keep.specs.Allowed.{confirmed, is_confirmed, item_at}
 use Rattle.ow_keep.specs.EntityIn.{at_status, entity_from, entity_with}
-use Rattle.ow_keep.specs.ItemIn.{count_with, entity_of as item_of, entity_with as item_with, item_by, item_from, value_of}
+use Rattle.ow_keep.specs.ItemIn.{archive_from, archive_with, as_utf8, count_with, entity_of as item_of, entity_with as item_with, item_by, item_from, note_with, value_of, version_from}
 use Rattle.ow_keep.specs.Judged.{gathered, judged, or_key, versioned}
 use Rattle.ow_keep.specs.OpenIn.{full_name_of}
 use Rattle.std.specs.Result.{result_ok}
-use Rattle.ow_records.specs.FieldsIn.{version_in}
+use Rattle.ow_records.specs.FieldsIn.{number_in, version_in}
 use Rattle.ow_records.specs.Id.{hex_number}
 use Rattle.ow_records.specs.declared.record.Record.{Record}
 use Rattle.ow_records.specs.declared.unrecorded.Unrecorded.{Unrecorded}
@@ -183,6 +183,20 @@ count_item None count = tt
 count_item (Some n) None = tt
 count_item (Some n) (Some m) = tt
 
+note_item : (key : Option (List ℕ)) (value : Option ℕ) → IfSome (note_with key value) IsNamedItem
+note_item None value = tt
+note_item (Some k) None = tt
+note_item (Some k) (Some n) = tt
+
+archive_with_item : (last number : Option ℕ) → IfSome (archive_with last number) IsNamedItem
+archive_with_item None number = tt
+archive_with_item (Some l) None = tt
+archive_with_item (Some l) (Some n) = tt
+
+archive_item : (o : Option V) → IfSome (option_and_then archive_from o) IsNamedItem
+archive_item None = tt
+archive_item (Some v) = archive_with_item (number_in (codes "last") v) (number_in (codes "number") v)
+
 open_item : (o : Option Unrecorded) → IfSome (option_map items.Open o) IsNamedItem
 open_item None = tt
 open_item (Some u) = tt
@@ -193,11 +207,13 @@ done_item (Some r) = tt
 
 by_item : (byte : ℕ) (key s : List ℕ) → IfSome (item_by byte key s) IsNamedItem
 by_item byte key s =
-    some_if IsNamedItem (byte == 99) _ _ (count_item (hex_number (drop 5 key)) (digits_of s))
+    some_if IsNamedItem (byte == 97) _ _ (archive_item (value_of s))
+    (some_if IsNamedItem (byte == 99) _ _ (count_item (hex_number (drop 5 key)) (digits_of s))
     (some_if IsNamedItem (byte == 100) _ _ (done_item _)
+    (some_if IsNamedItem (byte == 110) _ _ (note_item (as_utf8 (drop 4 key)) (digits_of s))
     (some_if IsNamedItem (byte == 111) _ _ (open_item _)
     (some_if IsNamedItem (byte == 114) _ _ (place_item (drop 3 key) s)
-    (some_if IsNamedItem (byte == 118) (Some items.Version) None tt tt))))
+    (some_if IsNamedItem (byte == 118) (Some (items.Version (version_from s))) None tt tt))))))
 
 from_item : (key s : List ℕ) → IfSome (item_from key s) IsNamedItem
 from_item [] s = tt

@@ -1,5 +1,5 @@
 -- Rows that last still do after what is decided.
-use Rattle.std.proofs.Common.{◌≡◌, ◌≤◌, ◌+◌, ◌&&◌, ℕ, List, [], ◌∷◌, Bool, true, false, cond, length, map, nat_le, nat_lt, not, IfSome, IfOk, Option, Some, None, Result, Ok, Err, Ordering, Less, Equal, Greater, refl, sym, ◌∙◌, subst, arith}
+use Rattle.std.proofs.Common.{◌≡◌, ◌≤◌, ◌+◌, ◌&&◌, ◌++◌, ℕ, List, [], ◌∷◌, Bool, true, false, cond, length, map, nat_le, nat_lt, not, IfSome, IfOk, Option, Some, None, Result, Ok, Err, Ordering, Less, Equal, Greater, refl, sym, ◌∙◌, subst, arith}
 use Rattle.std.specs.List.{AllByRecursion}
 use Rattle.std.specs.Ordering.{match_ordering}
 use Rattle.std.proofs.lemmas.Bool.{and_parts, le-leb, leb-true, ltb-false}
@@ -30,6 +30,8 @@ use Rattle.ow_entity.specs.declared.rows.Draft.{Draft}
 use Rattle.ow_entity.specs.declared.rows.Row.{Row}
 use Rattle.ow_entity.specs.declared.rows.Row.TheVariants as rows
 use Rattle.ow_entity.specs.declared.rules.Rule.{Rule}
+use Rattle.ow_records.specs.declared.record.Record.{Record}
+use Rattle.ow_floor.specs.Calls.{due_in}
 use Rattle.ow_floor.specs.Trace.{Trace}
 use Rattle.ow_floor.specs.declared.activations.Plan.{Plan}
 use Rattle.ow_http.specs.CallKind.{entity_kind, kind_of as call_kind}
@@ -79,7 +81,7 @@ use Rattle.ow_decide.specs.Asking.{ask_decision, put_of, request_done}
 use Rattle.ow_decide.specs.Calling.{admitted_plan, call_plan, called_decision}
 use Rattle.ow_decide.specs.Decision.{all_changed}
 use Rattle.ow_decide.specs.Deploying.{Progress, begun, deploy_decision, deployed, drafted_row, put_over, with_put}
-use Rattle.ow_decide.specs.Decisions.{decide}
+use Rattle.ow_decide.specs.Decisions.{archived_until, decide, sweep_by, sweep_with, swept_all, swept_told}
 use Rattle.ow_decide.specs.Opening.{are_resumable, is_fresh, opened_decision, parts_taken, taken_if}
 use Rattle.ow_hall.specs.History.{IsGivenEvent}
 use Rattle.ow_decide.specs.Sight.{Sight}
@@ -87,6 +89,8 @@ use Rattle.ow_reads.specs.Steps.{or_else}
 use Rattle.ow_reads.specs.Tenants.{asker}
 use Rattle.ow_decide.specs.declared.events.Event.{Event}
 use Rattle.ow_decide.specs.declared.events.Event.TheVariants as events
+use Rattle.ow_decide.specs.declared.events.Told.{Told}
+use Rattle.ow_decide.specs.declared.events.Told.TheVariants as told
 use Rattle.ow_decide.proofs.DeployLaws.{deploy_rows, drafted_parts, drafts_keep}
 use Rattle.ow_decide.proofs.Finished.{finished_named}
 use Rattle.ow_decide.proofs.RowLaws.{request_rows}
@@ -133,7 +137,9 @@ stands_so all r h n = record { lasts = record { shallow = h.shallow; fit = (and_
 
 entities_so : (all : Entries) (is : List Item) → AllByRecursion (MayStand all) is → AllByRecursion IsNamedItem is → AreWritable (split is).entities
 entities_so all [] h n = tt
-entities_so all (items.Version ∷ is) h n = entities_so all is h.1 n.1
+entities_so all (items.Version v ∷ is) h n = entities_so all is h.1 n.1
+entities_so all (items.Archive a ∷ is) h n = entities_so all is h.1 n.1
+entities_so all (items.Note x ∷ is) h n = entities_so all is h.1 n.1
 entities_so all (items.Count namespace count ∷ is) h n = entities_so all is h.1 n.1
 entities_so all (items.Row r ∷ is) h n = (stands_so all r h.0 n.0, entities_so all is h.1 n.1)
 entities_so all (items.Open u ∷ is) h n = entities_so all is h.1 n.1
@@ -417,6 +423,14 @@ module _ (core : RowsOfBodies) (S : Sight) (all : AreWritable S.rows) where
   called_rows (Ok plan) = all
   called_rows (Err reason) = all
 
+  due_rows : (t : Told) (swept : Trace) (until : ℕ) (due : List Record) → AreWritable (all_changed (sweep_with S t swept until due).changes S.rows)
+  due_rows t swept until [] = all
+  due_rows t swept until (r ∷ rs) = all
+
+  swept_rows : (t : Told) (swept : Trace) (until : Option ℕ) → AreWritable (all_changed (sweep_by S t swept until).changes S.rows)
+  swept_rows t swept None = all
+  swept_rows t swept (Some until) = due_rows t swept until (due_in until (swept ++ S.trace))
+
   deployed_rows : (ds : List Draft) → AreGiven ds → AreWritable (all_changed (deploy_decision (deployed S ds)).changes S.rows)
   deployed_rows ds given =
       deploy_rows AreWritable S ds all (drafts_keep IsGiven (λ (p : Progress). AreWritable p.rows) S.tenants (put_over_good core S.tenants) 1 ds (begun S.rows) given all)
@@ -426,6 +440,7 @@ module _ (core : RowsOfBodies) (S : Sight) (all : AreWritable S.rows) where
   by_event (events.Asked r) given homes = asked_rows (parts_of r) homes
   by_event (events.Deployed drafts) given homes = deployed_rows drafts given
   by_event (events.Called name params) given homes = called_rows (call_plan S name params >>= admitted_plan S)
+  by_event events.Sweep given homes = swept_rows (told.Swept (swept_told (swept_all S))) (swept_all S) (archived_until S.tenants.retain S.moment)
   by_event event given homes = all
 
 -- where the rows that bodies make last

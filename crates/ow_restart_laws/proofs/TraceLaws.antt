@@ -154,7 +154,9 @@ count_told all (items.Count n k) id e may =
     let is : ◌≡◌ {A = Id} (record { namespace = n; count = k }) id = cc in
     let some = and_parts (nat_le 1 k) (nat_le k GREATEST_COUNT) may.allowed in
     subst (λ (x : Id). 1 ≤ x.count) is (leb-true 1 k some.0)
-count_told all items.Version id e may = cc
+count_told all (items.Version v) id e may = cc
+count_told all (items.Archive a) id e may = cc
+count_told all (items.Note n) id e may = cc
 count_told all (items.Row r) id e may = cc
 count_told all (items.Open u) id e may = cc
 count_told all (items.Done r) id e may = cc
@@ -167,7 +169,9 @@ done_lasts all r may =
 
 done_told : (all : Entries) (i : KeptItem) (r : Record) → pick_done i ≡ Some r → MayStand all i → IsLasting (items.Done r)
 done_told all (items.Done d) r e may = let same : d ≡ r = cc in subst (λ (x : Record). IsLasting (items.Done x)) same (done_lasts all d may)
-done_told all items.Version r e may = cc
+done_told all (items.Version v) r e may = cc
+done_told all (items.Archive a) r e may = cc
+done_told all (items.Note n) r e may = cc
 done_told all (items.Count n k) r e may = cc
 done_told all (items.Row x) r e may = cc
 done_told all (items.Open u) r e may = cc
@@ -195,7 +199,9 @@ module _ (shallow : AbandonedAreShallow) (at : ℕ) (small : at ≤ GREATEST_MOM
 
   open_told : (all : Entries) (i : KeptItem) (u : Unrecorded) → pick_open i ≡ Some u → MayStand all i → LastsAbandoned u
   open_told all (items.Open v) u e may = let same : v ≡ u = cc in subst (λ (x : Unrecorded). LastsAbandoned x) same (open_lasts all v may)
-  open_told all items.Version u e may = cc
+  open_told all (items.Version v) u e may = cc
+  open_told all (items.Archive a) u e may = cc
+  open_told all (items.Note n) u e may = cc
   open_told all (items.Count n k) u e may = cc
   open_told all (items.Row r) u e may = cc
   open_told all (items.Done r) u e may = cc

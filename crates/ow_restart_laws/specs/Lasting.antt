@@ -1,16 +1,18 @@
 -- What lasts from event to event, so that what is kept is allowed at the next opening.
-use Rattle.std.specs.Prelude.{◌≡◌, ◌≤◌, true, List, IfSome}
+use Rattle.std.specs.Prelude.{◌≡◌, ◌≤◌, ◌==◌, ◌||◌, true, nat_le, List, IfSome}
 use Rattle.std.specs.List.{AllByRecursion}
 use Rattle.ow_names.specs.FullName.{IsFullName}
 use Rattle.ow_entity.specs.Row.{name_of}
 use Rattle.ow_entity.specs.declared.rows.Row.{Row}
 use Rattle.ow_floor.specs.Trace.{Item, Trace, Accepted, Begun, Drawn, Ended, Fired, Ordered, Resumed}
 use Rattle.ow_floor.specs.declared.runs.Run.{Run}
+use Rattle.ow_row_text.specs.declared.item.Archive.{Archive}
 use Rattle.ow_row_text.specs.declared.item.Item.{Item as KeptItem}
 use Rattle.ow_row_text.specs.declared.item.Item.TheVariants as items
 use Rattle.ow_keep.specs.Allowed.{is_called, is_formed, is_shallow}
 use Rattle.ow_keep.specs.declared.allowed.TheConstants.{GREATEST_MOMENT}
 use Rattle.ow_commits.specs.Fit.{is_fit}
+use Rattle.ow_commits.specs.Kept.{OthersView}
 use Rattle.ow_commits.specs.Shallow.{IsShallowEnding}
 use Rattle.ow_records.specs.Notes.{kind_of}
 use Rattle.ow_records.specs.declared.activations.Activation.{Activation}
@@ -30,6 +32,18 @@ pub record IsLastingRow (r : Row) : Type 0 where
 -- each row lasts
 abbrev pub AreWritable : List Row → Type 0
 AreWritable rs = AllByRecursion IsLastingRow rs
+
+-- ---- the archive and the notes
+
+-- no archived record ended after the greatest moment, and where none was archived, no end is the greatest
+pub record IsLastingArchive (a : Archive) : Type 0 where
+  pub early : a.last ≤ GREATEST_MOMENT
+  pub some : (nat_le 1 a.number || a.last == 0) ≡ true
+
+-- this is so of the archive, and each note is fit to be kept
+pub record AreLastingOthers (o : OthersView) : Type 0 where
+  pub archived : IsLastingArchive o.archive
+  pub notes : AllByRecursion (λ n. IsLasting (items.Note n)) o.notes
 
 -- ---- what happened
 

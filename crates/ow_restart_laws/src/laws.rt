@@ -1,12 +1,12 @@
 // What lasts. All functions except the first do nothing: their contracts are the laws.
-ghost use Rattle.ow_restart_laws.specs.Laws.{BooksAreAllowed, BooksLast, IsAllowedNext, KeptLasts, RowsLast, TablesHaveHomes, TracesLast};
+ghost use Rattle.ow_restart_laws.specs.Laws.{BooksAreAllowed, BooksLast, IsAllowedNext, KeptLasts, OthersLast, OthersOfBooksLast, RowsLast, TablesHaveHomes, TracesLast};
 ghost use Rattle.ow_restart_laws.specs.RowsKept.{RowsOfBodiesAreWritable};
 
 use ow_hall::Hall;
 use ow_traits::Keeper;
 
-/// What is kept of the hall's book is allowed at its next opening, and is read as just what is kept of it: the rows of entities, the
-/// last counts, the activations that have not ended, and the records. It looks at all of these, and at the office table.
+/// What is kept of the hall's book is allowed at its next opening, and is read as just what is kept of it: the archive, the notes, the rows
+/// of entities, the last counts, the activations that have not ended, and the records. It looks at all of these, and at the office table.
 pub fn what_a_hall_keeps_is_allowed<P: Keeper + Drop>(hall: &Hall<P>)
     ensures { IsAllowedNext hall.now.tenants hall.now.ledger.entries }
 {
@@ -21,9 +21,11 @@ pub fn kept_books_are_allowed()
 {}
 
 /// All that is kept of a legal book nests no deeper than is read. Its moments and durations are within the greatest, its counts and
-/// versions begin with 1, its packages are in no packages, and its bindings name packages.
+/// versions begin with 1, its packages are in no packages, and its bindings name packages. Its archive and its notes are such as may be kept,
+/// but for the number of archived records, which has no bound of its own.
 pub fn kept_books_last()
-    ensures { BooksLast }
+    ensures kept { BooksLast }
+    ensures others { OthersOfBooksLast }
 {}
 
 /// Each key's own namespace is a name in each office table that a text makes.
@@ -31,10 +33,11 @@ pub fn tables_have_homes()
     ensures { TablesHaveHomes }
 {}
 
-/// Rows that last, and what happened, last from event to event; so does what is kept of them.
+/// Rows that last, what happened, the archive and the notes last from event to event; so does what is kept of them.
 pub fn what_lasts_goes_on()
     ensures rows { RowsLast }
     ensures traces { TracesLast }
+    ensures others { OthersLast }
     ensures kept { KeptLasts }
 {}
 

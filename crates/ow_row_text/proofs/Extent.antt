@@ -11,7 +11,7 @@ use Rattle.ow_value.proofs.Entries.{rises_with, above_more, Above}
 use Rattle.ow_traits.specs.Changes.{changed, after_change}
 use Rattle.ow_traits.specs.Rows.{AreRows, text_of, with_row, without}
 use Rattle.ow_traits.specs.declared.change_list.Change.{Change}
-use Rattle.ow_traits.specs.declared.change_list.Change.TheVariants.{Put, Drop as Dropped}
+use Rattle.ow_traits.specs.declared.change_list.Change.TheVariants.{Put, Drop as Dropped, Retire}
 use Rattle.ow_traits.proofs.Keys.{AreRows-without}
 use Rattle.ow_row_text.specs.Sorted.{Entries, rows_of, after_at, changed_at, Makes}
 
@@ -170,6 +170,7 @@ rows_of-rows es s = same_rows (rows_of es) es (AreRows-rows_of es) s (λ q. text
 pub AreRows-after : (c : Change) (rows : Entries) → AreRows rows → AreRows (after_change c rows)
 AreRows-after (Put k t) rows s = rises_with rows k t s
 AreRows-after (Dropped k) rows s = AreRows-without rows k s
+AreRows-after (Retire k t) rows s = AreRows-without rows k s
 
 pub AreRows-changed : (cs : List Change) (rows : Entries) → AreRows rows → AreRows (changed cs rows)
 AreRows-changed [] rows s = s
@@ -178,6 +179,7 @@ AreRows-changed (c ∷ cs) rows s = AreRows-changed cs (after_change c rows) (Ar
 pub text_of-after : (q : List ℕ) (c : Change) (rows : Entries) → AreRows rows → text_of q (after_change c rows) ≡ after_at c q (text_of q rows)
 text_of-after q (Put k t) rows s = text_of-with_row q k t rows
 text_of-after q (Dropped k) rows s = text_of-without q k rows s
+text_of-after q (Retire k t) rows s = text_of-without q k rows s
 
 pub text_of-changed : (q : List ℕ) (cs : List Change) (rows : Entries) → AreRows rows → text_of q (changed cs rows) ≡ changed_at cs q (text_of q rows)
 text_of-changed q [] rows s = refl
@@ -187,3 +189,12 @@ pub changes_kept : (cs : List Change) (old new : Entries) → Makes cs old new �
 changes_kept cs old new h = same_rows (changed cs (rows_of old)) (rows_of new)
     (AreRows-changed cs (rows_of old) (AreRows-rows_of old)) (AreRows-rows_of new)
     (λ q. text_of-changed q cs (rows_of old) (AreRows-rows_of old) ∙ ap (changed_at cs q) (text_of-rows_of q old) ∙ sym (h.each q) ∙ sym (text_of-rows_of q new))
+
+pub made_of_kept : (cs : List Change) (old new : Entries) → changed cs (rows_of old) ≡ rows_of new → Makes cs old new
+made_of_kept cs old new e = record {
+  each = λ q.
+      sym (text_of-rows_of q new)
+      ∙ ap (text_of q) (sym e)
+      ∙ text_of-changed q cs (rows_of old) (AreRows-rows_of old)
+      ∙ ap (changed_at cs q) (text_of-rows_of q old);
+}

@@ -16,6 +16,7 @@ entry_changes = record {
   put_end = put_last;
   put_over = λ key old new before behind h. put_after key new before ((key, old) ∷ behind) ((key, new) ∷ behind) h (put_over key old new behind);
   drop_at = λ key text before behind h k. drop_after key before ((key, text) ∷ behind) behind h (drop_front key text behind k);
+  retire = λ key text old new h. record { each = h.each };
 }
 
 pub section_changes : SectionChanges

@@ -15,13 +15,20 @@ use Rattle.ow_records.specs.Written.{record_value, cause_members}
 use Rattle.ow_records.specs.WrittenNotes.{path_text}
 use Rattle.ow_records.specs.declared.ids.Id.{Id}
 use Rattle.ow_records.specs.declared.unrecorded.Unrecorded.{Unrecorded}
+use Rattle.ow_row_text.specs.declared.item.Archive.{Archive as KeptArchive}
 use Rattle.ow_row_text.specs.declared.item.Item.{Item}
-use Rattle.ow_row_text.specs.declared.item.Item.TheVariants.{Version, Count, Row, Open, Done}
+use Rattle.ow_row_text.specs.declared.item.Item.TheVariants.{Version, Archive, Count, Note, Row, Open, Done}
+use Rattle.ow_row_text.specs.declared.item.RowsVersion.{RowsVersion}
+use Rattle.ow_row_text.specs.declared.item.RowsVersion.TheVariants as versions
 
 -- ---- keys
 
 abbrev pub count_key : ℕ → List ℕ
 count_key namespace = codes "count/" ++ hex_16 namespace
+
+-- of a note, by the note's key
+abbrev pub note_key : List ℕ → List ℕ
+note_key key = codes "note/" ++ key
 
 abbrev pub row_kind : EntityRow → List ℕ
 row_kind (rows.Action a) = codes "action"
@@ -39,13 +46,23 @@ abbrev pub done_key : Id → List ℕ
 done_key id = codes "done/" ++ id_text id
 
 abbrev pub item_key : Item → List ℕ
-item_key Version = codes "version"
+item_key (Version v) = codes "version"
+item_key (Archive a) = codes "archived"
 item_key (Count namespace count) = count_key namespace
+item_key (Note n) = note_key n.key
 item_key (Row r) = entity_key r
 item_key (Open u) = open_key u.id
 item_key (Done r) = done_key r.id
 
 -- ---- texts
+
+abbrev pub version_text : RowsVersion → List ℕ
+version_text versions.First = codes "1"
+version_text versions.Second = codes "2"
+
+-- the greatest end of an archived record, and how many there are
+abbrev pub archive_value : KeptArchive → V
+archive_value a = object (members_of ((codes "last", whole (pos a.last)) ∷ (codes "number", whole (pos a.number)) ∷ []))
 
 -- the binding, if there is one, before these
 abbrev pub binding_members : Option FullName → Pairs → Pairs
@@ -71,8 +88,10 @@ abbrev pub open_value : Unrecorded → V
 open_value u = object (members_of (open_members u.binding u.cause u))
 
 unfoldable pub item_text : Item → List ℕ
-item_text Version = codes "1"
+item_text (Version v) = version_text v
+item_text (Archive a) = compact (archive_value a)
 item_text (Count namespace count) = decimal count
+item_text (Note n) = decimal n.value
 item_text (Row r) = compact (row_value r)
 item_text (Open u) = compact (open_value u)
 item_text (Done r) = compact (record_value r)

@@ -1,5 +1,5 @@
 // Laws of kept rows, for the crates above.
-ghost use Rattle.ow_row_text.specs.Laws.{BytesChange, ChangesAreKept, EntryChanges, SectionChanges};
+ghost use Rattle.ow_row_text.specs.Laws.{BytesChange, ChangesAreKept, EntryChanges, OthersStay, SectionChanges};
 
 /// What changes make of the rows of some entries, where they make the new entries of the old ones key by key.
 #[tactic(auto, using(crate::proofs::Extent::changes_kept))]
@@ -17,6 +17,12 @@ pub fn entry_changes()
 #[tactic(auto, using(crate::proofs::Stated::section_changes))]
 pub fn section_changes()
     ensures { SectionChanges }
+{}
+
+/// What changes make of entries, and of their rows, they make beside others that have none of the changed keys.
+#[tactic(auto, using(crate::proofs::Others::others_stay))]
+pub fn others_stay()
+    ensures { OthersStay }
 {}
 
 /// How many bytes rows have after a change.

@@ -1,12 +1,13 @@
 // The rows of items.
 ghost use Rattle.std.specs.Prelude.{◌≡◌, IfOk};
-ghost use Rattle.ow_row_text.specs.Item.{item_row};
+ghost use Rattle.ow_row_text.specs.Item.{item_row, version_text};
 ghost use Rattle.ow_row_text.specs.declared.item.Item.TheVariants as items;
 
+use crate::archive_text::archive_text;
 use crate::done_text::done_text;
-use crate::item::Item;
+use crate::item::{Archive, Item, Note, RowsVersion};
 use crate::open_text::open_text;
-use crate::writing::{count_key, entity_key, joined};
+use crate::writing::{count_key, entity_key, joined, note_key};
 use ow_entity::{Row, write_entity};
 use ow_records::{Record, Unrecorded};
 use ow_value::{NoMemory, Str, val_text};
@@ -17,8 +18,10 @@ pub fn row_text(alloc: Global, item: &Item) -> Result<(Str, Str), NoMemory>
     ensures { IfOk result (λ r. r ≡ item_row item.now) }
 {
     match item {
-        Item::Version => version_row(alloc),
+        Item::Version(version) => version_row(alloc, *version),
+        Item::Archive(archive) => archive_row(alloc, *archive),
         Item::Count { namespace, count } => count_row(alloc, *namespace, *count),
+        Item::Note(note) => note_row(alloc, note),
         Item::Row(row) => entity_row(alloc, row),
         Item::Open(activation) => open_row(alloc, activation),
         Item::Done(ended) => done_row(alloc, ended),
@@ -27,11 +30,30 @@ pub fn row_text(alloc: Global, item: &Item) -> Result<(Str, Str), NoMemory>
 
 /// The row of the form.
 #[tactic(auto, unfolding(crate::specs::Item::item_text))]
-pub fn version_row(alloc: Global) -> Result<(Str, Str), NoMemory>
-    ensures { IfOk result (λ r. r ≡ item_row items.Version) }
+pub fn version_row(alloc: Global, version: RowsVersion) -> Result<(Str, Str), NoMemory>
+    ensures { IfOk result (λ r. r ≡ item_row (items.Version version)) }
 {
     let key = Str::of(alloc, "version")?;
-    let text = Str::of(alloc, "1")?;
+    let text = Str::of(alloc, version_text(version))?;
+    Ok((key, text))
+}
+
+fn version_text(version: RowsVersion) -> &'static str
+    ensures { result.now ≡ version_text version }
+{
+    match version {
+        RowsVersion::First => "1",
+        RowsVersion::Second => "2",
+    }
+}
+
+/// The row of the archive.
+#[tactic(auto, unfolding(crate::specs::Item::item_text))]
+pub fn archive_row(alloc: Global, archive: Archive) -> Result<(Str, Str), NoMemory>
+    ensures { IfOk result (λ r. r ≡ item_row (items.Archive archive)) }
+{
+    let key = Str::of(alloc, "archived")?;
+    let text = archive_text(alloc, archive)?;
     Ok((key, text))
 }
 
@@ -42,6 +64,18 @@ pub fn count_row(alloc: Global, namespace: u64, count: u64) -> Result<(Str, Str)
 {
     let key = count_key(alloc, namespace)?;
     let digits = format!(in alloc; "{count}")?;
+    let text = Str::from_string(digits)?;
+    Ok((key, text))
+}
+
+/// The row of a note.
+#[tactic(auto, unfolding(crate::specs::Item::item_text))]
+pub fn note_row(alloc: Global, note: &Note) -> Result<(Str, Str), NoMemory>
+    ensures { IfOk result (λ r. r ≡ item_row (items.Note note.now)) }
+{
+    let key = note_key(alloc, note.key.as_str())?;
+    let value = note.value;
+    let digits = format!(in alloc; "{value}")?;
     let text = Str::from_string(digits)?;
     Ok((key, text))
 }

@@ -1,6 +1,6 @@
 // The keys of rows.
 ghost use Rattle.std.specs.Prelude.{◌≡◌, ◌++◌, IfOk};
-ghost use Rattle.ow_row_text.specs.Item.{count_key, entity_key, open_key, done_key, row_kind};
+ghost use Rattle.ow_row_text.specs.Item.{count_key, entity_key, note_key, open_key, done_key, row_kind};
 
 use ow_entity::Row;
 use ow_names::full_text;
@@ -14,6 +14,13 @@ pub fn count_key(alloc: Global, namespace: u64) -> Result<Str, NoMemory>
 {
     let digits = hex::encode(alloc, namespace.to_be_bytes())?;
     joined(alloc, "count/", digits.as_str())
+}
+
+/// The key of a note's row, by the note's key.
+pub fn note_key(alloc: Global, key: &str) -> Result<Str, NoMemory>
+    ensures { IfOk result (λ k. k ≡ note_key key.now) }
+{
+    joined(alloc, "note/", key)
 }
 
 /// The key of an entity.

@@ -126,9 +126,9 @@ IsOpenedEnd end = Unit {0}
 
 -- why a service wasn't opened; the store is handed back then, and its rows stay
 abbrev pub IsUnopened : {P : Type 0} → (P → Telling) → P → ServedEnd → Option P → Type 0
-IsUnopened telling store ends.StoreFault (Some back) = HasStartCause telling store back starts.StoreFault × ((telling back).rows ≡ (telling store).rows)
+IsUnopened telling store ends.StoreFault (Some back) = HasStartCause telling store back starts.StoreFault × ((telling back).rows ≡ (telling store).rows) × ((telling back).old_rows ≡ (telling store).old_rows)
 IsUnopened telling store ends.StoreFault None = ⊥
-IsUnopened telling store (ends.BadKept key) (Some back) = HasStartCause telling store back (starts.BadKept key) × ((telling back).rows ≡ (telling store).rows)
+IsUnopened telling store (ends.BadKept key) (Some back) = HasStartCause telling store back (starts.BadKept key) × ((telling back).rows ≡ (telling store).rows) × ((telling back).old_rows ≡ (telling store).old_rows)
 IsUnopened telling store (ends.BadKept key) None = ⊥
 IsUnopened telling store end back = Unit {0}
 

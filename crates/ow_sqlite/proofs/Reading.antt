@@ -1,4 +1,4 @@
--- What the two statements of a load are, whatever the schema.
+-- What the three statements of a load are, whatever the schema.
 use Rattle.std.proofs.Common.{◌≡◌, ◌+◌, ◌==◌, ◌&&◌, ℕ, Bool, true, false, not, cond, List, length, None, Ok, Err, IfOk, refl, sym, ap, ◌∙◌, subst}
 use Rattle.std.proofs.lemmas.Bool.{false≢true}
 use Rattle.sqlite_ast.specs.declared.Statement.{Statement}
@@ -15,7 +15,7 @@ use Rattle.sqlite.specs.Command.TheVariants.{CreateTable as MakeTable, Nothing}
 use Rattle.sqlite.specs.Schema.{Schema}
 use Rattle.sqlite.specs.Listing.{if_select, is_select, listing_schema, reads_listing, understood}
 use Rattle.sqlite_tied.specs.Compute.{everything}
-use Rattle.ow_sqlite.specs.Statements.{create_sql, select_sql}
+use Rattle.ow_sqlite.specs.Statements.{create_old_sql, create_sql, select_sql}
 
 -- the command makes a table, or does nothing
 abbrev pub makes : Command → Bool
@@ -31,9 +31,17 @@ abbrev creates : Checked Parsed → Bool
 creates (Ok p) = is_create p.statement
 creates (Err e) = false
 
-create_read : creates (first create_sql) ≡ true
+-- the first statement of a text is a CREATE TABLE
+abbrev pub IsCreate : List ℕ → Type 0
+IsCreate sql = creates (first sql) ≡ true
+
+pub create_read : IsCreate create_sql
 unfolding everything
 create_read = refl
+
+pub create_old_read : IsCreate create_old_sql
+unfolding everything
+create_old_read = refl
 
 select_read : (schema : Schema) (base : ℕ) → and_then (first select_sql) (λ p. returning schema base p.statement) ≡ Ok None
 unfolding everything
@@ -116,9 +124,9 @@ select_returns schema c h =
     let none = subst (λ r. and_then r (λ p. returning by.0 it.1 p.statement) ≡ Ok None) it.2 (select_read by.0 it.1) in
     ap (ok_or c.returning) (sym it.3 ∙ none)
 
--- the statement that makes the table does only that
-pub create_makes : (schema : Schema) (c : Compiled) → understood schema create_sql ≡ Ok c → makes c.command ≡ true
-create_makes schema c h =
-    let by = understood_of schema create_sql c h in
-    let it = compiled_of by.0 create_sql c by.1 in
-    subst IsMaking it.4 (command_makes by.0 _ it.1 it.0.statement (subst (λ r. creates r ≡ true) it.2 create_read))
+-- a statement that makes a table does only that
+pub create_makes : (sql : List ℕ) → IsCreate sql → (schema : Schema) (c : Compiled) → understood schema sql ≡ Ok c → makes c.command ≡ true
+create_makes sql create schema c h =
+    let by = understood_of schema sql c h in
+    let it = compiled_of by.0 sql c by.1 in
+    subst IsMaking it.4 (command_makes by.0 _ it.1 it.0.statement (subst (λ r. creates r ≡ true) it.2 create))

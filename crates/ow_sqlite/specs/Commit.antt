@@ -1,16 +1,19 @@
 -- For private clauses: what a commit of changes makes of a database.
-use Rattle.std.specs.Prelude.{◌≡◌, ℕ, true, false, IsTrue, List, [], ◌∷◌, Result, Ok, OnOk, OnErr}
+use Rattle.std.specs.Prelude.{◌≡◌, true, false, IsTrue, List, [], ◌∷◌, Result, OnOk, OnErr}
+use Rattle.sqlite_value.specs.declared.value.Value.TheVariants.{Text}
 use Rattle.sqlite.specs.Store.{Ghosts}
-use Rattle.sqlite.specs.State.{Executes, HasCleanDisk, Survives}
+use Rattle.sqlite.specs.State.{HasCleanDisk, Survives}
 use Rattle.sqlite.specs.Held.{Held, state}
 use Rattle.sqlite.specs.Tree.{Trees}
 use Rattle.ow_traits.specs.declared.change_list.Change.{Change}
-use Rattle.ow_sqlite.specs.Statements.{params_of, sql_of}
+use Rattle.ow_traits.specs.declared.change_list.Change.TheVariants.{Put, Drop as Dropped, Retire}
+use Rattle.ow_sqlite.specs.Statements.{Executed, drop_sql, put_old_sql, put_sql}
 
--- the statement of the change was executed
-pub record Makes {S : Type 0} (g : Ghosts S) (change : Change) (old new : Held S) : Type 0 where
-  pub count : ℕ
-  pub executed : Executes (sql_of change) (params_of change) (state g old) (state g new) (Ok count)
+-- the statement of the change was executed, or its two statements, one after the other
+abbrev pub Makes : {S : Type 0} → Ghosts S → Change → Held S → Held S → Type 0
+Makes g (Put key text) old new = Executed g put_sql (Text key ∷ Text text ∷ []) old new
+Makes g (Dropped key) old new = Executed g drop_sql (Text key ∷ []) old new
+Makes {S} g (Retire key text) old new = (mid : Held S) × Executed g drop_sql (Text key ∷ []) old mid × Executed g put_old_sql (Text key ∷ Text text ∷ []) mid new
 
 -- the statements of the changes were executed one after another
 unfoldable pub MakesAll : {S : Type 0} → Ghosts S → List Change → Held S → Held S → Type 0

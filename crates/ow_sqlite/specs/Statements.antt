@@ -1,22 +1,29 @@
--- For private clauses: the statements on the table of kept rows, and their parameters.
-use Rattle.std.specs.Prelude.{ℕ, List, [], ◌∷◌, codes}
+-- For private clauses: the statements on the tables of kept rows and of old rows.
+use Rattle.std.specs.Prelude.{ℕ, List, codes, Ok}
 use Rattle.sqlite_value.specs.Order.{Row}
-use Rattle.sqlite_value.specs.declared.value.Value.TheVariants.{Text}
-use Rattle.ow_traits.specs.declared.change_list.Change.{Change}
-use Rattle.ow_traits.specs.declared.change_list.Change.TheVariants.{Put, Drop as Dropped}
+use Rattle.sqlite.specs.Store.{Ghosts}
+use Rattle.sqlite.specs.State.{Executes}
+use Rattle.sqlite.specs.Held.{Held, state}
 
 abbrev pub create_sql : List ℕ
 create_sql = codes "CREATE TABLE IF NOT EXISTS kept (key TEXT PRIMARY KEY, text TEXT NOT NULL)"
 
+abbrev pub create_old_sql : List ℕ
+create_old_sql = codes "CREATE TABLE IF NOT EXISTS old (key TEXT PRIMARY KEY, text TEXT NOT NULL)"
+
 abbrev pub select_sql : List ℕ
 select_sql = codes "SELECT key, text FROM kept ORDER BY key"
 
--- the statement of a change
-abbrev pub sql_of : Change → List ℕ
-sql_of (Put key text) = codes "INSERT INTO kept (key, text) VALUES (?1, ?2) ON CONFLICT (key) DO UPDATE SET text = excluded.text"
-sql_of (Dropped key) = codes "DELETE FROM kept WHERE key = ?1"
+abbrev pub put_sql : List ℕ
+put_sql = codes "INSERT INTO kept (key, text) VALUES (?1, ?2) ON CONFLICT (key) DO UPDATE SET text = excluded.text"
 
--- its parameters
-abbrev pub params_of : Change → Row
-params_of (Put key text) = Text key ∷ Text text ∷ []
-params_of (Dropped key) = Text key ∷ []
+abbrev pub drop_sql : List ℕ
+drop_sql = codes "DELETE FROM kept WHERE key = ?1"
+
+abbrev pub put_old_sql : List ℕ
+put_old_sql = codes "INSERT INTO old (key, text) VALUES (?1, ?2) ON CONFLICT (key) DO UPDATE SET text = excluded.text"
+
+-- the statement was executed with these parameters
+pub record Executed {S : Type 0} (g : Ghosts S) (sql : List ℕ) (params : Row) (old new : Held S) : Type 0 where
+  pub count : ℕ
+  pub executed : Executes sql params (state g old) (state g new) (Ok count)

@@ -1,6 +1,6 @@
 // A keeper over a file.
 ghost use Rattle.std.specs.Prelude.{◌≡◌, IsTrue, None, Err, IfOk, IfErr, OnOk};
-ghost use Rattle.ow_traits.specs.Keeper.{Commits, KeepsCause, Loads};
+ghost use Rattle.ow_traits.specs.Keeper.{Commits, KeepsCause, Loads, Retires};
 ghost use Rattle.ow_sqlite.specs.Commit.{EndsCommit, SurvivesCommit};
 ghost use Rattle.ow_sqlite.specs.Faults.{faults_after, keeper_error};
 ghost use Rattle.ow_sqlite.specs.Load.{EndsLoad};
@@ -14,7 +14,7 @@ use ow_traits::{Changes, Keeper, KeeperError, Rows};
 use sqlite::{Connection, Error, File, FileStore};
 use std::alloc::Global;
 
-/// Keeps rows in a SQLite file, which it alone has open. Its log is a file beside it, with the file's name and `-wal`.
+/// Keeps rows and old rows in a SQLite file, which it alone has open. Its log is a file beside it, with the file's name and `-wal`.
 pub struct FileKeeper {
     inner: SqliteKeeper<FileStore<File>>,
 }
@@ -48,7 +48,7 @@ impl FileKeeper {
 }
 
 impl Keeper for FileKeeper {
-    ghost telling = { λ k. record { rows = None; faults = k.inner.faults; commits = None } };
+    ghost telling = { λ k. record { rows = None; old_rows = None; faults = k.inner.faults; commits = None } };
 
     fn faults(&self) -> u64 {
         self.inner.faults
@@ -67,6 +67,7 @@ impl Keeper for FileKeeper {
 
     fn commit(&mut self, alloc: Global, changes: &Changes) -> Result<(), KeeperError>
         ensures told { Commits None None changes.now result }
+        ensures old_rows { Retires None None changes.now result }
         ensures counted { OnOk result (self.new.inner.faults ≡ self.old.inner.faults) }
         ensures failed { IfErr result (λ e. self.new.inner.faults ≡ faults_after e self.old.inner.faults) }
         ensures cause { KeepsCause self.old.inner.faults self.new.inner.faults result }

@@ -1,8 +1,8 @@
-// The rows of the table, which is made where it isn't there.
+// The rows of the table of kept rows. It is made where it isn't there, and so is the table of old rows.
 ghost use Rattle.std.specs.Prelude.{◌≡◌, [], IfOk, OnOk};
 ghost use Rattle.sqlite_value.specs.Order.{column};
 ghost use Rattle.sqlite_value.specs.declared.value.Value.TheVariants.{Text};
-ghost use Rattle.ow_sqlite.specs.Load.{AreTexts, EndsLoad, PutsRow, SurvivesLoad, rows_after};
+ghost use Rattle.ow_sqlite.specs.Load.{AreTexts, EndsLoad, EndsMaking, PutsRow, SurvivesLoad, rows_after};
 
 use ow_traits::Rows;
 use ow_value::Str;
@@ -10,6 +10,9 @@ use sqlite::{Alter, Connection, Error, ErrorCode, Row};
 use std::alloc::Global;
 
 const CREATE: &str = "CREATE TABLE IF NOT EXISTS kept (key TEXT PRIMARY KEY, text TEXT NOT NULL)";
+
+const CREATE_OLD: &str =
+    "CREATE TABLE IF NOT EXISTS old (key TEXT PRIMARY KEY, text TEXT NOT NULL)";
 
 // The order of texts is that of their bytes.
 const SELECT: &str = "SELECT key, text FROM kept ORDER BY key";
@@ -48,11 +51,20 @@ fn put_rows(alloc: Global, shown: Vec<Row>) -> Result<Rows, Error>
     Ok(rows)
 }
 
+fn make_tables<S: Alter>(conn: &mut Connection<S>) -> Result<(), Error>
+    ensures end { EndsMaking S.Store result conn.old conn.new }
+    ensures stop { SurvivesLoad S.Store conn.old conn.new }
+{
+    conn.execute(CREATE, &[])?;
+    conn.execute(CREATE_OLD, &[])?;
+    Ok(())
+}
+
 pub(crate) fn load_rows<S: Alter>(alloc: Global, conn: &mut Connection<S>) -> Result<Rows, Error>
     ensures end { EndsLoad S.Store result conn.old conn.new }
     ensures stop { SurvivesLoad S.Store conn.old conn.new }
 {
-    conn.execute(CREATE, &[])?;
+    make_tables(conn)?;
     let shown = conn.query_all(SELECT, &[])?;
     put_rows(alloc, shown)
 }

@@ -1,6 +1,6 @@
 // A keeper over a connection to a database.
 ghost use Rattle.std.specs.Prelude.{◌≡◌, ◌≤◌, None, Ok, Err, IfErr, OnOk};
-ghost use Rattle.ow_traits.specs.Keeper.{Commits, KeepsCause, Loads};
+ghost use Rattle.ow_traits.specs.Keeper.{Commits, KeepsCause, Loads, Retires};
 ghost use Rattle.ow_traits.specs.Streams.{Rose};
 ghost use Rattle.ow_sqlite.specs.Commit.{EndsCommit, SurvivesCommit};
 ghost use Rattle.ow_sqlite.specs.Faults.{faults_after, keeper_error};
@@ -13,7 +13,7 @@ use ow_traits::{Changes, Keeper, KeeperError, Rows};
 use sqlite::{Alter, Connection, Error, ErrorCode};
 use std::alloc::Global;
 
-/// Keeps rows in the table `kept` of a database. A commit is one transaction.
+/// Keeps rows in the table `kept` of a database, and old rows in its table `old`. A commit is one transaction.
 #[derive(Drop)]
 pub struct SqliteKeeper<S: Alter> {
     pub(crate) conn: Result<Connection<S>, Error>,
@@ -21,7 +21,7 @@ pub struct SqliteKeeper<S: Alter> {
 }
 
 impl<S: Alter> SqliteKeeper<S> {
-    /// A keeper that owns the connection, with no fault yet. The table is made by the first load.
+    /// A keeper that owns the connection, with no fault yet. The tables are made by the first load.
     pub fn over(conn: Connection<S>) -> SqliteKeeper<S>
         ensures conn { result.conn ≡ Ok conn }
         ensures faults { result.faults ≡ 0 }
@@ -94,7 +94,7 @@ impl<S: Alter> SqliteKeeper<S> {
 }
 
 impl<S: Alter> Keeper for SqliteKeeper<S> {
-    ghost telling = { λ k. record { rows = None; faults = k.faults; commits = None } };
+    ghost telling = { λ k. record { rows = None; old_rows = None; faults = k.faults; commits = None } };
 
     fn faults(&self) -> u64 {
         self.faults
@@ -117,6 +117,7 @@ impl<S: Alter> Keeper for SqliteKeeper<S> {
 
     fn commit(&mut self, _alloc: Global, changes: &Changes) -> Result<(), KeeperError>
         ensures told { Commits None None changes.now result }
+        ensures old_rows { Retires None None changes.now result }
         ensures counted { OnOk result (self.new.faults ≡ self.old.faults) }
         ensures failed { IfErr result (λ e. self.new.faults ≡ faults_after e self.old.faults) }
         ensures cause { KeepsCause self.old.faults self.new.faults result }

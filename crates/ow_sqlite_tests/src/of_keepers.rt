@@ -16,16 +16,25 @@ fn drop_of(alloc: Global, key: &str) -> Result<Change, NoMemory> {
     Ok(Change::Drop(Str::of(alloc, key)?))
 }
 
-// Puts of these texts at these keys; no text is a drop.
+fn retire(alloc: Global, key: &str, text: &str) -> Result<Change, NoMemory> {
+    Ok(Change::Retire(Str::of(alloc, key)?, Str::of(alloc, text)?))
+}
+
+// No text is a drop, a text that begins with `old` retires its key, and any other text is put.
+fn change(alloc: Global, key: &str, text: &str) -> Result<Change, NoMemory> {
+    if text.is_empty() {
+        drop_of(alloc, key)
+    } else if text.starts_with("old") {
+        retire(alloc, key, text)
+    } else {
+        put(alloc, key, text)
+    }
+}
+
 fn changes(alloc: Global, rows: &[(&str, &str)]) -> Result<Changes, NoMemory> {
     let mut changes = Vec::new(alloc);
     for (key, text) in rows {
-        let change = if text.is_empty() {
-            drop_of(alloc, key)?
-        } else {
-            put(alloc, key, text)?
-        };
-        changes.push(change)?;
+        changes.push(change(alloc, key, text)?)?;
     }
     Changes::from_vec(changes)
 }
@@ -123,6 +132,52 @@ fn a_commit_that_fails_changes_nothing_and_counts(rt: HostRuntime) -> Result<(),
         );
         assert_eq!(rt; kept(alloc, &mut keeper)?.as_str(), *rows);
         assert_eq!(rt; keeper.faults(), *faults);
+    }
+    Ok(())
+}
+
+// The changes of a commit, its result, and the rows. The last change of the second commit breaks a rule of the table.
+const RETIRED: [(&[(&str, &str)], Result<(), KeeperError>, &str); 4] = [
+    (&[("a", "1"), ("b", "2")], Ok(()), "a1b2"),
+    (
+        &[("a", "old 3"), ("d", "old 4"), ("b", "bad")],
+        Err(KeeperError::Failed),
+        "a1b2",
+    ),
+    (&[("a", "old 5"), ("c", "old 6")], Ok(()), "b2"),
+    (&[("a", "7"), ("a", "old 8")], Ok(()), "b2"),
+];
+
+// Whether each commit has this result, and leaves these rows.
+fn retires(alloc: Global, keeper: &mut SqliteKeeper<MemStore>) -> Result<bool, Fail> {
+    loaded(alloc, keeper)?;
+    for (rows, committed, left) in RETIRED.iter() {
+        let result = commit(alloc, keeper, rows);
+        let after = kept(alloc, keeper)?;
+        if result != *committed || after.as_str() != *left {
+            return Ok(false);
+        }
+    }
+    Ok(true)
+}
+
+// The old rows are the two that were retired last: how many rows each statement takes out.
+const COUNTS: [(&str, usize); 2] = [
+    (
+        "DELETE FROM old WHERE key || text IN ('aold 8', 'cold 6')",
+        2,
+    ),
+    ("DELETE FROM old", 0),
+];
+
+#[test]
+fn a_commit_retires_all_its_rows_or_none(rt: HostRuntime) -> Result<(), Fail> {
+    let alloc = rt.alloc();
+    let mut keeper = with_rule(alloc)?;
+    assert!(rt; retires(alloc, &mut keeper)?);
+    let mut conn = keeper.into_connection()?;
+    for (sql, count) in COUNTS.iter() {
+        assert_eq!(rt; run(&mut conn, *sql)?, *count);
     }
     Ok(())
 }

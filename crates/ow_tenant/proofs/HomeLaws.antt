@@ -16,7 +16,7 @@ use Rattle.ow_tenant.specs.Table.{Table, csv_rows, granted, has_number, is_calle
 use Rattle.ow_tenant.specs.declared.entries.Holder.{Holder}
 use Rattle.ow_tenant.specs.declared.limits.NamespaceLimits.{NamespaceLimits}
 use Rattle.ow_tenant.specs.declared.line.Line.{Line}
-use Rattle.ow_tenant.specs.declared.line.Line.TheVariants.{Grant, Key, Namespace, Pool, Prewarming, Program}
+use Rattle.ow_tenant.specs.declared.line.Line.TheVariants.{Grant, Key, Namespace, Pool, Prewarming, Program, Retain}
 use Rattle.ow_tenant.specs.declared.rights.Right.{Right}
 
 -- ---- options
@@ -77,7 +77,8 @@ by_word word a b c d e =
     (some_if IsHomeLine (not (is_empty c)) None _ tt
     (some_if IsHomeLine (bytes_eq word (codes "program")) _ _ (some_if IsHomeLine (is_text a && is_text b) (Some (Program a b)) None tt tt)
     (some_if IsHomeLine (not (is_empty b)) None _ tt
-    (some_if IsHomeLine (bytes_eq word (codes "pool")) _ None (some_mapped (λ (m : ℕ). Unit {0}) IsHomeLine Pool (number_within 512 65536 a) (λ m x. tt) (any (number_within 512 65536 a))) tt))))))))
+    (some_if IsHomeLine (bytes_eq word (codes "pool")) _ _ (some_mapped (λ (m : ℕ). Unit {0}) IsHomeLine Pool (number_within 512 65536 a) (λ m x. tt) (any (number_within 512 65536 a)))
+    (some_if IsHomeLine (bytes_eq word (codes "retain")) _ None (some_mapped (λ (m : ℕ). Unit {0}) IsHomeLine Retain (number_within 1 3650 a) (λ m x. tt) (any (number_within 1 3650 a))) tt)))))))))
 
 line_home : (row : List (List ℕ)) → IfSome (row_of row) IsHomeLine
 unfolding row_of
@@ -128,6 +129,7 @@ line_homes t (Grant key namespace right) all h =
 line_homes t (Pool memory) all h = some_if AreHomes (is_some t.pool) None (Some (record t { pool = Some memory })) tt all
 line_homes t (Prewarming wanted) all h = some_if AreHomes (list_any (wants_same wanted) t.wants) None (Some (record t { wants = t.wants ++ wanted ∷ [] })) tt all
 line_homes t (Program name path) all h = some_if AreHomes (list_any (is_called name) t.programs) None (Some (record t { programs = t.programs ++ (name, path) ∷ [] })) tt all
+line_homes t (Retain days) all h = some_if AreHomes (is_some t.retain) None (Some (record t { retain = Some days })) tt all
 
 row_homes : (t : Table) (row : List (List ℕ)) → AreHomes t → IfSome (with_row t row) AreHomes
 unfolding with_row

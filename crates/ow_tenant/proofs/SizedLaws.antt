@@ -13,7 +13,7 @@ use Rattle.ow_value.specs.ByText.{value_at, with_value}
 use Rattle.ow_tenant.specs.Rights.{all_rights}
 use Rattle.ow_tenant.specs.declared.entries.Holder.{Holder}
 use Rattle.ow_tenant.specs.declared.line.Line.{Line}
-use Rattle.ow_tenant.specs.declared.line.Line.TheVariants.{Namespace, Key, Grant, Pool, Prewarming, Program}
+use Rattle.ow_tenant.specs.declared.line.Line.TheVariants.{Namespace, Key, Grant, Pool, Prewarming, Program, Retain}
 
 abbrev IsSized : Prewarm → Type 0
 IsSized w = (128 ≤ w.memory) × (w.memory ≤ 512)
@@ -25,6 +25,7 @@ IsSizedLine (Key key subject home) = Unit {0}
 IsSizedLine (Grant key namespace right) = Unit {0}
 IsSizedLine (Pool memory) = (512 ≤ memory) × (memory ≤ 65536)
 IsSizedLine (Program name path) = Unit {0}
+IsSizedLine (Retain days) = Unit {0}
 
 -- ---- options
 
@@ -80,7 +81,8 @@ by_word word a b c d e =
     (if_cond IsSizedLine (not (is_empty c)) None _ tt
     (if_cond IsSizedLine (bytes_eq word (codes "program")) _ _ (if_cond IsSizedLine _ (Some (Program a b)) None tt tt)
     (if_cond IsSizedLine (not (is_empty b)) None _ tt
-    (if_cond IsSizedLine (bytes_eq word (codes "pool")) _ None (if_map (λ (m : ℕ). (512 ≤ m) × (m ≤ 65536)) IsSizedLine Pool (number_within 512 65536 a) (number_sized 512 65536 a) (λ m within. within)) tt))))))))
+    (if_cond IsSizedLine (bytes_eq word (codes "pool")) _ _ (if_map (λ (m : ℕ). (512 ≤ m) × (m ≤ 65536)) IsSizedLine Pool (number_within 512 65536 a) (number_sized 512 65536 a) (λ m within. within))
+    (if_cond IsSizedLine (bytes_eq word (codes "retain")) _ None (if_map (λ (m : ℕ). Unit {0}) IsSizedLine Retain (number_within 1 3650 a) (if_any (number_within 1 3650 a)) (λ m any. tt)) tt)))))))))
 
 row_sized : (row : List (List ℕ)) → IfSome (row_of row) IsSizedLine
 unfolding row_of
@@ -118,6 +120,7 @@ line_sized t (Prewarming wanted) all sized =
     if_cond IsSizedTable (list_any (wants_same wanted) t.wants) None (Some (record t { wants = t.wants ++ wanted ∷ [] })) tt (all_push t.wants wanted all.0 sized, all.1)
 line_sized t (Program name path) all sized =
     if_cond IsSizedTable (list_any (is_called name) t.programs) None (Some (record t { programs = t.programs ++ (name, path) ∷ [] })) tt all
+line_sized t (Retain days) all sized = if_cond IsSizedTable (is_some t.retain) None (Some (record t { retain = Some days })) tt all
 
 one_sized : (t : Table) (row : List (List ℕ)) → IsSizedTable t → IfSome (with_row t row) IsSizedTable
 unfolding with_row

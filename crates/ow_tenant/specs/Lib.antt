@@ -1,3 +1,4 @@
+pub mod Days
 pub mod Limits
 pub mod Notes
 pub mod Queue

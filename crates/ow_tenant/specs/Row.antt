@@ -10,7 +10,7 @@ use Rattle.ow_traits.specs.declared.replies.Kind.{Kind}
 use Rattle.ow_traits.specs.declared.replies.Kind.TheVariants as kinds
 use Rattle.ow_tenant.specs.declared.limits.NamespaceLimits.{NamespaceLimits}
 use Rattle.ow_tenant.specs.declared.line.Line.{Line}
-use Rattle.ow_tenant.specs.declared.line.Line.TheVariants.{Namespace, Key, Grant, Pool, Prewarming, Program}
+use Rattle.ow_tenant.specs.declared.line.Line.TheVariants.{Namespace, Key, Grant, Pool, Prewarming, Program, Retain}
 use Rattle.ow_tenant.specs.declared.rights.Right.{Right}
 use Rattle.ow_tenant.specs.declared.rights.Right.TheVariants.{Read, Write, Invoke}
 
@@ -92,6 +92,17 @@ prewarm_row a b c = option_map Prewarming (prewarm_of a b c)
 abbrev pub program_row : List ℕ → List ℕ → Option Line
 program_row a b = if is_text a && is_text b then Some (Program a b) else None
 
+-- for how many days records are retained
+abbrev pub retain_row : List ℕ → Option Line
+retain_row a = option_map Retain (number_within 1 3650 a)
+
+-- a row that uses one field after its first word, by that word
+abbrev pub one_field_row : List ℕ → List ℕ → Option Line
+one_field_row word a =
+    if bytes_eq word (codes "pool") then pool_row a
+    else if bytes_eq word (codes "retain") then retain_row a
+    else None
+
 -- by the first word; what a row of its kind doesn't use is empty
 abbrev pub row_by : List ℕ → List ℕ → List ℕ → List ℕ → List ℕ → List ℕ → Option Line
 row_by word a b c d e =
@@ -103,8 +114,7 @@ row_by word a b c d e =
     else if not (is_empty c) then None
     else if bytes_eq word (codes "program") then program_row a b
     else if not (is_empty b) then None
-    else if bytes_eq word (codes "pool") then pool_row a
-    else None
+    else one_field_row word a
 
 -- what a row says by itself, which has six fields; none where it is bad
 unfoldable pub row_of : List (List ℕ) → Option Line

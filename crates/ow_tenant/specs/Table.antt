@@ -13,19 +13,20 @@ use Rattle.ow_tenant.specs.Rights.{all_rights, rights_or_none, with_right}
 use Rattle.ow_tenant.specs.Row.{row_of}
 use Rattle.ow_tenant.specs.declared.limits.NamespaceLimits.{NamespaceLimits}
 use Rattle.ow_tenant.specs.declared.line.Line.{Line}
-use Rattle.ow_tenant.specs.declared.line.Line.TheVariants.{Namespace, Key, Grant, Pool, Prewarming, Program}
+use Rattle.ow_tenant.specs.declared.line.Line.TheVariants.{Namespace, Key, Grant, Pool, Prewarming, Program, Retain}
 use Rattle.ow_tenant.specs.declared.rights.Right.{Right}
 use Rattle.ow_tenant.specs.declared.entries.Space.{Space}
 use Rattle.ow_tenant.specs.declared.entries.Holder.{Holder}
 
 -- the namespaces by their names; who holds each key; the memory of all containers, where a row gives it; what is wanted ahead and
--- the programs, in the order of their rows
+-- the programs, in the order of their rows; for how many days records are retained, where a row gives it
 pub record Table : Type 0 where
   pub namespaces : ByText Space
   pub keys : ByText Holder
   pub pool : Option ℕ
   pub wants : List Prewarm
   pub programs : List (List ℕ × List ℕ)
+  pub retain : Option ℕ
 
 -- each key's own namespace is a name, which it is in a table that was read
 abbrev pub AreHomes : Table → Type 0
@@ -37,7 +38,7 @@ IsPoolSized pool = IfSome pool (λ m. (512 ≤ m) × (m ≤ 65536))
 
 -- before the first row
 abbrev pub no_rows : Table
-no_rows = record { namespaces = []; keys = []; pool = None; wants = []; programs = [] }
+no_rows = record { namespaces = []; keys = []; pool = None; wants = []; programs = []; retain = None }
 
 -- ---- what a row may speak of
 
@@ -99,6 +100,10 @@ with_prewarm t wanted = if list_any (wants_same wanted) t.wants then None else S
 abbrev pub with_program : Table → List ℕ → List ℕ → Option Table
 with_program t name path = if list_any (is_called name) t.programs then None else Some (record t { programs = t.programs ++ (name, path) ∷ [] })
 
+-- once
+abbrev pub with_retain : Table → ℕ → Option Table
+with_retain t days = if is_some t.retain then None else Some (record t { retain = Some days })
+
 abbrev pub with_line : Table → Line → Option Table
 with_line t (Namespace number name limits) = with_namespace t number name limits
 with_line t (Key key subject home) = with_key t key subject home
@@ -106,6 +111,7 @@ with_line t (Grant key namespace right) = with_grant t key namespace right
 with_line t (Pool memory) = with_pool t memory
 with_line t (Prewarming wanted) = with_prewarm t wanted
 with_line t (Program name path) = with_program t name path
+with_line t (Retain days) = with_retain t days
 
 -- ---- the whole table
 

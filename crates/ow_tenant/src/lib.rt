@@ -1,6 +1,7 @@
 #![tactic(auto)]
 
 //! The office table: the namespaces with their limits, the keys and their rights, and the counts that the limits are of.
+mod days;
 mod entries;
 mod known;
 mod limits;

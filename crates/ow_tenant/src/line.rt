@@ -1,4 +1,5 @@
 // What a row says by itself.
+use crate::days::Days;
 use crate::limits::NamespaceLimits;
 use crate::rights::Right;
 use ow_names::EntityName;
@@ -32,6 +33,9 @@ pub(crate) enum Line {
     Program {
         name: Str,
         path: Str,
+    },
+    Retain {
+        days: Days,
     },
 }
 

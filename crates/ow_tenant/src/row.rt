@@ -1,8 +1,9 @@
 // Rows, from their fields.
 ghost use Rattle.std.specs.Prelude.{◌≡◌, ◌≢◌, ◌<◌, ◌∷◌, [], length, Some, None, MatchResult, MatchOption, List, ℕ};
 ghost use Rattle.csv.specs.Records.{field_at, fields_of};
-ghost use Rattle.ow_tenant.specs.Row.{grant_row, key_row, namespace_row, pool_row, prewarm_of, prewarm_row, program_row, row_by, row_of};
+ghost use Rattle.ow_tenant.specs.Row.{grant_row, key_row, namespace_row, one_field_row, pool_row, prewarm_of, prewarm_row, program_row, retain_row, row_by, row_of};
 
+use crate::days::Days;
 use crate::line::{Line, RowFault};
 use crate::words::{
     copy_name, copy_text, is_empty, is_key, is_name, is_text, is_utf8, kind_of, may_be_listed,
@@ -91,8 +92,21 @@ fn row_by(
     if word == b"program".as_slice() {
         return program_row(alloc, a, b);
     }
-    if is_empty(b) && word == b"pool".as_slice() {
+    if !is_empty(b) {
+        return Err(RowFault::Bad);
+    }
+    one_field_row(word, a)
+}
+
+// A row that uses one field after its first word.
+fn one_field_row(word: &[u8], a: &[u8]) -> Result<Line, RowFault>
+    ensures { MatchResult result (λ l. one_field_row word.now a.now ≡ Some l) (λ f. f ≢ RowFault.NoMemory → one_field_row word.now a.now ≡ None) }
+{
+    if word == b"pool".as_slice() {
         return pool_row(a);
+    }
+    if word == b"retain".as_slice() {
+        return retain_row(a);
     }
     Err(RowFault::Bad)
 }
@@ -193,4 +207,13 @@ fn program_row(alloc: Global, a: &[u8], b: &[u8]) -> Result<Line, RowFault>
     let name = copy_text(alloc, a)?;
     let path = copy_text(alloc, b)?;
     Ok(Line::Program { name, path })
+}
+
+fn retain_row(a: &[u8]) -> Result<Line, RowFault>
+    ensures { MatchResult result (λ l. retain_row a.now ≡ Some l) (λ f. f ≢ RowFault.NoMemory → retain_row a.now ≡ None) }
+{
+    match Days::of(a) {
+        Some(days) => Ok(Line::Retain { days }),
+        None => Err(RowFault::Bad),
+    }
 }

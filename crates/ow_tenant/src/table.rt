@@ -2,8 +2,9 @@
 ghost use Rattle.std.specs.Prelude.{◌≡◌, ◌≢◌, ◌<◌, [], ◌∷◌, ◌++◌, Some, None, Err, OnOk, IfOk};
 ghost use Rattle.std.specs.List.{list_any};
 ghost use Rattle.ow_tenant.specs.Rights.{all_rights};
-ghost use Rattle.ow_tenant.specs.Table.{Table, granted, has_number, is_called, is_listed, no_rows, same_kind, wants_same, with_grant, with_key, with_line, with_namespace, with_pool, with_prewarm, with_program};
+ghost use Rattle.ow_tenant.specs.Table.{Table, granted, has_number, is_called, is_listed, no_rows, same_kind, wants_same, with_grant, with_key, with_line, with_namespace, with_pool, with_prewarm, with_program, with_retain};
 
+use crate::days::Days;
 use crate::entries::{Holder, Space};
 use crate::limits::NamespaceLimits;
 use crate::line::{Line, RowFault};
@@ -22,6 +23,7 @@ pub(crate) struct Draft {
     pub(crate) pool: Option<u32>,
     pub(crate) wants: Vec<Prewarm>,
     pub(crate) programs: Vec<(Str, Str)>,
+    pub(crate) retain: Option<Days>,
 }
 
 impl Model for Draft {
@@ -29,7 +31,7 @@ impl Model for Draft {
 
     ghost Value = { Table };
 
-    ghost view = { λ d. record { namespaces = d.namespaces; keys = d.keys; pool = d.pool; wants = d.wants.items; programs = d.programs.items } };
+    ghost view = { λ d. record { namespaces = d.namespaces; keys = d.keys; pool = d.pool; wants = d.wants.items; programs = d.programs.items; retain = d.retain } };
 }
 
 impl Draft {
@@ -43,6 +45,7 @@ impl Draft {
             pool: None,
             wants: Vec::new(alloc),
             programs: Vec::new(alloc),
+            retain: None,
         }
     }
 
@@ -66,6 +69,7 @@ impl Draft {
             Line::Pool { memory } => self.take_pool(memory),
             Line::Prewarming { wanted } => self.take_prewarm(wanted),
             Line::Program { name, path } => self.take_program(name, path),
+            Line::Retain { days } => self.take_retain(days),
         }
     }
 
@@ -165,6 +169,17 @@ impl Draft {
             return Err(RowFault::Bad);
         }
         push(&mut self.programs, (name, path))?;
+        Ok(())
+    }
+
+    fn take_retain(&mut self, days: Days) -> Result<(), RowFault>
+        ensures ok { OnOk result (with_retain self.old days ≡ Some self.new) }
+        ensures bad { result ≡ Err RowFault.Bad → with_retain self.old days ≡ None }
+    {
+        if self.retain.is_some() {
+            return Err(RowFault::Bad);
+        }
+        self.retain = Some(days);
         Ok(())
     }
 }

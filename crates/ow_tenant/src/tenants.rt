@@ -1,14 +1,16 @@
 // The office table, and what it says.
-ghost use Rattle.std.specs.Prelude.{◌≡◌, ◌<◌, ◌≤◌, length, map, Some, None, Err, option_map, IfOk};
+ghost use Rattle.std.specs.Prelude.{◌≡◌, ◌<◌, ◌≤◌, length, map, Some, None, Err, option_map, IfOk, IfSome};
 ghost use Rattle.std.specs.List.{AllByRecursion};
 ghost use Rattle.std.specs.Option.{option_copied};
 ghost use Rattle.ow_names.specs.Name.{IsName};
 ghost use Rattle.ow_traits.specs.Streams.{Rose};
+ghost use Rattle.ow_tenant.specs.Days.{AreDays};
 ghost use Rattle.ow_tenant.specs.Reading.{ReadsUpTo, TellsTable, most_read};
 ghost use Rattle.ow_traits.specs.Prewarms.{AreWantsSized};
 ghost use Rattle.ow_tenant.specs.Table.{IsPoolSized, no_rows};
 ghost use Rattle.ow_tenant.specs.Tenants.{Knows, granted_names, holder_at, holder_of, is_listed, limits_of, may, name_value, number_of, pool_of};
 
+use crate::days::Days;
 use crate::entries::{Holder, Space};
 use crate::known::known_homes;
 use crate::limits::NamespaceLimits;
@@ -43,6 +45,7 @@ pub struct Tenants {
     pool: Option<u32>,
     wants: Prewarms,
     programs: Pairs,
+    retain: Option<Days>,
 }
 
 impl Model for Tenants {
@@ -50,7 +53,7 @@ impl Model for Tenants {
 
     ghost Value = { Table };
 
-    ghost view = { λ t. record { namespaces = t.namespaces; keys = t.keys; pool = t.pool; wants = t.wants; programs = t.programs } };
+    ghost view = { λ t. record { namespaces = t.namespaces; keys = t.keys; pool = t.pool; wants = t.wants; programs = t.programs; retain = t.retain } };
 }
 
 impl Tenants {
@@ -80,6 +83,7 @@ impl Tenants {
             pool,
             wants,
             programs,
+            retain,
         } = draft;
         let namespaces = Shared::new(alloc, namespaces)?;
         let keys = Shared::new(alloc, keys)?;
@@ -91,6 +95,7 @@ impl Tenants {
             pool,
             wants,
             programs,
+            retain,
         })
     }
 
@@ -229,6 +234,17 @@ impl Tenants {
     {
         &self.programs
     }
+
+    /// For how many days after its end a record is retained, where a row gives it. Without the row it stays.
+    pub fn retain(&self) -> Option<u32>
+        ensures value { result ≡ self.now.retain }
+        ensures within { IfSome result AreDays }
+    {
+        match self.retain {
+            Some(days) => Some(days.get()),
+            None => None,
+        }
+    }
 }
 
 impl PlainData for Tenants {
@@ -238,6 +254,7 @@ impl PlainData for Tenants {
             && self.pool == other.pool
             && self.wants.same(&other.wants)
             && self.programs.same(&other.programs)
+            && self.retain == other.retain
     }
 
     fn copy(&self, alloc: Global) -> Result<Tenants, NoMemory> {
@@ -254,6 +271,7 @@ impl PlainData for Tenants {
             pool: self.pool,
             wants,
             programs,
+            retain: self.retain,
         })
     }
 }

@@ -153,6 +153,51 @@ fn bad_pools_prewarms_and_programs(rt: HostRuntime) {
 }
 
 #[test]
+fn bad_retain_rows(rt: HostRuntime) {
+    let alloc = rt.alloc();
+    for (row, text) in [
+        (1, "retain,0,,,,"),
+        (1, "retain,3651,,,,"),
+        (1, "retain,4294967297,,,,"),
+        (1, "retain,,,,,"),
+        (1, "retain,01,,,,"),
+        (1, "retain,x,,,,"),
+        (1, "Retain,1,,,,"),
+        (1, "retain,1,x,,,"),
+        (1, "retain,1,,x,,"),
+        (1, "retain,1,,,x,"),
+        (1, "retain,1,,,,x"),
+        (1, "retain,1,,,"),
+        (2, "retain,1,,,,\nretain,1,,,,"),
+        (3, "retain,1,,,,\npool,512,,,,\nretain,2,,,,"),
+    ]
+    .iter()
+    {
+        assert_eq!(rt; fault(alloc, text.as_bytes()), Err(bad(*row)));
+    }
+}
+
+#[test]
+fn for_how_many_days_records_are_retained(rt: HostRuntime) -> Result<(), Fail> {
+    let alloc = rt.alloc();
+    for (text, days) in [
+        ("", None),
+        ("pool,512,,,,\n", None),
+        ("retain,1,,,,", Some(1)),
+        (
+            "pool,512,,,,\nretain,3650,,,,\nprogram,a,b,,,\n",
+            Some(3650),
+        ),
+    ]
+    .iter()
+    {
+        let tenants = read(alloc, text.as_bytes())?;
+        assert_eq!(rt; tenants.retain(), *days);
+    }
+    Ok(())
+}
+
+#[test]
 fn bytes_that_are_no_text_are_a_bad_row(rt: HostRuntime) {
     let alloc = rt.alloc();
     assert_eq!(rt;

@@ -1,6 +1,6 @@
--- What a keeper does with the rows that it reports, and when it may fail.
+-- What a keeper does with the rows and the old rows that it reports, and when it may fail.
 use Rattle.std.specs.Prelude.{◌≡◌, ◌≤◌, ℕ, List, Option, Some, None, Result, Ok, Err}
-use Rattle.ow_traits.specs.Changes.{changed}
+use Rattle.ow_traits.specs.Changes.{changed, old_after}
 use Rattle.ow_traits.specs.Streams.{Rose}
 use Rattle.ow_traits.specs.Telling.{Attempt, made, unmade}
 use Rattle.ow_traits.specs.declared.change_list.Change.{Change}
@@ -28,3 +28,9 @@ abbrev pub Commits : {T : Type 0} → Option (List (List ℕ × List ℕ)) → O
 Commits None new changes result = new ≡ None
 Commits (Some rows) new changes (Ok done) = new ≡ Some (changed changes rows)
 Commits (Some rows) new changes (Err e) = new ≡ Some rows
+
+-- the same commit to a keeper that reports its old rows: those that all the changes retire are among them, or none
+abbrev pub Retires : {T : Type 0} → Option (List (List ℕ × List ℕ)) → Option (List (List ℕ × List ℕ)) → List Change → Result T KeeperError → Type 0
+Retires None new changes result = new ≡ None
+Retires (Some old_rows) new changes (Ok done) = new ≡ Some (old_after changes old_rows)
+Retires (Some old_rows) new changes (Err e) = new ≡ Some old_rows

@@ -7,9 +7,11 @@ pub record Attempt : Type 0 where
   pub changes : List Change
   pub made : Bool
 
--- the rows, how many calls failed, and the requested commits, the newest first: rows and commits where the keeper reports them
+-- the rows, the old rows, how many calls failed, and the requested commits, the newest first: rows, old rows and commits where the keeper
+-- reports them
 pub record Telling : Type 0 where
   pub rows : Option (List (List ℕ × List ℕ))
+  pub old_rows : Option (List (List ℕ × List ℕ))
   pub faults : ℕ
   pub commits : Option (List Attempt)
 

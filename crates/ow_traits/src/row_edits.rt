@@ -4,7 +4,7 @@ ghost use Rattle.std.specs.List.{AllWithin, HoldsAt};
 ghost use Rattle.std.specs.List.Sorted.{IsPartitionPoint};
 ghost use Rattle.std.specs.declared.cmp.Ordering.TheVariants.{Less, Equal, Greater};
 ghost use Rattle.ow_value.specs.Value.{text_cmp};
-ghost use Rattle.ow_traits.specs.Changes.{after_change, changed};
+ghost use Rattle.ow_traits.specs.Changes.{after_change, changed, old_after, old_after_change};
 ghost use Rattle.ow_traits.specs.Rows.{AreRows, with_row, without};
 
 use crate::Change;
@@ -72,28 +72,46 @@ pub(crate) fn drop_row(rows: &mut Vec<(Str, Str)>, key: &str)
     }
 }
 
-pub(crate) fn change_row(rows: &mut Vec<(Str, Str)>, change: Change)
+pub(crate) fn change_row(rows: &mut Vec<(Str, Str)>, old_rows: &mut Vec<(Str, Str)>, change: Change)
     requires sorted { AreRows rows.old.items }
+    requires old_sorted { AreRows old_rows.old.items }
     requires room { vec_len rows.old < vec_capacity rows.old }
+    requires old_room { vec_len old_rows.old < vec_capacity old_rows.old }
     ensures items { rows.new.items ≡ after_change change rows.old.items }
+    ensures old_items { old_rows.new.items ≡ old_after_change change old_rows.old.items }
     ensures rows { AreRows rows.new.items }
+    ensures old_rows { AreRows old_rows.new.items }
     ensures len { vec_len rows.new ≤ vec_len rows.old + 1 }
+    ensures old_len { vec_len old_rows.new ≤ vec_len old_rows.old + 1 }
     ensures capacity { vec_capacity rows.old ≤ vec_capacity rows.new }
+    ensures old_capacity { vec_capacity old_rows.old ≤ vec_capacity old_rows.new }
 {
     match change {
         Change::Put(key, text) => put_row(rows, key, text).unwrap(),
         Change::Drop(key) => drop_row(rows, key.as_str()),
+        Change::Retire(key, text) => {
+            drop_row(rows, key.as_str());
+            put_row(old_rows, key, text).unwrap();
+        }
     }
 }
 
-// Makes the changes in their order. There is room for a row of each.
-pub(crate) fn change_rows(rows: &mut Vec<(Str, Str)>, changes: Vec<Change>)
+// Makes the changes in their order. There is room for a row and for an old row of each.
+pub(crate) fn change_rows(
+    rows: &mut Vec<(Str, Str)>,
+    old_rows: &mut Vec<(Str, Str)>,
+    changes: Vec<Change>,
+)
     requires sorted { AreRows rows.old.items }
+    requires old_sorted { AreRows old_rows.old.items }
     requires room { vec_len rows.old + length changes.items ≤ vec_capacity rows.old }
+    requires old_room { vec_len old_rows.old + length changes.items ≤ vec_capacity old_rows.old }
     ensures items { rows.new.items ≡ changed changes.items rows.old.items }
+    ensures old_items { old_rows.new.items ≡ old_after changes.items old_rows.old.items }
     ensures rows { AreRows rows.new.items }
+    ensures old_rows { AreRows old_rows.new.items }
 {
     for change in changes {
-        change_row(rows, change);
+        change_row(rows, old_rows, change);
     }
 }

@@ -1,6 +1,6 @@
 // Rows of a key and a text, in the order of their keys.
 ghost use Rattle.std.specs.Prelude.{◌≡◌, ◌↔◌, [], length, option_map, IsTrue, IfOk, OnOk, OnErr};
-ghost use Rattle.ow_traits.specs.Changes.{changed};
+ghost use Rattle.ow_traits.specs.Changes.{changed, old_after};
 ghost use Rattle.ow_traits.specs.Rows.{AreRows, text_of, with_row};
 
 use crate::Changes;
@@ -77,14 +77,22 @@ impl Rows {
         put_row(&mut self.rows, key, text)
     }
 
-    /// Makes the changes in their order: all of them, or none if out of memory.
-    pub fn apply(&mut self, alloc: Global, changes: &Changes) -> Result<(), NoMemory>
+    /// Makes the changes in their order, of these rows and of the old rows: all of them, or none if out of memory.
+    pub fn apply(
+        &mut self,
+        old_rows: &mut Rows,
+        alloc: Global,
+        changes: &Changes,
+    ) -> Result<(), NoMemory>
         ensures ok { OnOk result (self.new ≡ changed changes.now self.old) }
+        ensures old_ok { OnOk result (old_rows.new ≡ old_after changes.now old_rows.old) }
         ensures err { OnErr result (self.new ≡ self.old) }
+        ensures old_err { OnErr result (old_rows.new ≡ old_rows.old) }
     {
         let changes = copy_slice(alloc, changes.as_slice())?;
         self.rows.reserve(changes.len())?;
-        change_rows(&mut self.rows, changes);
+        old_rows.rows.reserve(changes.len())?;
+        change_rows(&mut self.rows, &mut old_rows.rows, changes);
         Ok(())
     }
 }

@@ -17,7 +17,7 @@ use Rattle.ow_traits.specs.declared.replies.RunReply.{RunReply}
 use Rattle.ow_floor.specs.Calls.{answered_items, busy_run, compose_items, end_items, moved, moved_by, recorded_with, reply_items, reply_recorded}
 use Rattle.ow_floor.specs.Frames.{children_of, is_frame}
 use Rattle.ow_floor.specs.Laws.{Grows, Stands}
-use Rattle.ow_floor.specs.Trace.{Accepted, Answered, Begun, Drained, Drawn, Ended, Fired, Gone, Item, Lost, Opened, Ordered, Prewarming, Removed, Reopened, Resumed, Swept, Trace, frames, open_items, shown, task_by}
+use Rattle.ow_floor.specs.Trace.{Accepted, Answered, Begun, Drained, Drawn, Ended, Fired, Gone, Item, Lost, Opened, Ordered, Prewarming, Removed, Reopened, Archived, Resumed, Swept, Trace, frames, open_items, shown, task_by}
 use Rattle.ow_floor.specs.View.{Shown, is_of}
 use Rattle.ow_floor.specs.declared.activations.Open.{Open}
 use Rattle.ow_floor.specs.declared.moves.Moved.{Moved}
@@ -213,6 +213,7 @@ moved_next (Fired r) = refl
 moved_next (Swept at) = refl
 moved_next (Drained at) = refl
 moved_next (Reopened at) = refl
+moved_next (Archived until at) = refl
 
 pub last_moved : (items : Trace) → last_next (moved items) ≡ next_in items
 last_moved [] = refl

@@ -1,14 +1,14 @@
 // A keeper for a day or a service without a store.
 ghost use Rattle.std.specs.Prelude.{◌≡◌, Some, false, []};
-ghost use Rattle.ow_whisk.specs.Unkept.{attempts_behind, rows_behind};
+ghost use Rattle.ow_whisk.specs.Unkept.{attempts_behind, old_rows_behind, rows_behind};
 
 use http_server::Log;
 use ow_traits::{Change, Changes, Keeper, KeeperError, Rows};
 use ow_value::Items;
 use std::alloc::Global;
 
-/// Holds no row in memory: what a day or a service without a store would keep ends with it. It reports the rows that its commits make
-/// of none. Before the first commit there is no row to load; after it, the answer to a load is out of memory. No call fails.
+/// Holds no row in memory: what a day or a service without a store would keep ends with it. It reports the rows and the old rows that
+/// its commits make of none. Before the first commit there is no row to load; after it, the answer to a load is out of memory. No call fails.
 #[derive(Drop)]
 pub struct Unkept {
     committed: bool,
@@ -20,6 +20,7 @@ impl Unkept {
     /// A keeper of no rows.
     pub fn new() -> Unkept
         ensures rows { (⟦<Unkept as Keeper>⟧.telling result).rows ≡ Some [] }
+        ensures old_rows { (⟦<Unkept as Keeper>⟧.telling result).old_rows ≡ Some [] }
         ensures faults { (⟦<Unkept as Keeper>⟧.telling result).faults ≡ 0 }
     {
         Unkept {
@@ -30,7 +31,7 @@ impl Unkept {
 }
 
 impl Keeper for Unkept {
-    ghost telling = { λ k. record { rows = Some (rows_behind k.commits.items []); faults = 0; commits = Some (attempts_behind k.commits.items []) } };
+    ghost telling = { λ k. record { rows = Some (rows_behind k.commits.items []); old_rows = Some (old_rows_behind k.commits.items []); faults = 0; commits = Some (attempts_behind k.commits.items []) } };
 
     fn faults(&self) -> u64 {
         0
@@ -43,7 +44,7 @@ impl Keeper for Unkept {
         Ok(Rows::new(alloc))
     }
 
-    #[tactic(auto, using(crate::proofs::Behind::rows_behind_one, crate::proofs::Behind::attempts_behind_one))]
+    #[tactic(auto, using(crate::proofs::Behind::rows_behind_one, crate::proofs::Behind::old_rows_behind_one, crate::proofs::Behind::attempts_behind_one))]
     fn commit(&mut self, _alloc: Global, changes: &Changes) -> Result<(), KeeperError> {
         let commits = self.commits.and(changes, &());
         self.committed = true;

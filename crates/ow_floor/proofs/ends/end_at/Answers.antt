@@ -1,5 +1,4 @@
-use Rattle.std.proofs.Common.{◌≡◌, ◌++◌, List, [], ◌∷◌, Some, None, sym, ◌∙◌, ap, get_or, append_assoc, rules}
-use Rattle.ow_records.specs.declared.record.Record.{Record}
+use Rattle.std.proofs.Common.{◌≡◌, ◌++◌, [], ◌∷◌, Some, None, sym, ◌∙◌, ap, get_or, rules}
 use Rattle.ow_floor.specs.Calls.{ended_by}
 use Rattle.ow_floor.specs.Ends.{end_in}
 use Rattle.ow_floor.specs.Frames.{frames_ended, part_of}
@@ -27,7 +26,5 @@ returns-clause-made c =
     ∙ (ap (λ ts. get_or ts c.args.place c.index-tasks-place.result) (sym c.tasks.ensures) ∙ (sym c.index-tasks-place.is ∙ c.in-Some.is)) in
     let e = ended_by c.args.at c.args.ending.now c.args.run c.in-Some.task in
     let now : c.end.new.self.now ≡ end_in c.args.place e c.args.lists.now.now = search rules in
-    let items : c.records.result.now.items ≡ c.end.new.self.now.resumed ++ c.args.lists.now.now.ended ++ record_of e ∷ [] =
-    c.records.ensures
-    ∙ (ap (λ (rs : List Record). c.end.new.self.now.resumed ++ rs) (ap (λ (R : Store). R.ended) now) ∙ sym (append_assoc c.end.new.self.now.resumed c.args.lists.now.now.ended (record_of e ∷ []))) in
+    let items : c.records.result.now.items ≡ c.args.lists.now.now.records ++ record_of e ∷ [] = c.records.ensures ∙ ap (λ (R : Store). R.records) now in
     on_more c.note_ended.result _ _ (λ noted. record { task = c.in-Some.task; here = here; now = now; noted = noted _ (record_of e) items }) c.note_ended.ensures

@@ -5,7 +5,7 @@ use Rattle.ow_tables.specs.Builtin.{builtin}
 use Rattle.ow_tables.specs.Rows.{resumed}
 use Rattle.ow_keep.specs.Split.{parts_of}
 use Rattle.ow_commits.specs.Keeping.{FollowingView, StandsFollowing}
-use Rattle.ow_commits.specs.Opening.{opened_trace, opening_changes}
+use Rattle.ow_commits.specs.Opening.{opened_trace, opening_changes, others_of}
 use Rattle.ow_commits.proofs.Resuming.{may_be_resumed, not_builtin}
 use Rattle.ow_decide.specs.Opening.{abandoned_told}
 use Rattle.ow_decide.specs.declared.events.Event.TheVariants as events
@@ -27,7 +27,7 @@ returns c =
     let rows = c.args.rows in
     let p = parts_of c.args.kept in
     let order = subst AreRows c.rows.view_is c.rows.invariant in
-    let same = c.first_moment-at.ensures ∙ first_moment rows c.args.at p c.requires.holds in
+    let same = c.first_moment-at.ensures ∙ first_moment rows c.args.at p order c.requires.holds in
     let all = joined_ok c.kept_beside-first.result c.joined2-second.result _ (sym c.in_ok-commit.ensures) in
     let made = beside_ok c.in_ok-opening.opening c.book_over-entries.result c.kept_beside-first.result _ c.kept_beside-first.ensures all.0 in
     let stood = joined_ok c.state_over-stands.result c.new.result _ (sym c.joined2-second.ensures ∙ all.1) in
@@ -40,9 +40,9 @@ returns c =
         ledger = ok_of _ c.book_over-entries.result c.in_ok-commit.book made.1 c.book_over-entries.ensures.ledger
             ∙ (ap (λ (us : List Unrecorded). posted no_entries c.first_moment-at.result (events.Opened rows) (tells.Opened (abandoned_told us))) c.deref.ensures.value
             ∙ (ap (λ (m : ℕ). posted no_entries m (events.Opened rows) (tells.Opened (abandoned_told p.unrecorded))) same ∙ opened_ledger t rows c.args.at p order c.requires.holds));
-        changes = ap (λ (k : FollowingView). k.changes) made.0 ∙ (c.in_ok-opening.ensures.changes ∙ ap (λ (m : ℕ). opening_changes m p.unrecorded) same);
-        stands = subst (λ (m : ℕ). StandsFollowing c.in_ok-commit.commit (resumed p.entities builtin) (opened_trace m p (pool_of t) t.wants)) same
-            (subst (λ (k : FollowingView). StandsFollowing k (resumed p.entities builtin) (opened_trace c.first_moment-at.result p (pool_of t) t.wants)) (sym made.0)
+        changes = ap (λ (k : FollowingView). k.changes) made.0 ∙ (c.in_ok-opening.ensures.changes ∙ ap (λ (m : ℕ). opening_changes m p) same);
+        stands = subst (λ (m : ℕ). StandsFollowing c.in_ok-commit.commit (others_of p) (resumed p.entities builtin) (opened_trace m p (pool_of t) t.wants)) same
+            (subst (λ (k : FollowingView). StandsFollowing k (others_of p) (resumed p.entities builtin) (opened_trace c.first_moment-at.result p (pool_of t) t.wants)) (sym made.0)
             (c.in_ok-opening.ensures.stands (pool_of t) t.wants c.requires.holds (not_builtin rows p c.requires.holds)));
       };
     }

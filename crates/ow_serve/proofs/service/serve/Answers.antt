@@ -35,4 +35,4 @@ returns-clause-opens g c = opens_none _ _ c.args.tenants c.in-Err.refusal.why _ 
 pub returns-clause-unopened : goal.returns-clause-unopened
 returns-clause-unopened g c =
     let kept = c.in-Err.ensures.unopened in
-    why_unopened g.P.Keeper.telling c.args.store c.in-Err.refusal.store c.in-Err.refusal.why _ _ (c.nothing-in-Err.ensures.end ∙ c.unopened.ensures) c.nothing-in-Err.ensures.store kept.cause kept.rows_stay
+    why_unopened g.P.Keeper.telling c.args.store c.in-Err.refusal.store c.in-Err.refusal.why _ _ (c.nothing-in-Err.ensures.end ∙ c.unopened.ensures) c.nothing-in-Err.ensures.store kept.cause kept.rows_stay kept.old_rows_stay

@@ -14,8 +14,7 @@ loop-change-preserved g c = record {
   inside = search rules;
   made = λ clean last rest.
       let before : HasCleanDisk (state g.S.Store c.loop-change.tx.conn.now) = omega (arith, c.in_ok-make.ensures.survives.clean, clean) in
-      let one : Makes g.S.Store c.change-item.result c.loop-change.tx.conn.now c.make.new.tx.conn.now =
-      record { count = c.in_ok-make.field-0; executed = c.in_ok-make.ensures.made clean (c.loop-change.invariant.inside before) } in
+      let one : Makes g.S.Store c.change-item.result c.loop-change.tx.conn.now c.make.new.tx.conn.now = c.in_ok-make.ensures.made clean (c.loop-change.invariant.inside before) in
       c.loop-change.invariant.made before last (makes_next g.S.Store c.args.changes.now c.loop-change.change-index c.change-item.result _ _ last (search rules) (search rules) one rest);
 }
 

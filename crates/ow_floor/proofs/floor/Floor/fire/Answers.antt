@@ -1,5 +1,4 @@
-use Rattle.std.proofs.Common.{◌≡◌, ◌++◌, List, [], ◌∷◌, Some, sym, ◌∙◌, ap, append_assoc, rules, subst}
-use Rattle.ow_records.specs.declared.record.Record.{Record}
+use Rattle.std.proofs.Common.{◌≡◌, ◌++◌, [], ◌∷◌, Some, sym, ◌∙◌, ap, rules, subst}
 use Rattle.ow_floor.specs.View.{FloorView}
 use Rattle.ow_floor.specs.Laws.{Grows}
 use Rattle.ow_floor.specs.Calls.{fire_items}
@@ -24,7 +23,5 @@ returns-clause-ok c =
 pub returns-clause-moved : goal.returns-clause-moved
 returns-clause-moved c =
     let now : c.fire.new.self.now ≡ fired_in c.args.fired c.self.inside.lists.now = search rules in
-    let items : c.records.result.now.items ≡ (c.fire.new.self.now.resumed ++ c.self.inside.lists.now.ended) ++ c.args.fired ∷ [] =
-    c.records.ensures
-    ∙ (ap (λ (rs : List Record). c.fire.new.self.now.resumed ++ rs) (ap (λ (R : Store). R.ended) now) ∙ sym (append_assoc c.fire.new.self.now.resumed c.self.inside.lists.now.ended (c.args.fired ∷ []))) in
+    let items : c.records.result.now.items ≡ c.self.inside.lists.now.records ++ c.args.fired ∷ [] = c.records.ensures ∙ ap (λ (R : Store). R.records) now in
     on_more c.note_fired.result _ _ (λ noted. noted _ c.args.fired items) c.note_fired.ensures

@@ -1,10 +1,10 @@
-use Rattle.std.proofs.Common.{◌++◌, ◌∙◌, List, Option, IfSome, ap, subst}
+use Rattle.std.proofs.Common.{◌∙◌, List, Option, IfSome, ap, subst}
 use Rattle.std.specs.List.{AllByRecursion}
 use Rattle.ow_records.specs.Known.{IsId, IsKnown, IsKnownUnrecorded}
 use Rattle.ow_records.specs.Unrecorded.{unrecorded_of}
 use Rattle.ow_records.specs.declared.activations.Activation.{Activation}
 use Rattle.ow_floor.specs.Laws.{Stands}
-use Rattle.ow_floor.specs.Trace.{Trace, all_records, drawn, open_items}
+use Rattle.ow_floor.specs.Trace.{Trace, drawn, open_items, shown_records}
 use Rattle.ow_floor.specs.View.{FloorView, Shown}
 use Rattle.ow_floor.specs.declared.activations.Open.{Open}
 use Rattle.ow_floor.proofs.Knowing.{opens_known}
@@ -23,5 +23,5 @@ returns-clause-drawn c =
 
 pub returns-clause-records : goal.returns-clause-records
 returns-clause-records c =
-    subst (λ (w : FloorView). (T : Trace) → Stands w.now T → AllByRecursion IsKnown (all_records T)) c.self.view_is
-    (λ T st. subst (λ rs. AllByRecursion IsKnown rs) (c.items.ensures ∙ c.records.ensures ∙ ap (λ (v : Shown). v.resumed ++ v.ended) st.is) c.known_records.ensures)
+    subst (λ (w : FloorView). (T : Trace) → Stands w.now T → AllByRecursion IsKnown (shown_records T)) c.self.view_is
+    (λ T st. subst (λ rs. AllByRecursion IsKnown rs) (c.items.ensures ∙ c.records.ensures ∙ ap (λ (v : Shown). v.records) st.is) c.known_records.ensures)

@@ -9,6 +9,5 @@ pub invariant_of-self-2 : goal.invariant_of-self-2
 invariant_of-self-2 c = (
   rw (c.push.ensures.now, c.make_room.ensures.now) (gone_added c.self.inside.tasks_gone c.self.inside.tasks.now _ c.self.invariant.0),
   c.self.invariant.1,
-  c.self.invariant.2,
-  within_push c.self.inside.records_held c.self.inside.records.items _ _ _ c.add.ensures c.reserve.ensures.items c.self.invariant.3,
+  within_push c.self.inside.records_held c.self.inside.records.items _ _ _ c.add.ensures c.reserve.ensures.items c.self.invariant.2,
 )

@@ -8,5 +8,4 @@ invariant_of-self-2 c = (
   rw (c.replace.ensures.now, c.in_ok-runs.ensures, c.items.ensures, c.in_ok-reserve_step.ensures.now)
       (gone_empty Berth c.self.inside.runs_gone c.self.inside.runs.now (gone_within _ _ c.self.invariant.1)),
   c.self.invariant.2,
-  c.self.invariant.3,
 )

@@ -24,7 +24,7 @@ post-requires g c =
     let room = c.self.inside.book.room in
     let now : Now = record { counted = c.counted.result; at = at } in
     let both = takes t L c.self.inside.state c.take-taken.new.self now event taken c.args.at c.self.invariant.0 c.counted.ensures c.moment.ensures c.requires
-    c.take-taken.ensures.free (c.take-taken.ensures.ok t) c.take-taken.ensures.rest c.take-taken.ensures.counts c.take-taken.ensures.keeping in
+    c.take-taken.ensures.free (c.take-taken.ensures.ok t) c.take-taken.ensures.rest c.take-taken.ensures.counts c.take-taken.ensures.keeping c.take-taken.ensures.others in
     let n = owed ((decision t L.entries at event).items ++ (seen t L.entries).trace) in
     subst (λ (x : Told). posting L.entries x ≡ Booked → IsReady L.entries room 0 event x 0) (sym c.taken_told.ensures)
     (λ booked. ready_alone L.entries room n 0 event (taken_told taken) (taken_ready t L at room event taken c.self.invariant.1 c.requires both.0 booked))
@@ -40,7 +40,7 @@ invariant_of-self g c =
     let room = c.self.inside.book.room in
     let now : Now = record { counted = c.counted.result; at = at } in
     let both = takes t L c.self.inside.state c.take-taken.new.self now event taken c.args.at c.self.invariant.0 c.counted.ensures c.moment.ensures c.requires
-    c.take-taken.ensures.free (c.take-taken.ensures.ok t) c.take-taken.ensures.rest c.take-taken.ensures.counts c.take-taken.ensures.keeping in
+    c.take-taken.ensures.free (c.take-taken.ensures.ok t) c.take-taken.ensures.rest c.take-taken.ensures.counts c.take-taken.ensures.keeping c.take-taken.ensures.others in
     let made = c.post.ensures.ledger ∙ ap (posted L at event) c.taken_told.ensures in
     let used = subst (λ (x : Told). room ≤ c.post.new.self.room + cost (posting L.entries x)) c.taken_told.ensures c.post.ensures.room in
     let n = owed ((decision t L.entries at event).items ++ (seen t L.entries).trace) in
@@ -63,7 +63,7 @@ returns g c =
     let told = taken_told taken in
     let now : Now = record { counted = c.counted.result; at = at } in
     let both = takes t L c.self.inside.state c.take-taken.new.self now event taken c.args.at c.self.invariant.0 c.counted.ensures c.moment.ensures c.requires
-    c.take-taken.ensures.free (c.take-taken.ensures.ok t) c.take-taken.ensures.rest c.take-taken.ensures.counts c.take-taken.ensures.keeping in
+    c.take-taken.ensures.free (c.take-taken.ensures.ok t) c.take-taken.ensures.rest c.take-taken.ensures.counts c.take-taken.ensures.keeping c.take-taken.ensures.others in
     subst (λ (h : HallView _). (told ≡ answer h.tenants h.ledger.entries (at_hall h c.args.at) event) × (c.post.new.self.ledger ≡ posted h.ledger (at_hall h c.args.at) event told) × (t ≡ h.tenants) × Holds g.P.Keeper.telling (commits (decided h c.args.at event)) h.store c.self.inside.store)
     c.self.view_is (
       subst (λ (m : ℕ). told ≡ answer t L.entries m event) c.moment.ensures both.0,
