@@ -25,3 +25,4 @@ pub mod Quiet
 pub mod Loops
 pub mod Archived
 pub mod Removing
+pub mod Noted

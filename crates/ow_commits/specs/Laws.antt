@@ -1,5 +1,5 @@
 -- Laws of what is kept.
-use Rattle.std.specs.Prelude.{◌≡◌, ◌+◌, ◌++◌, ℕ, List, []}
+use Rattle.std.specs.Prelude.{◌≡◌, ◌+◌, ◌++◌, ◌∷◌, ℕ, List, []}
 use Rattle.std.specs.List.{AllByRecursion, flat_map}
 use Rattle.ow_entity.specs.declared.rows.Row.{Row}
 use Rattle.ow_floor.specs.Growth.{AreRight}
@@ -7,10 +7,13 @@ use Rattle.ow_floor.specs.Laws.{IsSound}
 use Rattle.ow_floor.specs.Trace.{Trace, shown}
 use Rattle.ow_floor.specs.Calls.{archive_items, due_in, moved}
 use Rattle.ow_floor.specs.declared.moves.Moved.{Moved}
-use Rattle.ow_commits.specs.Commits.{changes_of, row_changes}
+use Rattle.ow_commits.specs.Commits.{changes_of, put_of, row_changes}
 use Rattle.ow_commits.specs.Keeping.{AreIds, AreOwn, IsKnownMove, KeepingView, StandsForKept}
 use Rattle.ow_commits.specs.Kept.{OthersView, kept, kept_whole, others_bytes}
 use Rattle.ow_commits.specs.Archiving.{archive_changes, others_with}
+use Rattle.ow_commits.specs.Noting.{noting}
+use Rattle.ow_row_text.specs.declared.item.Item.TheVariants as items
+use Rattle.ow_row_text.specs.declared.item.Note.{Note}
 use Rattle.ow_row_text.specs.Bytes.{bytes_of}
 use Rattle.ow_tables.specs.Contents.{Change}
 use Rattle.ow_tables.specs.Rows.{changed as rows_changed}
@@ -44,3 +47,7 @@ BytesBesideOthers = (o : OthersView) (cs : List Change) (ms : List Moved) (rs : 
 abbrev pub ArchivesAreKept : Type 0
 ArchivesAreKept = (o : OthersView) (until : ℕ) (rs : List Row) (T : Trace) → IsSound T → AreIds T
     → changed (archive_changes o.archive (due_in until T)) (kept_whole o rs T) ≡ kept_whole (others_with o (due_in until T)) rs (archive_items until T ++ T)
+
+-- what is committed of a note turns what was kept into what is kept with it
+abbrev pub NotesAreKept : Type 0
+NotesAreKept = (o : OthersView) (n : Note) (rs : List Row) (T : Trace) → changed (put_of (items.Note n) ∷ []) (kept_whole o rs T) ≡ kept_whole (noting n o) rs T

@@ -2,6 +2,7 @@ pub mod Kept
 pub mod Commits
 pub mod Archiving
 pub mod Keeping
+pub mod Noting
 pub mod Opening
 pub mod Fit
 pub mod Shallow

@@ -37,8 +37,8 @@ impl Following {
         gathered.following(opens)
     }
 
-    // The changes and the bytes, to be gathered further.
-    fn gathered(&self, alloc: Global) -> Result<Gathered, NoMemory>
+    /// The changes and the bytes, to be gathered further.
+    pub(crate) fn gathered(&self, alloc: Global) -> Result<Gathered, NoMemory>
         ensures changes { IfOk result (λ g. g.changes.items ≡ self.now.changes) }
         ensures bytes { IfOk result (λ g. g.bytes ≡ self.now.bytes) }
     {

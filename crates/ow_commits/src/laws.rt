@@ -1,6 +1,6 @@
 // What is true of what is kept. The functions do nothing: their contracts are the laws.
 ghost use Rattle.ow_commits.specs.Fit.{KeptIsAllowed};
-ghost use Rattle.ow_commits.specs.Laws.{ArchivesAreKept, BytesBesideOthers, ChangesOfRowsAreKept, ItemsWithoutMovesAreKept, MovesAreKept, OthersStay};
+ghost use Rattle.ow_commits.specs.Laws.{ArchivesAreKept, BytesBesideOthers, ChangesOfRowsAreKept, ItemsWithoutMovesAreKept, MovesAreKept, NotesAreKept, OthersStay};
 ghost use Rattle.ow_commits.specs.Opening.{HeldRowsAreNotBuiltin, MayBeResumed, OpeningsAreKept, ResumedIdsAreKnown};
 ghost use Rattle.ow_commits.specs.Shallow.{AbandonedAreShallow, EndsAreShallow, FiresAreShallow, OpensAreShallow};
 
@@ -60,4 +60,10 @@ pub fn others_stay_kept()
 #[tactic(auto, using(crate::proofs::Retiring::archives_kept))]
 pub fn archives_are_kept()
     ensures { ArchivesAreKept }
+{}
+
+/// What is committed of a note turns what was kept into what is kept with it, in place of a note with its key.
+#[tactic(auto, using(crate::proofs::Noted::notes_kept))]
+pub fn notes_are_kept()
+    ensures { NotesAreKept }
 {}

@@ -1,8 +1,9 @@
 -- Machines that follow others: the book only grows, whatever the outcome of an event.
-use Rattle.std.proofs.Common.{◌≡◌, ◌++◌, ◌∙◌, ℕ, false, List, [], ◌∷◌, None, inl, inr, refl, sym, ap, append_assoc}
+use Rattle.std.proofs.Common.{◌≡◌, ◌++◌, ◌∙◌, ℕ, false, List, [], ◌∷◌, inl, inr, refl, sym, ap, append_assoc}
 use Rattle.ow_traits.specs.Telling.{Telling}
 use Rattle.ow_hall.specs.Comes.{Answers, Comes, Fails, HallView, Outcome, Wants, at_hall}
-use Rattle.ow_hall.specs.History.{IsGivenEvent, posting}
+use Rattle.ow_hall.specs.History.{posting}
+use Rattle.ow_decide.specs.Given.{IsGivenEvent}
 use Rattle.ow_hall.specs.Ledger.{Ledger, posted, posted_as}
 use Rattle.ow_hall.specs.declared.entry.Entry.{Entry}
 use Rattle.ow_hall.specs.declared.posting.Posting.{Posting}

@@ -1,10 +1,11 @@
 -- What holds of each event that the hall meets, and from one machine on to the next, holds of each statement.
-use Rattle.std.proofs.Common.{◌≡◌, ℕ, pos, false, List, [], ◌∷◌, None, Result, Ok, Err, inl, inr, refl, ap}
+use Rattle.std.proofs.Common.{◌≡◌, ℕ, pos, false, List, [], ◌∷◌, Result, Ok, Err, inl, inr, refl, ap}
 use Rattle.ow_http.specs.declared.http_refusal.HttpRefusal.{HttpRefusal}
 use Rattle.ow_http.specs.declared.request.Request.{Request}
 use Rattle.ow_traits.specs.declared.replies.RunReply.TheVariants as runs
 use Rattle.ow_hall.specs.Comes.{Answers, Comes, Fails, Outcome, Wants}
-use Rattle.ow_hall.specs.History.{History, IsGivenEvent, counted}
+use Rattle.ow_hall.specs.History.{History, counted}
+use Rattle.ow_decide.specs.Given.{IsGivenEvent}
 use Rattle.ow_hall.specs.Ledger.{Ledger}
 use Rattle.ow_decide.specs.Decisions.{is_opening}
 use Rattle.ow_decide.specs.Sight.{is_full}

@@ -1,7 +1,8 @@
 -- The book of a day is legal.
-use Rattle.std.proofs.Common.{◌≡◌, ℕ, false, List, [], ◌∷◌, None, take}
+use Rattle.std.proofs.Common.{◌≡◌, ℕ, false, List, [], ◌∷◌, take}
 use Rattle.ow_hall.specs.Comes.{Answers, Comes}
-use Rattle.ow_hall.specs.History.{IsGivenEvent, IsLegal, moment}
+use Rattle.ow_hall.specs.History.{IsLegal, moment}
+use Rattle.ow_decide.specs.Given.{IsGivenEvent}
 use Rattle.ow_hall.proofs.HallLaws.{not_after, not_before, posted_legal}
 use Rattle.ow_hall.proofs.OpenLaws.{opened_legal}
 use Rattle.ow_row_text.specs.Sorted.{Entries}

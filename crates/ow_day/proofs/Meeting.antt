@@ -1,5 +1,5 @@
 -- The outcome of a statement where the hall meets an event.
-use Rattle.std.proofs.Common.{◌≡◌, ℕ, List, [], ◌∷◌, Some, None, Result, Ok, Err, IfOk, IsErr, inl, inr, refl, sym, ap, subst, arith}
+use Rattle.std.proofs.Common.{◌≡◌, ℕ, List, [], ◌∷◌, Some, Result, Ok, Err, IfOk, IsErr, inl, inr, refl, sym, ap, subst, arith}
 use Rattle.std.proofs.lemmas.Bool.{false≢true}
 use Rattle.ow_traits.specs.Telling.{Telling}
 use Rattle.ow_value.specs.Value.{Pairs}
@@ -131,6 +131,7 @@ module _ {P : Type 0} (telling : P → Telling) where
   outcome_of_reply (tells.Asked r) reply is = let e : r ≡ reply = cc in ap Asked e
   outcome_of_reply (tells.Full answer) reply is = cc
   outcome_of_reply (tells.Called called) reply is = cc
+  outcome_of_reply (tells.Fired fired) reply is = cc
   outcome_of_reply (tells.Deployed deployed) reply is = cc
   outcome_of_reply (tells.Next order) reply is = cc
   outcome_of_reply (tells.Answered answered) reply is = cc

@@ -10,20 +10,22 @@ use Rattle.ow_floor.specs.declared.answers.RunOrder.{RunOrder}
 use Rattle.ow_decide.specs.declared.events.Event.{Event}
 use Rattle.ow_decide.specs.declared.events.Event.TheVariants as events
 use Rattle.ow_decide.specs.Decisions.{is_opening}
-use Rattle.ow_hall.specs.History.{IsGivenEvent}
+use Rattle.ow_decide.specs.Given.{IsGivenEvent}
 use Rattle.ow_runners.specs.Plain.{plain_giving}
 use Rattle.ow_invoker.specs.Turns.{AreBoth, Exchange, Follows, IsAlone, IsCarriedOut, IsTurn, Offers, OffersTurn, Opens, PrewarmFollows, Removes, Rests, RunFollows, RunOffers, exchange, is_late, is_missing}
 use Rattle.ow_runners.specs.declared.plain_runner.PlainContainer.{PlainContainer}
 use Rattle.ow_invoker.specs.declared.shelf.Laid.{Laid}
 
--- neither an opening nor a deployment
+-- neither an opening, nor a deployment, nor a fire of the office
 abbrev is_of_day : Event → Bool
 is_of_day (events.Opened rows) = false
+is_of_day (events.Fired trigger params note) = false
 is_of_day (events.Deployed drafts) = false
 is_of_day event = true
 
 pub day_unopened : (event : Event) → is_of_day event ≡ true → is_opening event ≡ false
 day_unopened (events.Opened rows) of_day = cc
+day_unopened (events.Fired trigger params note) of_day = refl
 day_unopened (events.Deployed drafts) of_day = refl
 day_unopened (events.Asked r) of_day = refl
 day_unopened (events.Called name params) of_day = refl
@@ -38,6 +40,7 @@ day_unopened events.Drain of_day = refl
 day_unopened events.Reopened of_day = refl
 
 pub day_given : (event : Event) → is_of_day event ≡ true → IsGivenEvent event
+day_given (events.Fired trigger params note) of_day = cc
 day_given (events.Deployed drafts) of_day = cc
 day_given event of_day = tt
 

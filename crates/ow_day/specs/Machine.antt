@@ -66,6 +66,7 @@ outcome_of (told.Opened happened) = Silent
 outcome_of (told.Asked reply) = Asked reply
 outcome_of (told.Full answer) = Asked (replies.Now answer)
 outcome_of (told.Called c) = Called c
+outcome_of (told.Fired fired) = Silent
 outcome_of (told.Deployed d) = Silent
 outcome_of (told.Next order) = Ordered order
 outcome_of (told.Answered answered) = Answered answered

@@ -1,5 +1,5 @@
 -- What is accepted or fired at a request or a call may be.
-use Rattle.std.proofs.Common.{◌≡◌, ℕ, Bool, true, false, if◌then◌else◌, List, [], ◌∷◌, Option, Some, None, Result, Ok, Err, IfOk, refl}
+use Rattle.std.proofs.Common.{◌≡◌, ℕ, Bool, true, false, if◌then◌else◌, List, [], ◌∷◌, Option, Some, None, Result, Ok, Err, IfOk, refl, inl}
 use Rattle.ow_value.specs.Value.{V, Pairs}
 use Rattle.ow_names.specs.declared.full.FullName.{FullName}
 use Rattle.ow_floor.specs.Trace.{Trace}
@@ -99,7 +99,7 @@ rules_admitted : (S : Sight) (subject : List ℕ) (name : FullName) (number : �
     → IfOk (rules_done S subject name number t c.params rs) (IsAdmittedDone S)
 rules_admitted S subject name number t home parts c [] there called = tt
 rules_admitted S subject name number t home parts c (r ∷ rs) there called =
-    then_from (IsReady S) (IsAdmittedDone S) (fire_plan S subject name number t c.params) _ (plan_ready S subject name number t home parts c there called) (λ f ready. shot_admitted S f (r ∷ rs) ready)
+    then_from (IsReady S) (IsAdmittedDone S) (fire_plan S subject name number t c.params) _ (plan_ready S subject name number t c.params there (inl (home, (parts, (c, (called, refl)))))) (λ f ready. shot_admitted S f (r ∷ rs) ready)
 
 set_admitted : (S : Sight) (r : Rule) (change : Option Change) → IsAdmittedDone S (set_done S r change)
 set_admitted S r None = tt

@@ -82,18 +82,18 @@ done_grows v d = λ T stands. subst (λ (items : Trace). Stands v (items ++ T)) 
 -- a step with the answer to a request, its change and its commit carries what is decided
 pub done_carries : (d : CodeDone) (t : Told) (change : RowChange) (commit : Option FollowingView) (S : Sight) → t ≡ (ask_decision (done_of d)).told
     → change ≡ one_of (change_of d) → commit ≡ commit_of d → CommitsDone d S
-    → Carries (record { told = t; change = change; waits = Keep; moves = []; commit = commit; archive = None }) (ask_decision (done_of d)) S
+    → Carries (record { told = t; change = change; waits = Keep; moves = []; commit = commit; others = None }) (ask_decision (done_of d)) S
 done_carries d t change commit S told same committed commits =
-    subst (λ (x : RowChange). Carries (record { told = t; change = x; waits = Keep; moves = []; commit = commit; archive = None }) (ask_decision (done_of d)) S) (sym same)
-    (subst (λ (x : Option FollowingView). Carries (record { told = t; change = one_of (change_of d); waits = Keep; moves = []; commit = x; archive = None }) (ask_decision (done_of d)) S) (sym committed) (by_case d told commits))
+    subst (λ (x : RowChange). Carries (record { told = t; change = x; waits = Keep; moves = []; commit = commit; others = None }) (ask_decision (done_of d)) S) (sym same)
+    (subst (λ (x : Option FollowingView). Carries (record { told = t; change = one_of (change_of d); waits = Keep; moves = []; commit = x; others = None }) (ask_decision (done_of d)) S) (sym committed) (by_case d told commits))
   where
     by_case : (d : CodeDone) → t ≡ (ask_decision (done_of d)).told → CommitsDone d S
-        → Carries (record { told = t; change = one_of (change_of d); waits = Keep; moves = []; commit = commit_of d; archive = None }) (ask_decision (done_of d)) S
-    by_case (codes.Refused reason) told commits = record { told = told; changes = refl; waits = refl; moves = refl; commit = (refl, (tt, refl)); archive = refl }
-    by_case (codes.Shown value) told commits = record { told = told; changes = refl; waits = refl; moves = refl; commit = (refl, (tt, refl)); archive = refl }
-    by_case codes.Quiet told commits = record { told = told; changes = refl; waits = refl; moves = refl; commit = (refl, (tt, refl)); archive = refl }
+        → Carries (record { told = t; change = one_of (change_of d); waits = Keep; moves = []; commit = commit_of d; others = None }) (ask_decision (done_of d)) S
+    by_case (codes.Refused reason) told commits = record { told = told; changes = refl; waits = refl; moves = refl; commit = (refl, (tt, refl)); others = refl }
+    by_case (codes.Shown value) told commits = record { told = told; changes = refl; waits = refl; moves = refl; commit = (refl, (tt, refl)); others = refl }
+    by_case codes.Quiet told commits = record { told = told; changes = refl; waits = refl; moves = refl; commit = (refl, (tt, refl)); others = refl }
     by_case (codes.Changed ready shown commit) told commits =
-        record { told = told; changes = refl; waits = refl; moves = refl; commit = record { changes = commits.changes ∙ sym (one_change ready); stands = commits.stands }; archive = refl }
+        record { told = told; changes = refl; waits = refl; moves = refl; commit = record { changes = commits.changes ∙ sym (one_change ready); stands = commits.stands }; others = refl }
 
 -- where no row is changed nothing is committed
 pub unchanged_commits : (d : CodeDone) (S : Sight) → change_of d ≡ None → CommitsDone d S
@@ -110,7 +110,7 @@ done_by S plan shows r = r >>= (λ (admitted : Plan). Ok (Invoked (plan_items S 
 
 -- the step that answers a request whose plan was made
 abbrev pub told_invoked : Id → Option ℕ → Shows → Made → Step
-told_invoked id until shows made = record { told = told.Asked (invoked_reply id until); change = row_changes.Nothing; waits = waits_of id shows until; moves = made.moves; commit = Some made.commit; archive = None }
+told_invoked id until shows made = record { told = told.Asked (invoked_reply id until); change = row_changes.Nothing; waits = waits_of id shows until; moves = made.moves; commit = Some made.commit; others = None }
 
 made_carries : (made : Made) (plan : Plan) (shows : Shows) (S : Sight) → IsMade made (plan_items S plan) S
     → Carries (told_invoked plan.id plan.until shows made) (ask_decision (Ok (Invoked (plan_items S plan) plan shows))) S
@@ -120,7 +120,7 @@ made_carries made plan shows S is = record {
   waits = refl;
   moves = is.moves;
   commit = record { changes = is.changes; stands = is.stands };
-  archive = refl;
+  others = refl;
 }
 
 -- the answer to a plan that was accepted says so

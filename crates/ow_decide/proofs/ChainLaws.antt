@@ -48,6 +48,7 @@ use Rattle.ow_decide.proofs.AcceptLaws.{IsAdmittedDone, IsChain, asked_admitted,
 use Rattle.ow_decide.proofs.CalleeLaws.{IsAdmitted}
 use Rattle.ow_decide.proofs.DrivenLaws.{AreFit, IsFit, fit_steps, steps_fit}
 use Rattle.ow_decide.proofs.MadeLaws.{abandoned_right, answered_right, through_sweep, late_steps_plain, plain_live, sweep_adds, swept_right}
+use Rattle.ow_decide.proofs.OfficeLaws.{office_chain}
 
 -- ---- runs
 
@@ -240,6 +241,7 @@ pub decided_steps : (S : Sight) (event : Event) → is_opening event ≡ false �
 decided_steps S (events.Opened rows) other = cc
 decided_steps S (events.Asked r) other = (asked_chain S (request_done S (parts_of r)) (asked_admitted S (parts_of r))).steps
 decided_steps S (events.Called name params) other = (called_chain S (call_plan S name params >>= admitted_plan S) (called_admitted S name params)).steps
+decided_steps S (events.Fired trigger params note) other = (office_chain S trigger params note).steps
 decided_steps S (events.Deployed drafts) other = deploy_adds (AreSteps S) (deployed S drafts) tt
 decided_steps S events.Next other = of_floor S (next_items S.moment S.trace) (of_next S) (λ sound. right_next S.moment (shown S.trace) sound.slotted.within)
 decided_steps S (events.Answered run reply) other = answered_steps S run reply

@@ -61,6 +61,7 @@ use Rattle.ow_decide.proofs.MadeLaws as made
 use Rattle.ow_decide.proofs.DeployLaws.{deploy_adds}
 use Rattle.ow_decide.proofs.MadeLaws.{following_plain, late_steps_plain, plan_plain, sweep_adds, through_sweep}
 use Rattle.ow_decide.proofs.Results.{then_ok}
+use Rattle.ow_decide.proofs.OfficeLaws.{office_adds}
 
 -- ---- items that are no part of a fire
 
@@ -222,6 +223,7 @@ pub decided_closes : (S : Sight) (event : Event) → Closes (decide S event).ite
 decided_closes S (events.Opened rows) = opened_closes S.moment (parts_taken S.moment S.trace (judged rows))
 decided_closes S (events.Asked r) = asked_closes S (request_done S (parts_of r)) (by_route S (parts_of r) (is_web (parts_of r).route))
 decided_closes S (events.Called name params) = called_closes S (call_plan S name params >>= admitted_plan S)
+decided_closes S (events.Fired trigger params note) = office_adds S Closes (λ T none. none) (λ f rs T none. refl) trigger params note
 decided_closes S (events.Deployed drafts) = deploy_adds Closes (deployed S drafts) (λ T none. none)
 decided_closes S events.Next = plain_closes (next_items S.moment S.trace) (plain_order S.moment (shown S.trace) (place_on (shown S.trace)) (head (shown S.trace)))
 decided_closes S (events.Answered run reply) = plain_closes (answered_all S run reply) (plain_answered S run reply)

@@ -196,7 +196,7 @@ shot_so S f rs bytes limit r is allowed same =
 
 -- what is answered of a fire that is made
 abbrev pub told_fired : Id → Made → Step
-told_fired id m = record { told = at_once (accepted_answer id); change = row_changes.Nothing; waits = Keep; moves = m.moves; commit = Some m.commit; archive = None }
+told_fired id m = record { told = at_once (accepted_answer id); change = row_changes.Nothing; waits = Keep; moves = m.moves; commit = Some m.commit; others = None }
 
 fired_carries : (m : Made) (f : Fire) (rs : List Rule) (S : Sight) → IsMade m (shot_items S f rs) S → Carries (told_fired f.id m) (ask_decision (Ok (Fired (shot_items S f rs) f.id))) S
 fired_carries m f rs S made = record {
@@ -205,7 +205,7 @@ fired_carries m f rs S made = record {
   waits = refl;
   moves = made.moves;
   commit = record { changes = made.changes; stands = made.stands };
-  archive = refl;
+  others = refl;
 }
 
 -- a fire that is made is what is decided

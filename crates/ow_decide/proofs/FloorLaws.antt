@@ -19,13 +19,13 @@ use Rattle.ow_trees.specs.Steps.{steps_after}
 use Rattle.ow_counts.specs.View.{CountsView}
 use Rattle.ow_decide.specs.Decision.{Decision, Same, adds}
 use Rattle.ow_decide.specs.Decisions.{answered_all, answered_told, decide, reopened_decision, reply_told, taken_told}
-use Rattle.ow_decide.specs.Making.{Carries, IsArchiving, IsReplyTold, IsSeen, IsTold, Makes, changes_of, telling}
+use Rattle.ow_decide.specs.Making.{Carries, IsOthersStep, IsReplyTold, IsSeen, IsTold, Makes, changes_of, telling}
 use Rattle.ow_decide.specs.Sight.{Sight}
 use Rattle.ow_decide.specs.declared.events.Event.TheVariants as events
 use Rattle.ow_decide.specs.declared.events.Told.{Told}
 use Rattle.ow_decide.specs.declared.events.Told.TheVariants as told
 use Rattle.ow_decide.specs.declared.step.Now.{Now}
-use Rattle.ow_decide.specs.declared.step.Archiving.{Archiving}
+use Rattle.ow_decide.specs.declared.step.OthersStep.{OthersStep}
 use Rattle.ow_decide.specs.declared.step.Step.{Step}
 use Rattle.ow_decide.specs.declared.waits.Waits.TheVariants.{Clear, Keep}
 use Rattle.ow_decide.proofs.MadeLaws.{abandoned_own, abandoned_right, answered_own, answered_right, nothing_answered}
@@ -40,13 +40,13 @@ nothing_moved [] none = refl
 nothing_moved (m ∷ ms) none = let e : length (m ∷ ms) ≡ 0 = no_length (length (m ∷ ms)) none in cc
 
 -- where nothing is to be archived
-pub not_archiving : (commit : Option FollowingView) (archive : Option Archiving) (d : Decision) (S : Sight) → archive ≡ None → d.others ≡ Same → IsArchiving commit archive d S
-not_archiving None archive d S none same = subst (λ (o : Option Archiving). IsArchiving None o d S) (sym none) same
-not_archiving (Some c) archive d S none same = subst (λ (o : Option Archiving). IsArchiving (Some c) o d S) (sym none) same
+pub others_stay : (commit : Option FollowingView) (archive : Option OthersStep) (d : Decision) (S : Sight) → archive ≡ None → d.others ≡ Same → IsOthersStep commit archive d S
+others_stay None archive d S none same = subst (λ (o : Option OthersStep). IsOthersStep None o d S) (sym none) same
+others_stay (Some c) archive d S none same = subst (λ (o : Option OthersStep). IsOthersStep (Some c) o d S) (sym none) same
 
 -- an answer where nothing moves
 pub quiet_carried : (is are : Told) (items : Trace) (S : Sight) → is ≡ are → AreOwn items → moved items ≡ [] → Carries (telling is) (adds are items) S
-quiet_carried is are items S same own quiet = record { told = same; changes = refl; waits = refl; moves = sym quiet; commit = (refl, (own, quiet)); archive = refl }
+quiet_carried is are items S same own quiet = record { told = same; changes = refl; waits = refl; moves = sym quiet; commit = (refl, (own, quiet)); others = refl }
 
 -- an answer where these moved
 pub told_carried : (s : Step) (is are : Told) (ms : List Moved) (b : KeepingView) (S : Sight) (items : Trace) → IsTold s is Keep ms b → is ≡ are → StandsForKept b S.others S.rows S.trace → IsSound S.trace
@@ -57,7 +57,7 @@ told_carried s is are ms b S items step same keeps sound right own moves = recor
   waits = step.waits;
   moves = step.moves ∙ moves;
   commit = step.commit S items are Keep keeps sound right own moves;
-  archive = not_archiving s.commit s.archive (adds are items) S step.archive refl;
+  others = others_stay s.commit s.others (adds are items) S step.others refl;
 }
 
 -- items at the moment that is seen
@@ -135,7 +135,7 @@ reopened_makes t rs k b now old new ms ns s step none noted grows = λ S seen.
         waits = step.waits;
         moves = step.moves ∙ moves;
         commit = step.commit S items (told.Reopened (happened (abandoned_ends S.moment S.trace))) Clear seen.keeping seen.stands.sound (abandoned_right S seen.stands.sound) (abandoned_own S) moves;
-        archive = not_archiving s.commit s.archive (reopened_decision S.moment S.trace) S step.archive refl;
+        others = others_stay s.commit s.others (reopened_decision S.moment S.trace) S step.others refl;
       },
       at_moment old new (λ at T. abandon_items at T) t rs k b now grows S seen,
     )

@@ -21,7 +21,7 @@ use Rattle.ow_floor.proofs.Soundness.{sound_items}
 use Rattle.ow_row_text.specs.Sorted.{Entries}
 use Rattle.ow_row_text.specs.declared.item.Archive.{Archive}
 use Rattle.ow_commits.specs.Archiving.{archive_changes, others_with}
-use Rattle.ow_commits.specs.Commits.{changes_of, row_changes}
+use Rattle.ow_commits.specs.Commits.{changes_of, row_changes, put_of}
 use Rattle.ow_commits.specs.Keeping.{AreIds, AreOwn, IsDrawn, IsKnownMove, IsOwn}
 use Rattle.ow_commits.specs.Kept.{OthersView, kept, kept_whole}
 use Rattle.ow_commits.proofs.Ids.{all_both}
@@ -35,12 +35,14 @@ use Rattle.ow_traits.specs.Changes.{after_change, changed}
 use Rattle.ow_traits.specs.declared.change_list.Change.{Change as StoreChange}
 use Rattle.ow_decide.specs.declared.events.Event.{Event}
 use Rattle.ow_decide.specs.Sight.{Sight}
-use Rattle.ow_decide.specs.Decision.{Archives, Decision, OtherChange, Same, TakesOver, all_changed, commits, held, items_changes, others_after, with_others}
+use Rattle.ow_decide.specs.Decision.{Archives, Decision, KeepsNote, OtherChange, Same, TakesOver, all_changed, commits, held, items_changes, others_after, with_others}
 use Rattle.ow_decide.specs.Decisions.{decide, is_opening}
 use Rattle.ow_decide.proofs.ArchiveLaws.{IsArchivedWell, decided_archives}
 use Rattle.ow_decide.proofs.MadeLaws.{AreOfSweep, IsOfSweep, changes_of_moves}
 use Rattle.ow_decide.proofs.NotedLaws.{decided_own}
 use Rattle.ow_decide.proofs.SoundLaws.{decided_right}
+use Rattle.ow_commits.proofs.Noted.{notes_kept}
+use Rattle.ow_row_text.specs.declared.item.Item.TheVariants as rows_items
 
 -- ---- changes one after another
 
@@ -224,6 +226,11 @@ same_changes xs ys same = changes_of_moves xs ∙ (ap (flat_map changes_of) same
 kept_by : (S : Sight) (d : Decision) (o : OtherChange) → IsArchivedWell o d S → IsSound S.trace → AreIds S.trace → AreRight d.items (shown S.trace) → AreOwn (held d) → AreIds (d.items ++ S.trace)
     → changed (with_others o (flat_map row_changes d.changes ++ items_changes d.items)) (kept_whole S.others S.rows S.trace) ≡ kept_whole (others_after o S.others) (all_changed d.changes S.rows) (d.items ++ S.trace)
 kept_by S d Same well sound ids right own after = beside_others S.others S.rows S.trace d.changes d.items sound ids right (subst AreOwn well own) after
+kept_by S d (KeepsNote note) well sound ids right own after =
+    let cs : List StoreChange = flat_map row_changes d.changes ++ items_changes d.items in
+    changed_then cs (put_of (rows_items.Note note) ∷ []) (kept_whole S.others S.rows S.trace)
+    ∙ (ap (changed (put_of (rows_items.Note note) ∷ [])) (beside_others S.others S.rows S.trace d.changes d.items sound ids right (subst AreOwn well own) after)
+    ∙ notes_kept S.others note (all_changed d.changes S.rows) (d.items ++ S.trace))
 kept_by S d (TakesOver others) well sound ids right own after = absurd well
 kept_by S d (Archives until before due) well sound ids right own after =
     let h : Trace = held d in

@@ -8,6 +8,7 @@ pub mod DrivenLaws
 pub mod ShotLaws
 pub mod AcceptLaws
 pub mod DeployLaws
+pub mod OfficeLaws
 pub mod ChainLaws
 pub mod ArchiveLaws
 pub mod NotedLaws
@@ -16,6 +17,7 @@ pub mod OwedLaws
 pub mod CloseLaws
 pub mod KeptLaws
 mod StoredLaws
+mod OwnLaws
 mod PutAllLaws
 mod GatherLaws
 mod WholeLaws

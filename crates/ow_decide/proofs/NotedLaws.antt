@@ -23,6 +23,8 @@ use Rattle.ow_decide.proofs.ArchiveLaws.{asked_same, called_same, deployed_same,
 use Rattle.ow_decide.proofs.ChainLaws.{asked_chain, by_decision, called_chain, decided_steps}
 use Rattle.ow_decide.proofs.DeployLaws.{deploy_adds}
 use Rattle.ow_decide.proofs.MadeLaws.{abandoned_own, answered_own, begun_quiet, gone_quiet, lost_quiet, next_quiet, swept_own}
+use Rattle.ow_decide.specs.OfficeFiring.{office_shot}
+use Rattle.ow_decide.proofs.OfficeLaws.{office_chain, office_held}
 
 -- ---- records
 
@@ -62,6 +64,8 @@ decided_own S (events.Asked r) other =
 decided_own S (events.Called name params) other =
     let planned = call_plan S name params >>= admitted_plan S in
     same_own (called_decision S planned) (called_same S planned) (called_chain S planned (called_admitted S name params)).own
+decided_own S (events.Fired trigger params note) other =
+    subst AreOwn (sym (office_held S.others note (office_shot S trigger params note))) (office_chain S trigger params note).own
 decided_own S (events.Deployed drafts) other = same_own (deploy_decision (deployed S drafts)) (deployed_same (deployed S drafts)) (deploy_adds AreOwn (deployed S drafts) tt)
 decided_own S events.Next other = (next_quiet S).0
 decided_own S (events.Answered run reply) other = answered_own S run reply

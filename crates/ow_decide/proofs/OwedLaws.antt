@@ -25,6 +25,7 @@ use Rattle.ow_decide.proofs.DeployLaws.{deploy_adds}
 use Rattle.ow_decide.proofs.AcceptLaws.{asked_admitted, called_admitted}
 use Rattle.ow_decide.proofs.ChainLaws.{AreOfFloor, IsOfCall, asked_chain, called_chain, of_abandon, of_answered, of_begun, of_drain, of_gone, of_lost, of_next}
 use Rattle.ow_decide.proofs.MadeLaws.{sweep_adds}
+use Rattle.ow_decide.proofs.OfficeLaws.{office_chain}
 
 module _ (S : Sight) where
   -- a call of the floor ends no composite by itself
@@ -60,6 +61,7 @@ module _ (S : Sight) where
   decided_owed (events.Opened rows) = opened_owed (parts_taken S.moment S.trace (judged rows))
   decided_owed (events.Asked r) = (asked_chain S (request_done S (parts_of r)) (asked_admitted S (parts_of r))).owed
   decided_owed (events.Called name params) = (called_chain S (call_plan S name params >>= admitted_plan S) (called_admitted S name params)).owed
+  decided_owed (events.Fired trigger params note) = (office_chain S trigger params note).owed
   decided_owed (events.Deployed drafts) = deploy_adds (λ (items : Trace). AreOwed (standing S.rows) S.moment items S.trace) (deployed S drafts) tt
   decided_owed events.Next = floor_owed (next_items S.moment S.trace) S.trace (of_next S)
   decided_owed (events.Answered run reply) =

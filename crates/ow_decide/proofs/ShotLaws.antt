@@ -24,14 +24,11 @@ use Rattle.ow_counts.specs.Counts as counts
 use Rattle.ow_counts.specs.declared.refusal.LimitRefusal.{LimitRefusal}
 use Rattle.ow_counts.specs.declared.refusal.LimitRefusal.TheVariants.{OfNamespace}
 use Rattle.ow_trees.proofs.Each.{each_append}
-use Rattle.ow_http.specs.CallOf.{call_of}
-use Rattle.ow_http.specs.Parts.{Parts}
-use Rattle.ow_http.specs.declared.call.Call.{Call}
 use Rattle.ow_http.specs.declared.reason.Reason.{Reason}
 use Rattle.ow_reads.specs.Reasons.{not_found}
 use Rattle.ow_reads.specs.Steps.{or_else}
 use Rattle.ow_decide.specs.Calling.{callee, fitting, given_over, is_oversized, next_id, plan_for, plan_items}
-use Rattle.ow_decide.specs.Chain.{AreSteps, IsShot}
+use Rattle.ow_decide.specs.Chain.{AreSteps, IsGivenFor, IsShot}
 use Rattle.ow_decide.specs.Firing.{after_rules, fire_plan, rule_lines, rule_plan, seeing, shot_items, trigger_for}
 use Rattle.ow_decide.specs.Reasons.{too_large}
 use Rattle.ow_decide.specs.Sight.{Sight, takes_calls}
@@ -122,11 +119,10 @@ pub record IsReady (S : Sight) (f : Fire) : Type 0 where
   pub next : IsNext f.id S.trace
   pub shot : IsShot S f
 
-pub plan_ready : (S : Sight) (subject : List ℕ) (name : FullName) (number : ℕ) (t : Trigger) (home : List ℕ) (parts : Parts) (c : Call) → IsThere S name t → call_of home parts ≡ Ok c
-    → IfOk (fire_plan S subject name number t c.params) (IsReady S)
-plan_ready S subject name number t home parts c there called =
-    then_from (λ (ps : Pairs). ps ≡ merge t.params c.params) (IsReady S) (or_else (fitting t.params c.params) too_large) _ (fits_by (is_oversized (merge t.params c.params)) (merge t.params c.params)) (λ params is.
+pub plan_ready : (S : Sight) (subject : List ℕ) (name : FullName) (number : ℕ) (t : Trigger) (given : Pairs) → IsThere S name t → IsGivenFor given → IfOk (fire_plan S subject name number t given) (IsReady S)
+plan_ready S subject name number t given there source =
+    then_from (λ (ps : Pairs). ps ≡ merge t.params given) (IsReady S) (or_else (fitting t.params given) too_large) _ (fits_by (is_oversized (merge t.params given)) (merge t.params given)) (λ params is.
     then_ok (IsReady S) (takes_calls S) _ (λ taken. record {
       next = refl;
-      shot = record { name = name; trigger = t; row = there; home = home; parts = parts; call = c; called = called; called_so = refl; home_is = refl; at = refl; version = refl; params = is };
+      shot = record { name = name; trigger = t; row = there; given = given; source = source; called_so = refl; home_is = refl; at = refl; version = refl; params = is };
     }))

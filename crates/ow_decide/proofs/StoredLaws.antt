@@ -21,7 +21,7 @@ use Rattle.ow_decide.specs.Deployment.{DeploymentView, IsGathered, IsStepOf}
 use Rattle.ow_decide.specs.Making.{Carries, IsCommit, IsFollowingOf, telling}
 use Rattle.ow_decide.specs.Reasons.{store_full}
 use Rattle.ow_decide.specs.Sight.{Sight, is_store_full}
-use Rattle.ow_decide.proofs.FloorLaws.{not_archiving}
+use Rattle.ow_decide.proofs.FloorLaws.{others_stay}
 use Rattle.ow_decide.proofs.KeptLaws.{all_rows_kept}
 
 -- the bytes of all kept rows then are those that were counted
@@ -40,7 +40,7 @@ same_test S b d full stands gathered is =
     ap (λ (n : ℕ). stored_by (is_store_full n) d.progress) (weighs S b d stands gathered) ∙ ap (λ (x : Bool). stored_by x d.progress) (sym is)
 
 full_carries : (S : Sight) (p : Progress) → Carries (telling (told.Deployed (deployments.Refused 0 store_full))) (deploy_decision (stored_by true p)) S
-full_carries S p = record { told = refl; changes = refl; waits = refl; moves = refl; commit = (refl, (tt, refl)); archive = refl }
+full_carries S p = record { told = refl; changes = refl; waits = refl; moves = refl; commit = (refl, (tt, refl)); others = refl }
 
 -- a deployment for which the store has no room is refused
 pub full_refused : (S : Sight) (b : KeepingView) (d : DeploymentView) (step : Step) → step ≡ telling (told.Deployed (deployments.Refused 0 store_full)) → true ≡ is_store_full d.commit.bytes
@@ -63,7 +63,7 @@ put_carries S b d step is stands gathered =
         changes = follows.changes ∙ sym (append-nil (flat_map row_changes p.changes));
         stands = subst (λ (rs : List Row). StandsFollowing d.commit S.others rs S.trace) (sym gathered.rows) follows.stands;
       });
-      archive = not_archiving step.commit step.archive (deploy_decision (Ok p)) S is.archive refl;
+      others = others_stay step.commit step.others (deploy_decision (Ok p)) S is.others refl;
     }
 
 -- else all its rows are put and committed

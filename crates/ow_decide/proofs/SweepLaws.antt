@@ -36,6 +36,7 @@ use Rattle.ow_decide.specs.declared.waits.Waits.TheVariants.{Keep}
 use Rattle.ow_decide.proofs.FloorLaws.{told_carried}
 use Rattle.ow_decide.proofs.MadeLaws.{changes_of_moves as items_moved, swept_own, swept_right}
 use Rattle.ow_decide.proofs.PlanLaws.{as_seen}
+use Rattle.ow_decide.specs.declared.step.OthersStep.TheVariants as others_steps
 
 -- ---- the archive
 
@@ -59,7 +60,7 @@ archive_follows c d archive due changes stands S items until follows sound right
 pub archive_carried : (step : Step) (t : Told) (change : RowChange) (moves : List Moved) (c : FollowingView) (archive after : Archive) (due : List Record) (until : ℕ) (S : Sight) (u : Told) (items : Trace)
     → Carries step (adds u items) S → due ≢ [] → S.others.archive ≡ archive → t ≡ step.told → change ≡ step.change → moves ≡ step.moves → after ≡ archive_with archive due
     → IsFollowingOf c (items_changes items ++ archive_changes archive due) (others_with S.others due) S.rows (archive_items until (items ++ S.trace) ++ (items ++ S.trace))
-    → Carries (record { told = t; change = change; waits = step.waits; moves = moves; commit = Some c; archive = Some (record { until = until; archive = after }) }) (sweep_with S u items until due) S
+    → Carries (record { told = t; change = change; waits = step.waits; moves = moves; commit = Some c; others = Some (others_steps.Archives until after) }) (sweep_with S u items until due) S
 archive_carried step t change moves c archive after [] until S u items carries some same tells changes moved_so is follows = absurd (some refl)
 archive_carried step t change moves c archive after (r ∷ rs) until S u items carries some same tells changes moved_so is follows = record {
   told = tells ∙ carries.told;
@@ -72,7 +73,7 @@ archive_carried step t change moves c archive after (r ∷ rs) until S u items c
         ∙ ap (λ (cs : List StoreChange). cs ++ archive_changes S.others.archive (r ∷ rs)) (sym (append-nil (items_changes items))));
     stands = follows.stands;
   };
-  archive = (r ∷ rs, refl, is ∙ ap (λ (a : Archive). archive_with a (r ∷ rs)) (sym same));
+  others = (r ∷ rs, refl, is ∙ ap (λ (a : Archive). archive_with a (r ∷ rs)) (sym same));
 }
 
 -- a list of no length has nothing in it

@@ -6,6 +6,8 @@ use Rattle.ow_entity.specs.declared.rows.Row.{Row}
 use Rattle.ow_entity.specs.declared.rows.Row.TheVariants as rows
 use Rattle.ow_entity.specs.declared.triggers.Trigger.{Trigger}
 use Rattle.ow_value.specs.Find.{merge}
+use Rattle.ow_value.specs.Nesting.{most_nested}
+use Rattle.ow_value.specs.Value.{Pairs, depth, members_of, object}
 use Rattle.ow_http.specs.CallOf.{call_of}
 use Rattle.ow_http.specs.Parts.{Parts}
 use Rattle.ow_http.specs.declared.call.Call.{Call}
@@ -71,21 +73,25 @@ pub record IsEnd (S : Sight) (e : End) : Type 0 where
 
 -- ---- fires
 
--- there is a trigger of this name. The fire has its name, its namespace and its version, and its parameters merged with those of the body
--- of some call
+-- parameters are those of the body of some call, or nest no deeper than a body may
+abbrev pub IsOfCall : Pairs → Type 0
+IsOfCall given = (home : List ℕ) × ((parts : Parts) × ((call : Call) × ((call_of home parts ≡ Ok call) × (given ≡ call.params))))
+
+abbrev pub IsGivenFor : Pairs → Type 0
+IsGivenFor given = IsOfCall given ⊎ (depth (object (members_of given)) ≤ most_nested)
+
+-- there is a trigger of this name. The fire has its name, its namespace and its version, and its parameters merged with those that are given
 pub record IsShot (S : Sight) (f : Fire) : Type 0 where
   pub name : FullName
   pub trigger : Trigger
   pub row : found kinds.Trigger name S.rows ≡ Some (rows.Trigger trigger)
-  pub home : List ℕ
-  pub parts : Parts
-  pub call : Call
-  pub called : call_of home parts ≡ Ok call
+  pub given : Pairs
+  pub source : IsGivenFor given
   pub called_so : f.name ≡ name.name
   pub home_is : f.namespace ≡ name.namespace
   pub at : f.at ≡ S.moment
   pub version : f.version ≡ trigger.version
-  pub params : f.params ≡ merge trigger.params call.params
+  pub params : f.params ≡ merge trigger.params given
 
 -- it is the record of the fire of a trigger, under an id that was drawn, and the limit of fires allows it
 pub record IsFired (S : Sight) (r : Record) (T : Trace) : Type 0 where

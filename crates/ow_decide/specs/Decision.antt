@@ -9,9 +9,11 @@ use Rattle.ow_traits.specs.declared.change_list.Change.{Change as StoreChange}
 use Rattle.ow_floor.specs.Trace.{Accepted, Drawn, Ended, Fired, Item, Trace, record_of}
 use Rattle.ow_row_text.specs.declared.item.Archive.{Archive}
 use Rattle.ow_row_text.specs.declared.item.Item.TheVariants as items
+use Rattle.ow_row_text.specs.declared.item.Note.{Note}
 use Rattle.ow_commits.specs.Archiving.{archive_changes, others_with}
 use Rattle.ow_commits.specs.Commits.{accept_changes, end_changes, put_of, row_changes}
 use Rattle.ow_commits.specs.Kept.{OthersView}
+use Rattle.ow_commits.specs.Noting.{noting}
 use Rattle.ow_tables.specs.Contents.{Change}
 use Rattle.ow_tables.specs.Rows.{changed}
 use Rattle.ow_decide.specs.declared.events.Told.{Told}
@@ -19,10 +21,11 @@ use Rattle.ow_decide.specs.declared.waits.Waits.{Waits}
 use Rattle.ow_decide.specs.declared.waits.Waits.TheVariants.{Keep}
 
 -- what becomes of the archive and of the notes: they stay; these records, whose end is at most a moment, are archived, over what was
--- archived before; or those of kept rows are taken over
+-- archived before; a note is kept, in place of one with its key; or those of kept rows are taken over
 pub data OtherChange : Type 0 where
   Same : OtherChange
   Archives : (until : ℕ) (before : Archive) (due : List Record) → OtherChange
+  KeepsNote : (note : Note) → OtherChange
   TakesOver : (others : OthersView) → OtherChange
 
 -- the newest item comes first; of the changes, the one that is made first
@@ -45,6 +48,7 @@ adds t items = record { told = t; items = items; changes = []; waits = Keep; oth
 abbrev pub others_after : OtherChange → OthersView → OthersView
 others_after Same o = o
 others_after (Archives until before due) o = others_with o due
+others_after (KeepsNote note) o = noting note o
 others_after (TakesOver taken) o = taken
 
 -- an archive is the newest item. It comes once all else is done and committed, so what is done before it is all but that item
@@ -75,11 +79,12 @@ abbrev pub items_changes : Trace → List StoreChange
 items_changes [] = []
 items_changes (item ∷ items) = items_changes items ++ item_changes item
 
--- with what an archive changes after it
+-- with what an archive changes, or with a note, after it
 abbrev pub with_others : OtherChange → List StoreChange → List StoreChange
 with_others (Archives until before due) cs = cs ++ archive_changes before due
+with_others (KeepsNote note) cs = cs ++ put_of (items.Note note) ∷ []
 with_others change cs = cs
 
--- what a decision changes in it: first by the rows, then by its items, and last by an archive
+-- what a decision changes in it: first by the rows, then by its items, and last by an archive or by a note
 abbrev pub commits : Decision → List StoreChange
 commits d = with_others d.others (flat_map row_changes d.changes ++ items_changes d.items)

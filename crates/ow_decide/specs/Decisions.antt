@@ -23,6 +23,7 @@ use Rattle.ow_decide.specs.Asking.{ask_decision, request_done}
 use Rattle.ow_decide.specs.Opening.{opened_decision, parts_taken}
 use Rattle.ow_decide.specs.Calling.{call_decision, call_plan}
 use Rattle.ow_decide.specs.Deploying.{deploy_decision, deployed}
+use Rattle.ow_decide.specs.OfficeFiring.{office_decision, office_shot}
 use Rattle.ow_decide.specs.Waiting.{collected_told, shows_for}
 
 -- the answer to a runner's reply: a reply that no live run makes is handed back
@@ -96,6 +97,7 @@ abbrev pub decide : Sight → Event → Decision
 decide S (events.Opened rows) = opened_decision S.moment (parts_taken S.moment S.trace (judged rows))
 decide S (events.Asked r) = ask_decision (request_done S (parts_of r))
 decide S (events.Called name params) = call_decision S (call_plan S name params)
+decide S (events.Fired trigger params note) = office_decision S.others note (office_shot S trigger params note)
 decide S (events.Deployed drafts) = deploy_decision (deployed S drafts)
 decide S events.Next = adds (told.Next (next_order S.trace)) (next_items S.moment S.trace)
 decide S (events.Answered run reply) = adds (answered_told S run reply) (answered_all S run reply)

@@ -72,5 +72,5 @@ pub record IsStepOf (d : DeploymentView) (step : Step) : Type 0 where
   pub waits : step.waits ≡ Keep
   pub moves : step.moves ≡ []
   pub commit : step.commit ≡ Some d.commit
-  pub archive : step.archive ≡ None
+  pub others : step.others ≡ None
   pub room : (n : ℕ) → (length d.progress.changes ≤ n) → HasRoom step.change n

@@ -10,5 +10,7 @@ pub mod Asking
 pub mod Opening
 pub mod Deploying
 pub mod Decisions
+pub mod Given
 pub mod Making
+pub mod OfficeFiring
 pub mod Deployment

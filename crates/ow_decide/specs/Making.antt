@@ -34,8 +34,8 @@ use Rattle.ow_row_text.specs.Bytes.{bytes_of}
 use Rattle.ow_commits.specs.Archiving.{archive_with}
 use Rattle.ow_commits.specs.Kept.{OthersView, kept, others_bytes}
 use Rattle.ow_records.specs.declared.record.Record.{Record}
-use Rattle.ow_row_text.specs.declared.item.Archive.{Archive}
-use Rattle.ow_decide.specs.declared.step.Archiving.{Archiving}
+use Rattle.ow_decide.specs.declared.step.OthersStep.{OthersStep}
+use Rattle.ow_decide.specs.declared.step.OthersStep.TheVariants as others_steps
 use Rattle.ow_traits.specs.Changes.{changed as store_changed}
 use Rattle.ow_counts.specs.View.{AreUpTo, CountsView, StandsFor, notes_of}
 use Rattle.ow_decide.specs.declared.waits.Wait.{Wait}
@@ -47,7 +47,7 @@ use Rattle.ow_decide.specs.Reasons.{store_full}
 use Rattle.ow_reads.specs.Steps.{unless}
 use Rattle.ow_decide.specs.Calling.{admitted_plan, plan_items}
 use Rattle.ow_decide.specs.Sight.{Sight, is_store_full, or_limit}
-use Rattle.ow_decide.specs.Decision.{Archives, Decision, Same, all_changed, commits, held, items_changes, others_after}
+use Rattle.ow_decide.specs.Decision.{Archives, Decision, KeepsNote, Same, all_changed, commits, held, items_changes, others_after}
 
 -- ---- the outcome of a request, in the code
 
@@ -155,7 +155,7 @@ pub record IsSeen (S : Sight) (t : Table) (rs : List Row) (k : CountsView) (b : 
 
 -- a step with an answer alone: nothing else is made ready
 abbrev pub telling : Told → Step
-telling t = record { told = t; change = rows.Nothing; waits = Keep; moves = []; commit = None; archive = None }
+telling t = record { told = t; change = rows.Nothing; waits = Keep; moves = []; commit = None; others = None }
 
 -- ---- what was done on the floor
 
@@ -182,11 +182,13 @@ abbrev pub IsCommit : Option FollowingView → Decision → Sight → Type 0
 IsCommit None d S = (d.changes ≡ []) × (AreOwn d.items × (moved d.items ≡ []))
 IsCommit (Some commit) d S = IsFollowingOf commit (commits d) (others_after d.others S.others) (all_changed d.changes S.rows) (d.items ++ S.trace)
 
--- what is to be archived of what is decided: nothing; or, where there is a commit, the due records up to a moment, with the archive after it
-abbrev pub IsArchiving : Option FollowingView → Option Archiving → Decision → Sight → Type 0
-IsArchiving commit None d S = d.others ≡ Same
-IsArchiving None (Some a) d S = ⊥
-IsArchiving (Some commit) (Some a) d S = (due : List Record) × (d.others ≡ Archives a.until S.others.archive due) × (a.archive ≡ archive_with S.others.archive due)
+-- what becomes of the archive and of the notes: nothing; or, where there is a commit, the due records up to a moment are archived, with the
+-- archive after it, or a note is kept
+abbrev pub IsOthersStep : Option FollowingView → Option OthersStep → Decision → Sight → Type 0
+IsOthersStep commit None d S = d.others ≡ Same
+IsOthersStep None (Some o) d S = ⊥
+IsOthersStep (Some commit) (Some (others_steps.Archives until archive)) d S = (due : List Record) × (d.others ≡ Archives until S.others.archive due) × (archive ≡ archive_with S.others.archive due)
+IsOthersStep (Some commit) (Some (others_steps.KeepsNote note)) d S = d.others ≡ KeepsNote note
 
 -- a step has what was decided of what is seen, and commits it
 pub record Carries (step : Step) (d : Decision) (S : Sight) : Type 0 where
@@ -195,7 +197,7 @@ pub record Carries (step : Step) (d : Decision) (S : Sight) : Type 0 where
   pub waits : step.waits ≡ d.waits
   pub moves : step.moves ≡ moved d.items
   pub commit : IsCommit step.commit d S
-  pub archive : IsArchiving step.commit step.archive d S
+  pub others : IsOthersStep step.commit step.others d S
 
 -- the step has this answer, and these moves over what is kept. Whichever items they are of, all is committed, for private clauses
 pub record IsTold (step : Step) (t : Told) (w : Waits) (ms : List Moved) (b : KeepingView) : Type 0 where
@@ -203,7 +205,7 @@ pub record IsTold (step : Step) (t : Told) (w : Waits) (ms : List Moved) (b : Ke
   pub change : step.change ≡ rows.Nothing
   pub waits : step.waits ≡ w
   pub moves : step.moves ≡ ms
-  pub archive : step.archive ≡ None
+  pub others : step.others ≡ None
   pub commit : (S : Sight) (items : Trace) (u : Told) (x : Waits) → StandsForKept b S.others S.rows S.trace → IsSound S.trace → AreRight items (shown S.trace) → AreOwn items → ms ≡ moved items
       → IsCommit step.commit (record { told = u; items = items; changes = []; waits = x; others = Same }) S
 
@@ -216,6 +218,6 @@ IsReplyTold step run reply (Some recorded) ms b = IsTold step (told.Answered (an
 abbrev pub Makes : Table → List Row → CountsView → KeepingView → Now → Shown → Shown → (Sight → Decision) → Step → Type 0
 Makes t rs k b now old new decided step = (S : Sight) → IsSeen S t rs k b old now → Carries step (decided S) S × Stands new (held (decided S) ++ S.trace)
 
--- the same with the requests that wait and with what was archived
-abbrev pub MakesFor : List Wait → Archive → Table → List Row → CountsView → KeepingView → Now → Shown → Shown → (Sight → Decision) → Step → Type 0
-MakesFor ws a t rs k b now old new decided step = (S : Sight) → IsSeen S t rs k b old now → S.waits ≡ ws → S.others.archive ≡ a → Carries step (decided S) S × Stands new (held (decided S) ++ S.trace)
+-- the same with the requests that wait, with what was archived, and with the notes
+abbrev pub MakesFor : List Wait → OthersView → Table → List Row → CountsView → KeepingView → Now → Shown → Shown → (Sight → Decision) → Step → Type 0
+MakesFor ws o t rs k b now old new decided step = (S : Sight) → IsSeen S t rs k b old now → S.waits ≡ ws → S.others ≡ o → Carries step (decided S) S × Stands new (held (decided S) ++ S.trace)

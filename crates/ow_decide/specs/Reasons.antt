@@ -1,5 +1,6 @@
 -- What the hall refuses, and what it makes of the refusals of the crates below.
 use Rattle.std.specs.Prelude.{Bool, true, false}
+use Rattle.ow_value.specs.declared.reader.ValueRefusal.TheVariants.{TooDeep}
 use Rattle.ow_entity.specs.declared.refusal.EntityRefusal.TheVariants.{TooLarge}
 use Rattle.ow_tables.specs.declared.refusal.TableRefusal.{TableRefusal}
 use Rattle.ow_tables.specs.declared.refusal.TableRefusal.TheVariants as tables
@@ -16,6 +17,10 @@ use Rattle.ow_reads.specs.Reasons.{not_found}
 -- the parameters of a call have too many bytes
 abbrev pub too_large : Reason
 too_large = Call (calls.BadEntity TooLarge)
+
+-- values nest deeper than a body may
+abbrev pub too_deep : Reason
+too_deep = Call (calls.BadValue TooDeep)
 
 -- the floor drains
 abbrev pub draining : Reason

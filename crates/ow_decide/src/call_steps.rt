@@ -96,7 +96,7 @@ fn happened(alloc: Global, made: Made) -> Result<Step, NoMemory>
         waits: Waits::Keep,
         moves,
         commit: Some(commit),
-        archive: None,
+        others: None,
     })
 }
 

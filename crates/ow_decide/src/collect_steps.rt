@@ -9,7 +9,7 @@ ghost use Rattle.ow_decide.specs.Waiting.{collected_told, ended_answer, ended_st
 ghost use Rattle.ow_tenant.specs.Table.{Table};
 ghost use Rattle.ow_counts.specs.View.{CountsView};
 ghost use Rattle.ow_commits.specs.Keeping.{KeepingView};
-ghost use Rattle.ow_row_text.specs.declared.item.Archive.{Archive};
+ghost use Rattle.ow_commits.specs.Kept.{OthersView};
 ghost use Rattle.ow_decide.specs.declared.events.Event.TheVariants as events;
 
 use crate::events::Told;
@@ -31,7 +31,7 @@ pub(crate) fn collect(
     now: Now,
     id: Id,
 ) -> Result<Step, NoMemory>
-    ensures ok { IfOk result (λ s. (t : Table) (rs : List Row) (k : CountsView) (b : KeepingView) (a : Archive) → MakesFor waits.now a t rs k b now floor.now.now floor.now.now (λ S. decide S (events.Collected id)) s) }
+    ensures ok { IfOk result (λ s. (t : Table) (rs : List Row) (k : CountsView) (b : KeepingView) (o : OthersView) → MakesFor waits.now o t rs k b now floor.now.now floor.now.now (λ S. decide S (events.Collected id)) s) }
     ensures change { IfOk result (λ s. s.change ≡ RowChange.Nothing) }
 {
     let shows = shows_for(waits, id);

@@ -304,7 +304,7 @@ impl Deployment {
                 waits: Waits::Keep,
                 moves: Moves::new(alloc),
                 commit: Some(commit),
-                archive: None,
+                others: None,
             }),
             Err(e) => {
                 drop(puts);

@@ -70,7 +70,7 @@ impl Done {
             waits: Waits::Keep,
             moves: Moves::new(alloc),
             commit,
-            archive: None,
+            others: None,
         })
     }
 
@@ -124,7 +124,7 @@ fn invoked(
     shows: Shows,
     made: Made,
 ) -> Result<Step, NoMemory>
-    ensures ok { IfOk result (λ s. s ≡ record { told = told.Asked (invoked_reply id until); change = RowChange.Nothing; waits = waits_of id shows until; moves = made.moves; commit = Some made.commit; archive = None }) }
+    ensures ok { IfOk result (λ s. s ≡ record { told = told.Asked (invoked_reply id until); change = RowChange.Nothing; waits = waits_of id shows until; moves = made.moves; commit = Some made.commit; others = None }) }
 {
     let Ok(reply) = invoked_reply(alloc, id, until) else {
         drop(made);
@@ -137,7 +137,7 @@ fn invoked(
         waits: waits_of(id, shows, until),
         moves,
         commit: Some(commit),
-        archive: None,
+        others: None,
     })
 }
 

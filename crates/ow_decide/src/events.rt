@@ -1,12 +1,13 @@
 // The events that reach the service, and their answers.
-use crate::replies::{Called, Deployed, HallCollected, Reply};
+use crate::replies::{Called, Deployed, Fired, HallCollected, Reply};
 use ow_entity::Drafts;
 use ow_floor::{Answered, Drain, FloorRefusal, Happened, Order, Swept};
 use ow_http::{Answer, Request};
 use ow_names::FullName;
 use ow_records::Id;
+use ow_row_text::Note;
 use ow_traits::{Rows, RunReply};
-use ow_value::{NoMemory, Params, PlainData, Shared};
+use ow_value::{NoMemory, Params, PlainData, Shared, copied2};
 use std::alloc::Global;
 
 /// An event that reaches the service from outside.
@@ -17,19 +18,38 @@ pub enum Event {
     /// A client makes a request.
     Asked(Shared<Request>),
     /// The office itself calls an action.
-    Called { name: FullName, params: Params },
+    Called {
+        name: FullName,
+        params: Params,
+    },
+    /// The office itself fires a trigger. The note is kept, unless the fire is refused.
+    Fired {
+        trigger: FullName,
+        params: Params,
+        note: Note,
+    },
     /// The office itself puts entities, all or none.
     Deployed(Drafts),
     /// A runner asks what to run.
     Next,
     /// The container of a run is up, and its action initialised.
-    Begun { run: u64 },
+    Begun {
+        run: u64,
+    },
     /// A runner replies to a run.
-    Answered { run: u64, reply: RunReply },
+    Answered {
+        run: u64,
+        reply: RunReply,
+    },
     /// A run is lost: no reply of it will come.
-    Lost { run: u64 },
+    Lost {
+        run: u64,
+    },
     /// The container of a slot is gone.
-    Gone { slot: u32, generation: u32 },
+    Gone {
+        slot: u32,
+        generation: u32,
+    },
     /// What late runs carry is to end.
     Sweep,
     /// What became of an activation is requested. A request waits for the end of that activation.
@@ -51,6 +71,8 @@ pub enum Told {
     Full(Answer),
     /// To a call of the office.
     Called(Called),
+    /// To a fire of the office.
+    Fired(Fired),
     /// To a deployment.
     Deployed(Deployed),
     /// To a runner that asks.
@@ -85,6 +107,18 @@ impl PlainData for Event {
                     params: other_params,
                 },
             ) => name.same(other_name) && params.same(other_params),
+            (
+                Event::Fired {
+                    trigger,
+                    params,
+                    note,
+                },
+                Event::Fired {
+                    trigger: other_trigger,
+                    params: other_params,
+                    note: other_note,
+                },
+            ) => trigger.same(other_trigger) && params.same(other_params) && note.same(other_note),
             (Event::Deployed(a), Event::Deployed(b)) => a.same(b),
             (
                 Event::Answered { run, reply },
@@ -120,6 +154,19 @@ impl PlainData for Event {
                 let params = params.copy(alloc)?;
                 Ok(Event::Called { name, params })
             }
+            Event::Fired {
+                trigger,
+                params,
+                note,
+            } => {
+                let trigger = trigger.copy(alloc)?;
+                let (params, note) = copied2(alloc, params, note)?;
+                Ok(Event::Fired {
+                    trigger,
+                    params,
+                    note,
+                })
+            }
             Event::Deployed(drafts) => Ok(Event::Deployed(drafts.copy(alloc)?)),
             Event::Next => Ok(Event::Next),
             Event::Begun { run } => Ok(Event::Begun { run: *run }),
@@ -147,6 +194,7 @@ impl PlainData for Told {
             (Told::Asked(a), Told::Asked(b)) => a.same(b),
             (Told::Full(a), Told::Full(b)) => a.same(b),
             (Told::Called(a), Told::Called(b)) => a.same(b),
+            (Told::Fired(a), Told::Fired(b)) => a.same(b),
             (Told::Deployed(a), Told::Deployed(b)) => a.same(b),
             (Told::Next(a), Told::Next(b)) => a.same(b),
             (Told::Answered(a), Told::Answered(b)) => a.same(b),
@@ -173,6 +221,7 @@ impl PlainData for Told {
             Told::Asked(reply) => Ok(Told::Asked(reply.copy(alloc)?)),
             Told::Full(answer) => Ok(Told::Full(answer.copy(alloc)?)),
             Told::Called(called) => Ok(Told::Called(called.copy(alloc)?)),
+            Told::Fired(fired) => Ok(Told::Fired(fired.copy(alloc)?)),
             Told::Deployed(deployed) => Ok(Told::Deployed(deployed.copy(alloc)?)),
             Told::Next(order) => Ok(Told::Next(order.copy(alloc)?)),
             Told::Answered(answered) => Ok(Told::Answered(answered.copy(alloc)?)),

@@ -79,8 +79,8 @@ pub(crate) fn fired(
     )
 }
 
-// The trigger of the name.
-fn trigger_at<'a>(tables: &'a Tables, name: &FullName) -> Option<&'a Trigger>
+/// The trigger of the name.
+pub(crate) fn trigger_at<'a>(tables: &'a Tables, name: &FullName) -> Option<&'a Trigger>
     ensures { option_copied result ≡ trigger_at (standing tables.now.rows) name.now }
 {
     match tables.row(EntityKind::Trigger, name) {
@@ -124,8 +124,8 @@ fn rules_served(
     }
 }
 
-// The fire, where the merged parameters have not too many bytes, and the floor takes calls.
-fn fire_plan(
+/// The fire, where the merged parameters have not too many bytes, and the floor takes calls.
+pub(crate) fn fire_plan(
     alloc: Global,
     floor: &Floor,
     now: Now,
@@ -219,8 +219,8 @@ pub(crate) fn shot(
     }
 }
 
-// What the limit of fires says of one more that is charged to the namespace.
-fn within_fires(
+/// What the limit of fires says of one more that is charged to the namespace.
+pub(crate) fn within_fires(
     tenants: &Tenants,
     counts: &Counts,
     namespace: &EntityName,
@@ -233,7 +233,7 @@ fn within_fires(
 
 // What is answered of a fire, which is made.
 fn fired_step(alloc: Global, id: Id, made: Made) -> Result<Step, NoMemory>
-    ensures { IfOk result (λ s. s ≡ record { told = at_once (accepted_answer id); change = RowChange.Nothing; waits = Waits.Keep; moves = made.moves; commit = Some made.commit; archive = None }) }
+    ensures { IfOk result (λ s. s ≡ record { told = at_once (accepted_answer id); change = RowChange.Nothing; waits = Waits.Keep; moves = made.moves; commit = Some made.commit; others = None }) }
 {
     let Ok(answer) = accepted_answer(alloc, id) else {
         drop(made);
@@ -246,12 +246,12 @@ fn fired_step(alloc: Global, id: Id, made: Made) -> Result<Step, NoMemory>
         waits: Waits::Keep,
         moves,
         commit: Some(commit),
-        archive: None,
+        others: None,
     })
 }
 
-// All of a fire is done on the floor, and what is committed of it made ready.
-fn made_shot(
+/// All of a fire is done on the floor, and what is committed of it made ready.
+pub(crate) fn made_shot(
     alloc: Global,
     tenants: &Tenants,
     counts: &Counts,

@@ -17,7 +17,7 @@ ghost use Rattle.ow_decide.specs.declared.events.Told.TheVariants as told;
 
 use crate::commits::{Made, made_of};
 use crate::events::{Event, Told};
-use crate::step::{Archiving, Now, RowChange, Step};
+use crate::step::{Now, OthersStep, RowChange, Step};
 use crate::waits::Waits;
 use ow_commits::{Following, Keeping, archive_with};
 use ow_floor::{Answered, Floor, FloorRefusal, Happened, Moves, Swept};
@@ -140,7 +140,7 @@ fn told_step(
             waits,
             moves,
             commit: None,
-            archive: None,
+            others: None,
         });
     }
     let Ok(Made { moves, commit }) = made_of(alloc, keeping, moves) else {
@@ -153,7 +153,7 @@ fn told_step(
         waits,
         moves,
         commit: Some(commit),
-        archive: None,
+        others: None,
     })
 }
 
@@ -269,7 +269,7 @@ fn archiving_step(
         waits,
         moves,
         commit: Some(commit),
-        archive: Some(Archiving { until, archive }),
+        others: Some(OthersStep::Archives { until, archive }),
     })
 }
 

@@ -11,6 +11,7 @@ mod events;
 mod fire_steps;
 mod floor_steps;
 mod laws;
+mod office_steps;
 mod read_steps;
 mod reasons;
 mod replies;
@@ -28,7 +29,7 @@ pub use laws::{
     reads_are_answered_of_the_view, reads_change_nothing,
 };
 pub use reasons::tells_full;
-pub use replies::{Called, Deployed, HallCollected, Reply};
+pub use replies::{Called, Deployed, Fired, HallCollected, Reply};
 pub use room::is_full;
-pub use step::{Archiving, Now, RowChange, Step, step_for};
+pub use step::{Now, OthersStep, RowChange, Step, step_for};
 pub use waits::{Shows, Wait, Waits};

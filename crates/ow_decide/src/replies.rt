@@ -23,6 +23,17 @@ pub enum Called {
     Refused(Reason),
 }
 
+/// What a fire of the office is answered.
+#[derive(Drop)]
+pub enum Fired {
+    /// The trigger has an active rule: this is the id of the trigger's activation. The note is kept.
+    Made { id: Id },
+    /// No rule of the trigger is active. The note is kept.
+    Quiet,
+    /// The fire was refused, for this reason. The note isn't kept.
+    Refused(Reason),
+}
+
 /// What a deployment is answered.
 #[derive(Drop)]
 pub enum Deployed {
@@ -102,6 +113,25 @@ impl PlainData for Called {
         match self {
             Called::Happened(happened) => Ok(Called::Happened(happened.copy(alloc)?)),
             Called::Refused(reason) => Ok(Called::Refused(reason.copy(alloc)?)),
+        }
+    }
+}
+
+impl PlainData for Fired {
+    fn same(&self, other: &Fired) -> bool {
+        match (self, other) {
+            (Fired::Made { id }, Fired::Made { id: other_id }) => id == other_id,
+            (Fired::Quiet, Fired::Quiet) => true,
+            (Fired::Refused(a), Fired::Refused(b)) => a.same(b),
+            _ => false,
+        }
+    }
+
+    fn copy(&self, alloc: Global) -> Result<Fired, NoMemory> {
+        match self {
+            Fired::Made { id } => Ok(Fired::Made { id: *id }),
+            Fired::Quiet => Ok(Fired::Quiet),
+            Fired::Refused(reason) => Ok(Fired::Refused(reason.copy(alloc)?)),
         }
     }
 }

@@ -9,19 +9,21 @@ use crate::collect_steps::collect;
 use crate::deploy_steps::deploy;
 use crate::events::{Event, Told};
 use crate::floor_steps::{answered, drain, next, reopen, sweep};
+use crate::office_steps::fire;
 use crate::waits::{Wait, Waits};
 use ow_commits::{Following, Keeping};
 use ow_counts::Counts;
 use ow_entity::Row;
 use ow_floor::{Floor, Moves};
-use ow_row_text::Archive;
+use ow_row_text::{Archive, Note};
 use ow_tables::{Ready, Tables};
 use ow_tenant::Tenants;
 use ow_value::NoMemory;
 use std::alloc::Global;
 
 /// What was done: the answer, the change of the rows that was made ready, what becomes of the requests that wait, all that moved on the
-/// floor, what is to be committed of it, and what is to be archived then. Where nothing is to be committed there may be no commit.
+/// floor, what is to be committed of it, and what becomes of the archive and the notes then. Where nothing is to be committed there may
+/// be no commit.
 #[derive(Drop)]
 pub struct Step {
     pub told: Told,
@@ -29,16 +31,17 @@ pub struct Step {
     pub waits: Waits,
     pub moves: Moves,
     pub commit: Option<Following>,
-    pub archive: Option<Archiving>,
+    pub others: Option<OthersStep>,
 }
 
-/// An archive that is made after a commit.
-#[derive(Clone, Copy, Debug, PartialEq, Eq)]
-pub struct Archiving {
-    /// The records whose end is at most this moment, in milliseconds, are archived.
-    pub until: u64,
-    /// What was archived then, with what was archived before.
-    pub archive: Archive,
+/// What is done to the archive or to the notes after a commit.
+#[derive(Drop)]
+pub enum OthersStep {
+    /// The records whose end is at most the moment `until`, in milliseconds, are archived. `archive` is what was archived then, with what
+    /// was archived before.
+    Archives { until: u64, archive: Archive },
+    /// This note is kept, in place of one with its key.
+    KeepsNote(Note),
 }
 
 /// What becomes of the rows of entities.
@@ -70,7 +73,7 @@ impl Step {
             waits: Waits::Keep,
             moves: Moves::new(alloc),
             commit: None,
-            archive: None,
+            others: None,
         }
     }
 }
@@ -86,13 +89,14 @@ pub fn step_for(
     tables: &mut Tables,
     waits: &[Wait],
     archive: Archive,
+    notes: &[Note],
     now: Now,
     event: &Event,
 ) -> Result<Step, NoMemory>
     requires event { wants_memory event.now ≡ true }
     requires opened { is_opening event.now ≡ false }
     requires held { floor.old.before ≡ Some floor.old.now }
-    ensures ok { IfOk result (MakesFor waits.now archive tenants.now tables.old.rows counts.now keeping.now now floor.old.now floor.new.now (λ S. decide S event.now)) }
+    ensures ok { IfOk result (MakesFor waits.now (record { archive = archive; notes = notes.now }) tenants.now tables.old.rows counts.now keeping.now now floor.old.now floor.new.now (λ S. decide S event.now)) }
     ensures before { floor.new.before ≡ floor.old.before }
     ensures rows { tables.new.rows ≡ tables.old.rows }
     ensures place { IfOk result (λ s. HasRoom s.change tables.new.room) }
@@ -113,6 +117,13 @@ pub fn step_for(
                 alloc, tenants, counts, keeping, floor, tables, now, name, params,
             )
         }
+        Event::Fired {
+            trigger,
+            params,
+            note,
+        } => fire(
+            alloc, tenants, counts, keeping, floor, tables, notes, now, trigger, params, note,
+        ),
         Event::Deployed(drafts) => deploy(alloc, tenants, keeping, floor, tables, now, drafts),
         Event::Next => next(alloc, floor, now),
         Event::Answered { run, reply } => {

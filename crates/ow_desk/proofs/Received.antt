@@ -8,8 +8,9 @@ use Rattle.ow_floor.specs.declared.answers.AnswerRefusal.{AnswerRefusal}
 use Rattle.ow_decide.specs.Decision.{commits}
 use Rattle.ow_decide.specs.declared.events.Event.{Event}
 use Rattle.ow_decide.specs.declared.events.Told.{Told}
+use Rattle.ow_decide.specs.declared.replies.Fired.{Fired}
 use Rattle.ow_decide.specs.declared.replies.Reply.{Reply}
-use Rattle.ow_hall.specs.Comes.{Answers, Comes, Fails, HallView, Outcome, Replies, Wants, at_hall, decided, reply_outcome}
+use Rattle.ow_hall.specs.Comes.{Answers, Comes, Fails, HallView, IsFired, Outcome, Replies, Wants, at_hall, decided, reply_outcome}
 use Rattle.ow_hall.specs.History.{History}
 use Rattle.ow_hall.specs.Performing.{unanswered, undone}
 use Rattle.ow_hall.proofs.KeepLaws.{stays_same}
@@ -77,6 +78,10 @@ module _ {P : Type 0} (telling : P → Telling) where
   pub reply_was_called : (d e : DeskView P) (at : ℕ) (event : Event) (result : Result Reply Want) (n m : Notes) → (o : Outcome) × Replies result o × IsReceived telling d e at event o n m
       → (o : Outcome) × Replies result o × WasCalled at event o n m
   reply_was_called d e at event result n m x = (x.0, x.1, was_called d e at event x.0 n m x.2)
+
+  pub fired_was_called : (d e : DeskView P) (at : ℕ) (event : Event) (result : Result Fired Want) (n m : Notes) → (o : Outcome) × IsFired result o × IsReceived telling d e at event o n m
+      → (o : Outcome) × IsFired result o × WasCalled at event o n m
+  fired_was_called d e at event result n m x = (x.0, x.1, was_called d e at event x.0 n m x.2)
 
   pub wanted_called : (d e : DeskView P) (at : ℕ) (event : Event) (failed : Bool) (n m : Notes) → commits (decided d.hall at event) ≡ []
       → IsReceived telling d e at event (undone failed) n m → WasCalled at event Wants n m

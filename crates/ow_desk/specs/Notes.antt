@@ -5,6 +5,7 @@ use Rattle.ow_decide.specs.declared.events.Event.{Event}
 use Rattle.ow_decide.specs.declared.events.Event.TheVariants as events
 use Rattle.ow_decide.specs.declared.events.Told.{Told}
 use Rattle.ow_decide.specs.declared.events.Told.TheVariants as told
+use Rattle.ow_decide.specs.declared.replies.Fired.TheVariants as fires
 use Rattle.ow_hall.specs.declared.entry.Entry.{Entry}
 use Rattle.ow_hall.specs.declared.posting.Posting.{Posting}
 use Rattle.ow_hall.specs.declared.posting.Posting.TheVariants.{Booked, Quiet, Denied, Unbooked}
@@ -48,10 +49,16 @@ abbrev pub denied_marks : Option Denial → List Mark
 denied_marks None = []
 denied_marks (Some d) = marks.Denied d ∷ []
 
--- the mark of a request that finds the book full
+-- the mark of a request, or of a fire of the office, that finds the book full. A fire counts no bytes
 abbrev pub refused_full : ℕ → Told → Event → List Mark
 refused_full counted (told.Full answer) (events.Asked r) = marks.Full counted r.size ∷ []
+refused_full counted (told.Fired (fires.Refused reason)) (events.Fired trigger params note) = marks.Full counted 0 ∷ []
 refused_full counted t event = []
+
+-- the mark of one of so many bytes, where there is one, for private clauses
+abbrev pub full_marks : ℕ → Option ℕ → List Mark
+full_marks counted None = []
+full_marks counted (Some size) = marks.Full counted size ∷ []
 
 -- the notes with an answer that is posted in this way after these entries
 abbrev pub noted_as : Posting → History → Entry → Notes → Notes

@@ -1,8 +1,9 @@
 // The calls of a hall, through receipts.
-ghost use Rattle.std.specs.Prelude.{◌≡◌, ◌+◌, ◌≤◌, IfErr, IfOk};
+ghost use Rattle.std.specs.Prelude.{◌≡◌, ◌+◌, ◌≤◌, true, IfErr, IfOk};
 ghost use Rattle.ow_decide.specs.declared.events.Event.TheVariants as events;
 ghost use Rattle.ow_floor.specs.Calls.{HandsBack};
-ghost use Rattle.ow_hall.specs.Comes.{Outcome, Replies, collect_outcome, done_outcome, drain_outcome, next_outcome, reply_outcome, swept_outcome};
+ghost use Rattle.ow_hall.specs.Comes.{IsFired, Outcome, Replies, collect_outcome, done_outcome, drain_outcome, next_outcome, reply_outcome, swept_outcome};
+ghost use Rattle.ow_keep.specs.Allowed.{is_note};
 ghost use Rattle.ow_desk.specs.Desks.{IsReceived};
 ghost use Rattle.ow_desk.specs.Fitting.{Fits};
 ghost use Rattle.ow_desk.specs.Notes.{WasCalled};
@@ -10,16 +11,18 @@ ghost use Rattle.ow_desk.specs.Notes.{WasCalled};
 use crate::desk::Desk;
 use crate::receipts::Receipts;
 use crate::standing::Standing;
-use ow_decide::{Event, HallCollected, Reply, taken_told};
+use ow_decide::{Event, Fired, HallCollected, Reply, taken_told};
 use ow_floor::{AnswerRefusal, Answered, Drain, FloorRefusal, Order, Swept};
 use ow_hall::{
-    SweepRefusal, Undone, answered_in, collected_in, drain_in, order_in, reply_in, reply_of,
-    swept_in, unanswered,
+    SweepRefusal, Undone, answered_in, collected_in, drain_in, fired_in, order_in, reply_in,
+    reply_of, store_fired, swept_in, unanswered,
 };
 use ow_http::Request;
+use ow_names::FullName;
 use ow_records::Id;
+use ow_row_text::Note;
 use ow_traits::{Keeper, RunReply};
-use ow_value::{NoMemory, PlainData, Shared};
+use ow_value::{NoMemory, Params, PlainData, Shared, copied2};
 use std::alloc::Global;
 
 impl<P: Keeper + Drop> Receipts<P> {
@@ -45,6 +48,43 @@ impl<P: Keeper + Drop> Receipts<P> {
                     Ok(failed)
                 } else {
                     drop(failed);
+                    Err(NoMemory)
+                }
+            }
+        }
+    }
+
+    /// Fires a trigger in the name of the office and keeps a note with the fire, as `Hall::fire` does.
+    pub fn fire(
+        &mut self,
+        alloc: Global,
+        desk: &mut Desk<P>,
+        at: u64,
+        trigger: &FullName,
+        params: Params,
+        note: &Note,
+    ) -> Result<Fired, NoMemory>
+        requires noted { is_note note.now ≡ true }
+        ensures received { (o : Outcome) × IsFired result o × IsReceived P.telling desk.old desk.new at (events.Fired trigger.now params note.now) o self.old.notes self.new.notes }
+        ensures called { (o : Outcome) × IsFired result o × WasCalled at (events.Fired trigger.now params note.now) o self.old.notes self.new.notes }
+    {
+        let Ok((trigger, note)) = copied2(alloc, trigger, note) else {
+            drop(params);
+            return Err(NoMemory);
+        };
+        let event = Event::Fired {
+            trigger,
+            params,
+            note,
+        };
+        match self.perform(alloc, desk, at, event) {
+            Ok(told) => Ok(fired_in(told)),
+            Err(undone) => {
+                let failed = undone.failed;
+                drop(undone);
+                if failed {
+                    Ok(store_fired())
+                } else {
                     Err(NoMemory)
                 }
             }

@@ -20,7 +20,7 @@ pub enum Denial {
 pub enum Mark {
     /// The store failed.
     Stored,
-    /// The book was full: how many bytes it counted, and how many the request has.
+    /// The book was full: how many bytes it counted, and how many the request has, 0 of a fire of the office.
     Full { counted: u64, size: u64 },
     /// An event of a runner was refused.
     Denied(Denial),

@@ -3,18 +3,19 @@ ghost use Rattle.std.specs.Prelude.{◌≡◌, ◌+◌, ◌≤◌, ◌++◌, ℕ
 ghost use Rattle.ow_tenant.specs.Table.{IsPoolSized};
 ghost use Rattle.ow_decide.specs.Decisions.{is_opening, wants_memory};
 ghost use Rattle.ow_hall.specs.Comes.{Answers};
-ghost use Rattle.ow_hall.specs.History.{History, IsGivenEvent};
+ghost use Rattle.ow_hall.specs.History.{History};
+ghost use Rattle.ow_decide.specs.Given.{IsGivenEvent};
 ghost use Rattle.ow_hall.specs.Ledger.{one_more};
 ghost use Rattle.ow_hall.specs.Performing.{outcome};
 ghost use Rattle.ow_desk.specs.Desks.{IsReceived};
-ghost use Rattle.ow_desk.specs.Notes.{IsStanding, denials_of, denied_marks, noted, refused_full};
+ghost use Rattle.ow_desk.specs.Notes.{IsStanding, denials_of, denied_marks, full_marks, noted, refused_full};
 
 use crate::desk::Desk;
 use crate::marks::{Denial, Mark};
 use crate::placed::Placed;
 use crate::receipts::Receipts;
 use crate::standing::Standing;
-use ow_decide::{Event, Told};
+use ow_decide::{Event, Fired, Told};
 use ow_hall::{Entry, Posting, Undone, posting_of};
 use ow_traits::Keeper;
 use ow_value::PlainData;
@@ -121,10 +122,20 @@ impl<P: Keeper + Drop> Receipts<P> {
         ensures notes { self.new.notes ≡ record self.old.notes { marks = self.old.notes.marks ++ refused_full counted told.now event.now } }
         ensures room { self.old.room ≤ self.new.room + 1 }
     {
-        if let (Told::Full(_), Event::Asked(request)) = (told, event) {
-            let size = request.get().size;
+        if let Some(size) = refused_size(told, event) {
             self.marks.push(Mark::Full { counted, size });
         }
+    }
+}
+
+// How many bytes the request has that finds the book full, 0 of a fire of the office.
+fn refused_size(told: &Told, event: &Event) -> Option<u64>
+    ensures { (counted : ℕ) → refused_full counted told.now event.now ≡ full_marks counted result }
+{
+    match (told, event) {
+        (Told::Full(_), Event::Asked(request)) => Some(request.get().size),
+        (Told::Fired(Fired::Refused(_)), Event::Fired { .. }) => Some(0),
+        _ => None,
     }
 }
 

@@ -14,7 +14,6 @@ use Rattle.ow_floor.specs.declared.answers.FloorRefusal.{FloorRefusal}
 use Rattle.ow_floor.specs.declared.answers.FloorRefusal.TheVariants as refusals
 use Rattle.ow_floor.specs.declared.answers.Swept.{Swept}
 use Rattle.ow_records.specs.declared.record.Record.{Record}
-use Rattle.ow_floor.specs.declared.runs.Run.{Run}
 use Rattle.ow_http.specs.Request.{parts_of}
 use Rattle.ow_http.specs.declared.reason.Reason.{Reason}
 use Rattle.ow_tables.specs.Contents.{Change}
@@ -26,6 +25,7 @@ use Rattle.ow_hall.specs.declared.posting.Posting.{Posting}
 use Rattle.ow_hall.specs.declared.posting.Posting.TheVariants.{Booked, Quiet, Denied, Unbooked}
 use Rattle.ow_decide.specs.declared.replies.Called.TheVariants as called
 use Rattle.ow_decide.specs.declared.replies.Deployed.TheVariants as deployments
+use Rattle.ow_decide.specs.declared.replies.Fired.TheVariants as fires
 use Rattle.ow_decide.specs.declared.step.Now.{Now}
 use Rattle.ow_decide.specs.declared.step.Step.{Step}
 use Rattle.ow_tenant.specs.Table.{Table}
@@ -36,6 +36,7 @@ use Rattle.ow_decide.specs.Sight.{Sight}
 use Rattle.ow_decide.specs.Decision.{Decision, OtherChange, Same, adds, all_changed, held, others_after, tells}
 use Rattle.ow_decide.specs.Asking.{Done, Shown as ShownDone, Changed, Fired, Invoked, Quiet as QuietDone, ask_decision, refusal_told, request_done}
 use Rattle.ow_decide.specs.Calling.{admitted_plan, call_plan, called_decision}
+use Rattle.ow_decide.specs.OfficeFiring.{Shot, fired_told, office_decision, office_shot}
 use Rattle.ow_decide.specs.Deploying.{Progress, Refusal, deploy_decision, deployed}
 use Rattle.ow_http.specs.Steps.{◌>>=◌}
 use Rattle.ow_decide.specs.Decisions.{answered_all, archived_until, decide, is_opening, reply_told, sweep_by, sweep_with, swept_all, swept_told, taken_told, wants_memory}
@@ -44,11 +45,15 @@ use Rattle.ow_decide.specs.Waiting.{collected_told, shows_for}
 use Rattle.ow_floor.specs.Collecting.{collected}
 use Rattle.ow_hall.specs.Posting.{posting_by}
 use Rattle.ow_keep.specs.declared.allowed.TheConstants.{GREATEST_MOMENT}
-use Rattle.ow_hall.specs.History.{AreAnswered, History, IsGivenEvent, IsLegal, after, answer, counted, decision, is_idle, last_moment, least_moment, moment, opens_here, posting, seen, sight, waits_after}
+use Rattle.ow_hall.specs.History.{AreAnswered, History, IsLegal, after, answer, counted, decision, is_idle, last_moment, least_moment, moment, opens_here, posting, seen, sight, waits_after}
+use Rattle.ow_decide.specs.Given.{IsGivenEvent}
 use Rattle.ow_hall.specs.Ledger.{Ledger, posted, posted_as}
 use Rattle.ow_decide.specs.Making.{Carries, IsSeen, changes_of, telling}
 use Rattle.ow_keep.specs.Judged.{judged}
 use Rattle.ow_keep.specs.Split.{Parts}
+use Rattle.ow_commits.specs.Kept.{OthersView}
+use Rattle.ow_records.specs.declared.ids.Id.{Id}
+use Rattle.ow_row_text.specs.declared.item.Note.{Note}
 use Rattle.ow_commits.specs.Keeping.{AreIds, KeepingView, StandsForKept}
 use Rattle.ow_hall.specs.State.{IsAt, Keeps, KeepsNotes, Makes, NotesMoves, StateView, floor_kept, kept_with, others_kept}
 use Rattle.ow_traits.specs.Changes.{changed}
@@ -95,6 +100,15 @@ call_so : (idle : Bool) (S : Sight) (p : Result Plan Reason) → Unbooks idle (c
 call_so idle S (Ok plan) = tt
 call_so idle S (Err reason) = tells_so idle (told.Called (called.Refused reason))
 
+-- a fire of the office is booked, unless it is refused
+fired_booked : (idle : Bool) (id : Option Id) (X : Type 0) → Unless (posting_by idle (told.Fired (fired_told id))) X
+fired_booked idle None X = tt
+fired_booked idle (Some id) X = tt
+
+fire_so : (idle : Bool) (o : OthersView) (note : Note) (r : Result Shot Reason) → Unbooks idle (office_decision o note r)
+fire_so idle o note (Ok shot) = fired_booked idle shot.id (Leaves (office_decision o note (Ok shot)))
+fire_so idle o note (Err reason) = tells_so idle (told.Fired (fires.Refused reason))
+
 deployed_so : (idle : Bool) (r : Result Progress Refusal) → Unbooks idle (deploy_decision r)
 deployed_so idle (Ok p) = tt
 deployed_so idle (Err refusal) = tells_so idle (told.Deployed (deployments.Refused refusal.0 refusal.1))
@@ -132,6 +146,7 @@ pub unbooked : (idle : Bool) (S : Sight) (event : Event) → Unbooks idle (decid
 unbooked idle S (events.Opened rows) = opened_so idle S.moment (parts_taken S.moment S.trace (judged rows))
 unbooked idle S (events.Asked r) = ask_so idle (request_done S (parts_of r))
 unbooked idle S (events.Called name params) = call_so idle S (call_plan S name params >>= admitted_plan S)
+unbooked idle S (events.Fired trigger params note) = fire_so idle S.others note (office_shot S trigger params note)
 unbooked idle S (events.Deployed drafts) = deployed_so idle (deployed S drafts)
 unbooked idle S events.Next = order_so idle S.moment (shown S.trace) (place_on (shown S.trace)) (head (shown S.trace))
 unbooked idle S (events.Begun run) = taken_so idle (begins run S.trace) (refusals.NoRun run) (Begun run S.moment)
@@ -161,6 +176,7 @@ opens_so : (event : Event) (B : History) (b : Bool) → is_opening event ≡ fal
 opens_so (events.Opened rows) B b later = cc
 opens_so (events.Asked r) B b later = refl
 opens_so (events.Called name params) B b later = refl
+opens_so (events.Fired trigger params note) B b later = refl
 opens_so (events.Deployed drafts) B b later = refl
 opens_so events.Next B b later = refl
 opens_so (events.Begun run) B b later = refl
@@ -177,6 +193,7 @@ least_later : (event : Event) (at : ℕ) → is_opening event ≡ false → leas
 least_later (events.Opened rows) at later = cc
 least_later (events.Asked r) at later = omega arith
 least_later (events.Called name params) at later = omega arith
+least_later (events.Fired trigger params note) at later = omega arith
 least_later (events.Deployed drafts) at later = omega arith
 least_later events.Next at later = omega arith
 least_later (events.Begun run) at later = omega arith
@@ -193,6 +210,7 @@ pub later_free : (event : Event) → wants_memory event ≡ false → is_opening
 later_free (events.Opened rows) free = cc
 later_free (events.Asked r) free = refl
 later_free (events.Called name params) free = refl
+later_free (events.Fired trigger params note) free = cc
 later_free (events.Deployed drafts) free = cc
 later_free events.Next free = refl
 later_free (events.Begun run) free = refl
@@ -204,9 +222,10 @@ later_free (events.Collected id) free = refl
 later_free events.Drain free = refl
 later_free events.Reopened free = refl
 
--- an event that takes no memory is no deployment
+-- an event that takes no memory is no deployment, and no fire of the office
 free_given : (event : Event) → wants_memory event ≡ false → IsGivenEvent event
 free_given (events.Deployed drafts) free = cc
+free_given (events.Fired trigger params note) free = cc
 free_given event free = tt
 
 legal_by : (p : Posting) (t : Table) (L : Ledger) (at : ℕ) (event : Event) (told_is : Told) → posting L.entries told_is ≡ p → IsLegal t L.entries
@@ -277,20 +296,20 @@ step_at t B old mid now event step answered late stands count does =
 abbrev pub CountsAfter : Table → History → ℕ → Event → StateView → Type 0
 CountsAfter t B at event new = StandsFor new.counts (notes_of ((decision t B at event).items ++ (seen t B).trace))
 
--- floor, rows, waits and counts agree with what is seen once the step's change is made, its commit is kept, and what is due is archived
+-- floor, rows, waits and counts agree with what is seen once the step's change is made, its commit is kept, and what is due is archived or a note is kept
 at_after : (t : Table) (B : History) (old new : StateView) (mid : Shown) (at : ℕ) (event : Event) (step : Step) → IsAt old (seen t B)
     → is_opening event ≡ false → HasDone t B at event mid step
-    → new.floor.now ≡ floor_kept step.archive mid → new.rows ≡ all_changed (changes_of step.change) old.rows → new.waits ≡ waits_after step.waits old.waits → CountsAfter t B at event new
-    → new.keeping ≡ kept_with step.commit old.keeping → new.others ≡ others_kept step.archive old.others → IsAt new (after (decision t B at event) (seen t B))
+    → new.floor.now ≡ floor_kept step.others mid → new.rows ≡ all_changed (changes_of step.change) old.rows → new.waits ≡ waits_after step.waits old.waits → CountsAfter t B at event new
+    → new.keeping ≡ kept_with step.commit old.keeping → new.others ≡ others_kept step.others old.others → IsAt new (after (decision t B at event) (seen t B))
 at_after t B old new mid at event step stands later done floor rows waits counts kept others =
     let s = seen t B in
     let S = sight t s (counted B) at in
     let d = decide S event in
     record {
       keeping = subst (λ (v : KeepingView). StandsForKept v (others_after d.others s.others) (all_changed d.changes s.rows) (d.items ++ s.trace)) (sym kept)
-          (step_keeps step.commit step.archive d old.keeping S stands.stands.sound stands.keeping (decided_right S event stands.stands.sound) done.0.commit done.0.archive);
-      stands = rw floor (archived_stands step.archive step.commit d S mid done.0.archive (decided_archives S event later) done.1);
-      others = others ∙ (ap (others_kept step.archive) stands.others ∙ archived_others step.archive step.commit d S done.0.archive);
+          (step_keeps step.commit step.others d old.keeping S stands.stands.sound stands.keeping (decided_right S event stands.stands.sound) done.0.commit done.0.others);
+      stands = rw floor (archived_stands step.others step.commit d S mid done.0.others (decided_archives S event later) done.1);
+      others = others ∙ (ap (others_kept step.others) stands.others ∙ archived_others step.others step.commit d S done.0.others);
       rows = rows ∙ (ap (λ (rs : _). all_changed (changes_of step.change) rs) stands.rows ∙ ap (λ (cs : List Change). all_changed cs s.rows) done.0.changes);
       waits = waits ∙ (ap (waits_after step.waits) stands.waits ∙ ap (λ (w : Waits). waits_after w s.waits) done.0.waits);
       counts = counts;
@@ -304,8 +323,8 @@ AreIdsAfter t L at event = AreIds ((decision t L.entries at event).items ++ (see
 pub answers : (t : Table) (L : Ledger) (old new : StateView) (mid : Shown) (at : ℕ) (event : Event) (step : Step) → Keeps old t L
     → last_moment L.entries ≤ at → at ≤ GREATEST_MOMENT → is_opening event ≡ false → IsGivenEvent event → new.floor.before ≡ None
     → HasDone t L.entries at event mid step
-    → new.floor.now ≡ floor_kept step.archive mid → new.rows ≡ all_changed (changes_of step.change) old.rows → new.waits ≡ waits_after step.waits old.waits → CountsAfter t L.entries at event new
-    → new.keeping ≡ kept_with step.commit old.keeping → new.others ≡ others_kept step.archive old.others
+    → new.floor.now ≡ floor_kept step.others mid → new.rows ≡ all_changed (changes_of step.change) old.rows → new.waits ≡ waits_after step.waits old.waits → CountsAfter t L.entries at event new
+    → new.keeping ≡ kept_with step.commit old.keeping → new.others ≡ others_kept step.others old.others
     → (step.told ≡ answer t L.entries at event) × Keeps new t (posted L at event step.told) × AreIdsAfter t L at event
 answers t L old new mid at event step keeps late most later given free done floor rows waits counts kept others =
     let stands = at_after t L.entries old new mid at event step keeps.stands later done floor rows waits counts kept others in

@@ -23,9 +23,9 @@ use Rattle.ow_decide.specs.declared.events.Event.{Event}
 use Rattle.ow_decide.specs.declared.events.Event.TheVariants as events
 use Rattle.ow_decide.specs.Decision.{Decision, OtherChange, Same, all_changed, commits, items_changes, others_after, with_others}
 use Rattle.ow_decide.specs.Decisions.{decide, wants_memory}
-use Rattle.ow_decide.specs.Making.{IsArchiving, IsCommit}
+use Rattle.ow_decide.specs.Making.{IsOthersStep, IsCommit}
 use Rattle.ow_decide.specs.Sight.{Sight}
-use Rattle.ow_decide.specs.declared.step.Archiving.{Archiving}
+use Rattle.ow_decide.specs.declared.step.OthersStep.{OthersStep}
 use Rattle.ow_decide.proofs.MadeLaws.{changes_of_moves}
 use Rattle.ow_tenant.specs.Table.{Table}
 use Rattle.ow_hall.specs.Comes.{Holds, KeptRows, Refuses, Stays, kept_after, old_kept_after}
@@ -42,24 +42,24 @@ unmoved_commits d changes unmoved same =
     ap (λ (o : OtherChange). with_others o (flat_map row_changes d.changes ++ items_changes d.items)) same
     ∙ (ap (λ (cs : List Change). flat_map row_changes cs ++ items_changes d.items) changes ∙ (changes_of_moves d.items ∙ ap (λ (ms : List Moved). flat_map changes_of ms) unmoved))
 
--- where there is no commit, nothing is archived
-unarchived : (archive : Option Archiving) (d : Decision) (S : Sight) → IsArchiving None archive d S → d.others ≡ Same
-unarchived None d S is = is
-unarchived (Some a) d S is = absurd is
+-- where there is no commit, the archive and the notes stay
+others_stay : (others : Option OthersStep) (d : Decision) (S : Sight) → IsOthersStep None others d S → d.others ≡ Same
+others_stay None d S is = is
+others_stay (Some o) d S is = absurd is
 
-pub step_commits : (commit : Option FollowingView) (archive : Option Archiving) (d : Decision) (S : Sight) → IsCommit commit d S → IsArchiving commit archive d S → changes_in commit ≡ commits d
-step_commits None archive d S is archives = sym (unmoved_commits d is.0 is.1.1 (unarchived archive d S archives))
-step_commits (Some c) archive d S is archives = is.changes
+pub step_commits : (commit : Option FollowingView) (others : Option OthersStep) (d : Decision) (S : Sight) → IsCommit commit d S → IsOthersStep commit others d S → changes_in commit ≡ commits d
+step_commits None others d S is so = sym (unmoved_commits d is.0 is.1.1 (others_stay others d S so))
+step_commits (Some c) others d S is so = is.changes
 
 -- once that is kept, its size agrees with what is kept then
-pub step_keeps : (commit : Option FollowingView) (archive : Option Archiving) (d : Decision) (v : KeepingView) (S : Sight) → IsSound S.trace → StandsForKept v S.others S.rows S.trace
-    → AreRight d.items (shown S.trace) → IsCommit commit d S → IsArchiving commit archive d S
+pub step_keeps : (commit : Option FollowingView) (others : Option OthersStep) (d : Decision) (v : KeepingView) (S : Sight) → IsSound S.trace → StandsForKept v S.others S.rows S.trace
+    → AreRight d.items (shown S.trace) → IsCommit commit d S → IsOthersStep commit others d S
     → StandsForKept (kept_with commit v) (others_after d.others S.others) (all_changed d.changes S.rows) (d.items ++ S.trace)
-step_keeps None archive d v S sound stands right is archives =
-    subst (λ (o : OtherChange). StandsForKept v (others_after o S.others) (all_changed d.changes S.rows) (d.items ++ S.trace)) (sym (unarchived archive d S archives))
+step_keeps None others d v S sound stands right is so =
+    subst (λ (o : OtherChange). StandsForKept v (others_after o S.others) (all_changed d.changes S.rows) (d.items ++ S.trace)) (sym (others_stay others d S so))
     (subst (λ (cs : List Change). StandsForKept v S.others (all_changed cs S.rows) (d.items ++ S.trace)) (sym is.0)
     (quiet_stands v S.others S.rows S.trace d.items stands sound right is.1.0 is.1.1))
-step_keeps (Some c) archive d v S sound stands right is archives = is.stands
+step_keeps (Some c) others d v S sound stands right is so = is.stands
 
 -- ---- what the store holds
 
@@ -142,6 +142,7 @@ free_none S (events.Gone slot generation) free = if_commits (goes slot generatio
 free_none S (events.Opened rows) free = cc
 free_none S (events.Asked r) free = cc
 free_none S (events.Called name params) free = cc
+free_none S (events.Fired trigger params note) free = cc
 free_none S (events.Deployed drafts) free = cc
 free_none S events.Next free = cc
 free_none S (events.Answered run reply) free = cc

@@ -10,3 +10,4 @@ mod RoomLaws
 pub mod UndoneLaws
 pub mod StopLaws
 mod PutLaws
+mod PlaceLaws

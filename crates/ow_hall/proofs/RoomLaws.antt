@@ -95,6 +95,7 @@ owed_less : (idle : Bool) (S : Sight) (event : Event) → IsSound S.trace → wa
 owed_less idle S (events.Opened rows) sound free booked = cc
 owed_less idle S (events.Asked r) sound free booked = cc
 owed_less idle S (events.Called name params) sound free booked = cc
+owed_less idle S (events.Fired trigger params note) sound free booked = cc
 owed_less idle S (events.Deployed drafts) sound free booked = cc
 owed_less idle S events.Next sound free booked = cc
 owed_less idle S (events.Begun run) sound free booked = begun_less idle (begins run S.trace) run S.moment S.trace sound refl booked
@@ -111,6 +112,7 @@ no_event_bytes : (event : Event) → wants_memory event ≡ false → event_byte
 no_event_bytes (events.Opened rows) free = refl
 no_event_bytes (events.Asked r) free = cc
 no_event_bytes (events.Called name params) free = refl
+no_event_bytes (events.Fired trigger params note) free = refl
 no_event_bytes (events.Deployed drafts) free = refl
 no_event_bytes events.Next free = refl
 no_event_bytes (events.Begun run) free = refl

@@ -24,6 +24,8 @@ use Rattle.ow_decide.specs.declared.replies.Called.{Called}
 use Rattle.ow_decide.specs.declared.replies.Called.TheVariants as called
 use Rattle.ow_decide.specs.declared.replies.Deployed.{Deployed}
 use Rattle.ow_decide.specs.declared.replies.Deployed.TheVariants as deployments
+use Rattle.ow_decide.specs.declared.replies.Fired.{Fired}
+use Rattle.ow_decide.specs.declared.replies.Fired.TheVariants as fires
 use Rattle.ow_decide.specs.declared.replies.HallCollected.{HallCollected}
 use Rattle.ow_decide.specs.declared.replies.Reply.{Reply}
 use Rattle.ow_decide.specs.declared.replies.Reply.TheVariants as replies
@@ -132,6 +134,13 @@ IsCalled (Ok c) (Answers t) = t ≡ told.Called c
 IsCalled (Ok c) Fails = c ≡ called.Refused store_failed
 IsCalled (Ok c) Wants = ⊥
 IsCalled (Err e) o = o ≡ Wants
+
+-- a fire of the office. Where the store fails it is refused
+abbrev pub IsFired : Result Fired Want → Outcome → Type 0
+IsFired (Ok f) (Answers t) = t ≡ told.Fired f
+IsFired (Ok f) Fails = f ≡ fires.Refused store_failed
+IsFired (Ok f) Wants = ⊥
+IsFired (Err e) o = o ≡ Wants
 
 -- a deployment of the office. Where the store fails it is refused as a whole
 abbrev pub IsDeployed : Result Deployed Want → Outcome → Type 0

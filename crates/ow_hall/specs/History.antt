@@ -4,7 +4,6 @@ use Rattle.ow_keep.specs.declared.allowed.TheConstants.{GREATEST_MOMENT}
 use Rattle.ow_traits.specs.declared.replies.RunReply.{RunReply}
 use Rattle.ow_traits.specs.declared.replies.RunReply.TheVariants as runs
 use Rattle.std.specs.List.{AllByRecursion}
-use Rattle.ow_entity.specs.Given.{AreGiven}
 use Rattle.ow_entity.specs.declared.rows.Row.{Row}
 use Rattle.ow_tables.specs.Builtin.{builtin}
 use Rattle.ow_floor.specs.Trace.{Opened, Trace}
@@ -31,6 +30,7 @@ use Rattle.ow_keep.specs.Moments.{greatest_kept_moment}
 use Rattle.ow_commits.specs.Kept.{OthersView, no_others}
 use Rattle.ow_decide.specs.Decision.{Decision, all_changed, others_after}
 use Rattle.ow_decide.specs.Decisions.{decide}
+use Rattle.ow_decide.specs.Given.{IsGivenEvent}
 use Rattle.ow_hall.specs.Posting.{is_idle_answer, posting_by}
 
 -- the entries, the newest first
@@ -163,16 +163,11 @@ abbrev pub is_opened : History → Bool
 is_opened [] = false
 is_opened (e ∷ B) = opens_here e.event B (is_opened B)
 
--- the drafts of a deployment are such as bodies give
-abbrev pub IsGivenEvent : Event → Type 0
-IsGivenEvent (events.Deployed drafts) = AreGiven drafts
-IsGivenEvent event = Unit {0}
-
--- so are those of each entry
+-- the drafts of each deployment are such as bodies give, and the note of each fire of the office may be kept
 abbrev pub AreGivenIn : History → Type 0
 AreGivenIn B = AllByRecursion (λ e. IsGivenEvent e.event) B
 
--- each is answered so, the service was opened first, and bodies gave all drafts
+-- each is answered so, the service was opened first, and what the office gave is such as is required
 pub record IsLegal (t : Table) (B : History) : Type 0 where
   pub answered : AreAnswered t B
   pub opened : is_opened B ≡ true

@@ -1,3 +1,4 @@
+pub mod Places
 pub mod Posting
 pub mod History
 pub mod Ledger

@@ -9,6 +9,8 @@ use Rattle.ow_decide.specs.declared.replies.Called.{Called}
 use Rattle.ow_decide.specs.declared.replies.Called.TheVariants as called
 use Rattle.ow_decide.specs.declared.replies.Deployed.{Deployed}
 use Rattle.ow_decide.specs.declared.replies.Deployed.TheVariants as deployments
+use Rattle.ow_decide.specs.declared.replies.Fired.{Fired}
+use Rattle.ow_decide.specs.declared.replies.Fired.TheVariants as fires
 use Rattle.ow_decide.specs.declared.replies.HallCollected.{HallCollected}
 use Rattle.ow_decide.specs.declared.replies.HallCollected.TheVariants as collected
 use Rattle.ow_decide.specs.Reasons.{tells_full}
@@ -22,6 +24,11 @@ is_idle_answer t = false
 abbrev pub call_posting : Called → Posting
 call_posting (called.Refused reason) = if tells_full reason then Unbooked else Booked
 call_posting (called.Happened happened) = Booked
+
+-- nor is a fire of the office
+abbrev pub fired_posting : Fired → Posting
+fired_posting (fires.Refused reason) = if tells_full reason then Unbooked else Booked
+fired_posting other = Booked
 
 -- nor is a deployment
 abbrev pub deployed_posting : Deployed → Posting
@@ -42,6 +49,7 @@ posting_by idle (told.NoRun run reply) = Denied
 posting_by idle (told.Refused refusal) = Denied
 posting_by idle (told.Full answer) = Unbooked
 posting_by idle (told.Called c) = call_posting c
+posting_by idle (told.Fired f) = fired_posting f
 posting_by idle (told.Deployed d) = deployed_posting d
 posting_by idle (told.Collected c) = collected_posting c
 posting_by idle t = Booked

@@ -3,7 +3,8 @@ use Rattle.std.specs.Prelude.{◌≡◌, ◌++◌, ℕ, List, Option, Some, None
 use Rattle.ow_entity.specs.declared.rows.Row.{Row}
 use Rattle.ow_floor.specs.Laws.{Stands}
 use Rattle.ow_floor.specs.View.{FloorView, Shown, archived_on}
-use Rattle.ow_decide.specs.declared.step.Archiving.{Archiving}
+use Rattle.ow_decide.specs.declared.step.OthersStep.{OthersStep}
+use Rattle.ow_decide.specs.declared.step.OthersStep.TheVariants as others_steps
 use Rattle.ow_floor.specs.declared.moves.Moved.{Moved}
 use Rattle.ow_decide.specs.declared.step.Now.{Now}
 use Rattle.ow_decide.specs.declared.step.Step.{Step}
@@ -13,6 +14,7 @@ use Rattle.ow_counts.specs.View.{CountsView, MayAllMove, StandsFor, noted_moves,
 use Rattle.ow_decide.specs.declared.waits.Wait.{Wait}
 use Rattle.ow_decide.specs.Sight.{Sight}
 use Rattle.ow_commits.specs.Kept.{OthersView}
+use Rattle.ow_commits.specs.Noting.{noting}
 use Rattle.ow_decide.specs.Decision.{Decision, held}
 use Rattle.ow_commits.specs.Keeping.{FollowingView, KeepingView, StandsForKept}
 use Rattle.ow_hall.specs.History.{IsLegal, Seen, seen}
@@ -21,7 +23,7 @@ use Rattle.ow_decide.specs.Making.{Carries, IsSeen}
 
 -- ---- floor, rows, waits and counts
 
--- floor, rows, waits, counts, sizes, and the archive and the notes; and for how many more rows and waits there is room
+-- floor, rows, waits, counts, sizes, and the archive and the notes; and for how many more rows, waits and notes there is room
 pub record StateView : Type 0 where
   pub floor : FloorView
   pub rows : List Row
@@ -31,6 +33,7 @@ pub record StateView : Type 0 where
   pub counts : CountsView
   pub keeping : KeepingView
   pub others : OthersView
+  pub note_room : ℕ
 
 -- they agree with what is seen
 pub record IsAt (v : StateView) (s : Seen) : Type 0 where
@@ -62,17 +65,19 @@ abbrev pub kept_with : Option FollowingView → KeepingView → KeepingView
 kept_with None v = v
 kept_with (Some c) v = record { bytes = c.bytes; opens = c.opens }
 
--- ---- what is archived
+-- ---- what becomes of the archive and of the notes
 
--- the archive once some of the records are archived, or as it was, for private clauses
-abbrev pub others_kept : Option Archiving → OthersView → OthersView
+-- the archive and the notes once some of the records are archived, once a note is kept, or as they were, for private clauses
+abbrev pub others_kept : Option OthersStep → OthersView → OthersView
 others_kept None o = o
-others_kept (Some a) o = record o { archive = a.archive }
+others_kept (Some (others_steps.Archives until archive)) o = record o { archive = archive }
+others_kept (Some (others_steps.KeepsNote note)) o = noting note o
 
 -- the floor once the records whose end is at most a moment are archived, or as it was, for private clauses
-abbrev pub floor_kept : Option Archiving → Shown → Shown
+abbrev pub floor_kept : Option OthersStep → Shown → Shown
 floor_kept None v = v
-floor_kept (Some a) v = archived_on a.until v
+floor_kept (Some (others_steps.Archives until archive)) v = archived_on until v
+floor_kept (Some (others_steps.KeepsNote note)) v = v
 
 -- ---- notes
 

@@ -6,8 +6,9 @@ ghost use Rattle.ow_hall.specs.Comes.{Answers, replied_in, reply_outcome, store_
 ghost use Rattle.ow_traits.specs.declared.replies.RunReply.{RunReply};
 ghost use Rattle.ow_decide.specs.declared.replies.Called.TheVariants as called;
 ghost use Rattle.ow_decide.specs.declared.replies.Deployed.TheVariants as deployed;
+ghost use Rattle.ow_decide.specs.declared.replies.Fired.TheVariants as fired;
 
-use ow_decide::{Called, Deployed, Event, HallCollected, Reply, Told};
+use ow_decide::{Called, Deployed, Event, Fired, HallCollected, Reply, Told};
 use ow_floor::{AnswerRefusal, Answered, Drain, Happened, Order, Swept};
 use ow_http::{Reason, ServiceRefusal};
 use ow_traits::RunReply;
@@ -40,6 +41,24 @@ pub(crate) fn store_called() -> Called
     ensures { result ≡ called.Refused store_failed }
 {
     Called::Refused(Reason::Service(ServiceRefusal::StoreFault))
+}
+
+/// What a fire of the office is answered.
+pub fn fired_in(told: Told) -> Fired
+    requires { (f : Fired) × (told ≡ Told.Fired f) }
+    ensures { told ≡ Told.Fired result }
+{
+    match told {
+        Told::Fired(fired) => fired,
+        _ => unreachable!(),
+    }
+}
+
+/// What a fire of the office is answered where the store fails.
+pub fn store_fired() -> Fired
+    ensures { result ≡ fired.Refused store_failed }
+{
+    Fired::Refused(Reason::Service(ServiceRefusal::StoreFault))
 }
 
 /// What a deployment is answered.

@@ -5,9 +5,11 @@ ghost use Rattle.ow_floor.specs.Laws.{Stands};
 ghost use Rattle.ow_floor.specs.Owed.{owed};
 ghost use Rattle.ow_floor.specs.Trace.{Trace};
 ghost use Rattle.ow_floor.specs.Calls.{HandsBack};
-ghost use Rattle.ow_hall.specs.Comes.{Answers, Comes, HoldsBook, IsCalled, IsDeployed, Outcome, Replies, collect_outcome, done_outcome, drain_outcome, next_outcome, reopened_outcome, reply_outcome, store_reply, swept_outcome};
+ghost use Rattle.ow_hall.specs.Comes.{Answers, Comes, HoldsBook, IsCalled, IsDeployed, IsFired, Outcome, Replies, collect_outcome, done_outcome, drain_outcome, next_outcome, reopened_outcome, reply_outcome, store_reply, swept_outcome};
 ghost use Rattle.ow_hall.specs.Commits.{CommitsTo, changes_in};
-ghost use Rattle.ow_hall.specs.History.{IsGivenEvent, IsLegal, posting};
+ghost use Rattle.ow_hall.specs.History.{IsLegal, posting};
+ghost use Rattle.ow_decide.specs.Given.{IsGivenEvent};
+ghost use Rattle.ow_keep.specs.Allowed.{is_note};
 ghost use Rattle.ow_hall.specs.Ledger.{IsReady};
 ghost use Rattle.ow_hall.specs.Performing.{outcome, outcome_twice, unanswered};
 ghost use Rattle.ow_decide.specs.Decisions.{is_opening, wants_memory};
@@ -15,20 +17,23 @@ ghost use Rattle.ow_decide.specs.declared.events.Event.TheVariants as events;
 
 use crate::book::Book;
 use crate::fronts::{
-    answered_in, called_in, collected_in, deployed_in, drain_in, order_in, reopened_in, reply_in,
-    reply_of, store_called, store_deployed, swept_in,
+    answered_in, called_in, collected_in, deployed_in, drain_in, fired_in, order_in, reopened_in,
+    reply_in, reply_of, store_called, store_deployed, store_fired, swept_in,
 };
 use crate::posting::Posting;
 use crate::refusals::SweepRefusal;
 use crate::state::HallState;
 use crate::store_answer::StoreAnswer;
 use ow_commits::Following;
-use ow_decide::{Called, Deployed, Event, HallCollected, Now, Reply, Step, Told, taken_told};
+use ow_decide::{
+    Called, Deployed, Event, Fired, HallCollected, Now, Reply, Step, Told, taken_told,
+};
 use ow_entity::Drafts;
 use ow_floor::{AnswerRefusal, Answered, Drain, FloorRefusal, Happened, Order, Swept};
 use ow_http::Request;
 use ow_names::FullName;
 use ow_records::Id;
+use ow_row_text::Note;
 use ow_tenant::Tenants;
 use ow_traits::{Changes, Keeper, KeeperError, RunReply};
 use ow_value::{NoMemory, Params, PlainData, Shared, copied2, kept_beside};
@@ -154,6 +159,40 @@ impl<P: Keeper + Drop> Hall<P> {
             Err(undone) => {
                 if undone.has_failed() {
                     Ok(store_called())
+                } else {
+                    Err(NoMemory)
+                }
+            }
+        }
+    }
+
+    /// The office's own fire of a trigger, in the name of the office. Unless it is refused the note is kept with it, in place of a note with
+    /// its key.
+    pub fn fire(
+        &mut self,
+        alloc: Global,
+        at: u64,
+        trigger: &FullName,
+        params: Params,
+        note: &Note,
+    ) -> Result<Fired, NoMemory>
+        requires noted { is_note note.now ≡ true }
+        ensures { (o : Outcome) × IsFired result o × Comes P.telling self.old self.new at (events.Fired trigger.now params note.now) o }
+    {
+        let Ok((trigger, note)) = copied2(alloc, trigger, note) else {
+            drop(params);
+            return Err(NoMemory);
+        };
+        let event = Event::Fired {
+            trigger,
+            params,
+            note,
+        };
+        match self.tell(alloc, at, event) {
+            Ok(told) => Ok(fired_in(told)),
+            Err(undone) => {
+                if undone.has_failed() {
+                    Ok(store_fired())
                 } else {
                     Err(NoMemory)
                 }
@@ -362,13 +401,13 @@ impl<P: Keeper + Drop> Hall<P> {
             waits,
             moves,
             commit,
-            archive,
+            others,
         } = step;
         self.state.apply(change, waits);
         self.state.note_moves(&moves);
         drop(moves);
         self.state.follow(commit);
-        self.state.archive(archive);
+        self.state.change_others(others);
         self.book.post(now.at, event, copied, bytes);
         Ok((told, kept))
     }

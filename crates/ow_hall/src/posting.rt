@@ -1,8 +1,8 @@
 // How an answer is posted.
 ghost use Rattle.std.specs.Prelude.{◌≡◌};
-ghost use Rattle.ow_hall.specs.Posting.{call_posting, collected_posting, deployed_posting, posting_by};
+ghost use Rattle.ow_hall.specs.Posting.{call_posting, collected_posting, deployed_posting, fired_posting, posting_by};
 
-use ow_decide::{Called, Deployed, HallCollected, Told, tells_full};
+use ow_decide::{Called, Deployed, Fired, HallCollected, Told, tells_full};
 use ow_floor::Order;
 
 /// What becomes of an answer in the book.
@@ -33,6 +33,7 @@ pub fn posting_of(idle: bool, told: &Told) -> Posting
         Told::NoRun { .. } | Told::Refused(_) => Posting::Denied,
         Told::Full(_) => Posting::Unbooked,
         Told::Called(called) => call_posting(called),
+        Told::Fired(fired) => fired_posting(fired),
         Told::Deployed(deployed) => deployed_posting(deployed),
         Told::Collected(collected) => collected_posting(collected),
         _ => Posting::Booked,
@@ -75,5 +76,20 @@ fn call_posting(called: &Called) -> Posting
             }
         }
         Called::Happened(_) => Posting::Booked,
+    }
+}
+
+fn fired_posting(fired: &Fired) -> Posting
+    ensures { result ≡ fired_posting fired.now }
+{
+    match fired {
+        Fired::Refused(reason) => {
+            if tells_full(reason) {
+                Posting::Unbooked
+            } else {
+                Posting::Booked
+            }
+        }
+        Fired::Made { .. } | Fired::Quiet => Posting::Booked,
     }
 }

@@ -2,23 +2,28 @@
 // on the floor, and made ready beside it, until it is settled.
 ghost use Rattle.std.specs.Prelude.{◌≡◌, ◌≤◌, [], true, false, Some, None, IfOk, IfSome, OnOk, OnErr};
 ghost use Rattle.std.specs.List.{AllByRecursion};
+ghost use Rattle.std.specs.Option.{option_copied};
 ghost use Rattle.ow_floor.specs.Laws.{Stands};
 ghost use Rattle.ow_floor.specs.Owed.{owed};
 ghost use Rattle.ow_floor.specs.Trace.{Trace};
 ghost use Rattle.ow_counts.specs.View.{HasRoomForMoves};
 ghost use Rattle.ow_keep.specs.Known.{IsItem};
 ghost use Rattle.ow_commits.specs.Kept.{kept_items, other_items};
+ghost use Rattle.ow_commits.specs.Noting.{note_of};
 ghost use Rattle.ow_decide.specs.Decisions.{decide, is_opening, taken_told, wants_memory};
 ghost use Rattle.ow_decide.specs.Decision.{all_changed};
 ghost use Rattle.ow_hall.specs.History.{waits_after};
+ghost use Rattle.ow_hall.specs.Places.{nth_of};
 ghost use Rattle.ow_decide.specs.Making.{HasRoom, changes_of, telling};
 ghost use Rattle.ow_hall.specs.State.{KeepsNotes, Makes, NotesMoves, floor_kept, kept_with, others_kept};
 ghost use Rattle.ow_tenant.specs.Table.{Table};
 
 use crate::known::{known_archive, known_notes};
-use ow_commits::{Following, Keeping};
+use crate::places::nth_row;
+use ow_commits::{Following, Keeping, find_note, put_note};
 use ow_counts::Counts;
-use ow_decide::{Archiving, Event, Now, RowChange, Step, Wait, Waits, step_for, take};
+use ow_decide::{Event, Now, OthersStep, RowChange, Step, Wait, Waits, step_for, take};
+use ow_entity::{EntityKind, Row};
 use ow_floor::{Floor, FloorRefusal, Moves};
 use ow_keep::known_entities;
 use ow_row_text::{Archive, Note};
@@ -60,6 +65,7 @@ impl Model for HallState {
       counts = w.counts;
       keeping = w.keeping;
       others = record { archive = w.archive; notes = w.notes.items };
+      note_room = vec_capacity w.notes - vec_len w.notes;
     } };
 }
 
@@ -110,6 +116,21 @@ impl HallState {
         known_notes(&self.notes);
     }
 
+    /// The number of the note with the key, if there is one.
+    pub(crate) fn note(&self, key: &str) -> Option<u64>
+        ensures { result ≡ note_of key.now self.now.others.notes }
+    {
+        find_note(&self.notes, key)
+    }
+
+    /// The row of the kind at a place, counted from 0, by full text.
+    pub(crate) fn nth(&self, kind: EntityKind, k: u64) -> Option<&Row>
+        ensures { option_copied result ≡ nth_of kind k self.now.rows }
+    {
+        self.tables.are_ordered();
+        nth_row(self.tables.rows(), kind, k)
+    }
+
     /// Takes a beginning, a loss or a going. This takes no memory.
     pub(crate) fn take(&mut self, now: Now, event: &Event) -> Result<(), FloorRefusal>
         requires event { wants_memory event.now ≡ false }
@@ -125,7 +146,7 @@ impl HallState {
     }
 
     /// Does what is decided at an event, and holds it, with all that is to be committed of it. There is room then for the notes of all
-    /// that moved. Without memory all is as before.
+    /// that moved, for one who waits and for one note of the office. Without memory all is as before.
     pub(crate) fn attempt(
         &mut self,
         alloc: Global,
@@ -138,7 +159,7 @@ impl HallState {
         ensures ok { IfOk result (Makes self.old self.new.floor.now tenants.now now (λ S. decide S event.now)) }
         ensures held { OnOk result (self.new.floor.before ≡ Some self.old.floor.now) }
         ensures place { IfOk result (λ s. HasRoom s.change self.new.row_room) }
-        ensures room { OnOk result (1 ≤ self.new.wait_room) }
+        ensures room { OnOk result ((1 ≤ self.new.wait_room) × (1 ≤ self.new.note_room)) }
         ensures counter { IfOk result (λ s. HasRoomForMoves s.moves self.new.counts) }
         ensures rest { (self.new.rows ≡ self.old.rows) × (self.new.waits ≡ self.old.waits) }
         ensures counts { KeepsNotes self.old.counts self.new.counts }
@@ -165,7 +186,7 @@ impl HallState {
         ensures free { self.new.floor.before ≡ None }
         ensures rest { (self.new.rows ≡ self.old.rows) × (self.new.waits ≡ self.old.waits) }
         ensures counts { self.new.counts ≡ self.old.counts }
-        ensures room { (self.new.row_room ≡ self.old.row_room) × (self.new.wait_room ≡ self.old.wait_room) }
+        ensures room { (self.new.row_room ≡ self.old.row_room) × (self.new.wait_room ≡ self.old.wait_room) × (self.new.note_room ≡ self.old.note_room) }
         ensures keeping { self.new.keeping ≡ self.old.keeping }
         ensures others { self.new.others ≡ self.old.others }
     {
@@ -182,6 +203,7 @@ impl HallState {
         ensures counts { self.new.counts ≡ self.old.counts }
         ensures keeping { self.new.keeping ≡ self.old.keeping }
         ensures others { self.new.others ≡ self.old.others }
+        ensures room { self.new.note_room ≡ self.old.note_room }
     {
         change_rows(&mut self.tables, change);
         match waits {
@@ -199,6 +221,7 @@ impl HallState {
         ensures rest { (self.new.rows ≡ self.old.rows) × (self.new.waits ≡ self.old.waits) }
         ensures keeping { self.new.keeping ≡ self.old.keeping }
         ensures others { self.new.others ≡ self.old.others }
+        ensures room { self.new.note_room ≡ self.old.note_room }
     {
         self.counts.note_moves(moves.items());
     }
@@ -207,6 +230,7 @@ impl HallState {
     pub(crate) fn follow(&mut self, commit: Option<Following>)
         ensures keeping { self.new.keeping ≡ kept_with commit self.old.keeping }
         ensures others { self.new.others ≡ self.old.others }
+        ensures room { self.new.note_room ≡ self.old.note_room }
         ensures floor { self.new.floor ≡ self.old.floor }
         ensures rest { (self.new.rows ≡ self.old.rows) × (self.new.waits ≡ self.old.waits) }
         ensures counts { self.new.counts ≡ self.old.counts }
@@ -218,40 +242,47 @@ impl HallState {
 }
 
 impl HallState {
-    /// The records that are due are archived, where some are. This takes no memory.
-    pub(crate) fn archive(&mut self, archive: Option<Archiving>)
-        requires { self.old.floor.before ≡ None }
-        ensures floor { self.new.floor.now ≡ floor_kept archive self.old.floor.now }
+    /// The records that are due are archived, or a note is kept, where a step has that. This takes no memory.
+    pub(crate) fn change_others(&mut self, others: Option<OthersStep>)
+        requires free { self.old.floor.before ≡ None }
+        requires room { 1 ≤ self.old.note_room }
+        ensures floor { self.new.floor.now ≡ floor_kept others self.old.floor.now }
         ensures free { self.new.floor.before ≡ None }
-        ensures others { self.new.others ≡ others_kept archive self.old.others }
+        ensures others { self.new.others ≡ others_kept others self.old.others }
         ensures rest { (self.new.rows ≡ self.old.rows) × (self.new.waits ≡ self.old.waits) }
         ensures counts { self.new.counts ≡ self.old.counts }
         ensures keeping { self.new.keeping ≡ self.old.keeping }
     {
-        if let Some(Archiving { until, archive }) = archive {
-            self.floor.archive(until);
-            self.archive = archive;
+        match others {
+            None => {}
+            Some(OthersStep::Archives { until, archive }) => {
+                self.floor.archive(until);
+                self.archive = archive;
+            }
+            Some(OthersStep::KeepsNote(note)) => put_note(&mut self.notes, note),
         }
     }
 }
 
 impl HallState {
-    // Makes room for one who waits.
+    // Makes room for one who waits, and for one note.
     fn reserve(&mut self) -> Result<(), NoMemory>
         ensures same { (self.new.floor ≡ self.old.floor) × (self.new.rows ≡ self.old.rows) × (self.new.waits ≡ self.old.waits) }
         ensures counts { self.new.counts ≡ self.old.counts }
         ensures keeping { self.new.keeping ≡ self.old.keeping }
         ensures others { self.new.others ≡ self.old.others }
-        ensures room { OnOk result (1 ≤ self.new.wait_room) }
+        ensures room { OnOk result ((1 ≤ self.new.wait_room) × (1 ≤ self.new.note_room)) }
     {
         self.waits.reserve(1)?;
+        self.notes.reserve(1)?;
         Ok(())
     }
 
     fn hold(&mut self)
         ensures now { self.new.floor.now ≡ self.old.floor.now }
         ensures held { self.new.floor.before ≡ Some self.old.floor.now }
-        ensures rest { (self.new.rows ≡ self.old.rows) × (self.new.waits ≡ self.old.waits) × (self.new.wait_room ≡ self.old.wait_room) }
+        ensures rest { (self.new.rows ≡ self.old.rows) × (self.new.waits ≡ self.old.waits) }
+        ensures room { (self.new.wait_room ≡ self.old.wait_room) × (self.new.note_room ≡ self.old.note_room) }
         ensures counts { self.new.counts ≡ self.old.counts }
         ensures keeping { self.new.keeping ≡ self.old.keeping }
         ensures others { self.new.others ≡ self.old.others }
@@ -273,7 +304,8 @@ impl HallState {
         ensures ok { IfOk result (Makes self.old self.new.floor.now tenants.now now (λ S. decide S event.now)) }
         ensures place { IfOk result (λ s. HasRoom s.change self.new.row_room) }
         ensures before { self.new.floor.before ≡ self.old.floor.before }
-        ensures rest { (self.new.rows ≡ self.old.rows) × (self.new.waits ≡ self.old.waits) × (self.new.wait_room ≡ self.old.wait_room) }
+        ensures rest { (self.new.rows ≡ self.old.rows) × (self.new.waits ≡ self.old.waits) }
+        ensures room { (self.new.wait_room ≡ self.old.wait_room) × (self.new.note_room ≡ self.old.note_room) }
         ensures counter { IfOk result (λ s. HasRoomForMoves s.moves self.new.counts) }
         ensures counts { KeepsNotes self.old.counts self.new.counts }
         ensures keeping { self.new.keeping ≡ self.old.keeping }
@@ -300,7 +332,8 @@ impl HallState {
         ensures ok { IfOk result (Makes self.old self.new.floor.now tenants.now now (λ S. decide S event.now)) }
         ensures place { IfOk result (λ s. HasRoom s.change self.new.row_room) }
         ensures before { self.new.floor.before ≡ self.old.floor.before }
-        ensures rest { (self.new.rows ≡ self.old.rows) × (self.new.waits ≡ self.old.waits) × (self.new.wait_room ≡ self.old.wait_room) }
+        ensures rest { (self.new.rows ≡ self.old.rows) × (self.new.waits ≡ self.old.waits) }
+        ensures room { (self.new.wait_room ≡ self.old.wait_room) × (self.new.note_room ≡ self.old.note_room) }
         ensures counts { self.new.counts ≡ self.old.counts }
         ensures keeping { self.new.keeping ≡ self.old.keeping }
         ensures others { self.new.others ≡ self.old.others }
@@ -314,6 +347,7 @@ impl HallState {
             &mut self.tables,
             &self.waits,
             self.archive,
+            &self.notes,
             now,
             event,
         )

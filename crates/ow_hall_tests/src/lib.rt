@@ -14,6 +14,8 @@ mod of_keys;
 #[cfg(test)]
 mod of_limits;
 #[cfg(test)]
+mod of_notes;
+#[cfg(test)]
 mod of_packages;
 #[cfg(test)]
 mod of_retention;

@@ -246,7 +246,7 @@ fn name_in(alloc: Global, path: &str, guest: &EntityName) -> Result<FullName, Fa
 }
 
 // The full name of the action that is called.
-fn called_name(alloc: Global, path: &str) -> Result<FullName, Fail> {
+pub(crate) fn called_name(alloc: Global, path: &str) -> Result<FullName, Fail> {
     let guest = read_name(alloc, b"guest")?;
     name_in(alloc, path, &guest)
 }

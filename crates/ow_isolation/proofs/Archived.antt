@@ -1,5 +1,5 @@
 -- What is shown after a decision, which may archive records; and no archived record is in a view.
-use Rattle.std.proofs.Common.{◌≡◌, ◌++◌, ◌∙◌, ℕ, Bool, true, false, List, [], ◌∷◌, Option, Some, filter, fold, not, if◌then◌else◌, append_assoc, refl, sym, ap, subst}
+use Rattle.std.proofs.Common.{◌≡◌, ◌++◌, ◌∙◌, ℕ, Bool, true, false, List, [], ◌∷◌, filter, fold, not, if◌then◌else◌, append_assoc, refl, sym, ap, subst}
 use Rattle.std.proofs.lemmas.List.{append-nil}
 use Rattle.std.specs.List.{AllByRecursion}
 use Rattle.std.specs.Ordering.{is_lt}
@@ -14,7 +14,7 @@ use Rattle.ow_commits.specs.Keeping.{AreOwn, IsOwn}
 use Rattle.ow_tenant.specs.Table.{Table}
 use Rattle.ow_tenant.specs.Tenants.{holder_of}
 use Rattle.ow_reads.specs.View.{View, is_visible_record, view_over}
-use Rattle.ow_decide.specs.Decision.{Archives, Decision, OtherChange, Same, TakesOver, held}
+use Rattle.ow_decide.specs.Decision.{Archives, Decision, KeepsNote, OtherChange, Same, TakesOver, held}
 use Rattle.ow_decide.specs.Decisions.{decide, is_opening}
 use Rattle.ow_decide.specs.Sight.{Sight}
 use Rattle.ow_decide.specs.declared.events.Event.{Event}
@@ -118,6 +118,12 @@ grows_by S d (Archives until before due) is well own =
       shown = ap (λ (items : Trace). shown_records (items ++ S.trace)) well.items ∙ (ap (λ (rs : List Record). filter (is_retained until) rs) more ∙ ap (λ (change : OtherChange). left_by change all) (sym is));
       due = subst (λ (change : OtherChange). AreDue change all) (sym is) (well.of_due ∙ ap (due_by until) more);
     }
+grows_by S d (KeepsNote note) is well own =
+    let all = shown_records S.trace ++ records d.items in
+    record {
+      shown = shown_more d.items S.trace (subst AreOwn well own) ∙ ap (λ (change : OtherChange). left_by change all) (sym is);
+      due = subst (λ (change : OtherChange). AreDue change all) (sym is) tt;
+    }
 grows_by S d (TakesOver taken) is well own = absurd well
 
 pub decided_grows : (S : Sight) (event : Event) → is_opening event ≡ false → Grows S (decide S event)
@@ -152,6 +158,7 @@ pub left_seen : (p : Record → Bool) (rs : List Record) (change : OtherChange) 
 left_seen p rs (Archives until before due) is hidden =
     retained_seen p until rs (all_unsorted id_key (λ r. p r ≡ false) (filter (is_due until) rs) (subst (λ (xs : List Record). AllByRecursion (λ r. p r ≡ false) xs) is hidden))
 left_seen p rs Same is hidden = refl
+left_seen p rs (KeepsNote note) is hidden = refl
 left_seen p rs (TakesOver taken) is hidden = refl
 
 -- ---- archived records

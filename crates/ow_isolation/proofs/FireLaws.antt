@@ -173,7 +173,7 @@ shot_in S f rs sound causes next = (
   (after_all S f (λ (items : Trace). IsInside f.namespace items S.trace) (rule_in S f) rs (draw_items S.moment f.id) (draw_in S f sound causes next)).inside,
 )
 
-shot_hidden : (h : Holder) (S : Sight) (f : Fire) (rs : List Rule) → IsSound S.trace → AreOfCauses S.trace → IsNext f.id S.trace → IsClosed h f.namespace → AreHidden h (records (shot_items S f rs))
+pub shot_hidden : (h : Holder) (S : Sight) (f : Fire) (rs : List Rule) → IsSound S.trace → AreOfCauses S.trace → IsNext f.id S.trace → IsClosed h f.namespace → AreHidden h (records (shot_items S f rs))
 shot_hidden h S f rs sound causes next closed = hidden_records h f.namespace (shot_items S f rs) closed (shot_in S f rs sound causes next)
 
 -- ---- what a fire does
@@ -202,16 +202,16 @@ pub record IsFireOf (S : Sight) (name : FullName) (f : Fire) : Type 0 where
   pub home : f.namespace ≡ name.namespace
   pub next : IsNext f.id S.trace
 
-module _ (h firing : Holder) (S : Sight) (sound : IsSound S.trace) (causes : AreOfCauses S.trace) where
-  fire_there : (name : FullName) (number : ℕ) (t : Trigger) (given : Pairs) → IfOk (fire_plan S firing.subject name number t given) (IsFireOf S name)
-  fire_there name number t given =
-      then_ok (IsFireOf S name) (or_else (fitting t.params given) too_large) _ (λ params.
-      then_ok (IsFireOf S name) (takes_calls S) _ (λ taken. record { home = refl; next = refl }))
+pub fire_there : (S : Sight) (subject : List ℕ) (name : FullName) (number : ℕ) (t : Trigger) (given : Pairs) → IfOk (fire_plan S subject name number t given) (IsFireOf S name)
+fire_there S subject name number t given =
+    then_ok (IsFireOf S name) (or_else (fitting t.params given) too_large) _ (λ params.
+    then_ok (IsFireOf S name) (takes_calls S) _ (λ taken. record { home = refl; next = refl }))
 
+module _ (h firing : Holder) (S : Sight) (sound : IsSound S.trace) (causes : AreOfCauses S.trace) where
   rules_unseen : (name : FullName) (number : ℕ) (t : Trigger) (given : Pairs) (rs : List Rule) → IsClosed h name.namespace → IfOk (rules_done S firing.subject name number t given rs) (IsUnseenDone h)
   rules_unseen name number t given [] closed = tt
   rules_unseen name number t given (r ∷ rs) closed =
-      then_from (IsFireOf S name) (IsUnseenDone h) (fire_plan S firing.subject name number t given) _ (fire_there name number t given) (λ f there.
+      then_from (IsFireOf S name) (IsUnseenDone h) (fire_plan S firing.subject name number t given) _ (fire_there S firing.subject name number t given) (λ f there.
       then_ok (IsUnseenDone h) (store_room S (items_changes (shot_items S f (r ∷ rs)))) _ (λ room.
       then_ok (IsUnseenDone h) (within_fires S f.namespace) _ (λ within. shot_hidden h S f (r ∷ rs) sound causes there.next (ap (may_read h.rights) there.home ∙ closed))))
 

@@ -7,6 +7,7 @@ pub mod UnseenLaws
 pub mod CauseLaws
 pub mod StepLaws
 pub mod FireLaws
+pub mod OfficeFires
 pub mod InvokeLaws
 pub mod ReplyLaws
 pub mod Beginnings

@@ -8,6 +8,7 @@ use Rattle.ow_floor.specs.Trace.{Trace, live_run, open_task, records}
 use Rattle.ow_floor.specs.declared.runs.Run.{Run}
 use Rattle.ow_http.specs.declared.request.Request.{Request}
 use Rattle.ow_names.specs.Path.{home}
+use Rattle.ow_names.specs.declared.full.FullName.{FullName}
 use Rattle.ow_records.specs.declared.activations.Activation.{Activation}
 use Rattle.ow_records.specs.declared.record.Record.{Record}
 use Rattle.ow_reads.specs.Acts.{act_of}
@@ -19,7 +20,11 @@ use Rattle.ow_tables.specs.Rows.{changed, is_row}
 use Rattle.ow_decide.specs.Decision.{Archives, Decision, OtherChange}
 use Rattle.ow_decide.specs.Decisions.{is_opening}
 use Rattle.ow_decide.specs.declared.events.Event.TheVariants as events
-use Rattle.ow_hall.specs.History.{History, decision, seen}
+use Rattle.ow_decide.specs.declared.events.Told.TheVariants as told
+use Rattle.ow_decide.specs.declared.replies.Fired.TheVariants as fires
+use Rattle.ow_row_text.specs.declared.item.Note.{Note}
+use Rattle.ow_value.specs.Value.{Pairs}
+use Rattle.ow_hall.specs.History.{History, answer, decision, seen}
 use Rattle.ow_hall.specs.declared.entry.Entry.{Entry}
 use Rattle.ow_traits.specs.declared.replies.RunReply.{RunReply}
 use Rattle.ow_tenant.specs.Table.{Table}
@@ -74,6 +79,16 @@ abbrev pub FiresLeave : Table → History → Type 0
 FiresLeave t B = (e : Entry) (r : Request) (key : Option (List ℕ)) (firing h : Holder) → e.event ≡ events.Asked r → act_of r.route r.method ≡ Some Fires
     → holder_of r.key t ≡ Some firing → holder_of key t ≡ Some h → may_read h.rights (home firing.home (namespace_of r.route)) ≡ false
     → view_after t (e ∷ B) key ≡ view_after t B key
+
+-- so does a fire of the office, of a trigger in such a namespace
+abbrev pub OfficeFiresLeave : Table → History → Type 0
+OfficeFiresLeave t B = (e : Entry) (trigger : FullName) (params : Pairs) (note : Note) (key : Option (List ℕ)) (h : Holder) → e.event ≡ events.Fired trigger params note
+    → holder_of key t ≡ Some h → may_read h.rights trigger.namespace ≡ false → view_after t (e ∷ B) key ≡ view_after t B key
+
+-- nobody sees a note: a fire of the office leaves what each holder may see where no rule is active
+abbrev pub QuietFiresLeave : Table → History → Type 0
+QuietFiresLeave t B = (e : Entry) (trigger : FullName) (params : Pairs) (note : Note) (key : Option (List ℕ)) (h : Holder) → e.event ≡ events.Fired trigger params note
+    → holder_of key t ≡ Some h → answer t B e.at e.event ≡ told.Fired fires.Quiet → view_after t (e ∷ B) key ≡ view_after t B key
 
 -- an invocation leaves what a holder may see that may read neither in the namespace of the path nor in the own one of the key that invokes.
 -- One of these two namespaces is charged, with all that a composition calls at once

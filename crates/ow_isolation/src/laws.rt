@@ -4,7 +4,7 @@ ghost use Rattle.ow_isolation.specs.Beginnings.{ReadsAreIsolated};
 ghost use Rattle.ow_isolation.specs.Causes.{AreOfCauses, RecordsAreSeenAsCauses};
 ghost use Rattle.ow_isolation.specs.Lists.{HallsAnswerAlike, LogsAnswerAlike};
 ghost use Rattle.ow_isolation.specs.Reads.{AnswersOfView, LeavesAll, LeavesHalls, LeavesViews, RepliesOfView};
-ghost use Rattle.ow_isolation.specs.Unseen.{FiresLeave, InvocationsLeave, RepliesLeave, UnseenLeaves};
+ghost use Rattle.ow_isolation.specs.Unseen.{FiresLeave, InvocationsLeave, OfficeFiresLeave, QuietFiresLeave, RepliesLeave, UnseenLeaves};
 ghost use Rattle.ow_hall.specs.History.{History, IsLegal, seen};
 ghost use Rattle.ow_tenant.specs.Table.{Table};
 
@@ -73,6 +73,13 @@ pub fn unseen_events_leave_views()
 /// A fire leaves the view of each key that may not read in the namespace of the trigger, whether it is refused or not.
 pub fn unseen_fires_leave_views()
     ensures { (t : Table) (B : History) → FiresLeave t B }
+{}
+
+/// A fire of the office does so too, whether it is refused or not. Where no rule of the trigger is active it leaves the view of each key,
+/// so nobody sees its note.
+pub fn unseen_office_fires_leave_views()
+    ensures hidden { (t : Table) (B : History) → OfficeFiresLeave t B }
+    ensures quiet { (t : Table) (B : History) → QuietFiresLeave t B }
 {}
 
 /// An invocation leaves the view of each key that may not read in the namespace that is charged, also where a composition ends at once.

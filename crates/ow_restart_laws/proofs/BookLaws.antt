@@ -53,7 +53,7 @@ all_last t (e ∷ B) homes answered given =
     record {
       rows = all_rows_last S e.event given.0 homes before.rows;
       trace = traces_last S e.event answered.3 before.rows before.trace;
-      others = others_last S e.event answered.3 (seen_sound t B) before.rows before.trace before.others;
+      others = others_last S e.event given.0 answered.3 (seen_sound t B) before.rows before.trace before.others;
     }
 
 pub books_last : BooksLast

@@ -79,11 +79,14 @@ use Rattle.ow_tenant.specs.declared.entries.Holder.{Holder}
 use Rattle.ow_tenant.proofs.HomeLaws.{some_if}
 use Rattle.ow_decide.specs.Asking.{ask_decision, put_of, request_done}
 use Rattle.ow_decide.specs.Calling.{admitted_plan, call_plan, called_decision}
+use Rattle.ow_commits.specs.Kept.{OthersView}
+use Rattle.ow_row_text.specs.declared.item.Note.{Note}
 use Rattle.ow_decide.specs.Decision.{all_changed}
 use Rattle.ow_decide.specs.Deploying.{Progress, begun, deploy_decision, deployed, drafted_row, put_over, with_put}
 use Rattle.ow_decide.specs.Decisions.{archived_until, decide, sweep_by, sweep_with, swept_all, swept_told}
 use Rattle.ow_decide.specs.Opening.{are_resumable, is_fresh, opened_decision, parts_taken, taken_if}
-use Rattle.ow_hall.specs.History.{IsGivenEvent}
+use Rattle.ow_decide.specs.Given.{IsGivenEvent}
+use Rattle.ow_decide.specs.OfficeFiring.{Shot, office_decision, office_shot}
 use Rattle.ow_decide.specs.Sight.{Sight}
 use Rattle.ow_reads.specs.Steps.{or_else}
 use Rattle.ow_reads.specs.Tenants.{asker}
@@ -431,6 +434,11 @@ module _ (core : RowsOfBodies) (S : Sight) (all : AreWritable S.rows) where
   swept_rows t swept None = all
   swept_rows t swept (Some until) = due_rows t swept until (due_in until (swept ++ S.trace))
 
+  -- a fire of the office changes none
+  fired_rows : (o : OthersView) (n : Note) (r : Result Shot Reason) → AreWritable (all_changed (office_decision o n r).changes S.rows)
+  fired_rows o n (Ok shot) = all
+  fired_rows o n (Err reason) = all
+
   deployed_rows : (ds : List Draft) → AreGiven ds → AreWritable (all_changed (deploy_decision (deployed S ds)).changes S.rows)
   deployed_rows ds given =
       deploy_rows AreWritable S ds all (drafts_keep IsGiven (λ (p : Progress). AreWritable p.rows) S.tenants (put_over_good core S.tenants) 1 ds (begun S.rows) given all)
@@ -441,6 +449,7 @@ module _ (core : RowsOfBodies) (S : Sight) (all : AreWritable S.rows) where
   by_event (events.Deployed drafts) given homes = deployed_rows drafts given
   by_event (events.Called name params) given homes = called_rows (call_plan S name params >>= admitted_plan S)
   by_event events.Sweep given homes = swept_rows (told.Swept (swept_told (swept_all S))) (swept_all S) (archived_until S.tenants.retain S.moment)
+  by_event (events.Fired trigger params note) given homes = fired_rows S.others note (office_shot S trigger params note)
   by_event event given homes = all
 
 -- where the rows that bodies make last

@@ -4,6 +4,7 @@ use Rattle.std.specs.List.{AllByRecursion}
 use Rattle.std.proofs.Math.Nat.{max-le}
 use Rattle.std.proofs.lemmas.Bool.{and_from, and_parts, le-leb, leb-true}
 use Rattle.ow_value.specs.Decimal.{digits_of}
+use Rattle.ow_value.specs.Value.{Pairs}
 use Rattle.ow_records.specs.declared.ids.Id.{Id}
 use Rattle.ow_records.specs.declared.record.Record.{Record}
 use Rattle.ow_records.specs.declared.unrecorded.Unrecorded.{Unrecorded}
@@ -38,7 +39,7 @@ use Rattle.ow_decide.specs.declared.events.Event.TheVariants as events
 use Rattle.ow_decide.specs.Sight.{Sight}
 use Rattle.ow_decide.specs.Opening.{are_resumable, is_fresh, opened_decision, parts_taken, taken_if}
 use Rattle.ow_decide.specs.Decisions.{decide}
-use Rattle.ow_decide.specs.Chain.{AreSteps, IsAccepted, IsEnd, IsEndBy, IsFired, IsOneOf, IsStep}
+use Rattle.ow_decide.specs.Chain.{AreSteps, IsAccepted, IsEnd, IsEndBy, IsFired, IsGivenFor, IsOneOf, IsStep}
 use Rattle.ow_decide.proofs.ChainLaws.{all_one_of, decided_steps}
 use Rattle.ow_entity.specs.declared.actions.Action.{Action}
 use Rattle.ow_http.specs.declared.call.Call.{Call}
@@ -49,7 +50,7 @@ use Rattle.ow_restart_laws.specs.Lasting.{AreEarly, AreWritable, IsDue, IsEarly,
 use Rattle.ow_restart_laws.specs.Laws.{TracesLast}
 use Rattle.ow_restart_laws.proofs.Callees.{callee_good}
 use Rattle.ow_restart_laws.proofs.Children.{above, child_timely, composed_early, form_fits}
-use Rattle.ow_restart_laws.proofs.Fires.{IsShallowCall, call_shallow, fire_lasts, trigger_good}
+use Rattle.ow_restart_laws.proofs.Fires.{IsShallowCall, IsShallowGiven, call_shallow, fire_lasts, trigger_good}
 
 -- ---- ids that were drawn
 
@@ -96,13 +97,18 @@ timely S a T small all now ok = record {
   formed = form_fits a ok.callee.called.action ok.callee.action ok.callee.form;
 }
 
+-- what is given for a fire, by a call or by the office, nests no deeper than a result may
+given_shallow : (given : Pairs) → IsGivenFor given → IsShallowGiven given
+given_shallow given (inl of) =
+    subst IsShallowGiven (sym of.1.1.1.1) (subst (λ (x : Result Call CallRefusal). IfOk x IsShallowCall) of.1.1.1.0 (call_shallow of.0 of.1.0))
+given_shallow given (inr shallow) = shallow
+
 fired : (S : Sight) (r : Record) (T : Trace) → S.moment ≤ GREATEST_MOMENT → AreWritable S.rows → IsFired S r T → IsLasting (items.Done r)
 fired S r T small all ok =
     let shot = ok.shot in
-    let given = subst (λ (x : Result Call CallRefusal). IfOk x IsShallowCall) shot.called (call_shallow shot.home shot.parts) in
     let now : ok.fire.at ≡ S.moment = shot.at in
     subst (λ (x : Record). IsLasting (items.Done x)) (sym ok.made)
-    (fire_lasts shot.trigger shot.call.params ok.fire ok.lines (trigger_good shot.name shot.trigger S.rows all shot.row) given shot.version shot.params (omega (arith, small, now))
+    (fire_lasts shot.trigger shot.given ok.fire ok.lines (trigger_good shot.name shot.trigger S.rows all shot.row) (given_shallow shot.given shot.source) shot.version shot.params (omega (arith, small, now))
     (subst (λ (x : Record). 1 ≤ x.id.count) ok.made ok.counted))
 
 run_due : (S : Sight) (r : Option Run) → IfSome r (λ x. IsOneOf x (live S.trace)) → AllByRecursion IsDue (live S.trace) → IfSome r IsDue

@@ -9,7 +9,8 @@ use Rattle.ow_decide.specs.Sight.{Sight}
 use Rattle.ow_floor.specs.Laws.{IsSound}
 use Rattle.ow_floor.specs.Trace.{Trace}
 use Rattle.ow_hall.specs.Comes.{kept_of}
-use Rattle.ow_hall.specs.History.{History, IsGivenEvent, IsLegal, seen}
+use Rattle.ow_hall.specs.History.{History, IsLegal, seen}
+use Rattle.ow_decide.specs.Given.{IsGivenEvent}
 use Rattle.ow_keep.specs.Judged.{judged}
 use Rattle.ow_keep.specs.Known.{IsItem}
 use Rattle.ow_keep.specs.declared.allowed.TheConstants.{GREATEST_COUNT, GREATEST_MOMENT}
@@ -30,7 +31,7 @@ TracesLast = (S : Sight) (event : Event) → S.moment ≤ GREATEST_MOMENT → Ar
 
 -- and so do the archive and the notes, over a sound trace
 abbrev pub OthersLast : Type 0
-OthersLast = (S : Sight) (event : Event) → S.moment ≤ GREATEST_MOMENT → IsSound S.trace → AreWritable S.rows → AreEarly S.trace → AreLastingOthers S.others
+OthersLast = (S : Sight) (event : Event) → IsGivenEvent event → S.moment ≤ GREATEST_MOMENT → IsSound S.trace → AreWritable S.rows → AreEarly S.trace → AreLastingOthers S.others
     → AreLastingOthers (others_after (decide S event).others S.others)
 
 -- each key's own namespace is one in each table that a text makes

@@ -19,6 +19,6 @@ pub returns-in-Err-clause-ok : goal.returns-in-Err-clause-ok
 returns-in-Err-clause-ok c = λ S seen.
     let is : Err c.in-Err.reason ≡ call_plan S c.args.name.now c.args.params.now = sym c.in-Err.is ∙ c.in_ok-plan.ensures.plan S c.args.counts.now c.args.keeping.now seen in (
       subst (λ (x : Result Plan Reason). Carries c.telling.result (call_decision S x) S) is
-          (subst (λ (s : Step). Carries s (call_decision S (Err c.in-Err.reason)) S) (sym c.telling.ensures) (record { told = refl; changes = refl; waits = refl; moves = refl; commit = (refl, (tt, refl)); archive = refl })),
+          (subst (λ (s : Step). Carries s (call_decision S (Err c.in-Err.reason)) S) (sym c.telling.ensures) (record { told = refl; changes = refl; waits = refl; moves = refl; commit = (refl, (tt, refl)); others = refl })),
       subst (λ (x : Result Plan Reason). Stands c.args.floor.now.now (held (call_decision S x) ++ S.trace)) is seen.stands,
     )

@@ -17,4 +17,4 @@ pub returns-in-Err-clause-ok : goal.returns-in-Err-clause-ok
 returns-in-Err-clause-ok c = λ S plan v taken.
     let is = subst (λ (x : Result Made Reason). IsTaken x plan S v) c.in-Err.is taken in
     subst (λ (r : Result Plan Reason). Carries c.telling.result (called_decision S r) S) (sym is.0)
-    (subst (λ (s : Step). Carries s (called_decision S (Err c.in-Err.reason)) S) (sym c.telling.ensures) (record { told = refl; changes = refl; waits = refl; moves = refl; commit = (refl, (tt, refl)); archive = refl }))
+    (subst (λ (s : Step). Carries s (called_decision S (Err c.in-Err.reason)) S) (sym c.telling.ensures) (record { told = refl; changes = refl; waits = refl; moves = refl; commit = (refl, (tt, refl)); others = refl }))

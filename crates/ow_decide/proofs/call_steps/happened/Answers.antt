@@ -12,5 +12,5 @@ returns-clause-ok c = λ S plan made. record {
   waits = refl;
   moves = made.moves;
   commit = record { changes = made.changes; stands = made.stands };
-  archive = refl;
+  others = refl;
 }

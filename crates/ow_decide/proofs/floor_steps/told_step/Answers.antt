@@ -8,7 +8,7 @@ returns c = record {
   change = refl;
   waits = refl;
   moves = c.in-Ok.ensures.same;
-  archive = refl;
+  others = refl;
   commit = λ S items u w keeps sound right own same.
       let made = c.in-Ok.ensures.made S items keeps sound right own same in record { changes = made.changes; stands = made.stands };
 }
@@ -19,6 +19,6 @@ returns-then-is_empty c = record {
   change = refl;
   waits = refl;
   moves = refl;
-  archive = refl;
+  others = refl;
   commit = λ S items u w keeps sound right own same. (refl, (own, sym same ∙ (sym c.items.ensures ∙ nothing_moved c.items.result.now (sym c.if-is_empty.true ∙ c.is_empty.ensures))));
 }
